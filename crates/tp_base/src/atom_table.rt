@@ -1,0 +1,146 @@
+//! Interned names: each different pair of a kind and a name gets a number.
+ghost use Rattle.std.specs.Prelude.{◌≡◌, ◌<◌, ◌≤◌, ◌+◌, ◌↔◌, [], ◌∷◌, ◌++◌, length, slice_get, Contains, Some, IsNone, IfOk, IfSome, OnOk, OnErr, IsErrOf, IfNone, IfErr, position, option_map};
+ghost use Rattle.tp_base.specs.Names.{IsDistinct, named, is_name, place_in, with_name};
+
+use crate::atoms::{Atom, AtomKind, MOST_ATOMS};
+use indexmap::IndexSet;
+use std::alloc::{AllocError, AllocFailed, Global};
+use std::marker::Model;
+use thiserror::Error;
+
+/// Why a name gets no number.
+#[derive(Debug, PartialEq, Eq, Drop, Error)]
+pub enum AtomFault {
+    #[error("more than {MOST_ATOMS} different names")]
+    TooManyAtoms,
+    #[error("no memory")]
+    Memory,
+}
+
+impl From<AllocError> for AtomFault {
+    ghost use Rattle.tp_base.specs.declared.atom_table.AtomFault.TheVariants.{Memory};
+
+    ghost from_gives = { λ _ e. e ≡ Memory };
+
+    fn from(_error: AllocError) -> AtomFault {
+        AtomFault::Memory
+    }
+}
+
+impl<T: Drop> From<AllocFailed<T>> for AtomFault {
+    ghost use Rattle.tp_base.specs.declared.atom_table.AtomFault.TheVariants.{Memory};
+
+    ghost from_gives = { λ _ e. e ≡ Memory };
+
+    fn from(_error: AllocFailed<T>) -> AtomFault {
+        AtomFault::Memory
+    }
+}
+
+#[derive(Debug, PartialEq, Eq, Hash, Drop)]
+struct Name {
+    kind: AtomKind,
+    text: Vec<u8>,
+}
+
+/// The names that were interned, in the order of their first coming. A contract sees the list of the
+/// different pairs of a kind and a name.
+#[derive(Drop)]
+pub struct AtomTable {
+    names: IndexSet<Name>,
+}
+
+impl Model for AtomTable {
+    ghost use Rattle.std.specs.Prelude.{List, map};
+    ghost use Rattle.tp_base.specs.Names.{Named, named, IsTable};
+
+    ghost Value = { List Named };
+
+    ghost view = { λ t. map named t.names.keys };
+
+    ghost invariant = { λ t. IsTable (map named t.names.keys) };
+}
+
+impl AtomTable {
+    /// A table with no names.
+    pub fn new(alloc: Global) -> Self
+        ensures { result ≡ [] }
+    {
+        AtomTable {
+            names: IndexSet::new(alloc),
+        }
+    }
+
+    /// How many names there are. Their numbers are those below it.
+    pub fn count(&self) -> u32
+        ensures count { result ≡ length self.now }
+        ensures different { IsDistinct self.now }
+        ensures in_limit { result ≤ MOST_ATOMS }
+    {
+        self.names.len() as u32
+    }
+
+    /// The number of a name, which is added where it is new. Constant on average in the number of names,
+    /// and linear in it where the table is full.
+    pub fn intern(&mut self, kind: AtomKind, name: &[u8]) -> Result<Atom, AtomFault>
+        ensures ok { IfOk result (λ a. with_name self.old (kind, name.now) ≡ Some (a, self.new)) }
+        ensures place { IfOk result (λ a. slice_get self.new a ≡ Some (kind, name.now)) }
+        ensures in_limit { IfOk result (λ a. a < MOST_ATOMS) }
+        ensures known { Contains self.old (kind, name.now) → OnOk result (self.new ≡ self.old) }
+        ensures added { ¬ Contains self.old (kind, name.now)
+            → OnOk result (self.new ≡ self.old ++ (kind, name.now) ∷ []) }
+
+        ensures full { IsErrOf result AtomFault.TooManyAtoms ↔ (with_name self.old (kind, name.now) ≡ None) }
+        ensures too_many { IsErrOf result AtomFault.TooManyAtoms
+            ↔ (¬ Contains self.old (kind, name.now) × length self.old ≡ MOST_ATOMS) }
+        ensures err { OnErr result (self.new ≡ self.old) }
+    {
+        // A full table is searched as it lies, since a look-up by a key needs memory, which may fail first.
+        if self.count() >= MOST_ATOMS {
+            self.find(kind, name).ok_or(AtomFault::TooManyAtoms)
+        } else {
+            self.enter(kind, name)
+        }
+    }
+
+    // The number of a name that is there already, by a look at each.
+    fn find(&self, kind: AtomKind, name: &[u8]) -> Option<Atom>
+        ensures { result ≡ place_in self.now (kind, name.now) }
+    {
+        let place = place_of(self.names.as_slice(), kind, name)?;
+        Some(Atom(place as u32))
+    }
+
+    // The number of a name, which goes last where it is new.
+    fn enter(&mut self, kind: AtomKind, name: &[u8]) -> Result<Atom, AtomFault>
+        requires room { length self.old < MOST_ATOMS }
+        ensures ok { IfOk result (λ a. with_name self.old (kind, name.now) ≡ Some (a, self.new)) }
+        ensures memory { IfErr result (λ e. e ≡ AtomFault.Memory) }
+        ensures err { OnErr result (self.new ≡ self.old) }
+    {
+        let text = Vec::from_slice(*self.names.allocator(), name)?;
+        let (place, _) = self.names.insert_full(Name { kind, text })?;
+        Ok(Atom(place as u32))
+    }
+
+    /// The name of a number, or nothing if no name has it. Constant.
+    pub fn name_of(&self, atom: Atom) -> Option<(AtomKind, &[u8])>
+        ensures name { option_map (λ n. (n.0, n.1.now)) result ≡ slice_get self.now atom }
+        ensures none { IsNone result ↔ (length self.now ≤ atom) }
+    {
+        let name = self.names.get_index(atom.0 as usize)?;
+        Some((name.kind, name.text.as_slice()))
+    }
+}
+
+fn place_of(names: &[Name], kind: AtomKind, name: &[u8]) -> Option<usize>
+    ensures { result ≡ position (λ known. is_name (kind, name.now) (named known)) names.now }
+{
+    names.iter().position(|known| is_named(known, kind, name))
+}
+
+fn is_named(known: &Name, kind: AtomKind, name: &[u8]) -> bool
+    ensures { result ≡ is_name (kind, name.now) (named known.now) }
+{
+    kind == known.kind && name == known.text.as_slice()
+}

@@ -1,0 +1,18 @@
+//! The words in which trees are described: atoms and the table of their names, class sets, paths, places in a text.
+#![tactic(auto)]
+
+mod atom_table;
+mod atoms;
+mod class_set;
+mod no_memory;
+mod paths;
+mod places;
+#[cfg(test)]
+mod tests;
+
+pub use atom_table::{AtomFault, AtomTable};
+pub use atoms::{Atom, AtomKind, MOST_ATOMS};
+pub use class_set::ClassSet;
+pub use no_memory::NoMemory;
+pub use paths::Path;
+pub use places::{MOST_BYTES, Place, place_of};

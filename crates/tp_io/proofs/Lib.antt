@@ -1,0 +1,4 @@
+pub mod CountLemmas
+pub mod LoadLemmas
+pub mod LoadListLemmas
+pub mod SinkLemmas
