@@ -1,5 +1,5 @@
 -- What the words on class sets say of their members, for callers.
-use Rattle.std.proofs.Common.{◌≡◌, ℕ, suc, ◌<◌, ◌≤◌, true, eqb, List, [], ◌∷◌, length, All, Contains, ◌↔◌, refl, sym, ap, ◌∙◌, arith, inl, inr, ◌⊎◌, subst}
+use Rattle.std.proofs.Common.{IsTrue, ◌≡◌, ℕ, suc, ◌<◌, ◌≤◌, true, eqb, List, [], ◌∷◌, length, All, Contains, ◌↔◌, refl, sym, ap, ◌∙◌, arith, inl, inr, ◌⊎◌, subst}
 use Rattle.std.specs.List.Sorted.{IsStrictlyIncreasing}
 use Rattle.std.proofs.lemmas.Bool.{lt-ltb, le-ltb, eq-eqb, ne_eqb, eqb-true, cases_order, cases_Bool, both_ways}
 use Rattle.std.proofs.lemmas.List.Kept.{IsStrictlyIncreasing-filter}
@@ -9,6 +9,7 @@ use Rattle.std.proofs.lemmas.List.Elements.{All-weaker, All-contains, All-cons, 
 use Rattle.std.proofs.lemmas.List.Sums.{AllPass-from_list_all, list_all-from_AllPass}
 use Rattle.tp_base.specs.Classes.{has_class, all_among, with_class, union_of, cut_to}
 use Rattle.tp_base.proofs.Rising.{Contains-here, Contains-behind, Contains-cons, Contains-none, All-from_Contains, rises_tail, rises_head, rises_cons, not_below}
+pub use Rattle.tp_base.proofs.Rising.{same_members}
 
 -- what `has_class` says
 pub has_class-Contains : (x : ℕ) (xs : List ℕ) → Contains xs x → has_class x xs ≡ true
@@ -19,12 +20,18 @@ Contains-has_class x xs h =
     let any = Any-from_list_any (λ y. eqb y x) xs h in
     (any.0, any.2, get_or_default xs any.0 x any.1 any.2 ∙ any.3 ∙ eqb-true any.1 x any.4)
 
+pub has_class_is : (x : ℕ) (xs : List ℕ) → IsTrue (has_class x xs) ↔ Contains xs x
+has_class_is x xs = (Contains-has_class x xs, has_class-Contains x xs)
+
 -- what `all_among` says
 pub all_among-All : (xs ys : List ℕ) → all_among xs ys ≡ true → All (Contains ys) xs
 all_among-All xs ys h = All-weaker (λ x. has_class x ys ≡ true) (Contains ys) (λ x has. Contains-has_class x ys has) xs (AllPass-from_list_all (λ x. has_class x ys) xs h)
 
 pub All-all_among : (xs ys : List ℕ) → All (Contains ys) xs → all_among xs ys ≡ true
 All-all_among xs ys h = list_all-from_AllPass (λ x. has_class x ys) xs (All-weaker (Contains ys) (λ x. has_class x ys ≡ true) (λ x has. has_class-Contains x ys has) xs h)
+
+pub all_among_is : (xs ys : List ℕ) → IsTrue (all_among xs ys) ↔ All (Contains ys) xs
+all_among_is xs ys = (all_among-All xs ys, All-all_among xs ys)
 
 -- `with_class` by the order of the new number and the first
 pub with_class-below : (a y : ℕ) (ys : List ℕ) → a < y → with_class a (y ∷ ys) ≡ a ∷ y ∷ ys

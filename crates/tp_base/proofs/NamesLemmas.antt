@@ -52,6 +52,12 @@ same_place ns i j n distinct at_i at_j =
       ]
     ]
 
+-- and a place has one name
+pub same_name : (ns : List Named) (i j : ℕ) (m n : Named) → i ≡ j → slice_get ns i ≡ Some m → slice_get ns j ≡ Some n → m ≡ n
+same_name ns i j m n same at_i at_j =
+    let both : Some m ≡ Some n = sym at_i ∙ ap (λ k. slice_get ns k) same ∙ at_j in
+    cc
+
 some_pair : {A B : Type 0} (a c : A) (b d : B) → ◌≡◌ {A = Option (A × B)} (Some (a, b)) (Some (c, d)) → (a ≡ c) × (b ≡ d)
 some_pair {A} {B} a c b d e =
     let pair : ◌≡◌ {A = A × B} (a, b) (c, d) = cc in

@@ -1,3 +1,4 @@
+//! Each public call once, with ample memory.
 use super::*;
 use std::alloc::Global;
 use std::process::Abort;

@@ -1,16 +1,10 @@
-use Rattle.std.proofs.Common.{◌≡◌, sym, ◌∙◌, get_or, refl}
+use Rattle.std.proofs.Common.{◌≡◌, sym, ◌∙◌, get_or}
 use Rattle.std.proofs.lemmas.Bool.{and_from}
 use Rattle.std.proofs.lemmas.List.{get_or_default}
 use Rattle.std.proofs.lemmas.List.Folds.{list_all_at, list_all_more}
 use Rattle.tp_base.specs.Classes.{has_class}
 use Rattle.tp_base.proofs.Walks.{told, still_next}
 use Rattle.tp_base.proofs.class_set.are_among.Goals as goal
-
-pub loop-atom-init : goal.loop-atom-init
-loop-atom-init c = record {
-  still = record { rising = c.requires.others_rising; same = λ k from within. refl };
-  passed = refl;
-}
 
 pub returns-then-not-there : goal.returns-then-not-there
 returns-then-not-there c =

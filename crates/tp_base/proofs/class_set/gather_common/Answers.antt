@@ -1,14 +1,8 @@
-use Rattle.std.proofs.Common.{◌≡◌, ◌<◌, length, get_or, refl, sym, ◌∙◌, arith}
+use Rattle.std.proofs.Common.{◌≡◌, ◌<◌, length, get_or, sym, ◌∙◌, arith}
 use Rattle.std.proofs.lemmas.List.{get_or_default}
 use Rattle.tp_base.proofs.Walks.{told, still_next, gathered_more, gathered_none}
 use Rattle.tp_base.proofs.class_set.gather_common.Goals as goal
 use Rattle.tp_base.proofs.class_set.gather_common.Goals.{then-there, else-there}
-
-pub loop-at-init : goal.loop-at-init
-loop-at-init c = record {
-  still = record { rising = c.requires.others_rising; same = λ k from within. refl };
-  so_far = record { few = omega arith; later = λ k from. refl; front = refl };
-}
 
 pub loop-at-preserved : goal.loop-at-preserved
 loop-at-preserved c =

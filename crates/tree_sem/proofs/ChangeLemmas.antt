@@ -1,0 +1,94 @@
+-- What a write to the table does to the tree.
+use Rattle.std.proofs.Common.{◌≡◌, ℕ, ◌<◌, List, length, Some, sym, ap, ◌∙◌, arith}
+use Rattle.tp_base.specs.Classes.{with_class}
+use Rattle.tree_sem.specs.declared.slots.Slot.{Slot}
+use Rattle.tree_sem.specs.declared.tree_fault.TheConstants.{MOST_NODES}
+use Rattle.tree_sem.specs.Trees.{leaf, edit_at, add_class, add_child, push_tree, count_of}
+use Rattle.tree_sem.specs.Arena.{place_from, IsArena}
+use Rattle.tree_sem.specs.Table.{kids_in, label_in, tree_in, IsTable, IsRelabelled, IsGrown}
+use Rattle.tree_sem.proofs.ArenaLemmas.{IsChangedAt, unrolled, edited, below_changed, row_by-push}
+use Rattle.tree_sem.proofs.GrowLemmas.{grown_arena}
+use Rattle.tree_sem.proofs.CountLemmas.{count_of-edit_at, nodes_of-push_tree}
+use Rattle.tree_sem.proofs.TableLemmas.{node_there}
+
+-- one label changed
+module _ (old new : List Slot) (place a : ℕ) (table : IsTable old) (here : place < length old)
+    (change : IsRelabelled old new place (with_class a (label_in old place))) where
+  same_kids : kids_in new ≡ kids_in old
+  same_kids = λ x i. change.children i x
+
+  new_arena : IsArena (length new) (kids_in new)
+  new_arena = rw (change.count, same_kids) table.arena
+
+  change_at : IsChangedAt (length old) (length new) (label_in old) (kids_in old) (label_in new) (kids_in new) place
+  change_at = record {
+    old = table.arena;
+    new = new_arena;
+    longer = let e = change.count in omega arith;
+    here = here;
+    labels = λ i within other. change.labels i other;
+    children = λ i within other. change.children i;
+  }
+
+  at_place : tree_in new place ≡ add_class a (tree_in old place)
+  at_place =
+      rw (unrolled (label_in new) (kids_in new) (length new) new_arena place (omega (arith, change.count)), unrolled (label_in old) (kids_in old) (length old) table.arena place here, change.changed, change.children place)
+      (ap (λ f. record { label = with_class a (label_in old place); below = f }) (below_changed (length old) (length new) (label_in old) (kids_in old) (label_in new) (kids_in new) place change_at))
+
+  module _ (p : List ℕ) (at : Some place ≡ place_from (kids_in old) 0 p) where
+    pub relabelled_tree : tree_in new 0 ≡ edit_at p (add_class a) (tree_in old 0)
+    relabelled_tree = edited (length old) (length new) (label_in old) (kids_in old) (label_in new) (kids_in new) place change_at (add_class a) at_place p 0 table.arena.some (sym at)
+
+    pub relabelled_table : IsTable new
+    relabelled_table = record {
+      arena = new_arena;
+      counted =
+          let there = node_there old table.arena p place at in
+          let count = count_of-edit_at p (add_class a) (tree_in old 0) (tree_in old place) 0 there (omega arith) in
+          let tree = relabelled_tree in
+          ap count_of tree ∙ omega (arith, count, table.counted, change.count);
+      in_limit = let e = change.count in omega (arith, table.in_limit);
+    }
+
+-- one node more
+module _ (old new : List Slot) (place : ℕ) (l : List ℕ) (table : IsTable old) (here : place < length old) (room : length old < MOST_NODES)
+    (change : IsGrown old new place l) where
+  taller_arena : IsArena (length new) (kids_in new)
+  taller_arena =
+      rw change.count
+      (grown_arena (length old) (kids_in old) (kids_in new) place table.arena here
+      (record { parent = change.parent; fresh = change.new_children; others = change.children }))
+
+  grown_at : IsChangedAt (length old) (length new) (label_in old) (kids_in old) (label_in new) (kids_in new) place
+  grown_at = record {
+    old = table.arena;
+    new = taller_arena;
+    longer = let e = change.count in omega arith;
+    here = here;
+    labels = λ i within other. change.labels i within;
+    children = change.children;
+  }
+
+  new_leaf : tree_in new (length old) ≡ leaf l
+  new_leaf = rw (unrolled (label_in new) (kids_in new) (length new) taller_arena (length old) (omega (arith, change.count)), change.new_label, change.new_children)
+
+  grown_place : tree_in new place ≡ add_child l (tree_in old place)
+  grown_place =
+      rw (unrolled (label_in new) (kids_in new) (length new) taller_arena place (omega (arith, change.count)), unrolled (label_in old) (kids_in old) (length old) table.arena place here, change.labels place here, change.parent, row_by-push (tree_in new) (kids_in old place) (length old), new_leaf)
+      (ap (λ f. record { label = label_in old place; below = push_tree f (leaf l) }) (below_changed (length old) (length new) (label_in old) (kids_in old) (label_in new) (kids_in new) place grown_at))
+
+  module _ (p : List ℕ) (at : Some place ≡ place_from (kids_in old) 0 p) where
+    pub grown_tree : tree_in new 0 ≡ edit_at p (add_child l) (tree_in old 0)
+    grown_tree = edited (length old) (length new) (label_in old) (kids_in old) (label_in new) (kids_in new) place grown_at (add_child l) grown_place p 0 table.arena.some (sym at)
+
+    pub grown_table : IsTable new
+    grown_table = record {
+      arena = taller_arena;
+      counted =
+          let there = node_there old table.arena p place at in
+          let one = nodes_of-push_tree (tree_in old place).below (leaf l) in
+          let count = count_of-edit_at p (add_child l) (tree_in old 0) (tree_in old place) 1 there (omega (arith, one)) in
+          let tree = grown_tree in
+          ap count_of tree ∙ omega (arith, count, table.counted, change.count);
+      in_limit = let e = change.count in omega (arith, room);
+    }

@@ -1,0 +1,57 @@
+-- How many nodes a tree has after an edit.
+use Rattle.std.proofs.Common.{◌≡◌, ℕ, zero, suc, ◌+◌, ◌≤◌, List, [], ◌∷◌, length, Some, None, option_and_then, refl, sym, ap, subst, arith}
+use Rattle.tree_sem.specs.Trees.{Row, no_nodes, node, LabelTree, leaf, tree_of, edit_tree, node_at, edit_at, push_tree, nodes_of, count_of, add_class, add_child}
+use Rattle.tree_sem.proofs.EditLemmas.{edit_at-none}
+
+pub nodes_of-push_tree : (f : Row) (t : LabelTree) → nodes_of (push_tree f t) ≡ nodes_of f + count_of t
+nodes_of-push_tree no_nodes t = omega arith
+nodes_of-push_tree (node l below next) t = omega (arith, nodes_of-push_tree next t)
+
+-- where h adds d nodes to the tree of this number, it adds them to the row
+nodes_of-edit_tree : (h : LabelTree → LabelTree) (f : Row) (k : ℕ) (s : LabelTree) (d : ℕ) → tree_of f k ≡ Some s → count_of (h s) ≡ count_of s + d → nodes_of (edit_tree h f k) ≡ nodes_of f + d
+nodes_of-edit_tree h no_nodes k s d at more = cc
+nodes_of-edit_tree h (node l below next) zero s d at more =
+    let first : LabelTree = record { label = l; below = below } in
+    let same : first ≡ s = cc in
+    let more' : count_of (h first) ≡ count_of first + d = subst (λ (z : LabelTree). count_of (h z) ≡ count_of z + d) (sym same) more in
+    omega (arith, more')
+nodes_of-edit_tree h (node l below next) (suc k) s d at more = omega (arith, nodes_of-edit_tree h next k s d at more)
+
+-- and to the tree above
+pub count_of-edit_at : (p : List ℕ) (f : LabelTree → LabelTree) (t s : LabelTree) (d : ℕ) → node_at p t ≡ Some s → count_of (f s) ≡ count_of s + d → count_of (edit_at p f t) ≡ count_of t + d
+count_of-edit_at [] f t s d at more = let same : t ≡ s = cc in subst (λ (z : LabelTree). count_of (f z) ≡ count_of z + d) (sym same) more
+count_of-edit_at (k ∷ p) f t s d at more =
+    elim (tree_of t.below k) as (λ o. tree_of t.below k ≡ o → option_and_then (node_at p) o ≡ Some s → count_of (edit_at (k ∷ p) f t) ≡ count_of t + d) [
+      | None ↦ λ e at'. cc
+      | Some u ↦ λ e at'.
+          let inner = count_of-edit_at p f u s d at' more in
+          omega (arith, nodes_of-edit_tree (edit_at p f) t.below k u d e inner)
+    ] refl at
+
+-- a class adds no node, and a child one
+pub count_of-add_class : (p : List ℕ) (a : ℕ) (t : LabelTree) → count_of (edit_at p (add_class a) t) ≡ count_of t
+count_of-add_class p a t =
+    elim (node_at p t) as (λ o. node_at p t ≡ o → count_of (edit_at p (add_class a) t) ≡ count_of t) [
+      | None ↦ λ e. ap count_of (edit_at-none p (add_class a) t e)
+      | Some s ↦ λ e. let count = count_of-edit_at p (add_class a) t s 0 e (omega arith) in omega arith
+    ] refl
+
+pub count_of-add_child : (p l : List ℕ) (t s : LabelTree) → node_at p t ≡ Some s → count_of (edit_at p (add_child l) t) ≡ count_of t + 1
+count_of-add_child p l t s at = let one = nodes_of-push_tree s.below (leaf l) in count_of-edit_at p (add_child l) t s 1 at (omega arith)
+
+nodes_of-tree_of : (r : Row) (k : ℕ) (s : LabelTree) → tree_of r k ≡ Some s → count_of s ≤ nodes_of r
+nodes_of-tree_of no_nodes k s at = cc
+nodes_of-tree_of (node l below next) zero s at =
+    let same : record { label = l; below = below } ≡ s = cc in
+    let count : count_of (record { label = l; below = below }) ≡ count_of s = ap count_of same in
+    omega arith
+nodes_of-tree_of (node l below next) (suc k) s at = omega (arith, nodes_of-tree_of next k s at)
+
+-- a path is shorter than the tree has nodes
+pub length-node_at : (p : List ℕ) (t s : LabelTree) → node_at p t ≡ Some s → length p + count_of s ≤ count_of t
+length-node_at [] t s at = let same : t ≡ s = cc in let count : count_of t ≡ count_of s = ap count_of same in omega arith
+length-node_at (k ∷ p) t s at =
+    elim (tree_of t.below k) as (λ o. tree_of t.below k ≡ o → option_and_then (node_at p) o ≡ Some s → length (k ∷ p) + count_of s ≤ count_of t) [
+      | None ↦ λ e at'. cc
+      | Some u ↦ λ e at'. omega (arith, length-node_at p u s at', nodes_of-tree_of t.below k u e)
+    ] refl at

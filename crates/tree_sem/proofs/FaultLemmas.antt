@@ -1,0 +1,21 @@
+-- Which fault a call gives.
+use Rattle.std.proofs.Common.{◌≡◌, ◌↔◌, Option, Some, None, IsNone, IsSome, Result, Ok, Err, IsErrOf, IsErrAnd}
+use Rattle.tree_sem.specs.declared.tree_fault.TreeFault.{TreeFault}
+use Rattle.tree_sem.specs.declared.tree_fault.TreeFault.TheVariants.{NoSuchNode, TooManyNodes, Memory}
+
+-- where a node is there, and memory fails, the fault is no other
+pub memory_fault : {T X : Type 0} (o : Option X) (x : X) (r : Result T TreeFault) → o ≡ Some x → IsErrAnd r (λ e. e ≡ Memory) → IsErrOf r NoSuchNode ↔ IsNone o
+memory_fault o x (Ok v) there is = absurd is
+memory_fault o x (Err e) there is = (λ same. let other : NoSuchNode ≡ Memory = cc in cc, λ none. let some : IsNone (Some x) = rw there at none in cc)
+
+-- where a node is there, a call that succeeds gives none
+pub no_fault : {T X : Type 0} (o : Option X) (x : X) (v : T) → o ≡ Some x → IsErrOf {T = T} {E = TreeFault} (Ok v) NoSuchNode ↔ IsNone o
+no_fault o x v there = (λ same. cc, λ none. let some : IsNone (Some x) = rw there at none in cc)
+
+-- where no node is there, the tree is not said to be full
+pub no_node_fault : {T : Type 0} (X P : Type 0) → IsErrOf {T = T} {E = TreeFault} (Err NoSuchNode) TooManyNodes ↔ (IsSome {T = X} None × P)
+no_node_fault X P = (λ same. let other : NoSuchNode ≡ TooManyNodes = cc in cc, λ both. let none = both.0 in cc)
+
+-- where a node is there, a full tree is not said to lack it
+pub full_fault : {T X : Type 0} (o : Option X) (x : X) → o ≡ Some x → IsErrOf {T = T} {E = TreeFault} (Err TooManyNodes) NoSuchNode ↔ IsNone o
+full_fault o x there = (λ same. let other : TooManyNodes ≡ NoSuchNode = cc in cc, λ none. let some : IsNone (Some x) = rw there at none in cc)

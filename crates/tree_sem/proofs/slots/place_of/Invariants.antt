@@ -1,0 +1,7 @@
+use Rattle.std.proofs.Common.{◌≡◌, ◌<◌, length, take, Some}
+use Rattle.tree_sem.specs.Arena.{place_from}
+use Rattle.tree_sem.specs.Table.{kids_in}
+use Rattle.tree_sem.proofs.slots.place_of.Given as goal
+
+abbrev pub invariant-loop-level : goal.invariant-loop-level
+invariant-loop-level l = (place_from (kids_in l.slots) 0 (take l.level l.at) ≡ Some l.place) × (l.place < length l.slots)

@@ -1,0 +1,18 @@
+//! Trees of labelled nodes, their order in a document, and what an action makes of one.
+#![tactic(auto)]
+
+mod actions;
+mod document_order;
+mod forests;
+mod label_tree;
+mod slots;
+mod tree_fault;
+
+pub use actions::{Action, Step};
+pub use document_order::go_on;
+pub use forests::{Forest, Trees};
+pub use label_tree::Tree;
+pub use tree_fault::{MOST_NODES, TreeFault};
+
+#[cfg(test)]
+mod tests;

@@ -1,0 +1,28 @@
+//! How many nodes a tree can hold, and why a call on a tree was refused.
+ghost use Rattle.std.specs.Prelude.{◌≡◌};
+
+use thiserror::Error;
+use tp_base::NoMemory;
+
+/// How many nodes a tree can hold.
+pub const MOST_NODES: u32 = 16_777_216;
+
+#[derive(Debug, PartialEq, Eq, Drop, Error)]
+pub enum TreeFault {
+    #[error("no node is there")]
+    NoSuchNode,
+    #[error("more than {MOST_NODES} nodes")]
+    TooManyNodes,
+    #[error("no memory")]
+    Memory,
+}
+
+impl From<NoMemory> for TreeFault {
+    ghost use Rattle.tree_sem.specs.declared.tree_fault.TreeFault.TheVariants.{Memory};
+
+    ghost from_gives = { λ _ e. e ≡ Memory };
+
+    fn from(_error: NoMemory) -> TreeFault {
+        TreeFault::Memory
+    }
+}
