@@ -1,0 +1,293 @@
+-- From the end of a run to the causes of its answers.
+use Rattle.std.proofs.Common.{◌≡◌, ◌⊎◌, ℕ, ◌≤◌, ◌<◌, Bool, true, false, cond, List, [], ◌∷◌, ◌++◌, length, Option, Some, None, IfSome, Result, Ok, Err, refl, sym, ap, ◌∙◌, inl, inr, subst, append_assoc, append-nil, arith}
+use Rattle.std.specs.List.{list_any}
+use Rattle.std.proofs.lemmas.Bool.{true≢false}
+use Rattle.std.proofs.lemmas.List.{append_cancel_left}
+use Rattle.tp_io.specs.Files.{Load}
+use Rattle.tp_io.specs.Sinks.{Adds, Rose}
+use Rattle.tp_io.specs.declared.files.TheConstants.{MOST_BYTES}
+use Rattle.treeped_app.specs.declared.status.Status.{Status}
+use Rattle.treeped_app.specs.declared.status.Status.TheVariants as status
+use Rattle.treeped_app.specs.declared.stops.Part.{Part}
+use Rattle.treeped_app.specs.declared.stops.Part.TheVariants.{Page, Sheet, Script}
+use Rattle.treeped_app.specs.declared.stops.Stop.{Stop}
+use Rattle.treeped_app.specs.declared.stops.Stop.TheVariants.{Words, TooLarge, ReadFault, NotYetRead, WriteFault, NoMemory}
+use Rattle.treeped_app.specs.Words.{Names, command}
+use Rattle.treeped_app.specs.Answers.{Answer}
+use Rattle.treeped_app.specs.Stops.{line_of, status_of_stop}
+use Rattle.treeped_app.specs.Runs.{Told, Put, Run, Ends, Loaded, Texts, Inputs, AreTexts, IsAccepted, Holds, Exceeds, read_inputs, loads_before, all_loads, name_of, succeeded, failed, status_of, is_unused}
+use Rattle.treeped_app.specs.Commands.{Reports, Says, Tells, IsTold, IsEnded, Fails, IsRefusal, FailedAt, AreTold, Fit, Causes}
+
+-- the stops whose line is said whole or not at all
+abbrev IsLined : Stop → Type 0
+IsLined Words = Unit {0}
+IsLined (TooLarge part) = Unit {0}
+IsLined (ReadFault part) = Unit {0}
+IsLined (NotYetRead part) = Unit {0}
+IsLined WriteFault = ⊥
+IsLined NoMemory = ⊥
+
+module _ (r : Run) (err : Put) (s : Status) where
+  -- the five ways in which a run ends
+  data IsOne : Type 0 where
+    reported : Reports s → Ends r (Ok s) → IsOne
+    said : (stop : Stop) → IsLined stop → Ends r (Err stop) → s ≡ status_of_stop stop → Adds err.held err.held' (line_of stop) → IsOne
+    cut : (stop : Stop) → Ends r (Err stop) → Fails err s → IsOne
+    unwritten : Ends r (Err WriteFault) → s ≡ status.WriteFault → IsOne
+    spent : s ≡ status.NoMemory → IsOne
+
+  status_reports : (b : Bool) → s ≡ cond b status.Unused status.Complete → Reports s
+  status_reports true is = inr is
+  status_reports false is = inl is
+
+  lined : (stop : Stop) → IsLined stop → Ends r (Err stop) → Says stop err s → IsOne
+  lined stop is ends (inl whole) = said stop is ends whole.0 whole.1
+  lined stop is ends (inr (inl fault)) = cut stop ends (inl (fault.1.2.0, fault.0))
+  lined stop is ends (inr (inr short)) = cut stop ends (inr short.2.0)
+
+  one_end : (end : Result Status Stop) → Ends r end → IsTold end err s → IsOne
+  one_end (Ok e) ends told = reported (status_reports (list_any is_unused ends.3.0) (told.0 ∙ ends.3.4)) (subst (λ (t : Status). Ends r (Ok t)) (sym told.0) ends)
+  one_end (Err Words) ends told = lined Words tt ends told
+  one_end (Err (TooLarge part)) ends told = lined (TooLarge part) tt ends told
+  one_end (Err (ReadFault part)) ends told = lined (ReadFault part) tt ends told
+  one_end (Err (NotYetRead part)) ends told = lined (NotYetRead part) tt ends told
+  one_end (Err WriteFault) ends told = unwritten ends told.0
+  one_end (Err NoMemory) ends told = spent told.0
+
+-- what one status isn't
+module _ (err : Put) (s : Status) where
+  no_report_of_words : Reports s → s ≡ status.Words → ⊥
+  no_report_of_words (inl a) b = cc
+  no_report_of_words (inr a) b = cc
+
+  no_report_of_refused : Reports s → s ≡ status.Refused → ⊥
+  no_report_of_refused (inl a) b = cc
+  no_report_of_refused (inr a) b = cc
+
+  no_report_of_read_fault : Reports s → s ≡ status.ReadFault → ⊥
+  no_report_of_read_fault (inl a) b = cc
+  no_report_of_read_fault (inr a) b = cc
+
+  no_report_of_write_fault : Reports s → s ≡ status.WriteFault → ⊥
+  no_report_of_write_fault (inl a) b = cc
+  no_report_of_write_fault (inr a) b = cc
+
+  no_failure_of_words : Fails err s → s ≡ status.Words → ⊥
+  no_failure_of_words (inl a) b = let a' = a.0 in cc
+  no_failure_of_words (inr a) b = cc
+
+  no_failure_of_refused : Fails err s → s ≡ status.Refused → ⊥
+  no_failure_of_refused (inl a) b = let a' = a.0 in cc
+  no_failure_of_refused (inr a) b = cc
+
+  no_failure_of_read_fault : Fails err s → s ≡ status.ReadFault → ⊥
+  no_failure_of_read_fault (inl a) b = let a' = a.0 in cc
+  no_failure_of_read_fault (inr a) b = cc
+
+-- some load failed
+any_failed : List Load → Bool
+any_failed loads = list_any (λ l. l.failed) loads
+
+failed_before : (part : Part) (n : Names) → any_failed (loads_before part n ++ failed (name_of part n) ∷ []) ≡ true
+unfolding any_failed
+failed_before Page n = refl
+failed_before Sheet n = refl
+failed_before Script n = refl
+
+succeeded_before : (part : Part) (n : Names) → any_failed (loads_before part n ++ succeeded (name_of part n) ∷ []) ≡ false
+unfolding any_failed
+succeeded_before Page n = refl
+succeeded_before Sheet n = refl
+succeeded_before Script n = refl
+
+all_succeeded : (n : Names) → any_failed (all_loads n) ≡ false
+unfolding any_failed
+all_succeeded n = refl
+
+none_failed : any_failed [] ≡ false
+unfolding any_failed
+none_failed = refl
+
+-- loads that all succeeded don't end with one that failed
+not_failed_at : (r : Run) (n : Names) (part : Part) (loads : List Load) → r.loads' ≡ r.loads ++ loads → any_failed loads ≡ false → FailedAt r n part → ⊥
+not_failed_at r n part loads is none at =
+    let same : loads ≡ loads_before part n ++ failed (name_of part n) ∷ [] = append_cancel_left r.loads loads (loads_before part n ++ failed (name_of part n) ∷ []) (sym is ∙ at ∙ append_assoc r.loads (loads_before part n) (failed (name_of part n) ∷ [])) in
+    true≢false (sym (failed_before part n) ∙ ap any_failed (sym same) ∙ none)
+
+-- the texts that a run had are those that are told
+one_text : (o : Option (List ℕ)) (text text' : List ℕ) → o ≡ Some text → IfSome o (λ bytes. text' ≡ bytes) → text' ≡ text
+one_text None text text' is holds = cc
+one_text (Some bytes) text text' is holds = let same : bytes ≡ text = cc in holds ∙ same
+
+one_name : (r : Run) (n n' : Names) → command r.words ≡ Some n → command r.words ≡ Some n' → n' ≡ n
+one_name r n n' is is' = let same : Some n ≡ Some n' = sym is ∙ is' in cc
+
+module _ (r : Run) (n : Names) (x : Texts) (told : AreTold r n x) where
+  same_texts : (n' : Names) (x' : Texts) → command r.words ≡ Some n' → AreTexts r.told n' x' → x' ≡ x
+  same_texts n' x' is texts =
+      let names = one_name r n n' told.are_names is in
+      let texts' = subst (λ (m : Names). AreTexts r.told m x') names texts in
+      let page = one_text (r.told n.page) x.page x'.page told.page texts'.page in
+      let sheet = one_text (r.told n.sheet) x.sheet x'.sheet told.sheet texts'.sheet in
+      let script = one_text (r.told n.script) x.script x'.script told.script texts'.script in
+      λ k. record { page = page k; sheet = sheet k; script = script k }
+
+  fit : (n' : Names) (x' : Texts) → command r.words ≡ Some n' → AreTexts r.told n' x' → Fit x
+  fit n' x' is texts = subst (λ (t : Texts). Fit t) (same_texts n' x' is texts) (record { page = texts.page_fits; sheet = texts.sheet_fits; script = texts.script_fits })
+
+  not_exceeding : (o : Option (List ℕ)) (text : List ℕ) → o ≡ Some text → length text ≤ MOST_BYTES → IfSome o (λ bytes. MOST_BYTES < length bytes) → ⊥
+  not_exceeding None text is within over = cc
+  not_exceeding (Some bytes) text is within over = let same : bytes ≡ text = cc in let over' : MOST_BYTES < length text = rw same at over in omega arith
+
+  none_exceeds : Fit x → (n' : Names) (part : Part) → command r.words ≡ Some n' → Exceeds r.told (name_of part n') → ⊥
+  none_exceeds fits n' part is over = at part (subst (λ (m : Names). Exceeds r.told (name_of part m)) (one_name r n n' told.are_names is) over)
+    where
+      at : (part : Part) → Exceeds r.told (name_of part n) → ⊥
+      at Page over = not_exceeding (r.told n.page) x.page told.page fits.page over
+      at Sheet over = not_exceeding (r.told n.sheet) x.sheet told.sheet fits.sheet over
+      at Script over = not_exceeding (r.told n.script) x.script told.script fits.script over
+
+  accepted_reads : (x' : Texts) (i : Inputs) → IsAccepted r x' i → read_inputs x ≡ Ok i
+  accepted_reads x' i accepted = subst (λ (t : Texts). read_inputs t ≡ Ok i) (same_texts accepted.names x' accepted.are_names accepted.texts) accepted.read
+
+-- the causes, from the ways in which a run ends
+module _ (r : Run) (err : Put) (s : Status) where
+  words_of : IsOne r err s → s ≡ status.Words → command r.words ≡ None
+  words_of (reported report ends) is = absurd (no_report_of_words err s report is)
+  words_of (said Words lined ends status_is line) is = ends.0
+  words_of (said (TooLarge part) lined ends status_is line) is = cc
+  words_of (said (ReadFault part) lined ends status_is line) is = cc
+  words_of (said (NotYetRead part) lined ends status_is line) is = cc
+  words_of (said WriteFault lined ends status_is line) is = cc
+  words_of (said NoMemory lined ends status_is line) is = cc
+  words_of (cut stop ends fails) is = absurd (no_failure_of_words err s fails is)
+  words_of (unwritten ends status_is) is = cc
+  words_of (spent status_is) is = cc
+
+  no_names_of : IsOne r err s → command r.words ≡ None → (s ≡ status.Words) ⊎ Fails err s
+  no_names_of (reported report ends) none = let some = ends.2.are_names in cc
+  no_names_of (said Words lined ends status_is line) none = inl status_is
+  no_names_of (said (TooLarge part) lined ends status_is line) none = let some = ends.1 in cc
+  no_names_of (said (ReadFault part) lined ends status_is line) none = let some = ends.1 in cc
+  no_names_of (said (NotYetRead part) lined ends status_is line) none = let some = ends.1 in cc
+  no_names_of (said WriteFault lined ends status_is line) none = elim lined [ ]
+  no_names_of (said NoMemory lined ends status_is line) none = elim lined [ ]
+  no_names_of (cut stop ends fails) none = inr fails
+  no_names_of (unwritten ends status_is) none = let some = ends.2.are_names in cc
+  no_names_of (spent status_is) none = inr (inr status_is)
+
+  refused_of : IsOne r err s → s ≡ status.Refused → (stop : Stop) × IsRefusal stop × Ends r (Err stop) × Adds err.held err.held' (line_of stop)
+  refused_of (reported report ends) is = absurd (no_report_of_refused err s report is)
+  refused_of (said stop lined ends status_is line) is = (stop, sym status_is ∙ is, ends, line)
+  refused_of (cut stop ends fails) is = absurd (no_failure_of_refused err s fails is)
+  refused_of (unwritten ends status_is) is = cc
+  refused_of (spent status_is) is = cc
+
+  not_read_of : (n : Names) (x : Texts) (part : Part) → IsOne r err s → AreTold r n x → Fit x → read_inputs x ≡ Err part → (s ≡ status.Refused) ⊎ (s ≡ status.ReadFault) ⊎ Fails err s
+  not_read_of n x part (reported report ends) told fits refusal = let reads = accepted_reads r n x told ends.0 ends.1 ends.2 in cc
+  not_read_of n x part (said Words lined ends status_is line) told fits refusal = let none = ends.0 in let some = told.are_names in cc
+  not_read_of n x part (said (TooLarge p) lined ends status_is line) told fits refusal = inl status_is
+  not_read_of n x part (said (ReadFault p) lined ends status_is line) told fits refusal = inr (inl status_is)
+  not_read_of n x part (said (NotYetRead p) lined ends status_is line) told fits refusal = inl status_is
+  not_read_of n x part (said WriteFault lined ends status_is line) told fits refusal = elim lined [ ]
+  not_read_of n x part (said NoMemory lined ends status_is line) told fits refusal = elim lined [ ]
+  not_read_of n x part (cut stop ends fails) told fits refusal = inr (inr fails)
+  not_read_of n x part (unwritten ends status_is) told fits refusal = let reads = accepted_reads r n x told ends.0 ends.1 ends.2 in cc
+  not_read_of n x part (spent status_is) told fits refusal = inr (inr (inr status_is))
+
+  too_large_of : (n : Names) (x : Texts) → IsOne r err s → AreTold r n x → (Fit x → ⊥) → (s ≡ status.Refused) ⊎ (s ≡ status.ReadFault) ⊎ Fails err s
+  too_large_of n x (reported report ends) told over = absurd (over (fit r n x told ends.2.names ends.0 ends.2.are_names ends.2.texts))
+  too_large_of n x (said Words lined ends status_is line) told over = let none = ends.0 in let some = told.are_names in cc
+  too_large_of n x (said (TooLarge p) lined ends status_is line) told over = inl status_is
+  too_large_of n x (said (ReadFault p) lined ends status_is line) told over = inr (inl status_is)
+  too_large_of n x (said (NotYetRead p) lined ends status_is line) told over = inl status_is
+  too_large_of n x (said WriteFault lined ends status_is line) told over = elim lined [ ]
+  too_large_of n x (said NoMemory lined ends status_is line) told over = elim lined [ ]
+  too_large_of n x (cut stop ends fails) told over = inr (inr fails)
+  too_large_of n x (unwritten ends status_is) told over = absurd (over (fit r n x told ends.2.names ends.0 ends.2.are_names ends.2.texts))
+  too_large_of n x (spent status_is) told over = inr (inr (inr status_is))
+
+  read_fault_of : IsOne r err s → s ≡ status.ReadFault → (n : Names) × (part : Part) × (command r.words ≡ Some n) × FailedAt r n part × Adds err.held err.held' (line_of (ReadFault part))
+  read_fault_of (reported report ends) is = absurd (no_report_of_read_fault err s report is)
+  read_fault_of (said Words lined ends status_is line) is = cc
+  read_fault_of (said (TooLarge part) lined ends status_is line) is = cc
+  read_fault_of (said (ReadFault part) lined ends status_is line) is = (ends.0, part, ends.1, ends.2.0, line)
+  read_fault_of (said (NotYetRead part) lined ends status_is line) is = cc
+  read_fault_of (said WriteFault lined ends status_is line) is = elim lined [ ]
+  read_fault_of (said NoMemory lined ends status_is line) is = elim lined [ ]
+  read_fault_of (cut stop ends fails) is = absurd (no_failure_of_read_fault err s fails is)
+  read_fault_of (unwritten ends status_is) is = cc
+  read_fault_of (spent status_is) is = cc
+
+  failed_load_of : (n : Names) (part : Part) → IsOne r err s → FailedAt r n part → (s ≡ status.ReadFault) ⊎ Fails err s
+  failed_load_of n part (reported report ends) at = absurd (not_failed_at r n part (all_loads ends.2.names) ends.2.loaded (all_succeeded ends.2.names) at)
+  failed_load_of n part (said Words lined ends status_is line) at = absurd (not_failed_at r n part [] (ends.1 ∙ sym (append-nil r.loads)) none_failed at)
+  failed_load_of n part (said (TooLarge p) lined ends status_is line) at =
+      absurd (not_failed_at r n part (loads_before p ends.0 ++ succeeded (name_of p ends.0) ∷ []) (ends.2.0 ∙ append_assoc r.loads (loads_before p ends.0) (succeeded (name_of p ends.0) ∷ [])) (succeeded_before p ends.0) at)
+  failed_load_of n part (said (ReadFault p) lined ends status_is line) at = inl status_is
+  failed_load_of n part (said (NotYetRead p) lined ends status_is line) at = absurd (not_failed_at r n part (all_loads ends.0) ends.3.0 (all_succeeded ends.0) at)
+  failed_load_of n part (said WriteFault lined ends status_is line) at = elim lined [ ]
+  failed_load_of n part (said NoMemory lined ends status_is line) at = elim lined [ ]
+  failed_load_of n part (cut stop ends fails) at = inr fails
+  failed_load_of n part (unwritten ends status_is) at = absurd (not_failed_at r n part (all_loads ends.2.names) ends.2.loaded (all_succeeded ends.2.names) at)
+  failed_load_of n part (spent status_is) at = inr (inr status_is)
+
+  write_fault_of : IsOne r err s → s ≡ status.WriteFault → Rose r.out.faults r.out.faults' ⊎ Rose err.faults err.faults'
+  write_fault_of (reported report ends) is = absurd (no_report_of_write_fault err s report is)
+  write_fault_of (said Words lined ends status_is line) is = cc
+  write_fault_of (said (TooLarge part) lined ends status_is line) is = cc
+  write_fault_of (said (ReadFault part) lined ends status_is line) is = cc
+  write_fault_of (said (NotYetRead part) lined ends status_is line) is = cc
+  write_fault_of (said WriteFault lined ends status_is line) is = elim lined [ ]
+  write_fault_of (said NoMemory lined ends status_is line) is = elim lined [ ]
+  write_fault_of (cut stop ends (inl fault)) is = inr fault.1
+  write_fault_of (cut stop ends (inr spent_)) is = cc
+  write_fault_of (unwritten ends status_is) is = inl ends.3.4
+  write_fault_of (spent status_is) is = cc
+
+  no_budget_of : IsOne r err s → s ≡ status.Budget → ⊥
+  no_budget_of (reported (inl a) ends) is = cc
+  no_budget_of (reported (inr a) ends) is = cc
+  no_budget_of (said Words lined ends status_is line) is = cc
+  no_budget_of (said (TooLarge part) lined ends status_is line) is = cc
+  no_budget_of (said (ReadFault part) lined ends status_is line) is = cc
+  no_budget_of (said (NotYetRead part) lined ends status_is line) is = cc
+  no_budget_of (said WriteFault lined ends status_is line) is = elim lined [ ]
+  no_budget_of (said NoMemory lined ends status_is line) is = elim lined [ ]
+  no_budget_of (cut stop ends (inl fault)) is = let a = fault.0 in cc
+  no_budget_of (cut stop ends (inr spent_)) is = cc
+  no_budget_of (unwritten ends status_is) is = cc
+  no_budget_of (spent status_is) is = cc
+
+  completes_of : (n : Names) (x : Texts) (i : Inputs) → IsOne r err s → AreTold r n x → Fit x → read_inputs x ≡ Ok i → ((part : Part) → FailedAt r n part → ⊥)
+      → (Rose r.out.faults r.out.faults' → ⊥) → (Rose err.faults err.faults' → ⊥) → Reports s ⊎ (s ≡ status.NoMemory)
+  completes_of n x i (reported report ends) told fits reads loads out errors = inl report
+  completes_of n x i (said Words lined ends status_is line) told fits reads loads out errors = let none = ends.0 in let some = told.are_names in cc
+  completes_of n x i (said (TooLarge p) lined ends status_is line) told fits reads loads out errors = absurd (none_exceeds r n x told fits ends.0 p ends.1 ends.2.2)
+  completes_of n x i (said (ReadFault p) lined ends status_is line) told fits reads loads out errors =
+      absurd (loads p (subst (λ (m : Names). FailedAt r m p) (one_name r n ends.0 told.are_names ends.1) ends.2.0))
+  completes_of n x i (said (NotYetRead p) lined ends status_is line) told fits reads loads out errors =
+      let refusal : read_inputs x ≡ Err p = subst (λ (t : Texts). read_inputs t ≡ Err p) (same_texts r n x told ends.0 ends.2 ends.1 ends.3.1) ends.4 in cc
+  completes_of n x i (said WriteFault lined ends status_is line) told fits reads loads out errors = elim lined [ ]
+  completes_of n x i (said NoMemory lined ends status_is line) told fits reads loads out errors = elim lined [ ]
+  completes_of n x i (cut stop ends (inl fault)) told fits reads loads out errors = absurd (errors fault.1)
+  completes_of n x i (cut stop ends (inr spent_)) told fits reads loads out errors = inr spent_
+  completes_of n x i (unwritten ends status_is) told fits reads loads out errors = absurd (out ends.3.4)
+  completes_of n x i (spent status_is) told fits reads loads out errors = inr status_is
+
+  -- all of them
+  pub causes_of : IsEnded r err s → Causes r err s
+  causes_of ended =
+      let one = one_end r err s ended.0 ended.1 ended.2 in
+      record {
+        words = words_of one;
+        no_names = no_names_of one;
+        refused = refused_of one;
+        not_read = λ n x part. not_read_of n x part one;
+        too_large = λ n x. too_large_of n x one;
+        read_fault = read_fault_of one;
+        failed_load = λ n part. failed_load_of n part one;
+        write_fault = write_fault_of one;
+        no_budget = no_budget_of one;
+        completes = λ n x i. completes_of n x i one;
+      }

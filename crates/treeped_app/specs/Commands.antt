@@ -1,0 +1,95 @@
+-- What the command answers, and why.
+--     Headline run s             a report is whole and right
+--     Causes run s               each answer comes where its cause stands, and only there
+use Rattle.std.specs.Prelude.{◌≡◌, ◌≢◌, ◌≤◌, ◌⊎◌, ℕ, List, [], ◌∷◌, ◌++◌, length, Option, Some, None, Result, Ok, Err}
+use Rattle.tp_io.specs.Sinks.{Adds, AddsPrefix, Rose}
+use Rattle.treeped_app.specs.declared.status.Status.{Status}
+use Rattle.treeped_app.specs.declared.status.Status.TheVariants as status
+use Rattle.tp_io.specs.declared.files.TheConstants.{MOST_BYTES}
+use Rattle.treeped_app.specs.declared.stops.Part.{Part}
+use Rattle.treeped_app.specs.declared.stops.Stop.{Stop}
+use Rattle.treeped_app.specs.declared.stops.Stop.TheVariants.{Words, TooLarge, ReadFault, NotYetRead, WriteFault, NoMemory}
+use Rattle.treeped_app.specs.Stops.{line_of, status_of_stop}
+use Rattle.treeped_app.specs.Words.{Names, command}
+use Rattle.treeped_app.specs.Runs.{Put, Run, Ends, Texts, Inputs, read_inputs, loads_before, name_of, failed}
+
+-- a status that comes with a report
+abbrev pub Reports : Status → Type 0
+Reports s = (s ≡ status.Complete) ⊎ (s ≡ status.Unused)
+
+-- The words are three names, all three files are read, and the report is whole: it has one right answer for each item of the
+-- sheet, in their order, and the status that these answers give.
+abbrev pub Headline : Run → Status → Type 0
+Headline r s = Reports s → Ends r (Ok s)
+
+-- the line of this stop is said as far as it goes
+abbrev pub SaysLast : Stop → Option (List ℕ) → Option (List ℕ) → Status → Type 0
+SaysLast stop held held' s = (s ≡ status_of_stop stop) × AddsPrefix held held' (line_of stop)
+
+-- the line of a stop is cut short, and that of another one is said as far as it goes
+abbrev pub IsCutShort : Stop → Stop → Put → Status → Type 0
+IsCutShort stop last err s = (between : Option (List ℕ)) × AddsPrefix err.held between (line_of stop) × SaysLast last between err.held' s
+
+-- the line is said whole; or it is cut short, by a fault of the sink or for want of memory
+abbrev pub Says : Stop → Put → Status → Type 0
+Says stop err s =
+    ((s ≡ status_of_stop stop) × Adds err.held err.held' (line_of stop))
+    ⊎ (Rose err.faults err.faults' × IsCutShort stop WriteFault err s)
+    ⊎ IsCutShort stop NoMemory err s
+
+-- what is said where there is no report; the last two lines are said as far as they go
+abbrev pub Tells : Stop → Put → Status → Type 0
+Tells Words err s = Says Words err s
+Tells (TooLarge part) err s = Says (TooLarge part) err s
+Tells (ReadFault part) err s = Says (ReadFault part) err s
+Tells (NotYetRead part) err s = Says (NotYetRead part) err s
+Tells WriteFault err s = SaysLast WriteFault err.held err.held' s
+Tells NoMemory err s = SaysLast NoMemory err.held err.held' s
+
+-- what standard error gets: nothing beside a report, else the line that says why there is none
+abbrev pub IsTold : Result Status Stop → Put → Status → Type 0
+IsTold (Ok end) err s = (s ≡ end) × (err.held' ≡ err.held)
+IsTold (Err stop) err s = Tells stop err s
+
+-- the run comes to an end that has its cause, and the status and standard error follow from it
+abbrev pub IsEnded : Run → Put → Status → Type 0
+IsEnded r err s = (end : Result Status Stop) × Ends r end × IsTold end err s
+
+-- standard error failed as a line had to be said, or there was no memory
+abbrev pub Fails : Put → Status → Type 0
+Fails err s = ((s ≡ status.WriteFault) × Rose err.faults err.faults') ⊎ (s ≡ status.NoMemory)
+
+-- a stop of status `Refused`
+abbrev pub IsRefusal : Stop → Type 0
+IsRefusal stop = status_of_stop stop ≡ status.Refused
+
+-- the last load of the run was that of a part, and failed
+abbrev pub FailedAt : Run → Names → Part → Type 0
+FailedAt r n part = r.loads' ≡ r.loads ++ loads_before part n ++ failed (name_of part n) ∷ []
+
+-- the three names hold these texts, which is told of each
+pub record AreTold (r : Run) (n : Names) (x : Texts) : Type 0 where
+  pub are_names : command r.words ≡ Some n
+  pub page : r.told n.page ≡ Some x.page
+  pub sheet : r.told n.sheet ≡ Some x.sheet
+  pub script : r.told n.script ≡ Some x.script
+
+-- none is past the limit
+pub record Fit (x : Texts) : Type 0 where
+  pub page : length x.page ≤ MOST_BYTES
+  pub sheet : length x.sheet ≤ MOST_BYTES
+  pub script : length x.script ≤ MOST_BYTES
+
+-- Each answer comes only where its cause stands, and where a cause stands no other answer comes.
+pub record Causes (r : Run) (err : Put) (s : Status) : Type 0 where
+  pub words : s ≡ status.Words → command r.words ≡ None
+  pub no_names : command r.words ≡ None → (s ≡ status.Words) ⊎ Fails err s
+  pub refused : s ≡ status.Refused → (stop : Stop) × IsRefusal stop × Ends r (Err stop) × Adds err.held err.held' (line_of stop)
+  pub not_read : (n : Names) (x : Texts) (part : Part) → AreTold r n x → Fit x → read_inputs x ≡ Err part → (s ≡ status.Refused) ⊎ (s ≡ status.ReadFault) ⊎ Fails err s
+  pub too_large : (n : Names) (x : Texts) → AreTold r n x → (Fit x → ⊥) → (s ≡ status.Refused) ⊎ (s ≡ status.ReadFault) ⊎ Fails err s
+  pub read_fault : s ≡ status.ReadFault → (n : Names) × (part : Part) × (command r.words ≡ Some n) × FailedAt r n part × Adds err.held err.held' (line_of (ReadFault part))
+  pub failed_load : (n : Names) (part : Part) → FailedAt r n part → (s ≡ status.ReadFault) ⊎ Fails err s
+  pub write_fault : s ≡ status.WriteFault → Rose r.out.faults r.out.faults' ⊎ Rose err.faults err.faults'
+  pub no_budget : s ≢ status.Budget
+  pub completes : (n : Names) (x : Texts) (i : Inputs) → AreTold r n x → Fit x → read_inputs x ≡ Ok i → ((part : Part) → FailedAt r n part → ⊥) → (Rose r.out.faults r.out.faults' → ⊥) → (Rose err.faults err.faults' → ⊥)
+      → Reports s ⊎ (s ≡ status.NoMemory)

@@ -1,0 +1,187 @@
+-- What a run of the command comes to, and why.
+--     read_inputs texts          what reading the three texts gives
+--     Loaded ..                  what loading the three files comes to
+--     Ends ..                    what the run comes to: a report, or why there is none
+use Rattle.std.specs.Prelude.{◌≡◌, ◌⊎◌, ℕ, ◌<◌, ◌≤◌, Bool, true, false, if◌then◌else◌, List, [], ◌∷◌, ◌++◌, length, take, Option, Some, None, IfSome, Result, Ok, Err}
+use Rattle.std.specs.List.{list_any}
+use Rattle.tp_base.specs.Names.{Named}
+use Rattle.tp_io.specs.Files.{Load}
+use Rattle.tp_io.specs.Sinks.{Adds, AddsPrefix, Rose}
+use Rattle.tp_io.specs.declared.files.TheConstants.{MOST_BYTES}
+use Rattle.tree_sem.specs.Trees.{LabelTree}
+use Rattle.treeped_app.specs.declared.status.Status.{Status}
+use Rattle.treeped_app.specs.declared.status.Status.TheVariants as status
+use Rattle.treeped_app.specs.declared.stops.Part.{Part}
+use Rattle.treeped_app.specs.declared.stops.Part.TheVariants.{Page, Sheet, Script}
+use Rattle.treeped_app.specs.declared.stops.Stop.{Stop}
+use Rattle.treeped_app.specs.declared.stops.Stop.TheVariants.{Words, TooLarge, ReadFault, NotYetRead, WriteFault, NoMemory}
+use Rattle.treeped_app.specs.declared.form_fault.FormFault.{FormFault}
+use Rattle.treeped_app.specs.declared.form_fault.FormFault.TheVariants as form
+use Rattle.treeped_app.specs.Forms.{Outcome, ◌>>=◌}
+use Rattle.treeped_app.specs.Words.{Names, command}
+use Rattle.treeped_app.specs.Statements.{Statement}
+use Rattle.treeped_app.specs.Pages.{read_page}
+use Rattle.treeped_app.specs.Sheets.{Item, read_sheet}
+use Rattle.treeped_app.specs.Scripts.{read_script}
+use Rattle.treeped_app.specs.Answers.{Answer, used, unused, AreRight}
+use Rattle.treeped_app.specs.Report.{report}
+
+-- the texts of the three files
+pub record Texts : Type 0 where
+  pub page : List ℕ
+  pub sheet : List ℕ
+  pub script : List ℕ
+
+-- what is read: the page's tree, the sheet's items, the script's statements, and all names
+pub record Inputs : Type 0 where
+  pub tree : LabelTree
+  pub items : List Item
+  pub stmts : List Statement
+  pub names : List Named
+
+-- what was read of a text, or that this one is refused
+abbrev pub of_part : {A : Type 0} → Part → Outcome A → Result A Part
+of_part part (Ok x) = Ok x
+of_part part (Err e) = Err part
+
+-- the page, the sheet and the script are read in this order, with one list of names
+unfoldable pub read_inputs : Texts → Result Inputs Part
+read_inputs x = do
+  p ← of_part Page (read_page x.page [])
+  s ← of_part Sheet (read_sheet x.sheet p.1)
+  j ← of_part Script (read_script x.script)
+  Ok (record { tree = p.0; items = s.items; stmts = j; names = s.names })
+
+-- what was read of a text, or why the run stops at it
+abbrev pub stopped_at : {T : Type 0} → Part → Result T FormFault → Result T Stop
+stopped_at part (Ok x) = Ok x
+stopped_at part (Err form.NotYetRead) = Err (NotYetRead part)
+stopped_at part (Err form.Memory) = Err NoMemory
+
+-- The bytes that each name holds, where they are told.
+abbrev pub Told : Type 0
+Told = List ℕ → Option (List ℕ)
+
+-- a name holds this text, is within the limit on bytes, or is past it, where its bytes are told
+abbrev pub Holds : Told → List ℕ → List ℕ → Type 0
+Holds told name text = IfSome (told name) (λ bytes. text ≡ bytes)
+
+abbrev pub Fits : Told → List ℕ → Type 0
+Fits told name = IfSome (told name) (λ bytes. length bytes ≤ MOST_BYTES)
+
+abbrev pub Exceeds : Told → List ℕ → Type 0
+Exceeds told name = IfSome (told name) (λ bytes. MOST_BYTES < length bytes)
+
+-- the three names hold these texts, none of which is past the limit
+pub record AreTexts (told : Told) (n : Names) (x : Texts) : Type 0 where
+  pub page : Holds told n.page x.page
+  pub sheet : Holds told n.sheet x.sheet
+  pub script : Holds told n.script x.script
+  pub page_fits : length x.page ≤ MOST_BYTES
+  pub sheet_fits : length x.sheet ≤ MOST_BYTES
+  pub script_fits : length x.script ≤ MOST_BYTES
+
+abbrev pub name_of : Part → Names → List ℕ
+name_of Page n = n.page
+name_of Sheet n = n.sheet
+name_of Script n = n.script
+
+-- a load of this name
+abbrev pub succeeded : List ℕ → Load
+succeeded name = record { name = name; failed = false }
+
+abbrev pub failed : List ℕ → Load
+failed name = record { name = name; failed = true }
+
+-- the loads before that of a part, none of which failed
+abbrev pub loads_before : Part → Names → List Load
+loads_before Page n = []
+loads_before Sheet n = succeeded n.page ∷ []
+loads_before Script n = succeeded n.page ∷ succeeded n.sheet ∷ []
+
+abbrev pub all_loads : Names → List Load
+all_loads n = succeeded n.page ∷ succeeded n.sheet ∷ succeeded n.script ∷ []
+
+-- the files before a part are within the limit
+abbrev pub FitBefore : Told → Names → Part → Type 0
+FitBefore told n Page = Unit {0}
+FitBefore told n Sheet = Fits told n.page
+FitBefore told n Script = Fits told n.page × Fits told n.sheet
+
+-- What loading one file comes to, with the list of loads before and after.
+abbrev pub OneLoaded : Told → List ℕ → Part → List Load → List Load → Result (List ℕ) Stop → Type 0
+OneLoaded told name part before after (Ok text) = (after ≡ before ++ succeeded name ∷ []) × Holds told name text × (length text ≤ MOST_BYTES)
+OneLoaded told name part before after (Err (TooLarge p)) = (p ≡ part) × (after ≡ before ++ succeeded name ∷ []) × Exceeds told name
+OneLoaded told name part before after (Err (ReadFault p)) = (p ≡ part) × (after ≡ before ++ failed name ∷ [])
+OneLoaded told name part before after (Err NoMemory) = after ≡ before
+OneLoaded told name part before after (Err e) = ⊥
+
+-- The same for all three, in their order, up to the first that is refused.
+abbrev pub Loaded : Told → Names → List Load → List Load → Result Texts Stop → Type 0
+Loaded told n before after (Ok x) = (after ≡ before ++ all_loads n) × AreTexts told n x
+Loaded told n before after (Err (TooLarge part)) = (after ≡ before ++ loads_before part n ++ succeeded (name_of part n) ∷ []) × FitBefore told n part × Exceeds told (name_of part n)
+Loaded told n before after (Err (ReadFault part)) = (after ≡ before ++ loads_before part n ++ failed (name_of part n) ∷ []) × FitBefore told n part
+Loaded told n before after (Err NoMemory) = (count : ℕ) × (after ≡ before ++ take count (all_loads n))
+Loaded told n before after (Err e) = ⊥
+
+abbrev pub is_unused : Answer → Bool
+is_unused (used steps at) = false
+is_unused unused = true
+
+abbrev pub status_of : List Answer → Status
+status_of answers = if list_any is_unused answers then status.Unused else status.Complete
+
+-- a right answer for each item, and the report on them
+pub record IsJudged (x : Texts) (i : Inputs) (answers : List Answer) (text : List ℕ) : Type 0 where
+  pub right : AreRight i.tree i.stmts i.items answers
+  pub text_is : text ≡ report x.sheet i.names i.stmts i.items answers
+
+-- what a sink held, and the count of its faults, before and after
+pub record Put : Type 0 where
+  pub held : Option (List ℕ)
+  pub held' : Option (List ℕ)
+  pub faults : ℕ
+  pub faults' : ℕ
+
+abbrev pub put_of : Option (List ℕ) → Option (List ℕ) → ℕ → ℕ → Put
+put_of held held' faults faults' = record { held = held; held' = held'; faults = faults; faults' = faults' }
+
+-- what judging and writing the report come to
+abbrev pub Written : Texts → Inputs → Put → Result Status Stop → Type 0
+Written x i out (Ok s) = (answers : List Answer) × (text : List ℕ) × IsJudged x i answers text × Adds out.held out.held' text × (s ≡ status_of answers)
+Written x i out (Err WriteFault) = (answers : List Answer) × (text : List ℕ) × IsJudged x i answers text × AddsPrefix out.held out.held' text × Rose out.faults out.faults'
+Written x i out (Err NoMemory) = (out.held' ≡ out.held) ⊎ ((answers : List Answer) × (text : List ℕ) × IsJudged x i answers text × AddsPrefix out.held out.held' text)
+Written x i out (Err e) = ⊥
+
+-- What is seen of a run: the bytes that are told of the names' files, the words, the loads before and after, and the sink of
+-- the report.
+pub record Run : Type 0 where
+  pub told : Told
+  pub words : List (List ℕ)
+  pub loads : List Load
+  pub loads' : List Load
+  pub out : Put
+
+abbrev pub run_of : Told → List (List ℕ) → List Load → List Load → Put → Run
+run_of told words loads loads' out = record { told = told; words = words; loads = loads; loads' = loads'; out = out }
+
+-- all three files were loaded and read
+pub record IsAccepted (r : Run) (x : Texts) (i : Inputs) : Type 0 where
+  pub names : Names
+  pub are_names : command r.words ≡ Some names
+  pub loaded : r.loads' ≡ r.loads ++ all_loads names
+  pub texts : AreTexts r.told names x
+  pub read : read_inputs x ≡ Ok i
+
+-- What a run comes to: a report with its status, or why there is none, or none whole.
+abbrev pub Ends : Run → Result Status Stop → Type 0
+Ends r (Ok s) = (x : Texts) × (i : Inputs) × IsAccepted r x i × Written x i r.out (Ok s)
+Ends r (Err Words) = (command r.words ≡ None) × (r.loads' ≡ r.loads) × (r.out.held' ≡ r.out.held)
+Ends r (Err (TooLarge part)) = (n : Names) × (command r.words ≡ Some n) × Loaded r.told n r.loads r.loads' (Err (TooLarge part)) × (r.out.held' ≡ r.out.held)
+Ends r (Err (ReadFault part)) = (n : Names) × (command r.words ≡ Some n) × Loaded r.told n r.loads r.loads' (Err (ReadFault part)) × (r.out.held' ≡ r.out.held)
+Ends r (Err (NotYetRead part)) = (n : Names) × (command r.words ≡ Some n) × (x : Texts) × Loaded r.told n r.loads r.loads' (Ok x) × (read_inputs x ≡ Err part) × (r.out.held' ≡ r.out.held)
+Ends r (Err WriteFault) = (x : Texts) × (i : Inputs) × IsAccepted r x i × Written x i r.out (Err WriteFault)
+Ends r (Err NoMemory) =
+    ((n : Names) × (command r.words ≡ Some n) × Loaded r.told n r.loads r.loads' (Err NoMemory) × (r.out.held' ≡ r.out.held))
+    ⊎ ((n : Names) × (command r.words ≡ Some n) × (x : Texts) × Loaded r.told n r.loads r.loads' (Ok x) × (r.out.held' ≡ r.out.held))
+    ⊎ ((x : Texts) × (i : Inputs) × IsAccepted r x i × Written x i r.out (Err NoMemory))

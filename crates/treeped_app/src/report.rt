@@ -1,0 +1,233 @@
+//! The text of a report, written to a sink item by item.
+ghost use Rattle.std.specs.Prelude.{◌≡◌, ◌≤◌, ◌++◌, [], ◌∷◌, length, map, OnOk, OnErr, IfOk, codes};
+ghost use Rattle.std.specs.Fmt.{decimal};
+ghost use Rattle.std.specs.List.{flat_map};
+ghost use Rattle.tp_io.specs.Sinks.{Adds, AddsPrefix, Rose};
+ghost use Rattle.treeped_app.specs.Report as spec;
+ghost use Rattle.treeped_app.specs.Selectors.{simple};
+ghost use Rattle.treeped_app.specs.Views.{answer_of, item_of};
+
+use crate::answers::Answer;
+use crate::cursor::Cursor;
+use crate::sheets::{Item, Sheet};
+use std::alloc::Global;
+use tp_base::{AtomKind, AtomTable, NoMemory, Path, Place};
+use tp_io::{Sink, SinkFault, put_all};
+
+/// Why a report isn't written whole.
+#[derive(Clone, Copy, Debug, PartialEq, Eq)]
+pub(crate) enum ReportFault {
+    Write,
+    Memory,
+}
+
+impl From<SinkFault> for ReportFault {
+    ghost use Rattle.std.specs.Prelude.{◌≡◌};
+    ghost use Rattle.treeped_app.specs.Faults.{report_fault_of};
+
+    ghost from_gives = { λ e f. f ≡ report_fault_of e };
+
+    fn from(error: SinkFault) -> ReportFault {
+        match error {
+            SinkFault::Failed => ReportFault::Write,
+            SinkFault::Memory => ReportFault::Memory,
+        }
+    }
+}
+
+impl From<NoMemory> for ReportFault {
+    ghost use Rattle.std.specs.Prelude.{◌≡◌};
+    ghost use Rattle.treeped_app.specs.declared.report.ReportFault.TheVariants.{Memory};
+
+    ghost from_gives = { λ _ e. e ≡ Memory };
+
+    fn from(_error: NoMemory) -> ReportFault {
+        ReportFault::Memory
+    }
+}
+
+/// Writes the report on a sheet with an answer for each item: its first line is one piece on the sink, and then the lines of
+/// each item. Linear in the text and in what is written.
+pub(crate) fn write_report<O: Sink>(
+    alloc: Global,
+    sheet: &Sheet,
+    text: &[u8],
+    atoms: &AtomTable,
+    answers: &[Answer],
+    out: &mut O,
+) -> Result<(), ReportFault>
+    requires in_limit { length text.now ≤ 16777216 }
+    requires answered { length answers.now ≡ length sheet.now.items.items }
+    ensures ok { OnOk result (Adds (O.written out.old) (O.written out.new)
+        (spec.report text.now atoms.now [] (map item_of sheet.now.items.items) (map answer_of answers.now))) }
+    ensures err { OnErr result (AddsPrefix (O.written out.old) (O.written out.new)
+        (spec.report text.now atoms.now [] (map item_of sheet.now.items.items) (map answer_of answers.now))) }
+    ensures write { result ≡ Err ReportFault.Write → Rose (O.faults out.old) (O.faults out.new) }
+{
+    put_all(out, b"treeped 1\n")?;
+    write_items(alloc, sheet, text, atoms, answers, out)
+}
+
+/// Writes the lines of all items.
+fn write_items<O: Sink>(
+    alloc: Global,
+    sheet: &Sheet,
+    text: &[u8],
+    atoms: &AtomTable,
+    answers: &[Answer],
+    out: &mut O,
+) -> Result<(), ReportFault>
+    requires in_limit { length text.now ≤ 16777216 }
+    requires answered { length answers.now ≡ length sheet.now.items.items }
+    ensures ok { OnOk result (Adds (O.written out.old) (O.written out.new)
+        (spec.lines text.now atoms.now [] (map item_of sheet.now.items.items) (map answer_of answers.now))) }
+    ensures err { OnErr result (AddsPrefix (O.written out.old) (O.written out.new)
+        (spec.lines text.now atoms.now [] (map item_of sheet.now.items.items) (map answer_of answers.now))) }
+    ensures write { result ≡ Err ReportFault.Write → Rose (O.faults out.old) (O.faults out.new) }
+{
+    let mut cursor = Cursor::new();
+    'items: for i in 0..answers.len() {
+        let item = &sheet.items[i];
+        let place = cursor.place_at(text, item.from);
+        write_item(alloc, place, atoms, item, &answers[i], out)?;
+    }
+    Ok(())
+}
+
+/// Writes the lines of one item at a place.
+fn write_item<O: Sink>(
+    alloc: Global,
+    place: Place,
+    atoms: &AtomTable,
+    item: &Item,
+    answer: &Answer,
+    out: &mut O,
+) -> Result<(), ReportFault>
+    ensures ok { OnOk result (Adds (O.written out.old) (O.written out.new)
+        (spec.answer_text [] (spec.place_text place.line place.column) (spec.selector_text atoms.now (item_of item.now).selector) (answer_of answer.now))) }
+    ensures err { OnErr result (AddsPrefix (O.written out.old) (O.written out.new)
+        (spec.answer_text [] (spec.place_text place.line place.column) (spec.selector_text atoms.now (item_of item.now).selector) (answer_of answer.now))) }
+    ensures write { result ≡ Err ReportFault.Write → Rose (O.faults out.old) (O.faults out.new) }
+    ensures never_falls { O.faults out.old ≤ O.faults out.new }
+{
+    let piece = item_piece(alloc, place, atoms, item, answer)?;
+    put_all(out, &piece.bytes)?;
+    Ok(())
+}
+
+/// The lines of one item.
+fn item_piece(
+    alloc: Global,
+    place: Place,
+    atoms: &AtomTable,
+    item: &Item,
+    answer: &Answer,
+) -> Result<Piece, NoMemory>
+    ensures { IfOk result (λ p. p.bytes.items ≡ spec.answer_text [] (spec.place_text place.line place.column)
+        (spec.selector_text atoms.now (simple (item.now.class ∷ []))) (answer_of answer.now)) }
+{
+    let mut piece = Piece {
+        bytes: Vec::new(alloc),
+    };
+    piece.place(place)?;
+    piece.answer(atoms, item, answer)?;
+    Ok(piece)
+}
+
+/// Bytes of the report.
+#[derive(Drop)]
+struct Piece {
+    bytes: Vec<u8>,
+}
+
+impl Piece {
+    /// What follows the place in the lines of one item.
+    #[tactic(auto, unfolding(crate::specs::Report::answer_text), using(crate::proofs::ReportLemmas::nothing_more))]
+    fn answer(&mut self, atoms: &AtomTable, item: &Item, answer: &Answer) -> Result<(), NoMemory>
+        ensures { OnOk result (self.new.bytes.items ≡ spec.answer_text [] self.old.bytes.items
+            (spec.selector_text atoms.now (simple (item.now.class ∷ []))) (answer_of answer.now)) }
+    {
+        match answer {
+            Answer::Used(at) => {
+                self.text(b" used ")?;
+                self.number(0)?;
+                self.text(b" ")?;
+                self.class(atoms, item)?;
+                self.text(b"\n")?;
+                self.text(b"  match ")?;
+                self.path(at)?;
+                self.text(b"\n")
+            }
+            Answer::Unused => {
+                self.text(b" unused ")?;
+                self.class(atoms, item)?;
+                self.text(b"\n")
+            }
+        }
+    }
+
+    fn text(&mut self, text: &[u8]) -> Result<(), NoMemory>
+        ensures { OnOk result (self.new.bytes.items ≡ self.old.bytes.items ++ text.now) }
+    {
+        self.bytes.extend_from_slice(text)?;
+        Ok(())
+    }
+
+    fn number(&mut self, number: u32) -> Result<(), NoMemory>
+        ensures { OnOk result (self.new.bytes.items ≡ self.old.bytes.items ++ decimal number) }
+    {
+        let digits = number.to_string(*self.bytes.allocator())?;
+        self.text(digits.as_bytes())
+    }
+
+    /// `line:column`.
+    #[tactic(auto, unfolding(crate::specs::Report::place_text), using(std::proofs::Common::append_assoc))]
+    fn place(&mut self, place: Place) -> Result<(), NoMemory>
+        ensures { OnOk result (self.new.bytes.items ≡ self.old.bytes.items ++ spec.place_text place.line place.column) }
+    {
+        self.number(place.line)?;
+        self.text(b":")?;
+        self.number(place.column)
+    }
+
+    /// `/` for the root, else `/` before each child number.
+    #[tactic(auto, using(crate::proofs::ReportLemmas::root_text, crate::proofs::ReportLemmas::below_root_text))]
+    fn path(&mut self, at: &Path) -> Result<(), NoMemory>
+        ensures { OnOk result (self.new.bytes.items ≡ self.old.bytes.items ++ spec.path_text at.now) }
+    {
+        if at.len() == 0 {
+            self.text(b"/")
+        } else {
+            self.steps(at)
+        }
+    }
+
+    #[tactic(auto, using(crate::proofs::ReportLemmas::one_step_more))]
+    fn steps(&mut self, at: &Path) -> Result<(), NoMemory>
+        ensures { OnOk result (self.new.bytes.items ≡ self.old.bytes.items ++ flat_map (λ n. codes "/" ++ decimal n) at.now) }
+    {
+        for i in 0..at.len() {
+            self.text(b"/")?;
+            self.number(at.at(i))?;
+        }
+        Ok(())
+    }
+
+    /// The selector of one class.
+    #[tactic(auto, unfolding(crate::specs::Report::selector_text))]
+    fn class(&mut self, atoms: &AtomTable, item: &Item) -> Result<(), NoMemory>
+        ensures { OnOk result (self.new.bytes.items ≡ self.old.bytes.items ++ spec.selector_text atoms.now (simple (item.now.class ∷ []))) }
+    {
+        match atoms.name_of(item.class) {
+            None => Ok(()),
+            Some((kind, name)) => {
+                match kind {
+                    AtomKind::Class => self.text(b".")?,
+                    AtomKind::Ident => self.text(b"#")?,
+                    _ => {}
+                }
+                self.text(name)
+            }
+        }
+    }
+}

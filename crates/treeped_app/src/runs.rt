@@ -1,0 +1,110 @@
+//! The command itself.
+ghost use Rattle.std.specs.Prelude.{◌≡◌, ◌≤◌, map, string_bytes, vec_len};
+ghost use Rattle.std.specs.List.{list_any};
+ghost use Rattle.treeped_app.specs.Runs as spec;
+ghost use Rattle.treeped_app.specs.Runs.{Ends, Written, put_of, run_of};
+ghost use Rattle.treeped_app.specs.Inputs.{inputs_of, texts_of};
+ghost use Rattle.treeped_app.specs.Commands.{Headline, IsEnded, Causes};
+ghost use Rattle.treeped_app.specs.Views.{answer_of};
+
+use crate::answers::Answer;
+use crate::inputs::{Inputs, Texts, load_all, read_all};
+use crate::judging::judge;
+use crate::report::write_report;
+use crate::status::Status;
+use crate::stops::{Stop, tell};
+use crate::words::read_words;
+use std::alloc::Global;
+use tp_io::{Files, Sink};
+
+/// Runs the command with the words after the program's name. It loads and reads the page, the sheet and the script that they
+/// name, judges the sheet's selectors and writes the report to `out`; where there is none, or none whole, it says why on `err`.
+pub fn treeped<F: Files, O: Sink, E: Sink>(
+    alloc: Global,
+    words: &[String],
+    files: &mut F,
+    out: &mut O,
+    err: &mut E,
+) -> Status
+    ensures headline { let run = run_of (F.told files.old) (map string_bytes words.now) (F.loads files.old) (F.loads files.new)
+        (put_of (O.written out.old) (O.written out.new) (O.faults out.old) (O.faults out.new))
+        in Headline run result }
+    ensures ended { let run = run_of (F.told files.old) (map string_bytes words.now) (F.loads files.old) (F.loads files.new)
+        (put_of (O.written out.old) (O.written out.new) (O.faults out.old) (O.faults out.new))
+        in
+        let said = put_of (E.written err.old) (E.written err.new) (E.faults err.old) (E.faults err.new)
+        in IsEnded run said result }
+    ensures causes { let run = run_of (F.told files.old) (map string_bytes words.now) (F.loads files.old) (F.loads files.new)
+        (put_of (O.written out.old) (O.written out.new) (O.faults out.old) (O.faults out.new))
+        in
+        let said = put_of (E.written err.old) (E.written err.new) (E.faults err.old) (E.faults err.new)
+        in Causes run said result }
+{
+    match run(alloc, words, files, out) {
+        Ok(status) => status,
+        Err(stop) => tell(stop, err),
+    }
+}
+
+/// Loads and reads the three files, judges the selectors and writes the report.
+fn run<F: Files, O: Sink>(
+    alloc: Global,
+    words: &[String],
+    files: &mut F,
+    out: &mut O,
+) -> Result<Status, Stop>
+    ensures { Ends (run_of (F.told files.old) (map string_bytes words.now) (F.loads files.old) (F.loads files.new)
+        (put_of (O.written out.old) (O.written out.new) (O.faults out.old) (O.faults out.new))) result }
+{
+    let names = read_words(words).ok_or(Stop::Words)?;
+    let texts = load_all(alloc, &names, files)?;
+    let inputs = read_all(alloc, &texts)?;
+    report(alloc, &texts, &inputs, out)
+}
+
+/// Judges the selectors and writes the report.
+fn report<O: Sink>(
+    alloc: Global,
+    texts: &Texts,
+    inputs: &Inputs,
+    out: &mut O,
+) -> Result<Status, Stop>
+    requires { vec_len texts.now.sheet ≤ 16777216 }
+    ensures { Written (texts_of texts.now) (inputs_of inputs.now)
+        (put_of (O.written out.old) (O.written out.new) (O.faults out.old) (O.faults out.new)) result }
+{
+    let answers = judge(alloc, &inputs.page, &inputs.sheet)?;
+    write_report(
+        alloc,
+        &inputs.sheet,
+        &texts.sheet,
+        &inputs.atoms,
+        &answers,
+        out,
+    )?;
+    Ok(status_of(&answers))
+}
+
+/// The status of a report with these answers.
+#[tactic(auto, using(crate::proofs::JudgingLemmas::any_seen))]
+fn status_of(answers: &[Answer]) -> Status
+    ensures { result ≡ spec.status_of (map answer_of answers.now) }
+{
+    if any_unused(answers) {
+        Status::Unused
+    } else {
+        Status::Complete
+    }
+}
+
+fn any_unused(answers: &[Answer]) -> bool
+    ensures { result ≡ list_any (λ a. spec.is_unused (answer_of a)) answers.now }
+{
+    answers.iter().any(|a| is_unused(a))
+}
+
+fn is_unused(answer: &Answer) -> bool
+    ensures { result ≡ spec.is_unused (answer_of answer.now) }
+{
+    matches!(answer, Answer::Unused)
+}

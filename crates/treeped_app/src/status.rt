@@ -1,0 +1,42 @@
+//! How a run ends.
+ghost use Rattle.std.specs.Prelude.{◌≡◌};
+ghost use Rattle.treeped_app.specs.Stops as spec;
+
+/// How a run ended.
+#[derive(Clone, Copy, Debug, PartialEq, Eq)]
+pub enum Status {
+    /// The report is written, and no line is `unused`.
+    Complete,
+    /// The report is written, and a line is `unused`.
+    Unused,
+    /// The words aren't of the grammar.
+    Words,
+    /// A file is refused.
+    Refused,
+    /// A file couldn't be loaded.
+    ReadFault,
+    /// Standard output or standard error took no more.
+    WriteFault,
+    /// No memory was to be had.
+    NoMemory,
+    /// The report is written, and a budget was exceeded.
+    Budget,
+}
+
+impl Status {
+    /// The number that the process ends with.
+    pub fn code(self) -> u8
+        ensures { result ≡ spec.code_of self }
+    {
+        match self {
+            Status::Complete => 0,
+            Status::Unused => 1,
+            Status::Words => 2,
+            Status::Refused => 3,
+            Status::ReadFault => 4,
+            Status::WriteFault => 5,
+            Status::NoMemory => 6,
+            Status::Budget => 7,
+        }
+    }
+}

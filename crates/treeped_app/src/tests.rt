@@ -1,0 +1,245 @@
+//! Whole runs over files and sinks in memory.
+use crate::treeped;
+use std::alloc::{AllocError, Global};
+use std::process::Abort;
+use std::test::Fail;
+use tp_io::{MemFiles, MemSink};
+
+/// Words, texts and faults of a run, and what comes of it.
+#[derive(Clone, Copy)]
+struct Case {
+    words: &'static [&'static str],
+    texts: [&'static str; 3],
+    loads: &'static [u64],
+    puts: &'static [u64],
+    most: usize,
+    errors: &'static [u64],
+    status: u8,
+    out: &'static str,
+    err: &'static str,
+}
+
+const NAMES: [&str; 3] = ["page", "sheet", "script"];
+
+/// A page whose element has the sheet's class.
+const OWN: [&str; 3] = ["<p class=\"a\"></p>", ".a{}", ""];
+
+const OWN_REPORT: &str = "treeped 1\n1:1 used 0 .a\n  match /1/0\n";
+
+const USAGE: &str = "usage: treeped PAGE SHEET SCRIPT\n";
+
+/// The run that reports on the page with its own class.
+const PLAIN: Case = Case {
+    words: &NAMES,
+    texts: OWN,
+    loads: &[],
+    puts: &[],
+    most: 100,
+    errors: &[],
+    status: 0,
+    out: OWN_REPORT,
+    err: "",
+};
+
+/// A run whose page, sheet or script isn't of a form that is read.
+const NO_PAGE: Case = Case {
+    status: 3,
+    out: "",
+    err: "treeped: page: not yet read\n",
+    ..PLAIN
+};
+
+const NO_SHEET: Case = Case {
+    err: "treeped: sheet: not yet read\n",
+    ..NO_PAGE
+};
+
+const CASES: [Case; 26] = [
+    PLAIN,
+    Case { most: 1, ..PLAIN },
+    Case {
+        words: &["a", "b"],
+        status: 2,
+        out: "",
+        err: USAGE,
+        ..PLAIN
+    },
+    Case {
+        words: &["page", "-x", "script"],
+        status: 2,
+        out: "",
+        err: USAGE,
+        ..PLAIN
+    },
+    Case {
+        words: &["page", "-", "script"],
+        status: 4,
+        out: "",
+        err: "treeped: sheet: read fault\n",
+        ..PLAIN
+    },
+    Case {
+        loads: &[1],
+        status: 4,
+        out: "",
+        err: "treeped: page: read fault\n",
+        ..PLAIN
+    },
+    Case {
+        loads: &[2],
+        status: 4,
+        out: "",
+        err: "treeped: sheet: read fault\n",
+        ..PLAIN
+    },
+    Case {
+        loads: &[3],
+        status: 4,
+        out: "",
+        err: "treeped: script: read fault\n",
+        ..PLAIN
+    },
+    Case {
+        most: 0,
+        status: 5,
+        out: "",
+        err: "treeped: write fault\n",
+        ..PLAIN
+    },
+    Case {
+        puts: &[1],
+        status: 5,
+        out: "",
+        err: "treeped: write fault\n",
+        ..PLAIN
+    },
+    Case {
+        puts: &[2],
+        status: 5,
+        out: "treeped 1\n",
+        err: "treeped: write fault\n",
+        ..PLAIN
+    },
+    Case {
+        puts: &[2],
+        errors: &[1],
+        status: 5,
+        out: "treeped 1\n",
+        err: "",
+        ..PLAIN
+    },
+    Case {
+        loads: &[3],
+        errors: &[1],
+        status: 5,
+        out: "",
+        err: "treeped: write fault\n",
+        ..PLAIN
+    },
+    Case {
+        loads: &[3],
+        errors: &[1, 2],
+        status: 5,
+        out: "",
+        err: "",
+        ..PLAIN
+    },
+    Case {
+        texts: ["<p></p>", "", ""],
+        out: "treeped 1\n",
+        ..PLAIN
+    },
+    Case {
+        texts: ["", " .a{}\n.b{}\n", "\n"],
+        status: 1,
+        out: "treeped 1\n1:2 unused .a\n2:1 unused .b\n",
+        ..PLAIN
+    },
+    Case {
+        texts: [
+            "x<div class=\"a b\"><span>y</span><p class=\" c\tb \">z</p></div><p class=\"c\"></p>",
+            ".c{} .b{}.d{} .c{}",
+            " ",
+        ],
+        status: 1,
+        out: "treeped 1\n1:1 used 0 .c\n  match /1/0/1\n1:6 used 0 .b\n  match /1/0\n1:10 unused .d\n1:15 used 0 .c\n  match /1/0/1\n",
+        ..PLAIN
+    },
+    Case {
+        texts: ["<b></b>", ".a{}", ""],
+        ..NO_PAGE
+    },
+    Case {
+        texts: ["<p>", ".a{}", ""],
+        ..NO_PAGE
+    },
+    Case {
+        texts: ["<p><span><div></div></span></p>", ".a{}", ""],
+        ..NO_PAGE
+    },
+    Case {
+        texts: ["<div></span>", ".a{}", ""],
+        ..NO_PAGE
+    },
+    Case {
+        texts: ["<p class='a'></p>", ".a{}", ""],
+        ..NO_PAGE
+    },
+    Case {
+        texts: ["", "p{}", ""],
+        ..NO_SHEET
+    },
+    Case {
+        texts: ["", ".1{}", ""],
+        ..NO_SHEET
+    },
+    Case {
+        texts: ["", ".a {}", ""],
+        ..NO_SHEET
+    },
+    Case {
+        texts: ["", "", "x"],
+        err: "treeped: script: not yet read\n",
+        ..NO_PAGE
+    },
+];
+
+fn strings(alloc: Global, texts: &[&str]) -> Result<Vec<String>, AllocError> {
+    let mut strings = Vec::new(alloc);
+    for text in texts {
+        strings.push(String::from_str(alloc, text)?)?;
+    }
+    Ok(strings)
+}
+
+fn files(alloc: Global, case: &Case) -> Result<MemFiles, AllocError> {
+    let mut entries = Vec::new(alloc);
+    for (name, text) in NAMES.iter().zip(&case.texts) {
+        entries.push((
+            String::from_str(alloc, name)?,
+            Vec::from_slice(alloc, text.as_bytes())?,
+        ))?;
+    }
+    Ok(MemFiles::new(alloc, entries, Vec::from_slice(alloc, case.loads)?))
+}
+
+fn run(rt: &impl Abort, alloc: Global, case: &Case) -> Result<(), AllocError> {
+    let words = strings(alloc, case.words)?;
+    let mut files = files(alloc, case)?;
+    let mut out = MemSink::new(alloc, Vec::from_slice(alloc, case.puts)?, case.most);
+    let mut err = MemSink::new(alloc, Vec::from_slice(alloc, case.errors)?, 100);
+    let status = treeped(alloc, &words, &mut files, &mut out, &mut err);
+    assert!(rt; status.code() == case.status, "status {status:?}");
+    assert!(rt; out.bytes() == case.out.as_bytes());
+    assert!(rt; err.bytes() == case.err.as_bytes());
+    Ok(())
+}
+
+#[test]
+fn runs_in_memory(rt: HostRuntime) -> Result<(), Fail> {
+    let alloc = rt.alloc();
+    for case in &CASES {
+        run(&rt, alloc, case)?;
+    }
+    Ok(())
+}
