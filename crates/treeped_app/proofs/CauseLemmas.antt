@@ -13,10 +13,9 @@ use Rattle.treeped_app.specs.declared.stops.Part.TheVariants.{Page, Sheet, Scrip
 use Rattle.treeped_app.specs.declared.stops.Stop.{Stop}
 use Rattle.treeped_app.specs.declared.stops.Stop.TheVariants.{Words, TooLarge, ReadFault, NotYetRead, WriteFault, NoMemory}
 use Rattle.treeped_app.specs.Words.{Names, command}
-use Rattle.treeped_app.specs.Answers.{Answer}
 use Rattle.treeped_app.specs.Stops.{line_of, status_of_stop}
-use Rattle.treeped_app.specs.Runs.{Told, Put, Run, Ends, Loaded, Texts, Inputs, AreTexts, IsAccepted, Holds, Exceeds, read_inputs, loads_before, all_loads, name_of, succeeded, failed, status_of, is_unused}
-use Rattle.treeped_app.specs.Commands.{Reports, Says, Tells, IsTold, IsEnded, Fails, IsRefusal, FailedAt, AreTold, Fit, Causes}
+use Rattle.treeped_app.specs.Runs.{Put, Run, Ends, Texts, Inputs, AreTexts, IsAccepted, Exceeds, read_inputs, loads_before, all_loads, name_of, succeeded, failed, is_unused}
+use Rattle.treeped_app.specs.Commands.{Reports, Says, IsTold, IsEnded, Fails, IsRefusal, FailedAt, AreTold, Fit, Causes}
 
 -- the stops whose line is said whole or not at all
 abbrev IsLined : Stop → Type 0

@@ -1,10 +1,8 @@
 -- Reading classes, as a loop does.
-use Rattle.std.proofs.Common.{◌≡◌, ℕ, zero, suc, ◌+◌, ◌-◌, ◌<◌, Bool, true, false, List, [], ◌∷◌, length, drop, Result, Ok, Err, refl, sym, ap, ◌∙◌, arith}
-use Rattle.std.specs.List.{prefix_len}
+use Rattle.std.proofs.Common.{◌≡◌, ℕ, zero, suc, ◌+◌, ◌-◌, true, false, List, [], ◌∷◌, length, drop, Ok, Err, refl, arith}
 use Rattle.tp_base.specs.Names.{Named}
 use Rattle.treeped_app.specs.Bytes.{is_blank}
 use Rattle.treeped_app.specs.declared.form_fault.FormFault.{FormFault}
-use Rattle.treeped_app.specs.Forms.{Outcome, ◌>>=◌}
 use Rattle.treeped_app.specs.Pages.{classes_from, class_front, class_len}
 
 skips : (n : ℕ) (label bs : List ℕ) (names : List Named) → classes_from n label bs names ≡ classes_from 0 label (drop n bs) names

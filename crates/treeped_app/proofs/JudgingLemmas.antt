@@ -1,5 +1,5 @@
 -- Facts on the first node with an atom, and on right answers.
-use Rattle.std.proofs.Common.{◌≡◌, ℕ, zero, suc, ◌+◌, ◌<◌, Bool, true, false, ◌||◌, cond, eqb, List, [], ◌∷◌, ◌++◌, length, get_or, map, take, Option, Some, None, IsSome, IsSomeAnd, All, Contains, option_map, unwrap_or, slice_get, refl, sym, ap, ◌∙◌, subst, arith}
+use Rattle.std.proofs.Common.{◌≡◌, ℕ, zero, suc, ◌+◌, ◌<◌, Bool, true, false, ◌||◌, cond, eqb, List, [], ◌∷◌, ◌++◌, length, get_or, map, take, Option, Some, None, IsSome, IsSomeAnd, All, Contains, option_map, unwrap_or, slice_get, refl, ap, ◌∙◌, arith}
 use Rattle.std.specs.List.{find, list_any}
 use Rattle.std.specs.Option.{option_or}
 use Rattle.std.proofs.lemmas.List.{take_more, map-append}
@@ -9,17 +9,16 @@ use Rattle.tp_base.specs.Classes.{has_class}
 use Rattle.tp_base.proofs.ClassLemmas.{has_class-Contains, Contains-has_class}
 use Rattle.tree_sem.specs.Trees.{LabelTree, node_at, label_at}
 use Rattle.tree_sem.specs.Order.{paths_of}
-use Rattle.tree_sem.specs.declared.actions.Step.{Step}
 use Rattle.tree_sem.proofs.NodeLemmas.{Contains-paths_of}
 use Rattle.treeped_app.specs.Selectors.{Fits, Matches, simple}
 use Rattle.treeped_app.specs.Statements.{Statement}
 use Rattle.treeped_app.specs.Reachability.{Reaches, AreLegal, end_of}
 use Rattle.treeped_app.specs.Sheets.{Item}
-use Rattle.treeped_app.specs.Answers.{Answer, used, unused, IsRight, AreRight}
+use Rattle.treeped_app.specs.Answers.{Answer, IsRight, AreRight}
 use Rattle.treeped_app.specs.Views.{item_of, answer_of}
 use Rattle.treeped_app.specs.declared.sheets.Item as code
 use Rattle.treeped_app.specs.declared.answers.Answer as code_answer
-use Rattle.treeped_app.specs.Judging.{has_at, first_with, first_answer, noted, noted_at}
+use Rattle.treeped_app.specs.Judging.{has_at, first_with, first_answer, noted}
 
 option_or-assoc : {T : Type 0} (o p q : Option T) → option_or (option_or o p) q ≡ option_or o (option_or p q)
 option_or-assoc None p q = refl

@@ -2,12 +2,11 @@
 use Rattle.std.proofs.Common.{◌≡◌, ℕ, ◌≤◌, List, [], ◌∷◌, ◌++◌, Option, Some, None, IfSome, Result, Ok, Err, refl, sym, ap, ◌∙◌, subst, append_assoc}
 use Rattle.tp_io.specs.Files.{Load}
 use Rattle.tp_io.specs.declared.files.TheConstants.{MOST_BYTES}
-use Rattle.treeped_app.specs.declared.stops.Part.{Part}
 use Rattle.treeped_app.specs.declared.stops.Part.TheVariants.{Page, Sheet, Script}
 use Rattle.treeped_app.specs.declared.stops.Stop.{Stop}
 use Rattle.treeped_app.specs.declared.stops.Stop.TheVariants.{Words, TooLarge, ReadFault, NotYetRead, WriteFault, NoMemory}
 use Rattle.treeped_app.specs.Words.{Names}
-use Rattle.treeped_app.specs.Runs.{Told, Holds, Fits, succeeded, failed, loads_before, name_of, OneLoaded, Loaded}
+use Rattle.treeped_app.specs.Runs.{Told, Holds, Fits, succeeded, failed, loads_before, OneLoaded, Loaded}
 
 fits : (told : Told) (name text : List ℕ) → Holds told name text → Rattle.std.proofs.Common.length text ≤ MOST_BYTES → Fits told name
 fits told name text holds within = elim (told name) as (λ o. IfSome o (λ bytes. text ≡ bytes) → IfSome o (λ bytes. Rattle.std.proofs.Common.length bytes ≤ MOST_BYTES)) [

@@ -1,5 +1,5 @@
 -- Reading tags, as a loop does.
-use Rattle.std.proofs.Common.{◌≡◌, ℕ, zero, suc, Bool, true, false, eqb, eq-eqb, List, [], ◌∷◌, length, drop, Result, Ok, Err, refl, arith}
+use Rattle.std.proofs.Common.{◌≡◌, ℕ, zero, suc, true, false, eqb, List, [], ◌∷◌, length, drop, Ok, Err, refl, arith}
 use Rattle.treeped_app.specs.Bytes.{is_ascii}
 use Rattle.treeped_app.specs.declared.form_fault.FormFault.{FormFault}
 use Rattle.treeped_app.specs.declared.form_fault.FormFault.TheVariants.{NotYetRead}

@@ -1,5 +1,5 @@
 -- Where the current element of a page is.
-use Rattle.std.proofs.Common.{◌≡◌, ℕ, zero, suc, ◌-◌, List, [], ◌∷◌, ◌++◌, length, take, Option, Some, None, IsSome, IfSome, option_map, option_and_then, unwrap_or, refl, arith}
+use Rattle.std.proofs.Common.{◌≡◌, ℕ, zero, suc, List, [], ◌∷◌, ◌++◌, take, Option, Some, None, IsSome, IfSome, option_map, option_and_then, unwrap_or, refl}
 use Rattle.tree_sem.specs.Trees.{Row, no_nodes, node, LabelTree, tree_of, length_of, push_tree, edit_tree, node_at, edit_at, add_child, leaf}
 use Rattle.treeped_app.specs.Pages.{children_at}
 

@@ -1,5 +1,5 @@
 -- Pieces of the report's text.
-use Rattle.std.proofs.Common.{◌≡◌, ℕ, zero, suc, ◌+◌, ◌<◌, List, [], ◌∷◌, ◌++◌, length, get_or, map, take, Result, Ok, Err, OnOk, OnErr, Option, None, Some, slice_get, codes, refl, sym, ap, ◌∙◌, append_assoc, append-nil, arith, min, inl, inr}
+use Rattle.std.proofs.Common.{◌≡◌, ℕ, zero, suc, ◌+◌, ◌<◌, List, [], ◌∷◌, ◌++◌, length, get_or, map, take, Result, Ok, Err, OnOk, OnErr, Option, Some, slice_get, codes, refl, sym, ap, ◌∙◌, append_assoc, append-nil, arith, min, inl, inr}
 use Rattle.std.proofs.lemmas.Bool.{cases_lt}
 use Rattle.std.specs.List.{flat_map}
 use Rattle.std.specs.Fmt.{decimal}

@@ -1,5 +1,5 @@
 -- Small pages, read by the definitions.
-use Rattle.std.proofs.Common.{◌≡◌, List, [], ◌∷◌, codes, refl, Result, Ok, Err}
+use Rattle.std.proofs.Common.{◌≡◌, [], ◌∷◌, codes, refl, Ok, Err}
 use Rattle.tp_base.specs.Names.{with_name, place_in}
 use Rattle.tp_base.specs.declared.atoms.AtomKind.TheVariants as kind
 use Rattle.tree_sem.specs.Trees.{node, no_nodes}

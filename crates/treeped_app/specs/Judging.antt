@@ -1,5 +1,5 @@
 -- The first node of a page that has an atom.
-use Rattle.std.specs.Prelude.{ℕ, Bool, true, false, if◌then◌else◌, List, [], Option, Some, None, option_map, unwrap_or}
+use Rattle.std.specs.Prelude.{ℕ, Bool, false, if◌then◌else◌, List, [], Option, Some, None, option_map, unwrap_or}
 use Rattle.std.specs.List.{find}
 use Rattle.tp_base.specs.Classes.{has_class}
 use Rattle.tree_sem.specs.Trees.{LabelTree, label_at}

@@ -1,17 +1,17 @@
 -- Pages that are read: texts, and tags of `div`, `span` and `p` with at most a class attribute.
-use Rattle.std.specs.Prelude.{ℕ, zero, suc, ◌+◌, ◌-◌, ◌==◌, ◌&&◌, ◌||◌, not, nat_eq, nat_lt, nat_le, Bool, true, false, if◌then◌else◌, List, [], ◌∷◌, ◌++◌, length, take, drop, codes, slice_get, Option, Some, None, option_map, option_and_then, unwrap_or, Result, Ok, Err}
-use Rattle.std.specs.List.{starts_with, prefix_len, list_any}
+use Rattle.std.specs.Prelude.{ℕ, zero, suc, ◌-◌, ◌==◌, ◌&&◌, ◌||◌, not, nat_lt, Bool, if◌then◌else◌, List, [], ◌∷◌, ◌++◌, length, take, codes, slice_get, Option, Some, None, option_map, unwrap_or, Ok, Err}
+use Rattle.std.specs.List.{prefix_len, list_any}
 use denote.Enum.Bare.{sameb}
 use Rattle.tp_base.specs.Names.{Named, with_name}
 use Rattle.tp_base.specs.Classes.{with_class}
 use Rattle.tp_base.specs.declared.atoms.AtomKind.TheVariants as kind
-use Rattle.tree_sem.specs.Trees.{LabelTree, node, no_nodes, node_at, edit_at, add_child, length_of, count_of, leaf}
+use Rattle.tree_sem.specs.Trees.{LabelTree, node, no_nodes, node_at, edit_at, add_child, length_of, count_of}
 use Rattle.treeped_app.specs.Bytes.{is_blank, is_ascii, behind_mark}
 use Rattle.treeped_app.specs.Tags.{Tag, opens, closes, name_of, tag_front}
 use Rattle.treeped_app.specs.Forms.{Outcome, ◌>>=◌, wanted}
 use Rattle.treeped_app.specs.contracts.tags.Element.{the_type}
 use Rattle.treeped_app.specs.declared.tags.Element.{Element}
-use Rattle.treeped_app.specs.declared.tags.Element.TheVariants.{Div, Span, P}
+use Rattle.treeped_app.specs.declared.tags.Element.TheVariants.{Span, P}
 use Rattle.treeped_app.specs.declared.form_fault.FormFault.TheVariants.{NotYetRead}
 use Rattle.treeped_app.specs.declared.pages.TheConstants.{MOST_DEPTH, MOST_PAGE_NODES}
 

@@ -2,7 +2,7 @@
 --     IsLegal t stmts step       the step's statement selects the step's node
 --     end_of t stmts steps       the tree after the steps
 --     Reaches t stmts s          after some legal steps a node matches the selector
-use Rattle.std.specs.Prelude.{◌≡◌, ◌≢◌, ℕ, List, [], ◌∷◌, Option, Some, None, IsSomeAnd, slice_get}
+use Rattle.std.specs.Prelude.{◌≢◌, ℕ, List, [], ◌∷◌, Option, Some, None, IsSomeAnd, slice_get}
 use Rattle.tree_sem.specs.Trees.{LabelTree}
 use Rattle.tree_sem.specs.Actions.{act}
 use Rattle.tree_sem.specs.declared.actions.Step.{Step}

@@ -4,9 +4,7 @@ use Rattle.std.specs.List.{flat_map}
 use Rattle.std.specs.Fmt.{decimal}
 use Rattle.tp_base.specs.Names.{Named}
 use Rattle.tp_base.specs.Places.{line_of, column_of}
-use Rattle.tp_base.specs.declared.atoms.AtomKind.{AtomKind}
 use Rattle.tp_base.specs.declared.atoms.AtomKind.TheVariants as kind
-use Rattle.tp_base.specs.declared.places.Place.{Place}
 use Rattle.tree_sem.specs.declared.actions.Step.{Step}
 use Rattle.treeped_app.specs.Selectors.{Join, child, inside, Outer, Selector}
 use Rattle.treeped_app.specs.Statements.{Statement}

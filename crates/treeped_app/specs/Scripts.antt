@@ -1,5 +1,5 @@
 -- Scripts that are read: white space.
-use Rattle.std.specs.Prelude.{ℕ, if◌then◌else◌, List, [], Result, Ok, Err}
+use Rattle.std.specs.Prelude.{ℕ, if◌then◌else◌, List, [], Ok, Err}
 use Rattle.std.specs.List.{list_all}
 use Rattle.treeped_app.specs.Bytes.{is_blank, behind_mark}
 use Rattle.treeped_app.specs.Forms.{Outcome}

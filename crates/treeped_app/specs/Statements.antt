@@ -1,7 +1,7 @@
 -- What a statement of a script says, and the nodes that it selects.
 --     In t this chain v          v is in the set of the chain, with the node `this`
 --     Selected t stmt v          the statement selects v
-use Rattle.std.specs.Prelude.{◌≡◌, ◌⊎◌, ℕ, ◌<◌, List, [], ◌∷◌, ◌++◌, length, take, Option, Some, None, IsSome, IfSome, IsSomeAnd, Contains}
+use Rattle.std.specs.Prelude.{◌≡◌, ◌⊎◌, ℕ, ◌<◌, List, [], ◌∷◌, ◌++◌, length, take, Option, Some, None, IsSome}
 use Rattle.tp_base.specs.declared.places.Place.{Place}
 use Rattle.tree_sem.specs.Trees.{LabelTree, node_at}
 use Rattle.tree_sem.specs.declared.actions.Action.{Action}

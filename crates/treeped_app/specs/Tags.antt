@@ -1,5 +1,5 @@
 -- Tags of a page that are read: of `div`, `span` and `p`, with at most a class attribute.
-use Rattle.std.specs.Prelude.{ℕ, ◌+◌, ◌==◌, ◌&&◌, not, nat_eq, Bool, if◌then◌else◌, List, [], length, take, drop, codes, Option, Some, None, option_map, option_and_then}
+use Rattle.std.specs.Prelude.{ℕ, ◌+◌, ◌==◌, ◌&&◌, not, nat_eq, Bool, if◌then◌else◌, List, [], take, drop, codes, Option, Some, None, option_map, option_and_then}
 use Rattle.std.specs.List.{starts_with, prefix_len}
 use Rattle.treeped_app.specs.Bytes.{is_ascii}
 use Rattle.treeped_app.specs.declared.tags.Element.{Element}

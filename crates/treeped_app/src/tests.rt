@@ -54,7 +54,7 @@ const NO_SHEET: Case = Case {
     ..NO_PAGE
 };
 
-const CASES: [Case; 26] = [
+static CASES: [Case; 26] = [
     PLAIN,
     Case { most: 1, ..PLAIN },
     Case {

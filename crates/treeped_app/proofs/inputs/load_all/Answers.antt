@@ -1,6 +1,5 @@
 use Rattle.std.proofs.lemmas.Result.{err_from_is_err_and}
 use Rattle.treeped_app.specs.Views.{names_of}
-use Rattle.treeped_app.specs.Runs.{Loaded}
 use Rattle.treeped_app.proofs.LoadingLemmas.{script_stops_after}
 use Rattle.treeped_app.proofs.inputs.load_all.Goals as goal
 

@@ -1,5 +1,3 @@
-use Rattle.std.proofs.Common.{Ok, Err}
-use Rattle.tp_io.proofs.SinkLemmas.{adds_prefix_more}
 use Rattle.treeped_app.specs.Report.{first_line}
 use Rattle.treeped_app.proofs.ReportLemmas.{lines_of, front_of_front, on_err, err_after}
 use Rattle.treeped_app.proofs.report.write_report.Goals as goal

@@ -1,4 +1,3 @@
-use Rattle.treeped_app.specs.Stops.{line_of}
 use Rattle.treeped_app.proofs.ReportLemmas.{either_way}
 use Rattle.treeped_app.proofs.stops.say_last.Goals as goal
 

@@ -1,4 +1,4 @@
-use Rattle.std.proofs.Common.{◌≤◌, ◌+◌, ◌-◌}
+use Rattle.std.proofs.Common.{◌≤◌, ◌-◌}
 use Rattle.treeped_app.specs.Cursor.{IsAt}
 use Rattle.treeped_app.proofs.cursor.Cursor.go_on.Given as goal
 
