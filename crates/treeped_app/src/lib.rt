@@ -23,4 +23,6 @@ pub use status::Status;
 pub use stops::{Part, Stop};
 
 #[cfg(test)]
+mod sure_runs;
+#[cfg(test)]
 mod tests;

@@ -1,9 +1,10 @@
 //! Whole runs over files and sinks in memory.
+use crate::sure_runs::sure_run;
 use crate::treeped;
 use std::alloc::{AllocError, Global};
 use std::process::Abort;
 use std::test::Fail;
-use tp_io::{MemFiles, MemSink};
+use tp_io::{MemFiles, MemSink, SureFiles, SureSink};
 
 /// Words, texts and faults of a run, and what comes of it.
 #[derive(Clone, Copy)]
@@ -212,20 +213,24 @@ fn strings(alloc: Global, texts: &[&str]) -> Result<Vec<String>, AllocError> {
     Ok(strings)
 }
 
-fn files(alloc: Global, case: &Case) -> Result<MemFiles, AllocError> {
+fn entries(alloc: Global, texts: &[&str]) -> Result<Vec<(String, Vec<u8>)>, AllocError> {
     let mut entries = Vec::new(alloc);
-    for (name, text) in NAMES.iter().zip(&case.texts) {
+    for (name, text) in NAMES.iter().zip(texts) {
         entries.push((
             String::from_str(alloc, name)?,
             Vec::from_slice(alloc, text.as_bytes())?,
         ))?;
     }
-    Ok(MemFiles::new(alloc, entries, Vec::from_slice(alloc, case.loads)?))
+    Ok(entries)
 }
 
 fn run(rt: &impl Abort, alloc: Global, case: &Case) -> Result<(), AllocError> {
     let words = strings(alloc, case.words)?;
-    let mut files = files(alloc, case)?;
+    let mut files = MemFiles::new(
+        alloc,
+        entries(alloc, &case.texts)?,
+        Vec::from_slice(alloc, case.loads)?,
+    );
     let mut out = MemSink::new(alloc, Vec::from_slice(alloc, case.puts)?, case.most);
     let mut err = MemSink::new(alloc, Vec::from_slice(alloc, case.errors)?, 100);
     let status = treeped(alloc, &words, &mut files, &mut out, &mut err);
@@ -241,5 +246,19 @@ fn runs_in_memory(rt: HostRuntime) -> Result<(), Fail> {
     for case in &CASES {
         run(&rt, alloc, case)?;
     }
+    Ok(())
+}
+
+#[test]
+fn runs_where_nothing_fails(rt: HostRuntime) -> Result<(), Fail> {
+    let alloc = rt.alloc();
+    let words = strings(alloc, &NAMES)?;
+    let mut files = SureFiles::new(alloc, entries(alloc, &OWN)?);
+    let mut out = SureSink::new(alloc);
+    let mut err = SureSink::new(alloc);
+    let status = sure_run(alloc, &words, &mut files, &mut out, &mut err);
+    assert!(rt; status.code() == 0, "status {status:?}");
+    assert!(rt; out.bytes() == OWN_REPORT.as_bytes());
+    assert!(rt; err.bytes().is_empty());
     Ok(())
 }
