@@ -1,0 +1,6 @@
+pub mod TextsLemmas
+pub mod TokensLemmas
+pub mod Utf8Lemmas
+pub mod OwnBytes
+pub mod Spelling
+mod Rows

@@ -1,0 +1,16 @@
+//! The tokens of a script file: names, numbers, strings with their escapes decoded, and marks.
+#![tactic(auto)]
+
+mod bytes;
+mod comments;
+mod escapes;
+mod marks;
+mod scanner;
+mod texts;
+mod token;
+
+pub use scanner::scan;
+pub use token::{Letters, ScanFault, Token, TokenKind};
+
+#[cfg(test)]
+mod tests;
