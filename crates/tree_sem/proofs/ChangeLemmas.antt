@@ -1,9 +1,8 @@
 -- What a write to the table does to the tree.
 use Rattle.std.proofs.Common.{◌≡◌, ℕ, ◌<◌, List, length, Some, sym, ap, ◌∙◌, arith}
-use Rattle.tp_base.specs.Classes.{with_class}
 use Rattle.tree_sem.specs.declared.slots.Slot.{Slot}
 use Rattle.tree_sem.specs.declared.tree_fault.TheConstants.{MOST_NODES}
-use Rattle.tree_sem.specs.Trees.{leaf, edit_at, add_class, add_child, push_tree, count_of}
+use Rattle.tree_sem.specs.Trees.{LabelTree, leaf, edit_at, add_child, push_tree, count_of}
 use Rattle.tree_sem.specs.Arena.{place_from, IsArena}
 use Rattle.tree_sem.specs.Table.{kids_in, label_in, tree_in, IsTable, IsRelabelled, IsGrown}
 use Rattle.tree_sem.proofs.ArenaLemmas.{IsChangedAt, unrolled, edited, below_changed, row_by-push}
@@ -12,8 +11,11 @@ use Rattle.tree_sem.proofs.CountLemmas.{count_of-edit_at, nodes_of-push_tree}
 use Rattle.tree_sem.proofs.TableLemmas.{node_there}
 
 -- one label changed
-module _ (old new : List Slot) (place a : ℕ) (table : IsTable old) (here : place < length old)
-    (change : IsRelabelled old new place (with_class a (label_in old place))) where
+abbrev relabelled_by : (List ℕ → List ℕ) → LabelTree → LabelTree
+relabelled_by relabel t = record t { label = relabel t.label }
+
+module _ (old new : List Slot) (place : ℕ) (relabel : List ℕ → List ℕ) (table : IsTable old) (here : place < length old)
+    (change : IsRelabelled old new place (relabel (label_in old place))) where
   same_kids : kids_in new ≡ kids_in old
   same_kids = λ x i. change.children i x
 
@@ -30,21 +32,21 @@ module _ (old new : List Slot) (place a : ℕ) (table : IsTable old) (here : pla
     children = λ i within other. change.children i;
   }
 
-  at_place : tree_in new place ≡ add_class a (tree_in old place)
+  at_place : tree_in new place ≡ relabelled_by relabel (tree_in old place)
   at_place =
       rw (unrolled (label_in new) (kids_in new) (length new) new_arena place (omega (arith, change.count)), unrolled (label_in old) (kids_in old) (length old) table.arena place here, change.changed, change.children place)
-      (ap (λ f. record { label = with_class a (label_in old place); below = f }) (below_changed (length old) (length new) (label_in old) (kids_in old) (label_in new) (kids_in new) place change_at))
+      (ap (λ f. record { label = relabel (label_in old place); below = f }) (below_changed (length old) (length new) (label_in old) (kids_in old) (label_in new) (kids_in new) place change_at))
 
   module _ (p : List ℕ) (at : Some place ≡ place_from (kids_in old) 0 p) where
-    pub relabelled_tree : tree_in new 0 ≡ edit_at p (add_class a) (tree_in old 0)
-    relabelled_tree = edited (length old) (length new) (label_in old) (kids_in old) (label_in new) (kids_in new) place change_at (add_class a) at_place p 0 table.arena.some (sym at)
+    pub relabelled_tree : tree_in new 0 ≡ edit_at p (relabelled_by relabel) (tree_in old 0)
+    relabelled_tree = edited (length old) (length new) (label_in old) (kids_in old) (label_in new) (kids_in new) place change_at (relabelled_by relabel) at_place p 0 table.arena.some (sym at)
 
     pub relabelled_table : IsTable new
     relabelled_table = record {
       arena = new_arena;
       counted =
           let there = node_there old table.arena p place at in
-          let count = count_of-edit_at p (add_class a) (tree_in old 0) (tree_in old place) 0 there (omega arith) in
+          let count = count_of-edit_at p (relabelled_by relabel) (tree_in old 0) (tree_in old place) 0 there (omega arith) in
           let tree = relabelled_tree in
           ap count_of tree ∙ omega (arith, count, table.counted, change.count);
       in_limit = let e = change.count in omega (arith, table.in_limit);

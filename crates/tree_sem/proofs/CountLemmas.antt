@@ -1,6 +1,7 @@
 -- How many nodes a tree has after an edit.
 use Rattle.std.proofs.Common.{◌≡◌, ℕ, zero, suc, ◌+◌, ◌≤◌, List, [], ◌∷◌, length, Some, None, option_and_then, refl, sym, ap, subst, arith}
 use Rattle.tree_sem.specs.Trees.{Row, no_nodes, node, LabelTree, leaf, tree_of, edit_tree, node_at, edit_at, push_tree, nodes_of, count_of, add_class, add_child}
+use Rattle.tree_sem.specs.Actions.{add_classes}
 use Rattle.tree_sem.proofs.EditLemmas.{edit_at-none}
 
 pub nodes_of-push_tree : (f : Row) (t : LabelTree) → nodes_of (push_tree f t) ≡ nodes_of f + count_of t
@@ -28,12 +29,19 @@ count_of-edit_at (k ∷ p) f t s d at more =
           omega (arith, nodes_of-edit_tree (edit_at p f) t.below k u d e inner)
     ] refl at
 
--- a class adds no node, and a child one
+-- classes add no node, and a child one
 pub count_of-add_class : (p : List ℕ) (a : ℕ) (t : LabelTree) → count_of (edit_at p (add_class a) t) ≡ count_of t
 count_of-add_class p a t =
     elim (node_at p t) as (λ o. node_at p t ≡ o → count_of (edit_at p (add_class a) t) ≡ count_of t) [
       | None ↦ λ e. ap count_of (edit_at-none p (add_class a) t e)
       | Some s ↦ λ e. let count = count_of-edit_at p (add_class a) t s 0 e (omega arith) in omega arith
+    ] refl
+
+pub count_of-add_classes : (p classes : List ℕ) (t : LabelTree) → count_of (edit_at p (add_classes classes) t) ≡ count_of t
+count_of-add_classes p classes t =
+    elim (node_at p t) as (λ o. node_at p t ≡ o → count_of (edit_at p (add_classes classes) t) ≡ count_of t) [
+      | None ↦ λ e. ap count_of (edit_at-none p (add_classes classes) t e)
+      | Some s ↦ λ e. let count = count_of-edit_at p (add_classes classes) t s 0 e (omega arith) in omega arith
     ] refl
 
 pub count_of-add_child : (p l : List ℕ) (t s : LabelTree) → node_at p t ≡ Some s → count_of (edit_at p (add_child l) t) ≡ count_of t + 1

@@ -1,11 +1,13 @@
 -- What writes to the list of slots do.
-use Rattle.std.proofs.Common.{◌≡◌, ◌≢◌, ℕ, zero, suc, ◌<◌, List, [], ◌∷◌, ◌++◌, length, set, take, Some, slice_get, refl, sym, ap, ◌∙◌, inl, inr, arith, length-append}
+use Rattle.std.proofs.Common.{◌≡◌, ◌≢◌, ℕ, zero, suc, ◌<◌, ◌≤◌, List, [], ◌∷◌, ◌++◌, length, set, take, Some, slice_get, refl, sym, ap, ◌∙◌, inl, inr, arith, length-append}
 use Rattle.std.proofs.Math.ListN.{length-set}
 use Rattle.std.proofs.lemmas.Bool.{cases_lt, cases_order}
 use Rattle.std.proofs.lemmas.List.{length-take}
 use Rattle.std.proofs.lemmas.Option.{slice_get_past}
 use Rattle.tp_base.proofs.NamesLemmas.{slice_get-append_left, slice_get-push}
 use Rattle.tree_sem.specs.declared.slots.Slot.{Slot}
+use Rattle.tree_sem.specs.declared.tree_fault.TheConstants.{MOST_NODES}
+use Rattle.tree_sem.specs.Trees.{count_of}
 use Rattle.tree_sem.specs.Table.{kids_in, label_in, tree_in, IsTable, IsGrown, IsSame}
 
 pub slice_get-set_same : {X : Type 0} (xs : List X) (j : ℕ) (y : X) → j < length xs → slice_get (set xs j y) j ≡ Some y
@@ -102,3 +104,7 @@ same_tree old new same =
     let kids : kids_in new ≡ kids_in old = λ x i. same.children i x in
     let labels : label_in new ≡ label_in old = λ x i. same.labels i x in
     rw (kids, labels, same.count)
+
+-- a table's tree is within the limit
+pub tree_in_limit : (slots : List Slot) → IsTable slots → count_of (tree_in slots 0) ≤ MOST_NODES
+tree_in_limit slots table = omega (arith, table.counted, table.in_limit)

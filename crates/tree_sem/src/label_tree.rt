@@ -1,9 +1,10 @@
 //! A tree whose nodes have sets of classes as their labels.
-ghost use Rattle.std.specs.Prelude.{◌≡◌, ◌<◌, ◌≤◌, ◌↔◌, not, length, take, Contains, IsTrue, IsNone, IsSome, IfOk, IfSome, OnOk, OnErr, IsErrOf, option_map, option_copied};
-ghost use Rattle.tp_base.specs.Classes.{has_class};
+ghost use Rattle.std.specs.Prelude.{◌≡◌, ◌<◌, ◌≤◌, ◌↔◌, not, length, take, All, Contains, IsTrue, IsNone, IsSome, IfOk, IfSome, OnOk, OnErr, IsErrOf, option_map, option_copied};
+ghost use Rattle.tp_base.specs.Classes.{has_class, all_among};
+ghost use Rattle.tree_sem.specs.Actions.{add_classes};
 ghost use Rattle.tree_sem.specs.Trees.{leaf, count_of, length_of, node_at, label_at, children_at, edit_at, add_class, add_child};
 
-use crate::slots::{Slot, add_to_label, copy_of, place_of, push_child};
+use crate::slots::{Slot, add_to_label, copy_of, place_of, push_child, unite_label};
 use crate::tree_fault::{MOST_NODES, TreeFault};
 use std::alloc::Global;
 use std::marker::Model;
@@ -99,6 +100,24 @@ impl Tree {
         };
         let grew = add_to_label(&mut self.slots, place, atom)?;
         Ok(grew)
+    }
+
+    /// Adds the classes of a set to the label of the node at the path, all or none of them, and says whether
+    /// any was new there. Linear in the path's length and those of the label and the set.
+    pub fn add_classes(&mut self, at: &Path, classes: &ClassSet) -> Result<bool, TreeFault>
+        ensures ok { OnOk result (self.new ≡ edit_at at.now (add_classes classes.now) self.old) }
+        ensures test { IfOk result (λ grew. IfSome (label_at at.now self.old) (λ l. grew ≡ not (all_among classes.now l))) }
+        ensures grew { IfOk result (λ grew. IfSome (label_at at.now self.old) (λ l. IsTrue grew ↔ ¬ All (Contains l) classes.now)) }
+        ensures no_such_node { IsErrOf result TreeFault.NoSuchNode ↔ IsNone (node_at at.now self.old) }
+        ensures too_many_nodes { IsErrOf result TreeFault.TooManyNodes → ⊥ }
+        ensures in_limit { count_of self.new ≤ MOST_NODES }
+        ensures err { OnErr result (self.new ≡ self.old) }
+    {
+        let Some(place) = place_of(&self.slots, at, at.len()) else {
+            return Err(TreeFault::NoSuchNode);
+        };
+        let any_new = unite_label(&mut self.slots, place, classes)?;
+        Ok(any_new)
     }
 
     /// Gives the node at the path one child more, after those that it has, and returns the child's number

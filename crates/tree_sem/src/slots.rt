@@ -1,6 +1,6 @@
 //! The table in which a tree keeps its nodes.
-ghost use Rattle.std.specs.Prelude.{◌≡◌, ◌<◌, ◌≤◌, ◌↔◌, not, length, take, map, Contains, IsTrue, vec_len, IfOk, IfSome, OnOk, OnErr};
-ghost use Rattle.tp_base.specs.Classes.{has_class, with_class};
+ghost use Rattle.std.specs.Prelude.{◌≡◌, ◌<◌, ◌≤◌, ◌↔◌, not, length, take, map, All, Contains, IsTrue, vec_len, IfOk, IfSome, OnOk, OnErr};
+ghost use Rattle.tp_base.specs.Classes.{has_class, all_among, with_class, union_of};
 ghost use Rattle.tree_sem.specs.Arena.{IsArena, place_from};
 ghost use Rattle.tree_sem.specs.Table.{kids_in, label_in, IsSame, IsRelabelled, IsGrown};
 
@@ -43,6 +43,22 @@ pub fn add_to_label(slots: &mut Vec<Slot>, place: usize, atom: Atom) -> Result<b
 {
     let slot = &mut slots[place];
     slot.label.add(atom)
+}
+
+/// Adds the classes of a set to the label of the node at a place.
+pub fn unite_label(
+    slots: &mut Vec<Slot>,
+    place: usize,
+    classes: &ClassSet,
+) -> Result<bool, NoMemory>
+    requires { place < vec_len slots.old }
+    ensures ok { OnOk result (IsRelabelled slots.old.items slots.new.items place (union_of (label_in slots.old.items place) classes.now)) }
+    ensures test { IfOk result (λ grew. grew ≡ not (all_among classes.now (label_in slots.old.items place))) }
+    ensures grew { IfOk result (λ grew. IsTrue grew ↔ ¬ All (Contains (label_in slots.old.items place)) classes.now) }
+    ensures err { OnErr result (IsSame slots.old.items slots.new.items) }
+{
+    let slot = &mut slots[place];
+    slot.label.union(classes)
 }
 
 /// Puts a node with this label after the others, and makes it the last child of the node at a place.

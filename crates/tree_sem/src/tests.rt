@@ -13,17 +13,22 @@ fn path_of(alloc: Global, steps: &[u32]) -> Result<Path, NoMemory> {
     Ok(at)
 }
 
-// A root with two children, where the first has the class and one child; what each call answered.
-fn build(alloc: Global) -> Result<(Tree, [u32; 3], [bool; 2]), TreeFault> {
+// A root with two children, where the first has two classes and one child; what each call answered.
+fn build(alloc: Global) -> Result<(Tree, [u32; 3], [bool; 4]), TreeFault> {
     let root = Path::root(alloc);
     let first = path_of(alloc, &[0])?;
     let mut tree = Tree::new(alloc, ClassSet::new(alloc))?;
     let outer = tree.add_child(&root, ClassSet::new(alloc))?;
     let new = tree.add_class(&first, CLASS)?;
     let again = tree.add_class(&first, CLASS)?;
+    let mut both = ClassSet::new(alloc);
+    both.add(Atom(8))?;
+    both.add(CLASS)?;
+    let one_new = tree.add_classes(&first, &both)?;
+    let none_new = tree.add_classes(&first, &both)?;
     let next = tree.add_child(&root, ClassSet::new(alloc))?;
     let inner = tree.add_child(&first, ClassSet::new(alloc))?;
-    Ok((tree, [outer, next, inner], [new, again]))
+    Ok((tree, [outer, next, inner], [new, again, one_new, none_new]))
 }
 
 // What `add_child` answers where no node is there, and then at the root; and how many nodes there are after each.
@@ -37,7 +42,9 @@ fn first_child(alloc: Global) -> Result<(Result<u32, TreeFault>, u32, u32, u32),
 
 // How many children are there, and whether the label there and the one of the first `len` numbers have the class.
 fn seen(tree: &Tree, at: &Path, len: usize) -> (Option<u32>, Option<bool>, Option<bool>) {
-    let here = tree.label(at).map(|label| label.has(CLASS));
+    let here = tree
+        .label(at)
+        .map(|label| label.has(CLASS) && label.has(Atom(8)));
     let above = tree.label_above(at, len).map(|label| label.has(CLASS));
     (tree.children(at), here, above)
 }
@@ -83,7 +90,7 @@ fn builds_reads_and_walks_a_tree(rt: HostRuntime) -> Result<(), Fail> {
     assert!(rt; first_child(alloc)? == (Err(TreeFault::NoSuchNode), 1, 0, 2));
     let (tree, numbers, grew) = build(alloc)?;
     assert!(rt; numbers == [0, 1, 0]);
-    assert!(rt; grew == [true, false]);
+    assert!(rt; grew == [true, false, true, false]);
     let copy = tree.copy()?;
     for tree in [&tree, &copy] {
         assert!(rt; reads_well(alloc, tree)?);

@@ -10,9 +10,9 @@ use Rattle.tp_base.proofs.ClassLemmas.{has_class-Contains, Contains-has_class}
 use Rattle.tree_sem.specs.Trees.{LabelTree, node_at, label_at}
 use Rattle.tree_sem.specs.Order.{paths_of}
 use Rattle.tree_sem.proofs.NodeLemmas.{Contains-paths_of}
-use Rattle.treeped_app.specs.Selectors.{Fits, Matches, simple}
-use Rattle.treeped_app.specs.Statements.{Statement}
-use Rattle.treeped_app.specs.Reachability.{Reaches, AreLegal, end_of}
+use Rattle.sel_core.specs.Selectors.{Fits, Matches, simple}
+use Rattle.jq_sem.specs.Statements.{Statement}
+use Rattle.jq_sem.specs.Reachability.{Reaches, AreLegal, end_of}
 use Rattle.treeped_app.specs.Sheets.{Item}
 use Rattle.treeped_app.specs.Answers.{Answer, IsRight, AreRight}
 use Rattle.treeped_app.specs.Views.{item_of, answer_of}

@@ -4,10 +4,10 @@
 use Rattle.std.specs.Prelude.{ℕ, List, [], ◌∷◌}
 use Rattle.tree_sem.specs.Trees.{LabelTree}
 use Rattle.tree_sem.specs.declared.actions.Step.{Step}
-use Rattle.treeped_app.specs.Selectors.{Selector, Matches}
+use Rattle.sel_core.specs.Selectors.{Selector, Matches}
 use Rattle.treeped_app.specs.Sheets.{Item}
-use Rattle.treeped_app.specs.Statements.{Statement}
-use Rattle.treeped_app.specs.Reachability.{end_of, AreLegal, EachChanges, Reaches}
+use Rattle.jq_sem.specs.Statements.{Statement}
+use Rattle.jq_sem.specs.Reachability.{end_of, AreLegal, EachChanges, Reaches}
 
 -- a selector is used, by these steps and at this node, or it is unused
 pub data Answer : Type 0 where

@@ -3,12 +3,9 @@ pub mod Bytes
 pub mod Cursor
 pub mod Forms
 pub mod Pages
-pub mod Reachability
 pub mod Report
 pub mod Scripts
-pub mod Selectors
 pub mod Sheets
-pub mod Statements
 pub mod Tags
 pub mod Views
 pub mod Words

@@ -6,8 +6,8 @@ use Rattle.tp_base.specs.Names.{Named}
 use Rattle.tp_base.specs.Places.{line_of, column_of}
 use Rattle.tp_base.specs.declared.atoms.AtomKind.TheVariants as kind
 use Rattle.tree_sem.specs.declared.actions.Step.{Step}
-use Rattle.treeped_app.specs.Selectors.{Join, child, inside, Outer, Selector}
-use Rattle.treeped_app.specs.Statements.{Statement}
+use Rattle.sel_core.specs.Selectors.{Join, child, inside, Outer, Selector}
+use Rattle.jq_sem.specs.Statements.{Statement}
 use Rattle.treeped_app.specs.Sheets.{Item}
 use Rattle.treeped_app.specs.Answers.{Answer, used, unused}
 

@@ -19,7 +19,7 @@ use Rattle.treeped_app.specs.declared.form_fault.FormFault.{FormFault}
 use Rattle.treeped_app.specs.declared.form_fault.FormFault.TheVariants as form
 use Rattle.treeped_app.specs.Forms.{Outcome, ◌>>=◌}
 use Rattle.treeped_app.specs.Words.{Names, command}
-use Rattle.treeped_app.specs.Statements.{Statement}
+use Rattle.jq_sem.specs.Statements.{Statement}
 use Rattle.treeped_app.specs.Pages.{read_page}
 use Rattle.treeped_app.specs.Sheets.{Item, read_sheet}
 use Rattle.treeped_app.specs.Scripts.{read_script}

@@ -3,7 +3,7 @@ use Rattle.std.specs.Prelude.{ℕ, if◌then◌else◌, List, [], Ok, Err}
 use Rattle.std.specs.List.{list_all}
 use Rattle.treeped_app.specs.Bytes.{is_blank, behind_mark}
 use Rattle.treeped_app.specs.Forms.{Outcome}
-use Rattle.treeped_app.specs.Statements.{Statement}
+use Rattle.jq_sem.specs.Statements.{Statement}
 use Rattle.treeped_app.specs.declared.form_fault.FormFault.TheVariants.{NotYetRead}
 
 -- the statements of a script

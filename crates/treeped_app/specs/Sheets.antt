@@ -6,7 +6,7 @@ use Rattle.tp_base.specs.Names.{Named, with_name}
 use Rattle.tp_base.specs.declared.atoms.AtomKind.TheVariants as kind
 use Rattle.treeped_app.specs.Bytes.{is_blank, behind_mark}
 use Rattle.treeped_app.specs.Forms.{Outcome, ◌>>=◌, wanted}
-use Rattle.treeped_app.specs.Selectors.{Selector, simple}
+use Rattle.sel_core.specs.Selectors.{Selector, simple}
 use Rattle.treeped_app.specs.declared.form_fault.FormFault.TheVariants.{NotYetRead}
 use Rattle.treeped_app.specs.declared.sheets.TheConstants.{MOST_SELECTORS}
 

@@ -10,7 +10,7 @@ use Rattle.treeped_app.specs.declared.answers.Answer.TheVariants.{Used, Unused}
 use Rattle.treeped_app.specs.Answers as answers
 use Rattle.treeped_app.specs.Words as words
 use Rattle.treeped_app.specs.Pages.{Page}
-use Rattle.treeped_app.specs.Selectors.{simple}
+use Rattle.sel_core.specs.Selectors.{simple}
 use Rattle.treeped_app.specs.Sheets as spec
 
 -- a page that is being read, with the names so far

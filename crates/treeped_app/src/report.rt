@@ -4,7 +4,7 @@ ghost use Rattle.std.specs.Fmt.{decimal};
 ghost use Rattle.std.specs.List.{flat_map};
 ghost use Rattle.tp_io.specs.Sinks.{Adds, AddsPrefix, Rose};
 ghost use Rattle.treeped_app.specs.Report as spec;
-ghost use Rattle.treeped_app.specs.Selectors.{simple};
+ghost use Rattle.sel_core.specs.Selectors.{simple};
 ghost use Rattle.treeped_app.specs.Views.{answer_of, item_of};
 
 use crate::answers::Answer;

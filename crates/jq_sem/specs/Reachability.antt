@@ -6,8 +6,8 @@ use Rattle.std.specs.Prelude.{◌≢◌, ℕ, List, [], ◌∷◌, Option, Some,
 use Rattle.tree_sem.specs.Trees.{LabelTree}
 use Rattle.tree_sem.specs.Actions.{act}
 use Rattle.tree_sem.specs.declared.actions.Step.{Step}
-use Rattle.treeped_app.specs.Selectors.{Selector, Matches}
-use Rattle.treeped_app.specs.Statements.{Statement, Selected}
+use Rattle.sel_core.specs.Selectors.{Selector, Matches}
+use Rattle.jq_sem.specs.Statements.{Statement, Selected}
 
 abbrev pub IsLegal : LabelTree → List Statement → Step → Type 0
 IsLegal t stmts step = IsSomeAnd (slice_get stmts step.stmt) (λ s. Selected t s step.at)

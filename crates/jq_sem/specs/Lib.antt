@@ -1,0 +1,3 @@
+pub mod Reachability
+pub mod Statements
+pub mod Views

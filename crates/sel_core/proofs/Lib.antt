@@ -1,0 +1,13 @@
+pub mod FitLemmas
+pub mod Groups
+pub mod PartLemmas
+pub mod WriteLemmas
+pub mod Gaps
+pub mod Rests
+pub mod WordLemmas
+pub mod Fronts
+pub mod Steps
+pub mod Runs
+pub mod Endings
+pub mod Commas
+pub mod ListSteps

@@ -1,0 +1,12 @@
+pub mod Bytes
+pub mod Drafts
+pub mod Faults
+pub mod Grammar
+pub mod Lists
+pub mod Parts
+pub mod Places
+pub mod Reading
+pub mod Results
+pub mod SelectorText
+pub mod Selectors
+pub mod Views

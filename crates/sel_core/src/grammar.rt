@@ -1,0 +1,220 @@
+//! What stands where in a selector's text. `to` is the offset of the text's end.
+ghost use Rattle.std.specs.Prelude.{◌≡◌, ◌≤◌, ◌<◌, length, map, option_map, IfSome, IfOk, IsNone, IsSome};
+ghost use Rattle.std.specs.Char.{to_ascii_lowercase};
+ghost use Rattle.sel_core.specs.Bytes.{IsRest};
+ghost use Rattle.sel_core.specs.Grammar as spec;
+ghost use Rattle.sel_core.specs.Results.{Gives, part_view, join_view};
+
+use crate::bytes::{begins_name, begins_with, behind_gap, is_blank, name_len};
+use crate::faults::{SelFault, Skip};
+use crate::selectors::Join;
+use tp_base::AtomKind;
+
+fn cause_of(at: &[u8]) -> Skip
+    ensures { result ≡ spec.cause_of at.now }
+{
+    match at {
+        [b'+' | b'~', ..] => Skip::Sibling,
+        [b':', ..] => Skip::Pseudo,
+        [b'[', ..] => Skip::Attribute,
+        [b'\\', ..] => Skip::Escape,
+        _ => Skip::Bad,
+    }
+}
+
+/// The fault of a text that leaves the grammar at some bytes; the end's place is before the gap that leads to it.
+#[tactic(auto, unfolding(crate::specs::Grammar::left_at))]
+pub(crate) fn left_at(to: usize, before: &[u8], at: &[u8]) -> SelFault
+    requires before { length before.now ≤ to }
+    requires at { length at.now ≤ to }
+    ensures { result ≡ spec.left_at to before.now at.now }
+{
+    let place = if at.is_empty() {
+        to - before.len()
+    } else {
+        to - at.len()
+    };
+    SelFault::Skipped(cause_of(at), place)
+}
+
+#[tactic(auto, using(crate::proofs::WordLemmas::is_word_by))]
+fn is_word(name: &[u8], word: &[u8]) -> bool
+    ensures { result ≡ spec.is_word name.now (map to_ascii_lowercase word.now) }
+{
+    name.eq_ignore_ascii_case(word)
+}
+
+#[tactic(auto, unfolding(crate::specs::Grammar::is_dropped_element))]
+fn is_dropped_element(name: &[u8]) -> bool
+    ensures { result ≡ spec.is_dropped_element name.now }
+{
+    is_word(name, b"before") || is_word(name, b"after")
+}
+
+#[tactic(auto, unfolding(crate::specs::Grammar::is_dropped_class))]
+fn is_dropped_class(name: &[u8]) -> bool
+    ensures { result ≡ spec.is_dropped_class name.now }
+{
+    is_word(name, b"hover")
+        || is_word(name, b"active")
+        || is_word(name, b"focus")
+        || is_word(name, b"visited")
+        || is_word(name, b"link")
+}
+
+/// A name at the end of a pseudo part, which no `(` follows: the text behind it, where the part is dropped.
+#[tactic(auto, unfolding(crate::specs::Grammar::behind_word), using(crate::proofs::Rests::dropped))]
+fn behind_word(two: bool, text: &[u8]) -> Option<&[u8]>
+    ensures gives { spec.behind_word two text.now ≡ option_map (λ r. r.now) result }
+    ensures rest { IfSome result (λ r. IsRest text.now r.now) }
+{
+    let (name, rest) = text.split_at(name_len(text));
+    let is_dropped = is_dropped_element(name) || !two && is_dropped_class(name);
+    if is_dropped && !begins_with(b'(', behind_gap(false, rest)) {
+        Some(rest)
+    } else {
+        None
+    }
+}
+
+/// Behind the first colon of a pseudo part: the text behind it, where the part is dropped.
+#[tactic(auto, unfolding(crate::specs::Grammar::behind_dropped), using(crate::proofs::Rests::of_rest, crate::proofs::Rests::dropped))]
+fn behind_dropped(text: &[u8]) -> Option<&[u8]>
+    ensures gives { spec.behind_dropped text.now ≡ option_map (λ r. r.now) result }
+    ensures rest { IfSome result (λ r. IsRest text.now r.now) }
+{
+    let at = behind_gap(false, text);
+    match at {
+        [b':', behind @ ..] => behind_word(true, behind_gap(false, at.split_at(1).1)),
+        _ => behind_word(false, at),
+    }
+}
+
+/// A part that may stand anywhere in a compound: the kind of the name that is wanted, if one is, and the text from there on.
+#[tactic(auto, unfolding(crate::specs::Grammar::any_part), using(crate::proofs::Rests::of_rest, crate::proofs::Rests::behind_first))]
+pub(crate) fn any_part(drops: bool, text: &[u8]) -> Option<(Option<AtomKind>, &[u8])>
+    ensures gives { spec.any_part drops text.now ≡ option_map (λ b. (b.0, b.1.now)) result }
+    ensures rest { IfSome result (λ b. IsRest text.now b.1.now) }
+    ensures shorter { IfSome result (λ b. length b.1.now < length text.now) }
+{
+    let (first, behind) = text.split_first()?;
+    match *first {
+        b'.' => Some((Some(AtomKind::Class), behind)),
+        b'#' => Some((Some(AtomKind::Ident), behind)),
+        b':' if drops => Some((None, behind_dropped(behind)?)),
+        _ => None,
+    }
+}
+
+/// A part at the beginning of a compound.
+#[tactic(auto, unfolding(crate::specs::Grammar::first_part), using(crate::proofs::Rests::behind_first, crate::proofs::Rests::itself))]
+pub(crate) fn first_part(drops: bool, text: &[u8]) -> Option<(Option<AtomKind>, &[u8])>
+    ensures gives { spec.first_part drops text.now ≡ option_map (λ b. (b.0, b.1.now)) result }
+    ensures rest { IfSome result (λ b. IsRest text.now b.1.now) }
+    ensures shorter { IfSome result (λ b. IsNone b.0 → length b.1.now < length text.now) }
+{
+    let (first, behind) = text.split_first()?;
+    if *first == b'*' {
+        Some((None, behind))
+    } else if begins_name(text) {
+        Some((Some(AtomKind::Element), text))
+    } else {
+        any_part(drops, text)
+    }
+}
+
+/// A kind and a name as written.
+pub(crate) type Word<'a> = (AtomKind, &'a [u8]);
+
+/// A name, which has to stand behind comments, and the text behind it.
+#[tactic(auto, unfolding(crate::specs::Grammar::name_at), using(crate::proofs::Rests::of_rest, crate::proofs::Rests::dropped))]
+fn name_at(to: usize, kind: AtomKind, text: &[u8]) -> Result<(Option<Word<'_>>, &[u8]), SelFault>
+    requires { length text.now ≤ to }
+    ensures gives { Gives part_view result (spec.name_at to kind text.now) }
+    ensures rest { IfOk result (λ p. IsRest text.now p.1.now) }
+    ensures shorter { IfOk result (λ p. length p.1.now < length text.now) }
+{
+    let at = behind_gap(false, text);
+    let len = name_len(at);
+    if len == 0 {
+        return Err(left_at(to, text, at));
+    }
+    let (name, rest) = at.split_at(len);
+    Ok((Some((kind, name)), rest))
+}
+
+/// The whole of a part that began: its name, if it has one, and the text behind it.
+pub(crate) fn part_of<'a>(
+    to: usize,
+    kind: Option<AtomKind>,
+    text: &'a [u8],
+) -> Result<(Option<Word<'a>>, &'a [u8]), SelFault>
+    requires { length text.now ≤ to }
+    ensures gives { Gives part_view result (spec.part_of to (kind, text.now)) }
+    ensures rest { IfOk result (λ p. IsRest text.now p.1.now) }
+    ensures shorter { IfOk result (λ p. IsSome kind → length p.1.now < length text.now) }
+{
+    match kind {
+        None => Ok((None, text)),
+        Some(kind) => name_at(to, kind, text),
+    }
+}
+
+/// Behind `>`: the next compound.
+#[tactic(auto, unfolding(crate::specs::Grammar::behind_child), using(crate::proofs::WordLemmas::is_empty_by))]
+fn behind_child(to: usize, text: &[u8]) -> Result<(Option<Join>, &[u8]), SelFault>
+    requires { length text.now ≤ to }
+    ensures gives { Gives join_view result (spec.behind_child to text.now) }
+    ensures rest { IfOk result (λ j. IsRest text.now j.1.now) }
+{
+    let at = behind_gap(true, text);
+    if at.is_empty() {
+        return Err(left_at(to, text, at));
+    }
+    Ok((Some(Join::Child), at))
+}
+
+/// Behind white space that follows a compound.
+#[tactic(auto, unfolding(crate::specs::Grammar::behind_space), using(crate::proofs::Rests::of_rest, crate::proofs::Rests::behind_first, crate::proofs::Rests::itself))]
+fn behind_space(to: usize, text: &[u8]) -> Result<(Option<Join>, &[u8]), SelFault>
+    requires { length text.now ≤ to }
+    ensures gives { Gives join_view result (spec.behind_space to text.now) }
+    ensures rest { IfOk result (λ j. IsRest text.now j.1.now) }
+{
+    match text.split_first() {
+        None => Ok((None, text)),
+        Some((b'>', behind)) => behind_child(to, behind),
+        Some(_) => Ok((Some(Join::Inside), text)),
+    }
+}
+
+/// Behind a part and the comments that follow it.
+#[tactic(auto, unfolding(crate::specs::Grammar::behind_near), using(crate::proofs::Rests::of_rest, crate::proofs::Rests::behind_first, crate::proofs::Rests::itself))]
+fn behind_near(to: usize, text: &[u8]) -> Result<(Option<Join>, &[u8]), SelFault>
+    requires { length text.now ≤ to }
+    ensures gives { Gives join_view result (spec.behind_near to text.now) }
+    ensures rest { IfOk result (λ j. IsRest text.now j.1.now) }
+    ensures shorter { IfOk result (λ j. IsSome j.0 → length j.1.now < length text.now) }
+{
+    let Some((first, behind)) = text.split_first() else {
+        return Ok((None, text));
+    };
+    if is_blank(*first) {
+        behind_space(to, behind_gap(true, behind))
+    } else if *first == b'>' {
+        behind_child(to, behind)
+    } else {
+        Ok((None, text))
+    }
+}
+
+/// Behind a part: the join that stands there, if one does, and the text behind it; without text it is the end.
+#[tactic(auto, unfolding(crate::specs::Grammar::join_at), using(crate::proofs::Rests::of_rest))]
+pub(crate) fn join_at(to: usize, text: &[u8]) -> Result<(Option<Join>, &[u8]), SelFault>
+    requires { length text.now ≤ to }
+    ensures gives { Gives join_view result (spec.join_at to text.now) }
+    ensures rest { IfOk result (λ j. IsRest text.now j.1.now) }
+    ensures shorter { IfOk result (λ j. IsSome j.0 → length j.1.now < length text.now) }
+{
+    behind_near(to, behind_gap(false, text))
+}

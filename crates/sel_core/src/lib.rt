@@ -1,0 +1,20 @@
+//! Selectors: what they ask of a node, how they are read and written, and whether they match.
+#![tactic(auto)]
+
+mod bytes;
+mod faults;
+mod grammar;
+mod lists;
+mod matching;
+mod reading;
+mod selectors;
+#[cfg(test)]
+mod tests;
+mod writing;
+
+pub use faults::{MOST_PARTS, SelFault, Skip};
+pub use lists::read_strict_list;
+pub use matching::matches;
+pub use reading::read_selector;
+pub use selectors::{Atoms, Compound, Compounds, Join, Joins, Selector};
+pub use writing::write_selector;

@@ -1,0 +1,75 @@
+//! Lists of selectors, as a script has them.
+ghost use Rattle.std.specs.Prelude.{◌≡◌, ◌≤◌, length, map, IfOk};
+ghost use Rattle.sel_core.specs.Bytes.{IsRest};
+ghost use Rattle.sel_core.specs.Lists as spec;
+ghost use Rattle.sel_core.specs.Results.{Reads, IsFront};
+ghost use Rattle.sel_core.specs.Views.{selector_of};
+
+use crate::bytes::behind_close;
+use crate::faults::SelFault;
+use crate::reading::read_piece;
+use crate::selectors::Selector;
+use std::alloc::Global;
+use tp_base::AtomTable;
+
+/// The text from the first `,` outside comments on.
+#[tactic(auto, using(crate::proofs::Commas::at_comma, crate::proofs::Commas::behind_comment, crate::proofs::Commas::passes, crate::proofs::Commas::ends, crate::proofs::Rests::of_rest, crate::proofs::Rests::behind_first, crate::proofs::Rests::dropped))]
+fn from_comma(text: &[u8]) -> &[u8]
+    ensures gives { result.now ≡ spec.from_comma 0 text.now }
+    ensures rest { IsRest text.now result.now }
+{
+    let mut rest = text;
+    'turns: while let Some((first, behind)) = rest.split_first() {
+        if *first == b',' {
+            return rest;
+        } else if rest.starts_with(b"/*") {
+            rest = behind_close(behind.split_at(1).1);
+        } else {
+            rest = behind;
+        }
+    }
+    rest
+}
+
+/// The selector before the next comma, and the text from there on, in a list of `size` bytes.
+#[tactic(auto, unfolding(crate::specs::Lists::read_one))]
+fn read_one<'a>(
+    alloc: Global,
+    size: usize,
+    text: &'a [u8],
+    atoms: &mut AtomTable,
+) -> Result<(Selector, &'a [u8]), SelFault>
+    requires { length text.now ≤ size }
+    ensures reads { Reads (λ r. selector_of r.0) result atoms.new (spec.read_one size text.now atoms.old) }
+    ensures behind { IfOk result (λ r. r.1.now ≡ spec.from_comma 0 text.now) }
+    ensures rest { IfOk result (λ r. IsRest text.now r.1.now) }
+    ensures front { IsFront atoms.old atoms.new }
+{
+    let rest = from_comma(text);
+    let piece = text.split_at(text.len() - rest.len()).0;
+    let selector = read_piece(alloc, false, size - rest.len(), piece, atoms)?;
+    Ok((selector, rest))
+}
+
+/// Reads a list of selectors for a script: they are split at commas, and nothing is dropped, so each pseudo part is
+/// a refusal. White space and comments may surround each. The names that were read before a refusal stay in the
+/// table. Linear in the text.
+#[tactic(auto, using(crate::proofs::ListSteps::begins, crate::proofs::ListSteps::first_fails, crate::proofs::ListSteps::goes_on, crate::proofs::ListSteps::fails, crate::proofs::ListSteps::ends, crate::proofs::Fronts::front_of_front, crate::proofs::Rests::of_rest))]
+pub fn read_strict_list(
+    alloc: Global,
+    text: &[u8],
+    atoms: &mut AtomTable,
+) -> Result<Vec<Selector>, SelFault>
+    ensures reads { Reads (λ v. map selector_of v.items) result atoms.new (spec.read_strict_list text.now atoms.old) }
+    ensures front { IsFront atoms.old atoms.new }
+{
+    let mut found = Vec::new(alloc);
+    let (selector, mut rest) = read_one(alloc, text.len(), text, atoms)?;
+    found.push(selector)?;
+    'commas: while let Some((_, behind)) = rest.split_first() {
+        let (selector, left) = read_one(alloc, text.len(), behind, atoms)?;
+        found.push(selector)?;
+        rest = left;
+    }
+    Ok(found)
+}

@@ -1,0 +1,273 @@
+//! Reading a selector, from left to right.
+ghost use Rattle.std.specs.Prelude.{List, ◌≡◌, ◌≢◌, ◌≤◌, ◌<◌, ◌+◌, ◌-◌, [], ◌∷◌, ◌++◌, length, take, map, IfOk, OnOk, IfErr, IfSome, IsSome, IsNone, option_map};
+ghost use Rattle.tp_base.specs.Names.{Named, with_name};
+ghost use Rattle.sel_core.specs.Bytes.{IsRest};
+ghost use Rattle.sel_core.specs.Grammar as grammar;
+ghost use Rattle.sel_core.specs.Reading as spec;
+ghost use Rattle.sel_core.specs.Results.{Gives, Reads, IsFront};
+ghost use Rattle.sel_core.specs.Drafts.{draft_of, word_view, IsPaired};
+ghost use Rattle.sel_core.specs.Views.{selector_of};
+
+use crate::bytes::behind_gap;
+use crate::faults::{MOST_PARTS, SelFault, Skip};
+use crate::grammar::{Word, any_part, first_part, join_at, left_at, part_of};
+use crate::selectors::{Atoms, Compound, Compounds, Join, Joins, Selector};
+use std::alloc::Global;
+use std::mem::replace;
+use tp_base::{Atom, AtomKind, AtomTable};
+
+/// What was read so far: the finished compounds, each with the join on its right, the atoms of the last one, and
+/// whether it has a part.
+#[derive(Drop)]
+pub(crate) struct Draft {
+    parts: Vec<Compound>,
+    joins: Vec<Join>,
+    atoms: Vec<Atom>,
+    started: bool,
+}
+
+/// Enters a name as it is spelled in the table: type names are lowered.
+fn enter(
+    alloc: Global,
+    kind: AtomKind,
+    name: &[u8],
+    atoms: &mut AtomTable,
+) -> Result<Atom, SelFault>
+    ensures gives { Gives (λ a. (a, atoms.new)) result (spec.entered (with_name atoms.old (kind, spec.spelled kind name.now))) }
+    ensures same { IfErr result (λ e. e ≢ SelFault.Memory → atoms.new ≡ atoms.old) }
+    ensures front { IsFront atoms.old atoms.new }
+{
+    match kind {
+        AtomKind::Element => {
+            let mut lowered = Vec::from_slice(alloc, name)?;
+            lowered.as_mut_slice().make_ascii_lowercase();
+            intern(kind, &lowered, atoms)
+        }
+        _ => intern(kind, name, atoms),
+    }
+}
+
+#[tactic(auto, using(crate::proofs::Fronts::front_itself))]
+fn intern(kind: AtomKind, name: &[u8], atoms: &mut AtomTable) -> Result<Atom, SelFault>
+    ensures gives { Gives (λ a. (a, atoms.new)) result (spec.entered (with_name atoms.old (kind, name.now))) }
+    ensures same { IfErr result (λ e. e ≢ SelFault.Memory → atoms.new ≡ atoms.old) }
+    ensures front { IsFront atoms.old atoms.new }
+{
+    let atom = atoms.intern(kind, name)?;
+    Ok(atom)
+}
+
+impl Draft {
+    fn new(alloc: Global) -> Self
+        ensures { (names : List Named) → draft_of result names ≡ spec.empty_draft names }
+    {
+        Draft {
+            parts: Vec::new(alloc),
+            joins: Vec::new(alloc),
+            atoms: Vec::new(alloc),
+            started: false,
+        }
+    }
+
+    /// One part more.
+    #[tactic(auto, unfolding(crate::specs::Reading::with_word), using(crate::proofs::Fronts::front_itself))]
+    fn add_word(&mut self, word: Option<Word<'_>>, atoms: &mut AtomTable) -> Result<(), SelFault>
+        requires paired { IsPaired self.old }
+        ensures gives { Gives (λ _. draft_of self.new atoms.new) result (spec.with_word (draft_of self.old atoms.old) (word_view word.entry)) }
+        ensures same { IfErr result (λ e. e ≢ SelFault.Memory → atoms.new ≡ atoms.old) }
+        ensures front { IsFront atoms.old atoms.new }
+        ensures paired { OnOk result (IsPaired self.new) }
+    {
+        if let Some((kind, name)) = word {
+            let atom = enter(*self.parts.allocator(), kind, name, atoms)?;
+            self.atoms.push(atom)?;
+        }
+        self.started = true;
+        Ok(())
+    }
+
+    /// The compound ends, and a join follows it.
+    #[tactic(auto, unfolding(crate::specs::Reading::with_join))]
+    fn add_join(&mut self, join: Join) -> Result<(), SelFault>
+        requires paired { IsPaired self.old }
+        ensures joined { OnOk result ((names : List Named) → draft_of self.new names ≡ spec.with_join (draft_of self.old names) join) }
+        ensures memory { IfErr result (λ e. e ≡ SelFault.Memory) }
+        ensures paired { OnOk result (IsPaired self.new) }
+    {
+        let atoms = replace(&mut self.atoms, Vec::new(*self.parts.allocator()));
+        self.parts.push(Compound {
+            atoms: Atoms::new(atoms),
+        })?;
+        self.joins.push(join)?;
+        self.started = false;
+        Ok(())
+    }
+
+    /// A part that begins, or the fault of the text that doesn't.
+    #[tactic(auto, unfolding(crate::specs::Reading::with_part), using(crate::proofs::Rests::of_rest, crate::proofs::Fronts::front_itself))]
+    fn read_part<'a>(
+        &mut self,
+        to: usize,
+        part: Option<(Option<AtomKind>, &'a [u8])>,
+        text: &'a [u8],
+        atoms: &mut AtomTable,
+    ) -> Result<&'a [u8], SelFault>
+        requires within { length text.now ≤ to }
+        requires rest { IfSome part (λ b. IsRest text.now b.1.now) }
+        requires shorter { IfSome part (λ b. IsNone b.0 → length b.1.now < length text.now) }
+        requires paired { IsPaired self.old }
+        ensures gives { Gives (λ r. (draft_of self.new atoms.new, r.now)) result
+            (spec.with_part to (draft_of self.old atoms.old) (option_map (λ b. (b.0, b.1.now)) part.entry) text.now) }
+        ensures rest { IfOk result (λ r. IsRest text.now r.now) }
+        ensures shorter { IfOk result (λ r. length r.now < length text.now) }
+        ensures same { IfErr result (λ e. e ≢ SelFault.Memory → atoms.new ≡ atoms.old) }
+        ensures front { IsFront atoms.old atoms.new }
+        ensures paired { OnOk result (IsPaired self.new) }
+    {
+        let (kind, begun) = part.ok_or(left_at(to, text, text))?;
+        let (word, rest) = part_of(to, kind, begun)?;
+        self.add_word(word, atoms)?;
+        Ok(rest)
+    }
+
+    /// The first part of a compound, of which there may be only so many.
+    #[tactic(auto, unfolding(crate::specs::Reading::first_step), using(crate::proofs::Fronts::front_itself))]
+    fn first_step<'a>(
+        &mut self,
+        drops: bool,
+        to: usize,
+        text: &'a [u8],
+        atoms: &mut AtomTable,
+    ) -> Result<&'a [u8], SelFault>
+        requires within { length text.now ≤ to }
+        requires paired { IsPaired self.old }
+        ensures gives { Gives (λ r. (draft_of self.new atoms.new, r.now)) result (spec.first_step drops to (draft_of self.old atoms.old) text.now) }
+        ensures rest { IfOk result (λ r. IsRest text.now r.now) }
+        ensures shorter { IfOk result (λ r. length r.now < length text.now) }
+        ensures same { IfErr result (λ e. e ≢ SelFault.Memory → atoms.new ≡ atoms.old) }
+        ensures front { IsFront atoms.old atoms.new }
+        ensures paired { OnOk result (IsPaired self.new) }
+    {
+        let part = first_part(drops, text).ok_or(left_at(to, text, text))?;
+        if self.parts.len() >= MOST_PARTS {
+            return Err(SelFault::Skipped(Skip::Long, to - text.len()));
+        }
+        self.read_part(to, Some(part), text, atoms)
+    }
+
+    /// Behind a part: a join, a further part, or the end.
+    #[tactic(auto, using(crate::proofs::Fronts::front_itself, crate::proofs::Rests::of_rest, crate::proofs::Steps::at_join, crate::proofs::Steps::at_end, crate::proofs::Steps::at_part, crate::proofs::Steps::at_fault))]
+    fn later_step<'a>(
+        &mut self,
+        drops: bool,
+        to: usize,
+        text: &'a [u8],
+        atoms: &mut AtomTable,
+    ) -> Result<&'a [u8], SelFault>
+        requires within { length text.now ≤ to }
+        requires some { 0 < length text.now }
+        requires paired { IsPaired self.old }
+        ensures gives { Gives (λ r. (draft_of self.new atoms.new, r.now)) result (spec.later_step drops to (draft_of self.old atoms.old) text.now) }
+        ensures rest { IfOk result (λ r. IsRest text.now r.now) }
+        ensures shorter { IfOk result (λ r. length r.now < length text.now) }
+        ensures same { IfErr result (λ e. e ≢ SelFault.Memory → atoms.new ≡ atoms.old) }
+        ensures front { IsFront atoms.old atoms.new }
+        ensures paired { OnOk result (IsPaired self.new) }
+    {
+        let (join, rest) = join_at(to, text)?;
+        if let Some(join) = join {
+            self.add_join(join)?;
+            return Ok(rest);
+        }
+        if rest.is_empty() {
+            return Ok(rest);
+        }
+        self.read_part(to, any_part(drops, rest), rest, atoms)
+    }
+
+    /// One part or join more: the text behind it.
+    #[tactic(auto, unfolding(crate::specs::Reading::step))]
+    fn step<'a>(
+        &mut self,
+        drops: bool,
+        to: usize,
+        text: &'a [u8],
+        atoms: &mut AtomTable,
+    ) -> Result<&'a [u8], SelFault>
+        requires within { length text.now ≤ to }
+        requires some { 0 < length text.now }
+        requires paired { IsPaired self.old }
+        ensures gives { Gives (λ r. (draft_of self.new atoms.new, r.now)) result (spec.step drops to (draft_of self.old atoms.old) text.now) }
+        ensures rest { IfOk result (λ r. IsRest text.now r.now) }
+        ensures shorter { IfOk result (λ r. length r.now < length text.now) }
+        ensures same { IfErr result (λ e. e ≢ SelFault.Memory → atoms.new ≡ atoms.old) }
+        ensures front { IsFront atoms.old atoms.new }
+        ensures paired { OnOk result (IsPaired self.new) }
+    {
+        if self.started {
+            self.later_step(drops, to, text, atoms)
+        } else {
+            self.first_step(drops, to, text, atoms)
+        }
+    }
+
+    /// The selector, where a compound isn't wanted any more.
+    #[tactic(auto, unfolding(crate::specs::Reading::finished))]
+    fn finish(self, to: usize) -> Result<Selector, SelFault>
+        requires { IsPaired self }
+        ensures { Gives selector_of result (spec.finished to (draft_of self [])) }
+    {
+        if !self.started {
+            return Err(SelFault::Skipped(Skip::Bad, to));
+        }
+        let mut parts = self.parts;
+        parts.push(Compound {
+            atoms: Atoms::new(self.atoms),
+        })?;
+        Ok(Selector {
+            parts: Compounds::new(parts),
+            joins: Joins::new(self.joins),
+        })
+    }
+}
+
+/// A selector that white space and comments may surround, up to the offset `to`. Pseudo parts are dropped, or there
+/// are none. Linear in the text.
+#[tactic(auto, unfolding(crate::specs::Reading::read_piece), using(crate::proofs::Rests::of_rest, crate::proofs::Runs::goes_on, crate::proofs::Runs::fails, crate::proofs::Runs::ends, crate::proofs::Fronts::front_of_front))]
+pub(crate) fn read_piece(
+    alloc: Global,
+    drops: bool,
+    to: usize,
+    text: &[u8],
+    atoms: &mut AtomTable,
+) -> Result<Selector, SelFault>
+    requires { length text.now ≤ to }
+    ensures reads { Reads selector_of result atoms.new (spec.read_piece drops to text.now atoms.old) }
+    ensures front { IsFront atoms.old atoms.new }
+{
+    let mut draft = Draft::new(alloc);
+    let mut rest = behind_gap(true, text);
+    'items: while !rest.is_empty() {
+        rest = draft.step(drops, to, rest, atoms)?;
+    }
+    draft.finish(to)
+}
+
+/// Reads the judged form of the selector that stands between two offsets of a text, for a sheet: some pseudo parts
+/// are dropped. White space and comments may surround it. The names that were read before a refusal stay in the
+/// table. Linear in the selector.
+#[tactic(auto, unfolding(crate::specs::Reading::read_selector))]
+pub fn read_selector(
+    alloc: Global,
+    text: &[u8],
+    from: usize,
+    to: usize,
+    atoms: &mut AtomTable,
+) -> Result<Selector, SelFault>
+    requires from { from ≤ to }
+    requires to { to ≤ length text.now }
+    ensures reads { Reads selector_of result atoms.new (spec.read_selector text.now from to atoms.old) }
+    ensures front { IsFront atoms.old atoms.new }
+{
+    read_piece(alloc, true, to, &text[from..to], atoms)
+}

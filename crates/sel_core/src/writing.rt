@@ -1,0 +1,91 @@
+//! The text of a selector.
+ghost use Rattle.std.specs.Prelude.{◌≡◌, ◌+◌, ◌++◌, length, IfOk, OnOk, slice_get};
+ghost use Rattle.std.specs.List.{flat_map};
+ghost use Rattle.sel_core.specs.Parts.{join_of, selector_from};
+ghost use Rattle.sel_core.specs.SelectorText.{atom_text, compound_text, join_text, selector_text};
+ghost use Rattle.sel_core.specs.Views.{selector_of};
+
+use crate::selectors::{Compound, Join, Selector};
+use std::alloc::Global;
+use tp_base::{Atom, AtomKind, AtomTable, NoMemory};
+
+/// The selector as it is written with the fewest bytes of white space: ` ` or ` > ` between compounds. An atom
+/// that is not in the table is left out. Linear in the text.
+pub fn write_selector(alloc: Global, s: &Selector, atoms: &AtomTable) -> Result<Vec<u8>, NoMemory>
+    ensures { IfOk result (λ text. text.items ≡ selector_text atoms.now (selector_of s.now)) }
+{
+    let mut text = Vec::new(alloc);
+    write_parts(&mut text, s.parts.items(), s.joins.items(), atoms)?;
+    Ok(text)
+}
+
+// Compounds, and the joins between them.
+#[tactic(auto, using(crate::proofs::WriteLemmas::first_part, crate::proofs::WriteLemmas::one_part_more, crate::proofs::WriteLemmas::all_parts))]
+fn write_parts(
+    text: &mut Vec<u8>,
+    parts: &[Compound],
+    joins: &[Join],
+    atoms: &AtomTable,
+) -> Result<(), NoMemory>
+    requires { length parts.now ≡ length joins.now + 1 }
+    ensures { OnOk result (text.new.items ≡ text.old.items ++ selector_text atoms.now (selector_from parts.now joins.now)) }
+{
+    write_compound(text, &parts[0], atoms)?;
+    'parts: for i in 0..joins.len() {
+        write_join(text, joins[i])?;
+        write_compound(text, &parts[i + 1], atoms)?;
+    }
+    Ok(())
+}
+
+fn write_join(text: &mut Vec<u8>, join: Join) -> Result<(), NoMemory>
+    ensures { OnOk result (text.new.items ≡ text.old.items ++ join_text (join_of join)) }
+{
+    match join {
+        Join::Inside => text.extend_from_slice(b" ")?,
+        Join::Child => text.extend_from_slice(b" > ")?,
+    }
+    Ok(())
+}
+
+#[tactic(auto, using(crate::proofs::WriteLemmas::no_atoms, crate::proofs::WriteLemmas::some_atoms))]
+fn write_compound(
+    text: &mut Vec<u8>,
+    compound: &Compound,
+    atoms: &AtomTable,
+) -> Result<(), NoMemory>
+    ensures { OnOk result (text.new.items ≡ text.old.items ++ compound_text atoms.now compound.now.atoms) }
+{
+    let items = compound.atoms.items();
+    if items.is_empty() {
+        text.push(b'*')?;
+        Ok(())
+    } else {
+        write_atoms(text, items, atoms)
+    }
+}
+
+#[tactic(auto, using(crate::proofs::WriteLemmas::one_atom_more))]
+fn write_atoms(text: &mut Vec<u8>, items: &[Atom], atoms: &AtomTable) -> Result<(), NoMemory>
+    ensures { OnOk result (text.new.items ≡ text.old.items ++ flat_map (λ a. atom_text (slice_get atoms.now a)) items.now) }
+{
+    for atom in items {
+        write_atom(text, *atom, atoms)?;
+    }
+    Ok(())
+}
+
+fn write_atom(text: &mut Vec<u8>, atom: Atom, atoms: &AtomTable) -> Result<(), NoMemory>
+    ensures { OnOk result (text.new.items ≡ text.old.items ++ atom_text (slice_get atoms.now atom)) }
+{
+    let Some((kind, name)) = atoms.name_of(atom) else {
+        return Ok(());
+    };
+    match kind {
+        AtomKind::Class => text.push(b'.')?,
+        AtomKind::Ident => text.push(b'#')?,
+        _ => {}
+    }
+    text.extend_from_slice(name)?;
+    Ok(())
+}
