@@ -1,0 +1,10 @@
+pub mod TreeLemmas
+pub mod CombineLemmas
+pub mod BranchLemmas
+pub mod ArenaLemmas
+pub mod AnswerLemmas
+mod TableLemmas
+mod PairLemmas
+mod MemoLemmas
+mod Remembering
+mod CombinedLemmas

@@ -1,0 +1,9 @@
+pub mod Answers
+pub mod Arena
+pub mod Memo
+pub mod Numbers
+pub mod Pairs
+pub mod Starts
+pub mod Table
+pub mod TreeCode
+pub mod Trees

@@ -1,0 +1,269 @@
+//! Diagrams in one arena, and the operations on them.
+ghost use Rattle.std.specs.Prelude.{◌≡◌, ◌<◌, ◌≤◌, ◌↔◌, ◌&&◌, ◌||◌, ℕ, List, [], length, Ok, IsTrue, IsNone, IsOk, IsErrOf, IfSome, IfOk, OnOk, OnErr};
+ghost use Rattle.tp_base.specs.Classes.{has_class};
+ghost use Rattle.class_diagrams.specs.declared.refs.Place.{Place};
+ghost use Rattle.class_diagrams.specs.Trees.{Tree, leaf, branch, join, eval, variable, tand, tor, with_branches, AgreeOnAllSets, IsLeaf};
+ghost use Rattle.class_diagrams.specs.Arena.{tree_at, IsIn, IsArena, StartsWith};
+ghost use Rattle.class_diagrams.specs.Answers.{Gives};
+ghost use Rattle.class_diagrams.specs.Memo.{tree_of, leaf_rule_of};
+ghost use Rattle.class_diagrams.specs.Starts.{IsStart};
+
+use crate::faults::DiagramFault;
+use crate::memo::{Memo, Operation, Task};
+use crate::refs::{MOST_BRANCHES, Ref};
+use crate::table::{BranchTable, Pair};
+use std::alloc::Global;
+use std::marker::Model;
+use tp_base::{Atom, ClassSet, NoMemory};
+
+/// A diagram that is known, or the atom and the pairs of diagrams that it is to be made of.
+enum Start {
+    Known(Ref),
+    Parts {
+        atom: Atom,
+        low: (Ref, Ref),
+        high: (Ref, Ref),
+    },
+}
+
+/// An arena of decision diagrams, in which equal trees have equal references. A contract sees the branches
+/// that it holds, each as its tree, and how many it may hold.
+#[derive(Drop)]
+pub struct Diagrams {
+    table: BranchTable,
+    memo: Memo,
+}
+
+impl Model for Diagrams {
+    ghost use Rattle.class_diagrams.specs.Arena.{Arena};
+    ghost use Rattle.class_diagrams.specs.TreeCode.{arena_code};
+
+    ghost Value = { Arena };
+
+    ghost coded = { arena_code };
+
+    ghost use Rattle.class_diagrams.specs.Memo.{IsRemembering};
+
+    ghost view = { λ d. d.table };
+
+    ghost invariant = { λ d. IsRemembering d.table d.memo };
+}
+
+impl Diagrams {
+    /// An arena with no branches, for at most `nodes` of them.
+    pub fn new(alloc: Global, nodes: u32) -> Result<Self, NoMemory>
+        requires { nodes ≤ MOST_BRANCHES }
+        ensures none { IfOk result (λ d. d.branches ≡ []) }
+        ensures limit { IfOk result (λ d. d.limit ≡ nodes) }
+    {
+        let memo = Memo::new(alloc)?;
+        let table = BranchTable::new(alloc, nodes);
+        Ok(Diagrams { table, memo })
+    }
+
+    /// The diagram that is true, or false, for every set.
+    pub fn leaf(value: bool) -> Ref
+        ensures inside { (branches : List Tree) → IsIn branches result }
+        ensures tree { (branches : List Tree) → tree_at branches result ≡ leaf value }
+    {
+        Ref::leaf(value)
+    }
+
+    /// How many branches are held. Leaves are not counted.
+    pub fn held(&self) -> u32
+        ensures count { result ≡ length self.now.branches }
+        ensures arena { IsArena self.now }
+    {
+        self.table.len()
+    }
+
+    /// The atom, the low and the high diagram of a branch, or nothing at a leaf. Constant.
+    pub fn branch(&self, f: Ref) -> Option<(Atom, Ref, Ref)>
+        requires { IsIn self.now.branches f }
+        ensures leaf { IsNone result ↔ IsLeaf (tree_at self.now.branches f) }
+        ensures low { IfSome result (λ b. IsIn self.now.branches b.1) }
+        ensures high { IfSome result (λ b. IsIn self.now.branches b.2) }
+        ensures tree { IfSome result (λ b. tree_at self.now.branches f
+            ≡ branch b.0 (tree_at self.now.branches b.1) (tree_at self.now.branches b.2)) }
+    {
+        self.table.branch(f)
+    }
+
+    /// Whether a set satisfies the diagram. Linear in its depth, logarithmic in the set's length.
+    pub fn eval(&self, f: Ref, set: &ClassSet) -> bool
+        requires { IsIn self.now.branches f }
+        ensures { result ≡ eval (tree_at self.now.branches f) set.now }
+    {
+        let mut at = f;
+        while let Some((atom, low, high)) = self.table.branch(at) {
+            at = if set.has(atom) { high } else { low };
+        }
+        at.is(Diagrams::leaf(true))
+    }
+
+    /// Whether two diagrams have the same tree, and so the same meaning. Constant.
+    pub fn same(&self, f: Ref, g: Ref) -> bool
+        requires first { IsIn self.now.branches f }
+        requires second { IsIn self.now.branches g }
+        ensures same { IsTrue result ↔ (tree_at self.now.branches f ≡ tree_at self.now.branches g) }
+        ensures agree { IsTrue result ↔ AgreeOnAllSets (tree_at self.now.branches f) (tree_at self.now.branches g) }
+    {
+        let _ = &self.table;
+        f.is(g)
+    }
+
+    /// The diagram of the sets that have the atom. Constant on average.
+    pub fn var(&mut self, atom: Atom) -> Result<Ref, DiagramFault>
+        ensures tree { IfOk result (λ r. tree_at self.new.branches r ≡ variable atom) }
+        ensures means { IfOk result (λ r. (set : List ℕ) → eval (tree_at self.new.branches r) set ≡ has_class atom set) }
+        ensures inside { IfOk result (λ r. IsIn self.new.branches r) }
+        ensures held { OnOk result (self.new.branches ≡ with_branches self.old.branches (variable atom)) }
+        ensures full { IsErrOf result DiagramFault.Full → self.old.limit < length (with_branches self.old.branches (variable atom)) }
+        ensures fits { IsOk result → length (with_branches self.old.branches (variable atom)) ≤ self.old.limit }
+        ensures stays { StartsWith self.old.branches self.new.branches }
+        ensures only { StartsWith self.new.branches (with_branches self.old.branches (variable atom)) }
+        ensures references { (p : Place) → IsIn self.old.branches p
+            → IsIn self.new.branches p × (tree_at self.new.branches p ≡ tree_at self.old.branches p) }
+        ensures limit { self.new.limit ≡ self.old.limit }
+        ensures arena { IsArena self.new }
+    {
+        self.variable(atom)
+    }
+
+    /// The diagram of the sets that satisfy both. At most the product of the two sizes on average, and as
+    /// deep a recursion as there are different atoms in the two.
+    pub fn and(&mut self, f: Ref, g: Ref) -> Result<Ref, DiagramFault>
+        requires first { IsIn self.old.branches f }
+        requires second { IsIn self.old.branches g }
+        ensures tree { IfOk result (λ r. tree_at self.new.branches r ≡ tand (tree_at self.old.branches f) (tree_at self.old.branches g)) }
+        ensures means { IfOk result (λ r. (set : List ℕ) → eval (tree_at self.new.branches r) set
+            ≡ (eval (tree_at self.old.branches f) set && eval (tree_at self.old.branches g) set)) }
+        ensures inside { IfOk result (λ r. IsIn self.new.branches r) }
+        ensures held { OnOk result (self.new.branches ≡ with_branches self.old.branches (tand (tree_at self.old.branches f) (tree_at self.old.branches g))) }
+        ensures full { IsErrOf result DiagramFault.Full → self.old.limit < length (with_branches self.old.branches (tand (tree_at self.old.branches f) (tree_at self.old.branches g))) }
+        ensures fits { IsOk result → length (with_branches self.old.branches (tand (tree_at self.old.branches f) (tree_at self.old.branches g))) ≤ self.old.limit }
+        ensures stays { StartsWith self.old.branches self.new.branches }
+        ensures only { StartsWith self.new.branches (with_branches self.old.branches (tand (tree_at self.old.branches f) (tree_at self.old.branches g))) }
+        ensures references { (p : Place) → IsIn self.old.branches p
+            → IsIn self.new.branches p × (tree_at self.new.branches p ≡ tree_at self.old.branches p) }
+        ensures limit { self.new.limit ≡ self.old.limit }
+        ensures arena { IsArena self.new }
+    {
+        self.combined(Operation::And, f, g)
+    }
+
+    /// The diagram of the sets that satisfy one or both. At most the product of the two sizes on average,
+    /// and as deep a recursion as there are different atoms in the two.
+    pub fn or(&mut self, f: Ref, g: Ref) -> Result<Ref, DiagramFault>
+        requires first { IsIn self.old.branches f }
+        requires second { IsIn self.old.branches g }
+        ensures tree { IfOk result (λ r. tree_at self.new.branches r ≡ tor (tree_at self.old.branches f) (tree_at self.old.branches g)) }
+        ensures means { IfOk result (λ r. (set : List ℕ) → eval (tree_at self.new.branches r) set
+            ≡ (eval (tree_at self.old.branches f) set || eval (tree_at self.old.branches g) set)) }
+        ensures inside { IfOk result (λ r. IsIn self.new.branches r) }
+        ensures held { OnOk result (self.new.branches ≡ with_branches self.old.branches (tor (tree_at self.old.branches f) (tree_at self.old.branches g))) }
+        ensures full { IsErrOf result DiagramFault.Full → self.old.limit < length (with_branches self.old.branches (tor (tree_at self.old.branches f) (tree_at self.old.branches g))) }
+        ensures fits { IsOk result → length (with_branches self.old.branches (tor (tree_at self.old.branches f) (tree_at self.old.branches g))) ≤ self.old.limit }
+        ensures stays { StartsWith self.old.branches self.new.branches }
+        ensures only { StartsWith self.new.branches (with_branches self.old.branches (tor (tree_at self.old.branches f) (tree_at self.old.branches g))) }
+        ensures references { (p : Place) → IsIn self.old.branches p
+            → IsIn self.new.branches p × (tree_at self.new.branches p ≡ tree_at self.old.branches p) }
+        ensures limit { self.new.limit ≡ self.old.limit }
+        ensures arena { IsArena self.new }
+    {
+        self.combined(Operation::Or, f, g)
+    }
+
+    fn variable(&mut self, atom: Atom) -> Result<Ref, DiagramFault>
+        ensures { Gives self.old self.new (variable atom) result }
+    {
+        self.table
+            .join(atom, Diagrams::leaf(false), Diagrams::leaf(true))
+    }
+
+    fn combined(&mut self, operation: Operation, f: Ref, g: Ref) -> Result<Ref, DiagramFault>
+        requires first { IsIn self.old.branches f }
+        requires second { IsIn self.old.branches g }
+        ensures { Gives self.old self.new (tree_of operation (tree_at self.old.branches f) (tree_at self.old.branches g)) result }
+    {
+        match self.start(operation, f, g) {
+            Start::Known(known) => Ok(known),
+            Start::Parts { atom, low, high } => {
+                let low = self.combined(operation, low.0, low.1)?;
+                let high = self.combined(operation, high.0, high.1)?;
+                self.finish(operation, f, g, atom, low, high)
+            }
+        }
+    }
+
+    // The diagram where it is known, or what it is to be made of. Kept apart from the recursion, whose frames
+    // are to be small.
+    #[inline(never)]
+    fn start(&mut self, operation: Operation, f: Ref, g: Ref) -> Start
+        requires first { IsIn self.old.branches f }
+        requires second { IsIn self.old.branches g }
+        ensures start { IsStart operation self.new f g result }
+        ensures same { self.new ≡ self.old }
+        ensures arena { IsArena self.new }
+    {
+        let _ = &self.table;
+        if f.is(g) {
+            return Start::Known(f);
+        }
+        match self.table.pair(f, g) {
+            Pair::WithLeaf { value, other } => Start::Known(with_leaf(operation, value, other)),
+            Pair::Branches { atom, low, high } => {
+                let task = Task {
+                    operation,
+                    first: f,
+                    second: g,
+                };
+                match self.memo.recall(&task) {
+                    Some(known) => Start::Known(known),
+                    None => Start::Parts { atom, low, high },
+                }
+            }
+        }
+    }
+
+    // The diagram, from its two parts.
+    #[inline(never)]
+    fn finish(
+        &mut self,
+        operation: Operation,
+        f: Ref,
+        g: Ref,
+        atom: Atom,
+        low: Ref,
+        high: Ref,
+    ) -> Result<Ref, DiagramFault>
+        requires first { IsIn self.old.branches f }
+        requires second { IsIn self.old.branches g }
+        requires low_in { IsIn self.old.branches low }
+        requires high_in { IsIn self.old.branches high }
+        requires parts { tree_of operation (tree_at self.old.branches f) (tree_at self.old.branches g)
+            ≡ join atom (tree_at self.old.branches low) (tree_at self.old.branches high) }
+        ensures { Gives self.old self.new (tree_of operation (tree_at self.old.branches f) (tree_at self.old.branches g)) result }
+    {
+        let joined = self.table.join(atom, low, high)?;
+        self.memo.note(
+            Task {
+                operation,
+                first: f,
+                second: g,
+            },
+            joined,
+        );
+        Ok(joined)
+    }
+}
+
+// The diagram of an operation where one of the two is a leaf.
+fn with_leaf(operation: Operation, value: bool, other: Ref) -> Ref
+    ensures { (branches : List Tree) → IsIn branches other → IsIn branches result × (tree_at branches result ≡ leaf_rule_of operation value (tree_at branches other)) }
+{
+    match operation {
+        Operation::And => if value { other } else { Diagrams::leaf(false) },
+        Operation::Or => if value { Diagrams::leaf(true) } else { other },
+    }
+}

@@ -1,0 +1,14 @@
+//! Decision diagrams of monotone conditions on class sets, in one arena where equal trees have equal numbers.
+#![tactic(auto)]
+
+mod diagrams;
+mod faults;
+mod memo;
+mod refs;
+mod table;
+#[cfg(test)]
+mod tests;
+
+pub use diagrams::Diagrams;
+pub use faults::DiagramFault;
+pub use refs::{MOST_BRANCHES, Ref};

@@ -1,0 +1,63 @@
+//! References to diagrams.
+ghost use Rattle.std.specs.Prelude.{◌≡◌, ◌↔◌, ◌≤◌, ◌<◌, IsTrue};
+
+use std::marker::Model;
+
+/// How many branches an arena can be made for.
+pub const MOST_BRANCHES: u32 = 67_108_864;
+
+/// A diagram of one arena. Equal trees have equal references. A contract sees a leaf, or the number of a branch.
+#[derive(Clone, Copy, Debug, PartialEq, Eq, Hash)]
+pub struct Ref(u32);
+
+// What a reference stands for. The leaves are the first two references, so that one fits a `u32`.
+#[derive(Clone, Copy, Debug, PartialEq, Eq)]
+pub(crate) enum Place {
+    Leaf(bool),
+    Branch(u32),
+}
+
+impl Model for Ref {
+    ghost use Rattle.class_diagrams.specs.declared.refs.Place.{Place};
+
+    ghost Value = { Place };
+
+    ghost use Rattle.class_diagrams.specs.Numbers.{place_of, number_of, number_of-place_of};
+
+    ghost view = { λ r. place_of r.0 };
+
+    ghost inverse = { λ p. record { 0 = number_of p } };
+
+    ghost inverse_ok = { λ a h. λ i. record { 0 = number_of-place_of a.0 i } };
+}
+
+impl Ref {
+    pub(crate) fn leaf(value: bool) -> Ref
+        ensures { result ≡ Place.Leaf value }
+    {
+        if value { Ref(1) } else { Ref(0) }
+    }
+
+    pub(crate) fn branch(number: u32) -> Ref
+        requires { number ≤ MOST_BRANCHES }
+        ensures { result ≡ Place.Branch number }
+    {
+        Ref(number + 2)
+    }
+
+    pub(crate) fn place(self) -> Place
+        ensures { result ≡ self }
+    {
+        match self.0 {
+            0 => Place::Leaf(false),
+            1 => Place::Leaf(true),
+            number => Place::Branch(number - 2),
+        }
+    }
+
+    pub(crate) fn is(self, other: Ref) -> bool
+        ensures { IsTrue result ↔ (self ≡ other) }
+    {
+        self == other
+    }
+}
