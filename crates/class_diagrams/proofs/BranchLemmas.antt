@@ -2,7 +2,7 @@
 use Rattle.std.proofs.Common.{◌≡◌, ◌≢◌, ℕ, ◌+◌, ◌<◌, ◌≤◌, Bool, true, false, ◌||◌, cond, List, [], ◌∷◌, ◌++◌, length, refl, sym, ap, subst, ◌∙◌, arith, inl, inr, ◌⊎◌, append_assoc, append-nil, length-append}
 use Rattle.std.specs.List.{list_any}
 use Rattle.std.proofs.lemmas.Bool.{both_ways, cases_Bool, or_cases, or_right}
-use Rattle.class_diagrams.specs.Trees.{Tree, leaf, branch, same_tree, join, has_tree, with_tree, with_branches}
+use Rattle.class_diagrams.specs.Trees.{Tree, leaf, branch, same_tree, join, has_tree, with_tree, with_branches, IsBranchOf}
 use Rattle.class_diagrams.specs.Arena.{StartsWith, Holds, IsClosed}
 use Rattle.class_diagrams.proofs.TreeLemmas.{same_tree-refl, same_tree-true, cases_tree, join-same, join-other}
 
@@ -147,3 +147,39 @@ with_branches-again ts a l h closed =
           ∙ rw (with_branches-held (with_branches (with_branches ts l) h) l both low, with_branches-held (with_branches (with_branches ts l) h) h both high) refl
           ∙ sym (with_branches-join ts a l h closed other)
     ]
+
+-- ### which branches a tree brings
+
+with_tree-cases : (x t : Tree) (ts : List Tree) → has_tree x (with_tree t ts) ≡ true → (has_tree x ts ≡ true) ⊎ (x ≡ t)
+with_tree-cases x t ts there = elim (cases_Bool (has_tree t ts)) [
+  | inl held ↦ inl (rw (with_tree-held t ts held) at there)
+  | inr new ↦ has_tree-cases x t ts (rw (with_tree-new t ts new) at there)
+]
+
+-- each is one of those before, or the tree's
+pub with_branches-cases : (x : Tree) (ts : List Tree) (t : Tree) → has_tree x (with_branches ts t) ≡ true → (has_tree x ts ≡ true) ⊎ IsBranchOf x t
+with_branches-cases x ts (leaf v) there = inl there
+with_branches-cases x ts (branch a l h) there = elim (with_tree-cases x (branch a l h) (with_branches (with_branches ts l) h) there) [
+  | inr same ↦ inr (inl same)
+  | inl parts ↦ elim (with_branches-cases x (with_branches ts l) h parts) [
+    | inr high ↦ inr (inr (inr high))
+    | inl rest ↦ elim (with_branches-cases x ts l rest) [
+      | inr low ↦ inr (inr (inl low))
+      | inl before ↦ inl before
+    ]
+  ]
+]
+
+has_tree-further : (x : Tree) (ts us : List Tree) → StartsWith ts us → has_tree x ts ≡ true → has_tree x us ≡ true
+has_tree-further x ts us first there = rw first.1 (has_tree-left x ts first.0 there)
+
+-- and each of the tree's is there
+pub with_branches-all : (x : Tree) (ts : List Tree) (t : Tree) → IsBranchOf x t → has_tree x (with_branches ts t) ≡ true
+with_branches-all x ts (leaf v) part = absurd part
+with_branches-all x ts (branch a l h) part = elim part [
+  | inl same ↦ rw same (has_tree-with_tree (branch a l h) (with_branches (with_branches ts l) h))
+  | inr parts ↦ has_tree-further x (with_branches (with_branches ts l) h) _ (StartsWith-with_tree (branch a l h) (with_branches (with_branches ts l) h)) (elim parts [
+    | inl low ↦ has_tree-further x (with_branches ts l) _ (StartsWith-with_branches (with_branches ts l) h) (with_branches-all x ts l low)
+    | inr high ↦ with_branches-all x (with_branches ts l) h high
+  ])
+]

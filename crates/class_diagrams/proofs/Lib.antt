@@ -8,3 +8,4 @@ mod PairLemmas
 mod MemoLemmas
 mod Remembering
 mod CombinedLemmas
+mod Rows

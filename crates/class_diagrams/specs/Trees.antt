@@ -1,5 +1,5 @@
 -- Decision trees over class sets.
-use Rattle.std.specs.Prelude.{◌≡◌, ◌≢◌, ℕ, ◌+◌, ◌<◌, Bool, true, false, not, ◌&&◌, ◌==◌, nat_lt, if◌then◌else◌, List, [], ◌∷◌, ◌++◌, fold}
+use Rattle.std.specs.Prelude.{◌≡◌, ◌≢◌, ℕ, ◌+◌, ◌<◌, Bool, true, false, not, ◌&&◌, ◌==◌, nat_lt, if◌then◌else◌, List, [], ◌∷◌, ◌++◌, fold, ◌⊎◌}
 use Rattle.std.specs.List.{list_any}
 use Rattle.std.specs.List.Sorted.{IsStrictlyIncreasing}
 use Rattle.tp_base.specs.Classes.{has_class}
@@ -100,3 +100,8 @@ with_branches ts (branch atom low high) = with_tree (branch atom low high) (with
 -- the different branches of the trees
 abbrev pub subs : List Tree → List Tree
 subs trees = fold with_branches [] trees
+
+-- the first tree is a branch of the second, or the second itself
+abbrev pub IsBranchOf : Tree → Tree → Type 0
+IsBranchOf t (leaf value) = ⊥
+IsBranchOf t (branch atom low high) = (t ≡ branch atom low high) ⊎ (IsBranchOf t low ⊎ IsBranchOf t high)

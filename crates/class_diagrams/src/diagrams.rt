@@ -2,9 +2,9 @@
 ghost use Rattle.std.specs.Prelude.{◌≡◌, ◌<◌, ◌≤◌, ◌↔◌, ◌&&◌, ◌||◌, ℕ, List, [], length, Ok, IsTrue, IsNone, IsOk, IsErrOf, IfSome, IfOk, OnOk, OnErr};
 ghost use Rattle.tp_base.specs.Classes.{has_class};
 ghost use Rattle.class_diagrams.specs.declared.refs.Place.{Place};
-ghost use Rattle.class_diagrams.specs.Trees.{Tree, leaf, branch, join, eval, variable, tand, tor, with_branches, AgreeOnAllSets, IsLeaf};
+ghost use Rattle.class_diagrams.specs.Trees.{Tree, leaf, branch, join, eval, variable, AgreeOnAllSets, IsLeaf};
 ghost use Rattle.class_diagrams.specs.Arena.{tree_at, IsIn, IsArena, StartsWith};
-ghost use Rattle.class_diagrams.specs.Answers.{Gives};
+ghost use Rattle.class_diagrams.specs.Answers.{Gives, and_of, or_of, held_with};
 ghost use Rattle.class_diagrams.specs.Memo.{tree_of, leaf_rule_of};
 ghost use Rattle.class_diagrams.specs.Starts.{IsStart};
 
@@ -117,11 +117,11 @@ impl Diagrams {
         ensures tree { IfOk result (λ r. tree_at self.new.branches r ≡ variable atom) }
         ensures means { IfOk result (λ r. (set : List ℕ) → eval (tree_at self.new.branches r) set ≡ has_class atom set) }
         ensures inside { IfOk result (λ r. IsIn self.new.branches r) }
-        ensures held { OnOk result (self.new.branches ≡ with_branches self.old.branches (variable atom)) }
-        ensures full { IsErrOf result DiagramFault.Full → self.old.limit < length (with_branches self.old.branches (variable atom)) }
-        ensures fits { IsOk result → length (with_branches self.old.branches (variable atom)) ≤ self.old.limit }
+        ensures held { OnOk result (self.new.branches ≡ held_with self.old (variable atom)) }
+        ensures full { IsErrOf result DiagramFault.Full → self.old.limit < length (held_with self.old (variable atom)) }
+        ensures fits { IsOk result → length (held_with self.old (variable atom)) ≤ self.old.limit }
         ensures stays { StartsWith self.old.branches self.new.branches }
-        ensures only { StartsWith self.new.branches (with_branches self.old.branches (variable atom)) }
+        ensures only { StartsWith self.new.branches (held_with self.old (variable atom)) }
         ensures references { (p : Place) → IsIn self.old.branches p
             → IsIn self.new.branches p × (tree_at self.new.branches p ≡ tree_at self.old.branches p) }
         ensures limit { self.new.limit ≡ self.old.limit }
@@ -130,20 +130,20 @@ impl Diagrams {
         self.variable(atom)
     }
 
-    /// The diagram of the sets that satisfy both. At most the product of the two sizes on average, and as
-    /// deep a recursion as there are different atoms in the two.
+    /// The diagram of the sets that satisfy both. At most the product of the two sizes while the memo has room
+    /// for the results, and a recursion no deeper than the number of different atoms in the two.
     pub fn and(&mut self, f: Ref, g: Ref) -> Result<Ref, DiagramFault>
         requires first { IsIn self.old.branches f }
         requires second { IsIn self.old.branches g }
-        ensures tree { IfOk result (λ r. tree_at self.new.branches r ≡ tand (tree_at self.old.branches f) (tree_at self.old.branches g)) }
+        ensures tree { IfOk result (λ r. tree_at self.new.branches r ≡ and_of self.old f g) }
         ensures means { IfOk result (λ r. (set : List ℕ) → eval (tree_at self.new.branches r) set
             ≡ (eval (tree_at self.old.branches f) set && eval (tree_at self.old.branches g) set)) }
         ensures inside { IfOk result (λ r. IsIn self.new.branches r) }
-        ensures held { OnOk result (self.new.branches ≡ with_branches self.old.branches (tand (tree_at self.old.branches f) (tree_at self.old.branches g))) }
-        ensures full { IsErrOf result DiagramFault.Full → self.old.limit < length (with_branches self.old.branches (tand (tree_at self.old.branches f) (tree_at self.old.branches g))) }
-        ensures fits { IsOk result → length (with_branches self.old.branches (tand (tree_at self.old.branches f) (tree_at self.old.branches g))) ≤ self.old.limit }
+        ensures held { OnOk result (self.new.branches ≡ held_with self.old (and_of self.old f g)) }
+        ensures full { IsErrOf result DiagramFault.Full → self.old.limit < length (held_with self.old (and_of self.old f g)) }
+        ensures fits { IsOk result → length (held_with self.old (and_of self.old f g)) ≤ self.old.limit }
         ensures stays { StartsWith self.old.branches self.new.branches }
-        ensures only { StartsWith self.new.branches (with_branches self.old.branches (tand (tree_at self.old.branches f) (tree_at self.old.branches g))) }
+        ensures only { StartsWith self.new.branches (held_with self.old (and_of self.old f g)) }
         ensures references { (p : Place) → IsIn self.old.branches p
             → IsIn self.new.branches p × (tree_at self.new.branches p ≡ tree_at self.old.branches p) }
         ensures limit { self.new.limit ≡ self.old.limit }
@@ -152,20 +152,20 @@ impl Diagrams {
         self.combined(Operation::And, f, g)
     }
 
-    /// The diagram of the sets that satisfy one or both. At most the product of the two sizes on average,
-    /// and as deep a recursion as there are different atoms in the two.
+    /// The diagram of the sets that satisfy one or both. At most the product of the two sizes while the memo
+    /// has room for the results, and a recursion no deeper than the number of different atoms in the two.
     pub fn or(&mut self, f: Ref, g: Ref) -> Result<Ref, DiagramFault>
         requires first { IsIn self.old.branches f }
         requires second { IsIn self.old.branches g }
-        ensures tree { IfOk result (λ r. tree_at self.new.branches r ≡ tor (tree_at self.old.branches f) (tree_at self.old.branches g)) }
+        ensures tree { IfOk result (λ r. tree_at self.new.branches r ≡ or_of self.old f g) }
         ensures means { IfOk result (λ r. (set : List ℕ) → eval (tree_at self.new.branches r) set
             ≡ (eval (tree_at self.old.branches f) set || eval (tree_at self.old.branches g) set)) }
         ensures inside { IfOk result (λ r. IsIn self.new.branches r) }
-        ensures held { OnOk result (self.new.branches ≡ with_branches self.old.branches (tor (tree_at self.old.branches f) (tree_at self.old.branches g))) }
-        ensures full { IsErrOf result DiagramFault.Full → self.old.limit < length (with_branches self.old.branches (tor (tree_at self.old.branches f) (tree_at self.old.branches g))) }
-        ensures fits { IsOk result → length (with_branches self.old.branches (tor (tree_at self.old.branches f) (tree_at self.old.branches g))) ≤ self.old.limit }
+        ensures held { OnOk result (self.new.branches ≡ held_with self.old (or_of self.old f g)) }
+        ensures full { IsErrOf result DiagramFault.Full → self.old.limit < length (held_with self.old (or_of self.old f g)) }
+        ensures fits { IsOk result → length (held_with self.old (or_of self.old f g)) ≤ self.old.limit }
         ensures stays { StartsWith self.old.branches self.new.branches }
-        ensures only { StartsWith self.new.branches (with_branches self.old.branches (tor (tree_at self.old.branches f) (tree_at self.old.branches g))) }
+        ensures only { StartsWith self.new.branches (held_with self.old (or_of self.old f g)) }
         ensures references { (p : Place) → IsIn self.old.branches p
             → IsIn self.new.branches p × (tree_at self.new.branches p ≡ tree_at self.old.branches p) }
         ensures limit { self.new.limit ≡ self.old.limit }

@@ -11,3 +11,5 @@ pub mod Runs
 pub mod Endings
 pub mod Commas
 pub mod ListSteps
+pub mod NameLemmas
+pub mod ReadBack

@@ -5,6 +5,7 @@ pub mod Grammar
 pub mod Lists
 pub mod Parts
 pub mod Places
+pub mod Readable
 pub mod Reading
 pub mod Results
 pub mod SelectorText

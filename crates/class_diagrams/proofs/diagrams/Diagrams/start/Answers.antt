@@ -1,5 +1,6 @@
 use Rattle.std.proofs.Common.{refl, sym, subst}
 use Rattle.class_diagrams.specs.Starts.{IsStart}
+use Rattle.class_diagrams.proofs.Remembering.{remembering_fewer}
 use Rattle.class_diagrams.proofs.CombinedLemmas.{gives_leaf, gives_itself, gives_known}
 use Rattle.class_diagrams.proofs.diagrams.Diagrams.start.Goals as goal
 use Rattle.class_diagrams.proofs.diagrams.Diagrams.start.Goals.{in-Some, in-None}
@@ -18,3 +19,6 @@ returns-after-recall-clause-start c = elim c.match-recall.branch [
       (gives_known c.args.operation c.self.inside.table c.args.f c.args.g c.self.invariant.arena w.in-Some.known (c.self.invariant.right _ w.in-Some.ensures.known))
   | in-None w ↦ subst (IsStart c.args.operation c.self.inside.table c.args.f c.args.g) (sym w.result-is) c.in-Branches.ensures
 ]
+
+pub invariant_of-self : goal.invariant_of-self
+invariant_of-self c = remembering_fewer c.self.inside.table c.self.inside.memo c.recall.new.self c.recall.ensures.old c.self.invariant
