@@ -1,10 +1,10 @@
 -- Answers one after another.
-use Rattle.std.proofs.Common.{◌≡◌, ℕ, ◌<◌, ◌≤◌, Bool, List, length, Result, Ok, Err, IsErrAnd, refl, sym, ap, subst, ◌∙◌, arith}
+use Rattle.std.proofs.Common.{◌≡◌, ℕ, ◌≤◌, length, Result, Ok, Err, IsErrAnd, refl, sym, ap, subst, ◌∙◌, arith}
 use Rattle.class_diagrams.specs.declared.refs.Place.{Place}
 use Rattle.class_diagrams.specs.declared.faults.DiagramFault.{DiagramFault}
 use Rattle.class_diagrams.specs.declared.faults.DiagramFault.TheVariants.{Full, Memory}
 use Rattle.class_diagrams.specs.Trees.{Tree, with_branches, join}
-use Rattle.class_diagrams.specs.Arena.{StartsWith, tree_at, IsIn, Arena, IsArena}
+use Rattle.class_diagrams.specs.Arena.{StartsWith, Arena, IsArena}
 use Rattle.class_diagrams.specs.Answers.{IsAnswer, Gives}
 use Rattle.class_diagrams.proofs.BranchLemmas.{StartsWith-further, StartsWith-length, StartsWith-with_branches, StartsWith-join, with_branches-again}
 

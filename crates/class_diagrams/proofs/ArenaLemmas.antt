@@ -1,5 +1,5 @@
 -- Arenas and their references, and what an answer does to an arena.
-use Rattle.std.proofs.Common.{◌≡◌, ◌≢◌, ℕ, ◌+◌, ◌<◌, ◌≤◌, Bool, true, false, List, [], ◌∷◌, ◌++◌, length, get_or, Result, Ok, Err, IsErrAnd, IsTrue, ◌↔◌, All, refl, sym, ap, subst, ◌∙◌, arith, inl, inr, ◌⊎◌, length-append}
+use Rattle.std.proofs.Common.{◌≡◌, ℕ, ◌<◌, ◌≤◌, Bool, true, false, List, [], ◌∷◌, ◌++◌, length, get_or, Result, Ok, Err, IsErrAnd, IsTrue, ◌↔◌, All, refl, sym, ap, subst, ◌∙◌, arith, length-append}
 use Rattle.std.proofs.lemmas.Bool.{both_ways, false_from_ne_true}
 use Rattle.std.proofs.lemmas.List.{get_or_append_left}
 use Rattle.std.proofs.lemmas.List.Folds.{list_any_at}
@@ -9,9 +9,9 @@ use Rattle.class_diagrams.specs.declared.faults.DiagramFault.{DiagramFault}
 use Rattle.class_diagrams.specs.declared.faults.DiagramFault.TheVariants.{Full, Memory}
 use Rattle.class_diagrams.specs.Trees.{Tree, leaf, branch, eval, same_tree, has_tree, with_tree, with_branches, join, IsLeaf, IsOrdered, AgreeOnAllSets}
 use Rattle.class_diagrams.specs.Arena.{StartsWith, Holds, IsClosed, tree_at, IsIn, AreSame, Arena, IsArena}
-use Rattle.class_diagrams.specs.Answers.{IsAnswer, Gives}
+use Rattle.class_diagrams.specs.Answers.{Gives}
 use Rattle.class_diagrams.proofs.TreeLemmas.{same_tree-refl, join-same, join-other, same_where_agree, agree_where_same}
-use Rattle.class_diagrams.proofs.BranchLemmas.{StartsWith-itself, StartsWith-length, StartsWith-with_branches, with_tree-new, with_branches-held}
+use Rattle.class_diagrams.proofs.BranchLemmas.{StartsWith-itself, StartsWith-with_branches, with_tree-new, with_branches-held}
 
 -- ### references
 

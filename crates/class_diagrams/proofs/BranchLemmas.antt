@@ -1,7 +1,6 @@
 -- Lists of trees that hold the parts of each of their trees.
-use Rattle.std.proofs.Common.{◌≡◌, ◌≢◌, ℕ, ◌+◌, ◌<◌, ◌≤◌, Bool, true, false, ◌||◌, cond, List, [], ◌∷◌, ◌++◌, length, refl, sym, ap, subst, ◌∙◌, arith, inl, inr, ◌⊎◌, append_assoc, append-nil, length-append}
-use Rattle.std.specs.List.{list_any}
-use Rattle.std.proofs.lemmas.Bool.{both_ways, cases_Bool, or_cases, or_right}
+use Rattle.std.proofs.Common.{◌≡◌, ◌≢◌, ℕ, ◌≤◌, true, false, List, [], ◌∷◌, ◌++◌, length, refl, sym, ap, subst, ◌∙◌, arith, inl, inr, ◌⊎◌, append_assoc, append-nil, length-append}
+use Rattle.std.proofs.lemmas.Bool.{cases_Bool, or_cases, or_right}
 use Rattle.class_diagrams.specs.Trees.{Tree, leaf, branch, same_tree, join, has_tree, with_tree, with_branches, IsBranchOf}
 use Rattle.class_diagrams.specs.Arena.{StartsWith, Holds, IsClosed}
 use Rattle.class_diagrams.proofs.TreeLemmas.{same_tree-refl, same_tree-true, cases_tree, join-same, join-other}

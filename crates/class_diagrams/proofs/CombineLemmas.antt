@@ -1,9 +1,9 @@
 -- What trees are combined to: their meaning, their condition, and one step of the recursion.
-use Rattle.std.proofs.Common.{◌≡◌, ◌≢◌, ℕ, ◌+◌, ◌<◌, ◌≤◌, Bool, true, false, ◌&&◌, ◌||◌, cond, List, [], ◌∷◌, refl, sym, ap, subst, ◌∙◌, arith, inl, inr, ◌⊎◌}
+use Rattle.std.proofs.Common.{◌≡◌, ℕ, ◌<◌, Bool, true, false, ◌&&◌, ◌||◌, cond, List, refl, sym, subst, ◌∙◌, arith, inl, inr, ◌⊎◌}
 use Rattle.std.proofs.lemmas.Bool.{lt-ltb, le-ltb, cases_order, cases_Bool}
 use Rattle.tp_base.specs.Classes.{has_class}
-use Rattle.class_diagrams.specs.Trees.{Tree, leaf, branch, eval, Implies, StartsAbove, IsOrdered, join, combine, combine_branch, and_leaf, or_leaf, tand, tor, variable}
-use Rattle.class_diagrams.proofs.TreeLemmas.{cases_tree, join-same, join-other, same_where_agree}
+use Rattle.class_diagrams.specs.Trees.{Tree, leaf, branch, eval, Implies, StartsAbove, IsOrdered, join, combine, and_leaf, or_leaf, tand, tor, variable}
+use Rattle.class_diagrams.proofs.TreeLemmas.{cases_tree, join-same, join-other}
 
 -- what is asked of a rule for leaves: it keeps the other tree or the leaf, and computes a monotone operation
 pub record IsRule (leaf_rule : Bool → Tree → Tree) (both : Bool → Bool → Bool) : Type 0 where

@@ -1,18 +1,16 @@
 -- An operation on two diagrams of an arena, by its parts.
-use Rattle.std.proofs.Common.{◌≡◌, ℕ, ◌+◌, ◌<◌, ◌≤◌, Bool, true, false, ◌&&◌, ◌||◌, List, Contains, Result, Ok, Err, IfOk, cond, refl, sym, ap, subst, ◌∙◌, arith}
+use Rattle.std.proofs.Common.{◌≡◌, ℕ, ◌+◌, ◌<◌, Bool, true, false, ◌&&◌, ◌||◌, List, Result, Ok, Err, IfOk, cond, refl, sym, ap, subst, ◌∙◌}
 use Rattle.tp_base.specs.Classes.{has_class}
 use Rattle.class_diagrams.specs.declared.refs.Place.{Place}
 use Rattle.class_diagrams.specs.declared.memo.Operation.{Operation}
 use Rattle.class_diagrams.specs.declared.memo.Operation.TheVariants.{And, Or}
-use Rattle.class_diagrams.specs.declared.memo.Task.{Task}
-use Rattle.class_diagrams.specs.declared.table.Pair.{Pair}
 use Rattle.class_diagrams.specs.declared.table.Pair.TheVariants.{WithLeaf, Branches}
 use Rattle.class_diagrams.specs.declared.faults.DiagramFault.{DiagramFault}
 use Rattle.class_diagrams.specs.Trees.{Tree, leaf, eval, join, combine, tand, tor, variable, IsOrdered}
 use Rattle.class_diagrams.specs.Arena.{StartsWith, tree_at, IsIn, Arena, IsArena}
-use Rattle.class_diagrams.specs.Answers.{IsAnswer, Gives}
-use Rattle.class_diagrams.specs.Memo.{tree_of, leaf_rule_of, IsRight, IsRemembering}
-use Rattle.class_diagrams.specs.Pairs.{size, AreSmaller, combined, IsPair}
+use Rattle.class_diagrams.specs.Answers.{Gives}
+use Rattle.class_diagrams.specs.Memo.{tree_of, leaf_rule_of, IsRight}
+use Rattle.class_diagrams.specs.Pairs.{size, IsPair}
 use Rattle.class_diagrams.proofs.CombineLemmas.{IsOrdered-tand, IsOrdered-tor, eval-tand, eval-tor}
 use Rattle.class_diagrams.proofs.TreeLemmas.{same_where_agree}
 use Rattle.class_diagrams.proofs.ArenaLemmas.{tree_at-further, IsIn-further, IsOrdered-tree_at, gives_held}

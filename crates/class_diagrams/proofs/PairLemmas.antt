@@ -1,15 +1,14 @@
 -- Two branches of a table, taken apart at the smaller atom.
-use Rattle.std.proofs.Common.{◌≡◌, ℕ, ◌+◌, ◌<◌, ◌≤◌, Bool, false, List, length, slice_get, get_or, Some, refl, sym, ap, subst, ◌∙◌, arith}
+use Rattle.std.proofs.Common.{◌≡◌, ℕ, ◌<◌, Bool, false, List, length, slice_get, get_or, Some, refl, sym, ap, subst, ◌∙◌, arith}
 use Rattle.std.proofs.lemmas.Option.{slice_get_within, slice_get_read}
 use Rattle.class_diagrams.specs.declared.table.BranchNode.{BranchNode}
-use Rattle.class_diagrams.specs.declared.table.Pair.{Pair}
 use Rattle.class_diagrams.specs.declared.table.Pair.TheVariants.{WithLeaf, Branches}
 use Rattle.class_diagrams.specs.declared.refs.Place.{Place}
 use Rattle.class_diagrams.specs.declared.refs.Place.TheVariants.{Leaf, Branch}
-use Rattle.class_diagrams.specs.Trees.{Tree, leaf, branch, join, combine}
+use Rattle.class_diagrams.specs.Trees.{Tree, leaf, branch, combine}
 use Rattle.class_diagrams.specs.Arena.{tree_at, IsIn, AreSame}
-use Rattle.class_diagrams.specs.Table.{tree_by, trees_of, IsTable}
-use Rattle.class_diagrams.specs.Pairs.{size, AreSmaller, combined, IsPair}
+use Rattle.class_diagrams.specs.Table.{trees_of, IsTable}
+use Rattle.class_diagrams.specs.Pairs.{IsPair}
 use Rattle.class_diagrams.proofs.ArenaLemmas.{branch_is_no_leaf}
 use Rattle.class_diagrams.proofs.CombineLemmas.{combine-less, combine-more, combine-same}
 use Rattle.class_diagrams.proofs.TableLemmas.{length-trees_of, tree_decoded, parts_within}

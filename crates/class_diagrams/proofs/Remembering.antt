@@ -1,11 +1,9 @@
 -- What stays right while an arena grows.
-use Rattle.std.proofs.Common.{◌≡◌, ℕ, ◌<◌, List, [], Contains, refl, sym, ap, subst, ◌∙◌, inl, inr, ◌⊎◌, arith}
-use Rattle.class_diagrams.specs.declared.memo.Operation.{Operation}
+use Rattle.std.proofs.Common.{◌≡◌, List, [], Contains, sym, subst, inl, inr, ◌⊎◌, arith}
 use Rattle.class_diagrams.specs.declared.memo.Task.{Task}
 use Rattle.class_diagrams.specs.declared.refs.Place.{Place}
-use Rattle.class_diagrams.specs.Trees.{Tree}
-use Rattle.class_diagrams.specs.Arena.{StartsWith, tree_at, IsIn, Arena, IsArena}
-use Rattle.class_diagrams.specs.Memo.{tree_of, IsRight, AreRight, IsRemembering}
+use Rattle.class_diagrams.specs.Arena.{StartsWith, Arena, IsArena}
+use Rattle.class_diagrams.specs.Memo.{IsRight, IsRemembering}
 use Rattle.class_diagrams.proofs.ArenaLemmas.{tree_at-further, IsIn-further}
 
 right_further : (a b : Arena) (entry : Task × Place) → StartsWith a.branches b.branches → IsRight a entry → IsRight b entry

@@ -1,6 +1,6 @@
 -- Worked examples.
 use Rattle.std.proofs.Common.{◌≡◌, true, false, [], ◌∷◌, length, refl}
-use Rattle.class_diagrams.specs.Trees.{Tree, leaf, branch, eval, tand, tor, variable, with_branches, subs}
+use Rattle.class_diagrams.specs.Trees.{leaf, branch, eval, tand, tor, variable, with_branches, subs}
 
 -- the sets with 1 and 2, and those with 1 or 2
 both : tand (variable 1) (variable 2) ≡ branch 1 (leaf false) (variable 2)

@@ -1,9 +1,9 @@
 -- Stored branches against the trees that they stand for.
-use Rattle.std.proofs.Common.{◌≡◌, ◌≢◌, ℕ, zero, suc, ◌+◌, ◌<◌, ◌≤◌, ◌^◌, Bool, true, false, ◌&&◌, ◌||◌, cond, eqb, List, [], ◌∷◌, ◌++◌, length, slice_get, get_or, Option, Some, None, Ok, Err, position, All, refl, sym, ap, subst, ◌∙◌, arith, inl, inr, ◌⊎◌, append_assoc, append-nil, length-append, add-zero}
+use Rattle.std.proofs.Common.{◌≡◌, ℕ, zero, suc, ◌+◌, ◌<◌, ◌≤◌, ◌^◌, Bool, true, false, ◌&&◌, eqb, List, [], ◌∷◌, ◌++◌, length, slice_get, get_or, Some, Ok, Err, position, refl, sym, ap, subst, ◌∙◌, arith, inl, inr, ◌⊎◌, length-append, add-zero}
 use Rattle.std.specs.List.{list_any}
-use Rattle.std.proofs.lemmas.Bool.{both_ways, cases_Bool, cases_lt, cases_eq, and_parts, eqb-true, eq-eqb, false_from_ne_true}
+use Rattle.std.proofs.lemmas.Bool.{both_ways, cases_Bool, cases_lt, and_parts, eqb-true, eq-eqb}
 use Rattle.std.proofs.lemmas.Option.{slice_get_within, slice_get-get_or, get_or_from_slice_get}
-use Rattle.std.proofs.lemmas.List.{get_or_append_left, get_or_default}
+use Rattle.std.proofs.lemmas.List.{get_or_append_left}
 use Rattle.std.proofs.lemmas.List.Folds.{list_any_at, Any-from_list_any}
 use Rattle.std.proofs.lemmas.List.Elements.{All-push}
 use Rattle.std.proofs.lemmas.List.Quantifiers.{position-Some}
@@ -17,12 +17,12 @@ use Rattle.class_diagrams.specs.contracts.table.BranchNodePartialEq as its
 use Rattle.class_diagrams.specs.contracts.refs.RefPartialEq as refs
 use Rattle.class_diagrams.specs.Trees.{Tree, leaf, branch, same_tree, has_tree, with_tree, with_branches, IsOrdered}
 use Rattle.class_diagrams.specs.Numbers.{number_of}
-use Rattle.class_diagrams.specs.Arena.{StartsWith, Holds, IsClosed, tree_at, IsIn, AreSame, IsArena}
+use Rattle.class_diagrams.specs.Arena.{StartsWith, Holds, tree_at, IsIn, AreSame, IsArena}
 use Rattle.class_diagrams.specs.Table.{tree_by, trees_behind, trees_of, arena_of, IsBefore, IsTable}
-use Rattle.class_diagrams.proofs.TreeLemmas.{same_tree-refl, same_tree-true}
+use Rattle.class_diagrams.proofs.TreeLemmas.{same_tree-true}
 use Rattle.class_diagrams.specs.declared.faults.DiagramFault.TheVariants.{Full, Memory}
 use Rattle.class_diagrams.specs.Answers.{Gives}
-use Rattle.class_diagrams.proofs.ArenaLemmas.{tree_at-further, IsIn-further, has_tree-at, Holds-tree_at, with_branches-parts, gives_held, gives_no_memory, gives_full}
+use Rattle.class_diagrams.proofs.ArenaLemmas.{tree_at-further, has_tree-at, Holds-tree_at, with_branches-parts, gives_held, gives_no_memory, gives_full}
 use Rattle.class_diagrams.proofs.BranchLemmas.{StartsWith-with_tree, StartsWith-itself, StartsWith-further, with_tree-held, with_tree-new, IsClosed-with_tree}
 
 -- ### the derived `==`

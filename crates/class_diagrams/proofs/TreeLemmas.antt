@@ -1,12 +1,10 @@
 -- What decision trees mean, and that each meaning has one tree.
-use Rattle.std.proofs.Common.{◌≡◌, ◌≢◌, ℕ, zero, suc, ◌+◌, ◌<◌, ◌≤◌, Bool, true, false, not, ◌&&◌, ◌||◌, cond, eqb, List, [], ◌∷◌, filter, refl, sym, ap, subst, ◌∙◌, arith, inl, inr, ◌⊎◌}
-use Rattle.std.specs.List.{list_any}
-use Rattle.std.specs.List.Sorted.{IsStrictlyIncreasing}
-use Rattle.std.proofs.lemmas.Bool.{true≢false, both_ways, eq-eqb, ne_eqb, eqb-true, eqb-false, ltb-true, ltb-false, lt-ltb, le-ltb, cases_order, cases_eq, cases_Bool, and_parts, and_from}
+use Rattle.std.proofs.Common.{◌≡◌, ◌≢◌, ℕ, zero, suc, ◌+◌, ◌<◌, ◌≤◌, Bool, true, false, not, ◌&&◌, ◌||◌, eqb, List, [], ◌∷◌, filter, refl, sym, ap, subst, ◌∙◌, arith, inl, inr, ◌⊎◌}
+use Rattle.std.proofs.lemmas.Bool.{both_ways, eq-eqb, ne_eqb, eqb-true, cases_order, cases_Bool, and_parts}
 use Rattle.tp_base.specs.Classes.{has_class, union_of}
 use Rattle.tp_base.proofs.ClassLemmas.{has_class-Contains, Contains-has_class, Contains-union_of, IsStrictlyIncreasing-union_of}
 use Rattle.class_diagrams.specs.Pairs.{size}
-use Rattle.class_diagrams.specs.Trees.{Tree, leaf, branch, eval, Implies, AgreeOnAllSets, StartsAbove, IsOrdered, same_tree, join, combine, combine_branch, and_leaf, or_leaf, tand, tor, variable}
+use Rattle.class_diagrams.specs.Trees.{Tree, leaf, branch, eval, AgreeOnAllSets, StartsAbove, IsOrdered, same_tree, join}
 
 -- ### `same_tree` decides equality
 

@@ -1,5 +1,5 @@
 -- Arenas of diagrams, and the trees that references stand for.
-use Rattle.std.specs.Prelude.{◌≡◌, ℕ, ◌<◌, ◌≤◌, Bool, true, false, List, [], ◌∷◌, ◌++◌, length, slice_index_or, All}
+use Rattle.std.specs.Prelude.{◌≡◌, ℕ, ◌<◌, ◌≤◌, true, false, List, ◌++◌, length, slice_index_or, All}
 use Rattle.class_diagrams.specs.declared.refs.Place.{Place}
 use Rattle.class_diagrams.specs.declared.refs.Place.TheVariants.{Leaf, Branch}
 use Rattle.class_diagrams.specs.declared.refs.TheConstants.{MOST_BRANCHES}

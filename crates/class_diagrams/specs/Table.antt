@@ -3,7 +3,7 @@ use Rattle.std.specs.Prelude.{◌≡◌, ℕ, ◌<◌, List, [], ◌∷◌, ◌+
 use Rattle.class_diagrams.specs.declared.table.BranchNode.{BranchNode}
 use Rattle.class_diagrams.specs.declared.refs.Place.{Place}
 use Rattle.class_diagrams.specs.declared.refs.Place.TheVariants.{Leaf, Branch}
-use Rattle.class_diagrams.specs.Trees.{Tree, leaf, branch}
+use Rattle.class_diagrams.specs.Trees.{Tree, branch}
 use Rattle.class_diagrams.specs.Arena.{tree_at, Arena, IsArena}
 
 -- the tree of a stored branch

@@ -1,5 +1,5 @@
 -- The next comma outside comments.
-use Rattle.std.proofs.Common.{◌≡◌, ℕ, zero, suc, ◌+◌, ◌-◌, ◌<◌, ◌≤◌, Bool, true, false, nat_eq, eqb, List, [], ◌∷◌, length, drop, codes, refl, sym, ap, ◌∙◌, arith}
+use Rattle.std.proofs.Common.{◌≡◌, ℕ, zero, suc, ◌-◌, true, false, nat_eq, eqb, List, [], ◌∷◌, length, drop, codes, refl, ap, ◌∙◌, arith}
 use Rattle.std.specs.List.{starts_with}
 use Rattle.sel_core.specs.Bytes.{behind_close, IsRest}
 use Rattle.sel_core.specs.Lists.{from_comma}

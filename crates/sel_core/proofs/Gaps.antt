@@ -1,7 +1,6 @@
 -- White space and comments, one after the other.
-use Rattle.std.proofs.Common.{◌≡◌, ℕ, zero, suc, ◌+◌, ◌-◌, ◌<◌, ◌≤◌, Bool, true, false, nat_eq, List, [], ◌∷◌, length, drop, codes, refl, sym, ap, ◌∙◌, arith, length-drop}
+use Rattle.std.proofs.Common.{◌≡◌, ℕ, zero, suc, ◌-◌, Bool, true, false, nat_eq, List, [], ◌∷◌, length, drop, codes, refl, ap, ◌∙◌, arith}
 use Rattle.std.specs.List.{starts_with}
-use Rattle.std.proofs.lemmas.List.{drop-drop}
 use Rattle.sel_core.specs.Bytes.{is_passed, behind_close, behind_gap, IsRest}
 
 skips : (blanks : Bool) (n : ℕ) (bs : List ℕ) → behind_gap blanks n bs ≡ behind_gap blanks 0 (drop n bs)

@@ -1,12 +1,12 @@
 -- The nearest place that fits a group loses nothing: what matches above some level matches above each larger one.
-use Rattle.std.proofs.Common.{◌≡◌, ℕ, suc, zero, ◌+◌, ◌<◌, ◌≤◌, List, [], ◌∷◌, ◌++◌, length, take, refl, subst, arith}
+use Rattle.std.proofs.Common.{◌≡◌, ℕ, ◌+◌, ◌<◌, ◌≤◌, List, [], ◌∷◌, ◌++◌, length, take, subst, arith}
 use Rattle.tree_sem.specs.Trees.{LabelTree}
 use Rattle.sel_core.specs.declared.selectors.Compound.{Compound}
 use Rattle.sel_core.specs.declared.selectors.Join.{Join}
 use Rattle.sel_core.specs.declared.selectors.Join.TheVariants.{Inside, Child}
 use Rattle.sel_core.specs.Selectors.{Selector, Fits}
 use Rattle.sel_core.specs.Parts.{and_then, selector_from}
-use Rattle.sel_core.specs.Places.{MatchesAt, IsLeft, Leaves}
+use Rattle.sel_core.specs.Places.{MatchesAt, Leaves}
 use Rattle.sel_core.proofs.PartLemmas.{selector_from-push, selector_from-subject}
 
 -- the selector s matches at `from` exactly where its front does at n, and each place of s gives one of the front at n or above

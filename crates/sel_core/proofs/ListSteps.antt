@@ -1,5 +1,5 @@
 -- Selectors of a list, one after the other.
-use Rattle.std.proofs.Common.{◌≡◌, ℕ, zero, suc, ◌+◌, ◌-◌, ◌<◌, ◌≤◌, List, [], ◌∷◌, ◌++◌, length, drop, Result, Ok, Err, refl, sym, ap, ◌∙◌, arith}
+use Rattle.std.proofs.Common.{◌≡◌, ℕ, zero, suc, ◌-◌, List, [], ◌∷◌, ◌++◌, length, drop, Ok, Err, refl, arith}
 use Rattle.tp_base.specs.Names.{Named}
 use Rattle.sel_core.specs.Bytes.{IsRest}
 use Rattle.sel_core.specs.declared.faults.SelFault.{SelFault}

@@ -1,12 +1,12 @@
 -- Names and what may stand behind them.
-use Rattle.std.proofs.Common.{◌≡◌, ◌⊎◌, inl, inr, ℕ, zero, suc, ◌+◌, ◌-◌, ◌<◌, ◌≤◌, Bool, true, false, ◌==◌, ◌||◌, ◌&&◌, nat_eq, nat_lt, if◌then◌else◌, List, [], ◌∷◌, ◌++◌, length, take, drop, map, Option, None, Some, Result, Ok, Err, codes, refl, sym, ap, subst, ◌∙◌, arith, add-zero, length-append}
+use Rattle.std.proofs.Common.{◌≡◌, ℕ, ◌-◌, ◌<◌, Bool, true, false, ◌==◌, ◌||◌, ◌&&◌, nat_eq, if◌then◌else◌, List, [], ◌∷◌, ◌++◌, length, Some, Ok, codes, refl, sym, ap, ◌∙◌, arith, add-zero, length-append}
 use Rattle.std.proofs.lemmas.Bool.{ne_eqb, eq-eqb, lt-ltb}
 use Rattle.std.proofs.lemmas.List.Folds.{prefix_len-append}
 use Rattle.std.proofs.Math.Seq.{take-append_seam, drop-append_seam}
 use Rattle.std.specs.List.{starts_with, prefix_len}
 use Rattle.tp_base.specs.declared.atoms.AtomKind.{AtomKind}
-use Rattle.sel_core.specs.Bytes.{is_blank, is_passed, starts_name, in_name, begins_name, name_len, behind_gap, IsRest}
-use Rattle.sel_core.specs.Grammar.{name_at, left_at}
+use Rattle.sel_core.specs.Bytes.{is_blank, starts_name, in_name, begins_name, name_len, behind_gap, IsRest}
+use Rattle.sel_core.specs.Grammar.{name_at}
 use Rattle.sel_core.specs.Readable.{IsName}
 use Rattle.sel_core.proofs.Gaps.{stops}
 

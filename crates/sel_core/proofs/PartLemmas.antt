@@ -1,5 +1,5 @@
 -- A selector with one more compound on its right.
-use Rattle.std.proofs.Common.{◌≡◌, ℕ, suc, zero, ◌+◌, List, [], ◌∷◌, ◌++◌, length, refl, arith}
+use Rattle.std.proofs.Common.{◌≡◌, ◌+◌, List, [], ◌∷◌, ◌++◌, length, refl, arith}
 use Rattle.sel_core.specs.declared.selectors.Compound.{Compound}
 use Rattle.sel_core.specs.declared.selectors.Join.{Join}
 use Rattle.sel_core.specs.Selectors as spec

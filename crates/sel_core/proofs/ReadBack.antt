@@ -1,5 +1,5 @@
 -- What is written reads as itself.
-use Rattle.std.proofs.Common.{◌≡◌, ◌⊎◌, inl, inr, ℕ, zero, suc, ◌+◌, ◌<◌, ◌≤◌, Bool, true, false, ◌==◌, ◌||◌, nat_lt, List, [], ◌∷◌, ◌++◌, length, map, Option, None, Some, Result, Ok, Err, slice_get, codes, refl, sym, ap, subst, ◌∙◌, append_assoc, append-nil, arith, length-append}
+use Rattle.std.proofs.Common.{◌≡◌, inl, inr, ℕ, ◌+◌, ◌<◌, ◌≤◌, Bool, true, false, ◌==◌, ◌||◌, List, [], ◌∷◌, ◌++◌, length, None, Some, Ok, slice_get, refl, sym, ap, subst, ◌∙◌, append_assoc, append-nil, arith, length-append}
 use Rattle.std.proofs.lemmas.Bool.{lt-ltb}
 use Rattle.std.specs.List.{flat_map}
 use Rattle.tp_base.specs.Names.{Named, IsDistinct}
@@ -12,14 +12,14 @@ use Rattle.sel_core.specs.declared.selectors.Join.{Join}
 use Rattle.sel_core.specs.declared.selectors.Join.TheVariants as code
 use Rattle.sel_core.specs.Selectors as spec
 use Rattle.sel_core.specs.Parts.{join_of, and_then, selector_from}
-use Rattle.sel_core.specs.Bytes.{is_blank, starts_name, begins_name, behind_gap}
+use Rattle.sel_core.specs.Bytes.{starts_name, begins_name, behind_gap}
 use Rattle.sel_core.specs.Grammar.{Begun, any_part, first_part, name_at, behind_child, behind_space, behind_near, join_at}
-use Rattle.sel_core.specs.Reading.{Draft, spelled, with_word, with_join, with_part, first_step, step, finished, run, read_piece, empty_draft}
+use Rattle.sel_core.specs.Reading.{Draft, spelled, with_word, with_join, with_part, first_step, step, finished, run, read_piece}
 use Rattle.sel_core.specs.SelectorText.{atom_text, compound_text, join_text, outer_text, selector_text}
 use Rattle.sel_core.specs.Readable.{IsName, IsType, IsMarked, AreMarked, IsCompound, AreCompounds, IsReadable}
 use Rattle.sel_core.proofs.NameLemmas.{IsStart, IsEnd, is_start, not_byte, no_gap, name_begins, or_start, first_of_name, reads_name, behind_front}
 use Rattle.sel_core.proofs.PartLemmas.{selector_from-push}
-use Rattle.sel_core.proofs.Runs.{goes_on, ends}
+use Rattle.sel_core.proofs.Runs.{goes_on}
 use Rattle.sel_core.proofs.Steps.{at_join, at_part}
 
 begins_not : (b : ℕ) (bs : List ℕ) → starts_name b ≡ false → (b == 45) ≡ false → begins_name (b ∷ bs) ≡ false
@@ -105,7 +105,7 @@ module _ (drops : Bool) (to : ℕ) (names : List Named) (distinct : IsDistinct n
   unfolding any_part
   later_class parts joins atoms name a rest there n end =
       let one = started_step parts joins atoms (46 ∷ name ++ rest) (Some kind.Class, name ++ rest) (refl, refl, refl) (omega arith) refl
-          ∙ part_read parts joins atoms true kind.Class name a (46 ∷ name ++ rest) (name ++ rest) rest there refl (reads_name to kind.Class name rest n end) in
+      ∙ part_read parts joins atoms true kind.Class name a (46 ∷ name ++ rest) (name ++ rest) rest there refl (reads_name to kind.Class name rest n end) in
       goes_on drops to (at parts joins atoms true) (at parts joins (atoms ++ a ∷ []) true) (46 ∷ name ++ rest) rest one (behind_front (46 ∷ name) rest) (omega (arith, length-append name rest))
 
   later_id : (parts : List Compound) (joins : List Join) (atoms name : List ℕ) (a : ℕ) (rest : List ℕ) → slice_get names a ≡ Some (kind.Ident, name) → IsName name → IsEnd rest
@@ -113,7 +113,7 @@ module _ (drops : Bool) (to : ℕ) (names : List Named) (distinct : IsDistinct n
   unfolding any_part
   later_id parts joins atoms name a rest there n end =
       let one = started_step parts joins atoms (35 ∷ name ++ rest) (Some kind.Ident, name ++ rest) (refl, refl, refl) (omega arith) refl
-          ∙ part_read parts joins atoms true kind.Ident name a (35 ∷ name ++ rest) (name ++ rest) rest there refl (reads_name to kind.Ident name rest n end) in
+      ∙ part_read parts joins atoms true kind.Ident name a (35 ∷ name ++ rest) (name ++ rest) rest there refl (reads_name to kind.Ident name rest n end) in
       goes_on drops to (at parts joins atoms true) (at parts joins (atoms ++ a ∷ []) true) (35 ∷ name ++ rest) rest one (behind_front (35 ∷ name) rest) (omega (arith, length-append name rest))
 
   later_marked : (parts : List Compound) (joins : List Join) (atoms : List ℕ) (a : ℕ) (m : IsMarked names a) (rest : List ℕ) → IsEnd rest
@@ -131,7 +131,7 @@ module _ (drops : Bool) (to : ℕ) (names : List Named) (distinct : IsDistinct n
   first_class parts joins name a rest few there n end =
       let part : first_part drops (46 ∷ name ++ rest) ≡ Some (Some kind.Class, name ++ rest) = rw (begins_not 46 (name ++ rest) refl refl) refl in
       let one = new_step parts joins (46 ∷ name ++ rest) (Some kind.Class, name ++ rest) few part
-          ∙ part_read parts joins [] false kind.Class name a (46 ∷ name ++ rest) (name ++ rest) rest there refl (reads_name to kind.Class name rest n end) in
+      ∙ part_read parts joins [] false kind.Class name a (46 ∷ name ++ rest) (name ++ rest) rest there refl (reads_name to kind.Class name rest n end) in
       goes_on drops to (at parts joins [] false) (at parts joins (a ∷ []) true) (46 ∷ name ++ rest) rest one (behind_front (46 ∷ name) rest) (omega (arith, length-append name rest))
 
   first_id : (parts : List Compound) (joins : List Join) (name : List ℕ) (a : ℕ) (rest : List ℕ) → length parts < MOST_PARTS → slice_get names a ≡ Some (kind.Ident, name) → IsName name → IsEnd rest
@@ -140,7 +140,7 @@ module _ (drops : Bool) (to : ℕ) (names : List Named) (distinct : IsDistinct n
   first_id parts joins name a rest few there n end =
       let part : first_part drops (35 ∷ name ++ rest) ≡ Some (Some kind.Ident, name ++ rest) = rw (begins_not 35 (name ++ rest) refl refl) refl in
       let one = new_step parts joins (35 ∷ name ++ rest) (Some kind.Ident, name ++ rest) few part
-          ∙ part_read parts joins [] false kind.Ident name a (35 ∷ name ++ rest) (name ++ rest) rest there refl (reads_name to kind.Ident name rest n end) in
+      ∙ part_read parts joins [] false kind.Ident name a (35 ∷ name ++ rest) (name ++ rest) rest there refl (reads_name to kind.Ident name rest n end) in
       goes_on drops to (at parts joins [] false) (at parts joins (a ∷ []) true) (35 ∷ name ++ rest) rest one (behind_front (35 ∷ name) rest) (omega (arith, length-append name rest))
 
   type_part : (name rest : List ℕ) → begins_name name ≡ true → first_part drops (name ++ rest) ≡ Some (Some kind.Element, name ++ rest)
@@ -153,7 +153,7 @@ module _ (drops : Bool) (to : ℕ) (names : List Named) (distinct : IsDistinct n
       → run drops to (at parts joins [] false) 0 (y.name ++ rest) ≡ run drops to (at parts joins (a ∷ []) true) 0 rest
   first_type parts joins a y rest few end =
       let one = new_step parts joins (y.name ++ rest) (Some kind.Element, y.name ++ rest) few (type_part y.name rest (name_begins y.name y.is_name).0)
-          ∙ part_read parts joins [] false kind.Element y.name a (y.name ++ rest) (y.name ++ rest) rest y.at y.lowered (reads_name to kind.Element y.name rest y.is_name end) in
+      ∙ part_read parts joins [] false kind.Element y.name a (y.name ++ rest) (y.name ++ rest) rest y.at y.lowered (reads_name to kind.Element y.name rest y.is_name end) in
       goes_on drops to (at parts joins [] false) (at parts joins (a ∷ []) true) (y.name ++ rest) rest one (behind_front y.name rest) (omega (arith, length-append y.name rest, y.is_name.some))
 
   first_any : (parts : List Compound) (joins : List Join) (rest : List ℕ) → length parts < MOST_PARTS
@@ -176,10 +176,10 @@ module _ (drops : Bool) (to : ℕ) (names : List Named) (distinct : IsDistinct n
   atoms_text atoms = flat_map (λ a. atom_text (slice_get names a)) atoms
 
   marked_end : (a : ℕ) → IsMarked names a → (rest : List ℕ) → IsEnd (atom_text (slice_get names a) ++ rest)
-  marked_end a m rest = elim m.marked [ | inl class ↦ rw (m.at, class) refl | inr id ↦ rw (m.at, id) refl ]
+  marked_end a m rest = elim m.marked [ inl class ↦ rw (m.at, class) refl | inr id ↦ rw (m.at, id) refl ]
 
   marked_start : (a : ℕ) → IsMarked names a → (rest : List ℕ) → IsStart (atom_text (slice_get names a) ++ rest)
-  marked_start a m rest = elim m.marked [ | inl class ↦ rw (m.at, class) (refl, refl, refl) | inr id ↦ rw (m.at, id) (refl, refl, refl) ]
+  marked_start a m rest = elim m.marked [ inl class ↦ rw (m.at, class) (refl, refl, refl) | inr id ↦ rw (m.at, id) (refl, refl, refl) ]
 
   atoms_end : (atoms : List ℕ) → AreMarked names atoms → (rest : List ℕ) → IsEnd rest → IsEnd (atoms_text atoms ++ rest)
   atoms_end [] m rest end = end
@@ -267,8 +267,8 @@ module _ (drops : Bool) (to : ℕ) (names : List Named) (distinct : IsDistinct n
       let start : IsStart (compound_text names s.subject) = subst IsStart last (compound_start s.subject r.subject []) in
       let few : length (parts_of s.outer) < MOST_PARTS = omega (arith, r.few, length-parts_of s.outer) in
       let subject = subst (λ bs. run drops to (at (parts_of s.outer) (joins_of s.outer) [] false) 0 bs ≡ run drops to (at (parts_of s.outer) (joins_of s.outer) s.subject true) 0 []) last
-          (reads_compound (parts_of s.outer) (joins_of s.outer) s.subject r.subject [] few refl) in
+      (reads_compound (parts_of s.outer) (joins_of s.outer) s.subject r.subject [] few refl) in
       rw (no_gap true (outer_text names s.outer ++ compound_text names s.subject) (outer_start s.outer r.outer (compound_text names s.subject) start))
       (reads_outer s.outer r.outer (omega (arith, r.few)) (compound_text names s.subject) start ∙ subject
-        ∙ reads_end (parts_of s.outer) (joins_of s.outer) s.subject
-        ∙ ap (λ (x : spec.Selector). (names, Ok x)) (selector_from-parts_of s.outer s.subject))
+      ∙ reads_end (parts_of s.outer) (joins_of s.outer) s.subject
+      ∙ ap (λ (x : spec.Selector). (names, Ok x)) (selector_from-parts_of s.outer s.subject))

@@ -1,9 +1,9 @@
 -- A step behind a part.
-use Rattle.std.proofs.Common.{◌≡◌, ℕ, Bool, ◌<◌, List, [], ◌∷◌, length, Option, None, Some, Result, Ok, Err, refl, arith}
+use Rattle.std.proofs.Common.{◌≡◌, ℕ, Bool, ◌<◌, List, [], ◌∷◌, length, None, Some, Ok, Err, refl, arith}
 use Rattle.sel_core.specs.declared.faults.SelFault.{SelFault}
 use Rattle.sel_core.specs.declared.selectors.Join.{Join}
-use Rattle.sel_core.specs.Grammar.{Outcome, ◌>>=◌, any_part, join_at}
-use Rattle.sel_core.specs.Reading.{Draft, with_join, with_part, behind_part, later_step}
+use Rattle.sel_core.specs.Grammar.{any_part, join_at}
+use Rattle.sel_core.specs.Reading.{Draft, with_join, with_part, later_step}
 
 pub at_join : (drops : Bool) (to : ℕ) (d : Draft) (bs : List ℕ) (j : Join) (rest : List ℕ) → join_at to bs ≡ Ok (Some j, rest) → later_step drops to d bs ≡ Ok (with_join d j, rest)
 unfolding later_step

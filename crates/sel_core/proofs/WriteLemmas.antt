@@ -1,15 +1,14 @@
 -- Pieces of a selector's text.
-use Rattle.std.proofs.Common.{◌≡◌, ℕ, suc, zero, ◌+◌, ◌<◌, List, [], ◌∷◌, ◌++◌, length, get_or, take, slice_get, codes, refl, sym, ap, ◌∙◌, append_assoc, append-nil, arith}
+use Rattle.std.proofs.Common.{◌≡◌, ℕ, ◌+◌, ◌<◌, List, [], ◌∷◌, ◌++◌, length, get_or, take, slice_get, codes, refl, sym, ap, ◌∙◌, append_assoc, append-nil, arith}
 use Rattle.std.specs.List.{flat_map}
 use Rattle.std.proofs.lemmas.Grind.{flat_map-append}
 use Rattle.std.proofs.lemmas.List.{take_more, take_all, length-take-le}
-use Rattle.std.proofs.lemmas.Option.{get_or_from_slice_get}
 use Rattle.tp_base.specs.Names.{Named}
 use Rattle.sel_core.specs.declared.selectors.Compound.{Compound}
 use Rattle.sel_core.specs.declared.selectors.Join.{Join}
 use Rattle.sel_core.specs.Selectors as spec
 use Rattle.sel_core.specs.Parts.{join_of, and_then, selector_from}
-use Rattle.sel_core.specs.SelectorText.{atom_text, compound_text, join_text, outer_text, selector_text}
+use Rattle.sel_core.specs.SelectorText.{atom_text, compound_text, join_text, selector_text}
 use Rattle.sel_core.proofs.PartLemmas.{selector_from-push}
 
 module _ (names : List Named) where

@@ -1,11 +1,11 @@
 -- What stands where in a selector's text. `to` is the offset of the text's end, so a place in it is `to` less what is left.
-use Rattle.std.specs.Prelude.{◌≡◌, ◌≢◌, ℕ, ◌-◌, ◌==◌, ◌&&◌, ◌||◌, not, nat_lt, Bool, true, false, if◌then◌else◌, List, [], ◌∷◌, length, take, drop, map, codes, Option, Some, None, option_map, Result, Ok, Err}
+use Rattle.std.specs.Prelude.{ℕ, ◌-◌, ◌==◌, ◌&&◌, ◌||◌, not, nat_lt, Bool, true, false, if◌then◌else◌, List, [], ◌∷◌, length, take, drop, map, codes, Option, Some, None, option_map, Result, Ok, Err}
 use Rattle.std.specs.Str.{bytes_eq}
 use Rattle.std.specs.Char.{to_ascii_lowercase}
 use Rattle.tp_base.specs.declared.atoms.AtomKind.{AtomKind}
 use Rattle.tp_base.specs.declared.atoms.AtomKind.TheVariants as kind
 use Rattle.sel_core.specs.declared.faults.Skip.{Skip}
-use Rattle.sel_core.specs.declared.faults.Skip.TheVariants.{Sibling, Pseudo, Attribute, Escape, Long, Bad}
+use Rattle.sel_core.specs.declared.faults.Skip.TheVariants.{Sibling, Pseudo, Attribute, Escape, Bad}
 use Rattle.sel_core.specs.declared.faults.SelFault.{SelFault}
 use Rattle.sel_core.specs.declared.faults.SelFault.TheVariants.{Skipped}
 use Rattle.sel_core.specs.declared.selectors.Join.{Join}

@@ -1,7 +1,7 @@
 -- The selector that a list of compounds, from left to right, and the joins between them stand for.
 --     and_then        a selector with one more compound on its right
 --     selector_from   the selector of these compounds and joins
-use Rattle.std.specs.Prelude.{◌≡◌, ℕ, ◌+◌, List, [], ◌∷◌, length}
+use Rattle.std.specs.Prelude.{List, [], ◌∷◌}
 use Rattle.sel_core.specs.declared.selectors.Compound.{Compound}
 use Rattle.sel_core.specs.declared.selectors.Join.{Join}
 use Rattle.sel_core.specs.declared.selectors.Join.TheVariants as code

@@ -3,14 +3,13 @@
 --     step            one part more, or one join
 --     run             all of a text, and the names in the table then
 --     read_piece      a selector between white space and comments
-use Rattle.std.specs.Prelude.{ℕ, zero, suc, ◌-◌, nat_lt, slice_range, Bool, true, false, if◌then◌else◌, List, [], ◌∷◌, ◌++◌, length, map, Option, Some, None, Result, Ok, Err}
+use Rattle.std.specs.Prelude.{ℕ, zero, suc, ◌-◌, nat_lt, slice_range, Bool, true, false, if◌then◌else◌, List, [], ◌∷◌, ◌++◌, length, map, Option, Some, None, Ok, Err}
 use Rattle.std.specs.Option.{ok_or}
 use Rattle.std.specs.Char.{to_ascii_lowercase}
 use Rattle.tp_base.specs.Names.{Named, with_name}
 use Rattle.tp_base.specs.declared.atoms.AtomKind.{AtomKind}
 use Rattle.tp_base.specs.declared.atoms.AtomKind.TheVariants as kind
-use Rattle.sel_core.specs.declared.faults.SelFault.{SelFault}
-use Rattle.sel_core.specs.declared.faults.SelFault.TheVariants.{Skipped, TooManyAtoms, Memory}
+use Rattle.sel_core.specs.declared.faults.SelFault.TheVariants.{Skipped, TooManyAtoms}
 use Rattle.sel_core.specs.declared.faults.Skip.TheVariants.{Long, Bad}
 use Rattle.sel_core.specs.declared.faults.TheConstants.{MOST_PARTS}
 use Rattle.sel_core.specs.declared.selectors.Compound.{Compound}
@@ -18,7 +17,7 @@ use Rattle.sel_core.specs.declared.selectors.Join.{Join}
 use Rattle.sel_core.specs.Selectors.{Selector}
 use Rattle.sel_core.specs.Parts.{selector_from}
 use Rattle.sel_core.specs.Bytes.{behind_gap}
-use Rattle.sel_core.specs.Grammar.{Outcome, ◌>>=◌, is_empty, left_at, Begun, any_part, first_part, Word, part_of, join_at}
+use Rattle.sel_core.specs.Grammar.{Outcome, ◌>>=◌, left_at, Begun, any_part, first_part, Word, part_of, join_at}
 
 -- the names; the finished compounds, each with the join on its right; the atoms of the last compound, and whether it has a part
 pub record Draft : Type 0 where

@@ -1,7 +1,6 @@
-use Rattle.std.proofs.Common.{◌≡◌, List, [], ◌∷◌, ◌++◌, length, map, sym, ap, ◌∙◌}
+use Rattle.std.proofs.Common.{[], ◌∷◌, sym, ◌∙◌}
 use Rattle.std.proofs.lemmas.Result.{err_from_is_err_and}
 use Rattle.std.proofs.lemmas.List.{map-append}
-use Rattle.sel_core.specs.Lists.{more}
 use Rattle.sel_core.specs.Views.{selector_of}
 use Rattle.sel_core.proofs.Fronts.{front_of_front}
 use Rattle.sel_core.proofs.ListSteps.{goes_on, fails, first_fails}

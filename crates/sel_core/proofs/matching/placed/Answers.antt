@@ -1,9 +1,6 @@
-use Rattle.std.proofs.Common.{◌≡◌, ◌+◌, ◌-◌, [], ◌∷◌, ◌++◌, length, take, rules, arith, length-append, subst}
-use Rattle.sel_core.specs.declared.selectors.Join.TheVariants.{Inside, Child}
-use Rattle.sel_core.specs.Selectors.{Fits}
-use Rattle.sel_core.specs.Parts.{and_then, selector_from}
+use Rattle.std.proofs.Common.{arith}
 use Rattle.sel_core.proofs.FitLemmas.{not_so, so}
-use Rattle.sel_core.proofs.Groups.{IsReached, reached_front, reached_child, leaves_inside, fits_not, no_parent}
+use Rattle.sel_core.proofs.Groups.{reached_front, reached_child, leaves_inside, fits_not, no_parent}
 use Rattle.sel_core.proofs.matching.placed.Goals as goal
 
 pub returns-then-not-fits-clause-none : goal.returns-then-not-fits-clause-none

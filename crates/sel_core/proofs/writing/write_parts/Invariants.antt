@@ -1,4 +1,4 @@
-use Rattle.std.proofs.Common.{◌≡◌, ◌++◌, length}
+use Rattle.std.proofs.Common.{◌≡◌, ◌++◌}
 use Rattle.sel_core.proofs.WriteLemmas.{front_text}
 use Rattle.sel_core.proofs.writing.write_parts.Given as goal
 

@@ -1,6 +1,6 @@
-use Rattle.std.proofs.Common.{subst, sym, ◌∙◌}
+use Rattle.std.proofs.Common.{subst}
 use Rattle.class_diagrams.specs.Arena.{IsArena}
-use Rattle.class_diagrams.proofs.ArenaLemmas.{IsOrdered-tree_at, same_meaning}
+use Rattle.class_diagrams.proofs.ArenaLemmas.{same_meaning}
 use Rattle.class_diagrams.proofs.diagrams.Diagrams.same.Goals as goal
 
 pub returns-clause-agree : goal.returns-clause-agree

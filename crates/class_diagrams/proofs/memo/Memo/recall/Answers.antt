@@ -1,4 +1,4 @@
-use Rattle.std.proofs.Common.{◌∙◌, ap, subst, List, Contains}
+use Rattle.std.proofs.Common.{◌∙◌, subst, Contains}
 use Rattle.lru.specs.LruCache.{LruCache}
 use Rattle.lru.proofs.CallerLemmas.{Contains-promoted}
 use Rattle.class_diagrams.specs.declared.memo.Task.{Task}

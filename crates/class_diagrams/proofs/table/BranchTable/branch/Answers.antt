@@ -1,4 +1,4 @@
-use Rattle.std.proofs.Common.{◌∙◌, sym, subst}
+use Rattle.std.proofs.Common.{subst}
 use Rattle.std.proofs.lemmas.Bool.{false≢true}
 use Rattle.class_diagrams.specs.Arena.{IsArena}
 use Rattle.class_diagrams.proofs.ArenaLemmas.{no_leaf_there}

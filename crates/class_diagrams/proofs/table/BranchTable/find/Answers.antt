@@ -1,4 +1,4 @@
-use Rattle.std.proofs.Common.{arith, sym, ◌∙◌}
+use Rattle.std.proofs.Common.{arith, sym}
 use Rattle.class_diagrams.proofs.TableLemmas.{gives_found, gives_none, length-trees_of}
 use Rattle.class_diagrams.proofs.table.BranchTable.find.Goals as goal
 

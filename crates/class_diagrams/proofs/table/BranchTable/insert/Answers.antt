@@ -1,6 +1,4 @@
 use Rattle.std.proofs.Common.{subst, sym, arith}
-use Rattle.std.specs.Prelude.{length}
-use Rattle.std.proofs.lemmas.Option.{slice_get_within}
 use Rattle.class_diagrams.specs.Trees.{IsOrdered}
 use Rattle.class_diagrams.specs.Arena.{Arena}
 use Rattle.class_diagrams.specs.Table.{IsTable, tree_by, trees_of, arena_of}

@@ -1,4 +1,4 @@
-use Rattle.std.proofs.Common.{rules, arith}
+use Rattle.std.proofs.Common.{arith}
 use Rattle.class_diagrams.proofs.TableLemmas.{length-trees_of}
 use Rattle.class_diagrams.proofs.table.BranchTable.len.Goals as goal
 

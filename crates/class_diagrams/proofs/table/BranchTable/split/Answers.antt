@@ -1,7 +1,5 @@
-use Rattle.std.proofs.Common.{arith, Less, Equal, Greater, ap, sym}
-use Rattle.std.specs.Prelude.{◌≡◌, Some, slice_get, length, ℕ, ◌<◌}
+use Rattle.std.proofs.Common.{arith, Less, Equal, Greater}
 use Rattle.std.specs.Cmp.{ranked}
-use Rattle.class_diagrams.specs.Table.{trees_of}
 use Rattle.class_diagrams.proofs.TableLemmas.{length-trees_of}
 use Rattle.class_diagrams.proofs.PairLemmas.{pair-less, pair-more, pair-same, stored_node}
 use Rattle.class_diagrams.proofs.table.BranchTable.split.Goals as goal
