@@ -1,0 +1,2 @@
+$(".seen").addClass("on-sale");
+$(".product").addClass("seen");

@@ -8,17 +8,14 @@ use Rattle.std.proofs.lemmas.Option.{get_or_from_slice_get, slice_get_within}
 use Rattle.tp_base.specs.Classes.{has_class}
 use Rattle.tp_base.proofs.ClassLemmas.{has_class-Contains, Contains-has_class}
 use Rattle.tree_sem.specs.Trees.{LabelTree, node_at, label_at}
-use Rattle.tree_sem.specs.Order.{paths_of}
-use Rattle.tree_sem.proofs.NodeLemmas.{Contains-paths_of}
-use Rattle.sel_core.specs.Selectors.{Fits, Matches, simple}
+use Rattle.sel_core.specs.Selectors.{Fits, simple}
 use Rattle.jq_sem.specs.Statements.{Statement}
-use Rattle.jq_sem.specs.Reachability.{Reaches, AreLegal, end_of}
 use Rattle.treeped_app.specs.Sheets.{Item}
 use Rattle.treeped_app.specs.Answers.{Answer, IsRight, AreRight}
 use Rattle.treeped_app.specs.Views.{item_of, answer_of}
 use Rattle.treeped_app.specs.declared.sheets.Item as code
 use Rattle.treeped_app.specs.declared.answers.Answer as code_answer
-use Rattle.treeped_app.specs.Judging.{has_at, first_with, first_answer, noted}
+use Rattle.treeped_app.specs.Judging.{has_at, noted}
 
 option_or-assoc : {T : Type 0} (o p q : Option T) → option_or (option_or o p) q ≡ option_or o (option_or p q)
 option_or-assoc None p q = refl
@@ -38,14 +35,14 @@ one_more xs i a x v o p at is =
     rw (is, more, noted-append (take i xs) (x ∷ []) a v, option_or-assoc p (noted (take i xs) a v) (noted (x ∷ []) a v))
 
 -- what is found passes, and where nothing is found nothing passes
-found : {X : Type 0} (p : X → Bool) (xs : List X) (x : X) → find p xs ≡ Some x → p x ≡ true
+pub found : {X : Type 0} (p : X → Bool) (xs : List X) (x : X) → find p xs ≡ Some x → p x ≡ true
 found p [] x is = cc
 found p (y ∷ xs) x is = elim (p y) as (λ b. p y ≡ b → cond b (Some y) (find p xs) ≡ Some x → p x ≡ true) [
   | true ↦ λ e at. let same : y ≡ x = cc in rw (← same) e
   | false ↦ λ e at. found p xs x at
 ] refl is
 
-none_found : {X : Type 0} (p : X → Bool) (xs : List X) (x : X) → find p xs ≡ None → Contains xs x → p x ≡ true → ⊥
+pub none_found : {X : Type 0} (p : X → Bool) (xs : List X) (x : X) → find p xs ≡ None → Contains xs x → p x ≡ true → ⊥
 none_found p [] x is there passes = absurd (omega (arith, there.1))
 none_found p (y ∷ xs) x is (zero, within, at) passes = let same : y ≡ x = at in let both : p y ≡ true = rw same passes in let never : Some y ≡ None = rw both at is in cc
 none_found p (y ∷ xs) x is (suc k, within, at) passes = elim (p y) as (λ b. cond b (Some y) (find p xs) ≡ None → ⊥) [
@@ -54,44 +51,27 @@ none_found p (y ∷ xs) x is (suc k, within, at) passes = elim (p y) as (λ b. c
 ] is
 
 -- all of one
-one_of : (P : ℕ → Type 0) (c : ℕ) → P c → All P (c ∷ [])
+pub one_of : (P : ℕ → Type 0) (c : ℕ) → P c → All P (c ∷ [])
 one_of P c holds zero d within = holds
 one_of P c holds (suc k) d within = absurd (omega arith)
 
-fits_has : (t : LabelTree) (c : ℕ) (v : List ℕ) → Fits t v (c ∷ []) → has_at t c v ≡ true
+pub fits_has : (t : LabelTree) (c : ℕ) (v : List ℕ) → Fits t v (c ∷ []) → has_at t c v ≡ true
 fits_has t c v fits = elim (label_at v t) as (λ o. IsSomeAnd o (λ label. All (Contains label) (c ∷ [])) → unwrap_or (option_map (has_class c) o) false ≡ true) [
   | None ↦ λ f. elim f [ ]
   | Some label ↦ λ f. has_class-Contains c label (f 0 c (omega arith))
 ] fits
 
-has_fits : (t : LabelTree) (c : ℕ) (v : List ℕ) → has_at t c v ≡ true → Fits t v (c ∷ [])
+pub has_fits : (t : LabelTree) (c : ℕ) (v : List ℕ) → has_at t c v ≡ true → Fits t v (c ∷ [])
 has_fits t c v has = elim (label_at v t) as (λ o. unwrap_or (option_map (has_class c) o) false ≡ true → IsSomeAnd o (λ label. All (Contains label) (c ∷ []))) [
   | None ↦ λ h. cc
   | Some label ↦ λ h. one_of (Contains label) c (Contains-has_class c label h)
 ] has
 
-fits_node : (t : LabelTree) (c : ℕ) (v : List ℕ) → Fits t v (c ∷ []) → IsSome (node_at v t)
+pub fits_node : (t : LabelTree) (c : ℕ) (v : List ℕ) → Fits t v (c ∷ []) → IsSome (node_at v t)
 fits_node t c v fits = elim (node_at v t) as (λ o. IsSomeAnd (option_map (λ n. n.label) o) (λ label. All (Contains label) (c ∷ [])) → IsSome o) [
   | None ↦ λ f. elim f [ ]
   | Some n ↦ λ f. refl
 ] fits
-
--- no step is legal where there is no statement
-unreached : (t : LabelTree) (c : ℕ) → first_with t c ≡ None → Reaches t [] (simple (c ∷ [])) → ⊥
-unreached t c none (steps, legal, v, matches) = elim steps as (λ ss. AreLegal t [] ss → Matches (end_of t [] ss) v (simple (c ∷ [])) → ⊥) [
-  | [] ↦ λ l m. none_found (has_at t c) (paths_of t) v none ((Contains-paths_of t v).1 (fits_node t c v m.0)) (fits_has t c v m.0)
-  | step ∷ others ↦ λ l m. elim (l.0) [ ]
-] legal matches
-
-right_first : (t : LabelTree) (c : ℕ) → IsRight t [] (simple (c ∷ [])) (first_answer (first_with t c))
-right_first t c = elim (first_with t c) as (λ o. first_with t c ≡ o → IsRight t [] (simple (c ∷ [])) (first_answer o)) [
-  | None ↦ λ e. unreached t c e
-  | Some v ↦ λ e. (tt, tt, (has_fits t c v (found (has_at t c) (paths_of t) v e), tt))
-] refl
-
--- an answer that is the first node's is right
-pub right : (t : LabelTree) (c : ℕ) (o : Option (List ℕ)) (a : Answer) → o ≡ first_with t c → a ≡ first_answer o → IsRight t [] (simple (c ∷ [])) a
-right t c o a is answer = rw (answer, is) (right_first t c)
 
 -- one answer more
 pub AreRight-push : (t : LabelTree) (stmts : List Statement) (items : List Item) (answers : List Answer) (i : Item) (a : Answer) → AreRight t stmts items answers → IsRight t stmts i.selector a → AreRight t stmts (items ++ i ∷ []) (answers ++ a ∷ [])
@@ -101,12 +81,12 @@ AreRight-push t stmts (j ∷ items) [] i a are is = elim are [ ]
 AreRight-push t stmts (j ∷ items) (b ∷ answers) i a are is = (are.0, AreRight-push t stmts items answers i a are.1 is)
 
 -- the same, where items and answers are seen by their views
-pub judged_more : (t : LabelTree) (items : List code.Item) (answers : List code_answer.Answer) (i : ℕ) (d : code.Item) (a : code_answer.Answer) (o : Option (List ℕ)) → i < length items
-    → o ≡ first_with t (get_or items i d).class → answer_of a ≡ first_answer o
-    → AreRight t [] (map item_of (take i items)) (map answer_of answers) → AreRight t [] (map item_of (take (i + 1) items)) (map answer_of (answers ++ a ∷ []))
-judged_more t items answers i d a o within is answer are =
+pub judged_more : (t : LabelTree) (stmts : List Statement) (items : List code.Item) (answers : List code_answer.Answer) (i : ℕ) (d : code.Item) (a : code_answer.Answer) → i < length items
+    → IsRight t stmts (simple ((get_or items i d).class ∷ [])) (answer_of a)
+    → AreRight t stmts (map item_of (take i items)) (map answer_of answers) → AreRight t stmts (map item_of (take (i + 1) items)) (map answer_of (answers ++ a ∷ []))
+judged_more t stmts items answers i d a within is are =
     rw (take_more items i d within, map-append item_of (take i items) (get_or items i d ∷ []), map-append answer_of answers (a ∷ []))
-    (AreRight-push t [] (map item_of (take i items)) (map answer_of answers) (item_of (get_or items i d)) (answer_of a) are (right t (get_or items i d).class o (answer_of a) is answer))
+    (AreRight-push t stmts (map item_of (take i items)) (map answer_of answers) (item_of (get_or items i d)) (answer_of a) are is)
 
 -- a test of the views is one of what is seen
 pub any_seen : (p : Answer → Bool) (answers : List code_answer.Answer) → list_any p (map answer_of answers) ≡ list_any (λ a. p (answer_of a)) answers

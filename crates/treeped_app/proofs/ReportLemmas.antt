@@ -4,15 +4,17 @@ use Rattle.std.proofs.lemmas.Bool.{cases_lt}
 use Rattle.std.specs.List.{flat_map}
 use Rattle.std.specs.Fmt.{decimal}
 use Rattle.std.proofs.lemmas.Grind.{flat_map-append}
-use Rattle.std.proofs.lemmas.List.{take_more, take_all, take-append-le}
+use Rattle.std.proofs.lemmas.List.{take_more, take_all, take-append-le, map-append}
 use Rattle.std.proofs.lemmas.Option.{get_or_from_slice_get, slice_get_within}
 use Rattle.tp_base.specs.Names.{Named}
 use Rattle.treeped_app.specs.declared.sheets.Item as code
 use Rattle.treeped_app.specs.declared.answers.Answer as code_answer
-use Rattle.treeped_app.specs.Views.{item_of, answer_of}
+use Rattle.tree_sem.specs.declared.actions.Step.{Step}
+use Rattle.jq_sem.specs.Statements.{Statement}
+use Rattle.treeped_app.specs.Views.{item_of, answer_of, steps_of}
 use Rattle.tp_io.specs.Sinks.{Adds, AddsPrefix}
 use Rattle.tp_io.proofs.SinkLemmas.{adds_prefix_of, adds_prefix_more}
-use Rattle.treeped_app.specs.Report.{path_text, lines, item_text}
+use Rattle.treeped_app.specs.Report.{path_text, step_text, lines, item_text}
 
 abbrev pub steps_text : List ℕ → List ℕ
 steps_text at = flat_map (λ n. codes "/" ++ decimal n) at
@@ -40,15 +42,22 @@ take_within n m text is = elim (cases_lt n (length text)) [
   | inr ge ↦ let same : m ≡ length text = omega arith in rw same (take_all (length text) text (omega arith) ∙ sym (take_all n text ge))
 ]
 
-pub nothing_more : (xs : List ℕ) → xs ++ [] ≡ xs
-nothing_more xs = append-nil xs
+steps_of-append : (at xs ys : List ℕ) → steps_of at (xs ++ ys) ≡ steps_of at xs ++ steps_of at ys
+steps_of-append at xs ys = map-append {B = Step} (λ s. record { stmt = s; at = at }) xs ys
 
-module _ (text : List ℕ) (names : List Named) where
+-- one line more of the steps
+pub one_line_more : (stmts : List Statement) (at xs : List ℕ) (i d : ℕ) (before now : List ℕ) → i < length xs → now ≡ before ++ flat_map (step_text stmts) (steps_of at (take i xs))
+    → now ++ step_text stmts (record { stmt = get_or xs i d; at = at }) ≡ before ++ flat_map (step_text stmts) (steps_of at (take (i + 1) xs))
+one_line_more stmts at xs i d before now within is =
+    rw (is, take_more xs i d within, steps_of-append at (take i xs) (get_or xs i d ∷ []), flat_map-append (step_text stmts) (steps_of at (take i xs)) (steps_of at (get_or xs i d ∷ [])))
+    (simp (append_assoc, append-nil))
+
+module _ (text : List ℕ) (names : List Named) (stmts : List Statement) where
   abbrev pub text_of : code.Item → code_answer.Answer → List ℕ
-  text_of i a = item_text text names [] (item_of i) (answer_of a)
+  text_of i a = item_text text names stmts (item_of i) (answer_of a)
 
   abbrev pub lines_of : List code.Item → List code_answer.Answer → List ℕ
-  lines_of items answers = lines text names [] (map item_of items) (map answer_of answers)
+  lines_of items answers = lines text names stmts (map item_of items) (map answer_of answers)
 
   -- the lines of the first items, those of the next, and the others
   pub lines_at : (items : List code.Item) (answers : List code_answer.Answer) (n : ℕ) (i : code.Item) (a : code_answer.Answer) → length answers ≡ length items → n < length items

@@ -1,20 +1,19 @@
 -- How the definitions see the three files.
-use Rattle.std.specs.Prelude.{◌≡◌, ℕ, List, [], Result, Ok, Err, Vec}
+use Rattle.std.specs.Prelude.{◌≡◌, ℕ, List, Result, Ok, Err, Vec}
 use Rattle.std.specs.declared.alloc.Global.{Global}
 use Rattle.treeped_app.specs.declared.stops.Stop.{Stop}
 use Rattle.treeped_app.specs.declared.stops.Stop.TheVariants.{NotYetRead, NoMemory}
 use Rattle.treeped_app.specs.declared.stops.Part.{Part}
 use Rattle.treeped_app.specs.declared.inputs.Texts.{Texts}
 use Rattle.treeped_app.specs.declared.inputs.Inputs.{Inputs}
-use Rattle.treeped_app.specs.Views.{sheet_of}
+use Rattle.treeped_app.specs.Views.{sheet_of, script_of}
 use Rattle.treeped_app.specs.Runs as runs
 
 abbrev pub texts_of : Texts → runs.Texts
 texts_of x = record { page = x.page.items; sheet = x.sheet.items; script = x.script.items }
 
--- the script has no statement
 abbrev pub inputs_of : Inputs → runs.Inputs
-inputs_of i = record { tree = i.page; items = (sheet_of i.sheet i.atoms).items; stmts = []; names = i.atoms }
+inputs_of i = record { tree = i.page; items = (sheet_of i.sheet i.atoms).items; stmts = (script_of i.script i.atoms).stmts; names = i.atoms }
 
 abbrev pub loaded_text : Result (Vec ℕ Global) Stop → Result (List ℕ) Stop
 loaded_text (Ok v) = Ok v.items

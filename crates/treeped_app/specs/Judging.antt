@@ -1,10 +1,9 @@
 -- The first node of a page that has an atom.
-use Rattle.std.specs.Prelude.{ℕ, Bool, false, if◌then◌else◌, List, [], Option, Some, None, option_map, unwrap_or}
+use Rattle.std.specs.Prelude.{ℕ, Bool, false, if◌then◌else◌, List, Option, Some, None, option_map, unwrap_or}
 use Rattle.std.specs.List.{find}
 use Rattle.tp_base.specs.Classes.{has_class}
 use Rattle.tree_sem.specs.Trees.{LabelTree, label_at}
 use Rattle.tree_sem.specs.Order.{paths_of}
-use Rattle.treeped_app.specs.Answers.{Answer, used, unused}
 
 -- whether the node at v has the atom
 abbrev pub has_at : LabelTree → ℕ → List ℕ → Bool
@@ -21,8 +20,3 @@ noted_at t a v = if has_at t a v then Some v else None
 -- v, where the atom is one of these
 abbrev pub noted : List ℕ → ℕ → List ℕ → Option (List ℕ)
 noted label a v = if has_class a label then Some v else None
-
--- the answer for a selector of one class, where the page's first node with the class is this one
-abbrev pub first_answer : Option (List ℕ) → Answer
-first_answer None = unused
-first_answer (Some v) = used [] v

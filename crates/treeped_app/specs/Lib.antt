@@ -15,3 +15,4 @@ pub mod Stops
 pub mod Runs
 pub mod Inputs
 pub mod Commands
+pub mod Derivation

@@ -1,5 +1,5 @@
 -- The text of a report.
-use Rattle.std.specs.Prelude.{ℕ, ◌+◌, List, [], ◌∷◌, ◌++◌, length, codes, Option, Some, None, slice_get}
+use Rattle.std.specs.Prelude.{ℕ, ◌+◌, List, [], ◌∷◌, ◌++◌, codes, Option, Some, None, slice_get}
 use Rattle.std.specs.List.{flat_map}
 use Rattle.std.specs.Fmt.{decimal}
 use Rattle.tp_base.specs.Names.{Named}
@@ -9,7 +9,7 @@ use Rattle.tree_sem.specs.declared.actions.Step.{Step}
 use Rattle.sel_core.specs.Selectors.{Join, child, inside, Outer, Selector}
 use Rattle.jq_sem.specs.Statements.{Statement}
 use Rattle.treeped_app.specs.Sheets.{Item}
-use Rattle.treeped_app.specs.Answers.{Answer, used, unused}
+use Rattle.treeped_app.specs.Answers.{Unfolded, Answer, used, unused}
 
 abbrev pub atom_text : Option Named → List ℕ
 atom_text None = []
@@ -51,11 +51,14 @@ unfoldable pub step_text : List Statement → Step → List ℕ
 step_text stmts step =
     codes "  " ++ decimal (step.stmt + 1) ++ codes " at " ++ statement_place (slice_get stmts step.stmt) ++ codes " on " ++ path_text step.at ++ codes "\n"
 
+-- the steps and the match, or that they are not listed
+unfoldable pub listed_text : List Statement → Option Unfolded → List ℕ
+listed_text stmts None = codes "  not listed\n"
+listed_text stmts (Some u) = flat_map (step_text stmts) u.steps ++ codes "  match " ++ path_text u.at ++ codes "\n"
+
 -- the lines of one answer, for a selector whose place and text are these
 unfoldable pub answer_text : List Statement → List ℕ → List ℕ → Answer → List ℕ
-answer_text stmts place text (used steps at) =
-    place ++ codes " used " ++ decimal (length steps) ++ codes " " ++ text ++ codes "\n"
-    ++ flat_map (step_text stmts) steps ++ codes "  match " ++ path_text at ++ codes "\n"
+answer_text stmts place text (used count listed) = place ++ codes " used " ++ decimal count ++ codes " " ++ text ++ codes "\n" ++ listed_text stmts listed
 answer_text stmts place text unused = place ++ codes " unused " ++ text ++ codes "\n"
 
 -- the lines of an item of a sheet of this text

@@ -49,8 +49,8 @@ unfoldable pub read_inputs : Texts → Result Inputs Part
 read_inputs x = do
   p ← of_part Page (read_page x.page [])
   s ← of_part Sheet (read_sheet x.sheet p.1)
-  j ← of_part Script (read_script x.script)
-  Ok (record { tree = p.0; items = s.items; stmts = j; names = s.names })
+  j ← of_part Script (read_script x.script s.names)
+  Ok (record { tree = p.0; items = s.items; stmts = j.stmts; names = j.names })
 
 -- what was read of a text, or why the run stops at it
 abbrev pub stopped_at : {T : Type 0} → Part → Result T FormFault → Result T Stop
@@ -125,7 +125,7 @@ Loaded told n before after (Err NoMemory) = (count : ℕ) × (after ≡ before +
 Loaded told n before after (Err e) = ⊥
 
 abbrev pub is_unused : Answer → Bool
-is_unused (used steps at) = false
+is_unused (used count listed) = false
 is_unused unused = true
 
 abbrev pub status_of : List Answer → Status

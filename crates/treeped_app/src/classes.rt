@@ -16,6 +16,13 @@ pub(crate) fn enter(atoms: &mut AtomTable, kind: AtomKind, name: &[u8]) -> Resul
     Ok(atom)
 }
 
+/// The number of an atom.
+pub(crate) fn number_of(atom: Atom) -> u32
+    ensures { result ≡ atom }
+{
+    atom.0
+}
+
 /// Adds the classes that stand in a value, parted by white space.
 #[tactic(auto, using(crate::proofs::ClassLoop::blank, crate::proofs::ClassLoop::goes_on, crate::proofs::ClassLoop::fails, crate::proofs::ClassLoop::ends, crate::proofs::ClassLoop::some_class))]
 pub(crate) fn add_classes(

@@ -1,5 +1,6 @@
 //! The three files: loaded, and read.
-ghost use Rattle.std.specs.Prelude.{◌≡◌};
+ghost use Rattle.std.specs.Prelude.{◌≡◌, ◌≤◌, vec_len};
+ghost use Rattle.tp_io.specs.declared.files.TheConstants.{MOST_BYTES};
 ghost use Rattle.treeped_app.specs.Runs as spec;
 ghost use Rattle.treeped_app.specs.Runs.{OneLoaded, Loaded};
 ghost use Rattle.treeped_app.specs.Views.{names_of};
@@ -7,7 +8,7 @@ ghost use Rattle.treeped_app.specs.Inputs.{IsRead, loaded_text, loaded_texts, te
 
 use crate::form_fault::FormFault;
 use crate::pages::read_page;
-use crate::scripts::read_script;
+use crate::scripts::{Script, read_script};
 use crate::sheets::{Sheet, read_sheet};
 use crate::stops::{Part, Stop};
 use crate::words::Names;
@@ -29,6 +30,7 @@ pub(crate) struct Texts {
 pub(crate) struct Inputs {
     pub(crate) page: Tree,
     pub(crate) sheet: Sheet,
+    pub(crate) script: Script,
     pub(crate) atoms: AtomTable,
 }
 
@@ -68,13 +70,19 @@ fn load<F: Files>(alloc: Global, name: &str, part: Part, files: &mut F) -> Resul
 /// Reads the page, the sheet and the script, in this order, with one table of names.
 #[tactic(auto, unfolding(crate::specs::Runs::read_inputs))]
 pub(crate) fn read_all(alloc: Global, texts: &Texts) -> Result<Inputs, Stop>
+    requires { vec_len texts.now.script ≤ MOST_BYTES }
     ensures { IsRead (spec.read_inputs (texts_of texts.now)) result }
 {
     let mut atoms = AtomTable::new(alloc);
     let page = refused(Part::Page, read_page(alloc, &texts.page, &mut atoms))?;
     let sheet = refused(Part::Sheet, read_sheet(alloc, &texts.sheet, &mut atoms))?;
-    refused(Part::Script, read_script(&texts.script))?;
-    Ok(Inputs { page, sheet, atoms })
+    let script = refused(Part::Script, read_script(alloc, &texts.script, &mut atoms))?;
+    Ok(Inputs {
+        page,
+        sheet,
+        script,
+        atoms,
+    })
 }
 
 /// What was read, or why the run stops at this file.

@@ -5,6 +5,7 @@ mod answers;
 mod bytes;
 mod classes;
 mod cursor;
+mod derivation;
 mod form_fault;
 mod inputs;
 mod judging;

@@ -73,12 +73,13 @@ fn report<O: Sink>(
     ensures { Written (texts_of texts.now) (inputs_of inputs.now)
         (put_of (O.written out.old) (O.written out.new) (O.faults out.old) (O.faults out.new)) result }
 {
-    let answers = judge(alloc, &inputs.page, &inputs.sheet)?;
+    let answers = judge(alloc, &inputs.page, &inputs.sheet, &inputs.script.rules)?;
     write_report(
         alloc,
         &inputs.sheet,
         &texts.sheet,
         &inputs.atoms,
+        &inputs.script.rules,
         &answers,
         out,
     )?;

@@ -99,7 +99,7 @@ fn named_block(text: &[u8]) -> Option<(&[u8], usize)>
 
 /// The length of the name that the text begins with; 0 where it begins with none.
 #[tactic(auto, unfolding(crate::specs::Sheets::name_len))]
-fn name_len(text: &[u8]) -> usize
+pub(crate) fn name_len(text: &[u8]) -> usize
     ensures gives { result ≡ spec.name_len text.now }
     ensures within { result ≤ length text.now }
 {

@@ -55,7 +55,12 @@ const NO_SHEET: Case = Case {
     ..NO_PAGE
 };
 
-static CASES: [Case; 26] = [
+const NO_SCRIPT: Case = Case {
+    err: "treeped: script: not yet read\n",
+    ..NO_PAGE
+};
+
+static CASES: [Case; 33] = [
     PLAIN,
     Case { most: 1, ..PLAIN },
     Case {
@@ -199,9 +204,53 @@ static CASES: [Case; 26] = [
         ..NO_SHEET
     },
     Case {
+        texts: [
+            "<p></p><p class=\"a\"></p><p class=\"a\"></p>",
+            ".b{} .d{} .a{}",
+            "$(\".a\").addClass(\"b\");",
+        ],
+        status: 1,
+        out: "treeped 1\n1:1 used 1 .b\n  1 at 1:9 on /1/1\n  match /1/1\n1:6 unused .d\n1:11 used 0 .a\n  match /1/1\n",
+        ..PLAIN
+    },
+    Case {
+        texts: [
+            "<p class=\"a\"></p>",
+            ".c{}",
+            "$(\".b\").addClass(\"c\");\n$(\".a\").addClass(\"b\");",
+        ],
+        out: "treeped 1\n1:1 used 2 .c\n  2 at 2:9 on /1/0\n  1 at 1:9 on /1/0\n  match /1/0\n",
+        ..PLAIN
+    },
+    Case {
+        texts: [
+            "<p class=\"a\"></p>",
+            ".b{} .c{}",
+            "$(\".b\").addClass(\"c\"); $(\".c\").addClass(\"b\");",
+        ],
+        status: 1,
+        out: "treeped 1\n1:1 unused .b\n1:6 unused .c\n",
+        ..PLAIN
+    },
+    Case {
         texts: ["", "", "x"],
-        err: "treeped: script: not yet read\n",
-        ..NO_PAGE
+        ..NO_SCRIPT
+    },
+    Case {
+        texts: ["", "", "$(\".a\").addClass(\"b\")"],
+        ..NO_SCRIPT
+    },
+    Case {
+        texts: ["", "", "$('.a').addClass('b');"],
+        ..NO_SCRIPT
+    },
+    Case {
+        texts: ["", "", "$(\".1\").addClass(\"b\");"],
+        ..NO_SCRIPT
+    },
+    Case {
+        texts: ["", "", "$(\".a \").addClass(\"b\");"],
+        ..NO_SCRIPT
     },
 ];
 
