@@ -1,12 +1,14 @@
 -- Where a reading begins and ends.
-use Rattle.std.proofs.Common.{◌≡◌, ℕ, Bool, List, [], length, Result, Ok, Err, refl, sym, ap, ◌∙◌}
+use Rattle.std.proofs.Common.{◌≡◌, ℕ, Bool, List, [], length, Result, Ok, Err, IfOk, refl, sym, ap, ◌∙◌}
 use Rattle.tp_base.specs.Names.{Named}
 use Rattle.sel_core.specs.declared.faults.SelFault.{SelFault}
 use Rattle.sel_core.specs.declared.reading.Draft as code
 use Rattle.sel_core.specs.declared.selectors.Selector.{Selector}
 use Rattle.sel_core.specs.Drafts.{draft_of, IsPaired}
 use Rattle.sel_core.specs.Grammar.{Outcome}
-use Rattle.sel_core.specs.Reading.{Draft, empty_draft, finished, run, Ending}
+use Rattle.sel_core.specs.Reading.{Draft, empty_draft, finished, run, Ending, read_piece}
+use Rattle.sel_core.specs.Readable.{IsReadable}
+use Rattle.sel_core.proofs.Sound.{piece_readable}
 use Rattle.sel_core.specs.Results.{Gives, Reads}
 use Rattle.sel_core.specs.Selectors as spec
 use Rattle.sel_core.specs.Views.{selector_of}
@@ -29,3 +31,8 @@ ends_with (Ok s) drops to d names rest read gives is none =
     sym is ∙ ends drops to (draft_of d names) rest none ∙ ap (ending names) (finished_with to d names ∙ gives)
 ends_with (Err e) drops to d names rest read gives is none =
     λ known. sym is ∙ ends drops to (draft_of d names) rest none ∙ ap (ending names) (finished_with to d names ∙ gives known)
+
+pub read_readable : (r : Result Selector SelFault) (names : List Named) (drops : Bool) (to : ℕ) (text : List ℕ) (before : List Named)
+    → Reads selector_of r names (read_piece drops to text before) → IfOk r (λ s. IsReadable names (selector_of s))
+read_readable (Ok s) names drops to text before reads = piece_readable drops to text before names (selector_of s) reads
+read_readable (Err e) names drops to text before reads = tt

@@ -13,3 +13,6 @@ pub mod Commas
 pub mod ListSteps
 pub mod NameLemmas
 pub mod ReadBack
+pub mod Lowered
+pub mod Sound
+pub mod PlainText

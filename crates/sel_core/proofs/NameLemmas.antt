@@ -32,7 +32,7 @@ no_blank b h = rw (not_byte is_start 32 b refl h, not_byte is_start 9 b refl h, 
 pub start_of_byte : (b : ℕ) (bs : List ℕ) → is_start b ≡ true → IsStart (b ∷ bs)
 start_of_byte b bs h = (no_blank b h, not_byte is_start 47 b refl h, not_byte is_start 62 b refl h)
 
-no_comment : (b : ℕ) (bs : List ℕ) → (b == 47) ≡ false → starts_with nat_eq (b ∷ bs) (codes "/*") ≡ false
+pub no_comment : (b : ℕ) (bs : List ℕ) → (b == 47) ≡ false → starts_with nat_eq (b ∷ bs) (codes "/*") ≡ false
 no_comment b bs no_slash = rw (ne_eqb 47 b (λ e. true_false (b == 47) (eq-eqb b 47 (sym e)) no_slash)) refl
 
 -- such a text is behind each gap already

@@ -1,11 +1,13 @@
 -- Selectors whose text reads as themselves: their atoms are names, each of a kind that has a place in a selector.
-use Rattle.std.specs.Prelude.{◌≡◌, ◌⊎◌, ℕ, ◌<◌, List, [], ◌∷◌, length, map, Some, slice_get}
+use Rattle.std.specs.Prelude.{◌≡◌, ◌⊎◌, ℕ, ◌<◌, List, [], ◌∷◌, length, map, Some, Ok, slice_get}
 use Rattle.std.specs.Char.{to_ascii_lowercase}
 use Rattle.tp_base.specs.Names.{Named}
 use Rattle.tp_base.specs.declared.atoms.AtomKind.{AtomKind}
 use Rattle.tp_base.specs.declared.atoms.AtomKind.TheVariants as kind
 use Rattle.sel_core.specs.declared.faults.TheConstants.{MOST_PARTS}
 use Rattle.sel_core.specs.Bytes.{name_len}
+use Rattle.sel_core.specs.Lists.{read_strict_list}
+use Rattle.sel_core.specs.Reading.{read_selector}
 use Rattle.sel_core.specs.Selectors.{Outer, Selector}
 
 -- the bytes are a name and nothing else
@@ -45,3 +47,8 @@ pub record IsReadable (names : List Named) (s : Selector) : Type 0 where
   pub subject : IsCompound names s.subject
   pub outer : AreCompounds names s.outer
   pub few : length s.outer < MOST_PARTS
+
+-- the text reads as this selector alone, for a sheet and for a script, and the names stay
+pub record ReadsAs (text : List ℕ) (s : Selector) (names : List Named) : Type 0 where
+  pub for_sheet : read_selector text 0 (length text) names ≡ (names, Ok s)
+  pub for_script : read_strict_list text names ≡ (names, Ok (s ∷ []))

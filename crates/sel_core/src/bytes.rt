@@ -4,7 +4,8 @@ ghost use Rattle.std.specs.List.{prefix_len};
 ghost use Rattle.sel_core.specs.Bytes as spec;
 ghost use Rattle.sel_core.specs.Bytes.{IsRest};
 
-pub(crate) fn is_blank(byte: u8) -> bool
+/// Whether a byte is white space: space, tab, LF, FF or CR.
+pub fn is_blank(byte: u8) -> bool
     ensures { result ≡ spec.is_blank byte }
 {
     matches!(byte, b' ' | b'\t' | b'\n' | 0x0c | b'\r')
@@ -45,18 +46,18 @@ fn run_len(text: &[u8]) -> usize
         .count()
 }
 
-/// The length of the name that the text begins with; 0 where it begins with none.
+/// The length of the name that the text begins with; 0 where it begins with none. Linear in the name.
 #[tactic(auto, unfolding(crate::specs::Bytes::name_len))]
-pub(crate) fn name_len(text: &[u8]) -> usize
+pub fn name_len(text: &[u8]) -> usize
     ensures gives { result ≡ spec.name_len text.now }
     ensures within { result ≤ length text.now }
 {
     if begins_name(text) { run_len(text) } else { 0 }
 }
 
-/// The text behind the first `*/`.
+/// The text behind the first `*/`, or its end. Linear in what is passed over.
 #[tactic(auto, unfolding(crate::specs::Bytes::behind_close), using(crate::proofs::Rests::of_rest, crate::proofs::Rests::behind_first, crate::proofs::Rests::dropped))]
-pub(crate) fn behind_close(text: &[u8]) -> &[u8]
+pub fn behind_close(text: &[u8]) -> &[u8]
     ensures gives { result.now ≡ spec.behind_close text.now }
     ensures rest { IsRest text.now result.now }
 {
@@ -76,9 +77,9 @@ fn is_passed(blanks: bool, byte: u8) -> bool
     blanks && is_blank(byte)
 }
 
-/// The text behind comments, and behind white space too where `blanks` says so.
+/// The text behind comments, and behind white space too where `blanks` says so. Linear in what is passed over.
 #[tactic(auto, using(crate::proofs::Gaps::passes, crate::proofs::Gaps::behind_comment, crate::proofs::Gaps::stops, crate::proofs::Gaps::ends, crate::proofs::Rests::of_rest, crate::proofs::Rests::behind_first, crate::proofs::Rests::dropped))]
-pub(crate) fn behind_gap(blanks: bool, text: &[u8]) -> &[u8]
+pub fn behind_gap(blanks: bool, text: &[u8]) -> &[u8]
     ensures gives { result.now ≡ spec.behind_gap blanks 0 text.now }
     ensures rest { IsRest text.now result.now }
 {

@@ -12,6 +12,7 @@ mod selectors;
 mod tests;
 mod writing;
 
+pub use bytes::{behind_close, behind_gap, is_blank, name_len};
 pub use faults::{MOST_PARTS, SelFault, Skip};
 pub use lists::read_strict_list;
 pub use matching::matches;

@@ -1,7 +1,8 @@
 //! Lists of selectors, as a script has them.
-ghost use Rattle.std.specs.Prelude.{◌≡◌, ◌≤◌, length, map, IfOk};
+ghost use Rattle.std.specs.Prelude.{◌≡◌, ◌≤◌, length, map, All, IfOk};
 ghost use Rattle.sel_core.specs.Bytes.{IsRest};
 ghost use Rattle.sel_core.specs.Lists as spec;
+ghost use Rattle.sel_core.specs.Readable.{IsReadable};
 ghost use Rattle.sel_core.specs.Results.{Reads, IsFront};
 ghost use Rattle.sel_core.specs.Views.{selector_of};
 
@@ -41,6 +42,7 @@ fn read_one<'a>(
 ) -> Result<(Selector, &'a [u8]), SelFault>
     requires { length text.now ≤ size }
     ensures reads { Reads (λ r. selector_of r.0) result atoms.new (spec.read_one size text.now atoms.old) }
+    ensures readable { IfOk result (λ r. IsReadable atoms.new (selector_of r.0)) }
     ensures behind { IfOk result (λ r. r.1.now ≡ spec.from_comma 0 text.now) }
     ensures rest { IfOk result (λ r. IsRest text.now r.1.now) }
     ensures front { IsFront atoms.old atoms.new }
@@ -61,6 +63,7 @@ pub fn read_strict_list(
     atoms: &mut AtomTable,
 ) -> Result<Vec<Selector>, SelFault>
     ensures reads { Reads (λ v. map selector_of v.items) result atoms.new (spec.read_strict_list text.now atoms.old) }
+    ensures readable { IfOk result (λ v. All (λ s. IsReadable atoms.new (selector_of s)) v.items) }
     ensures front { IsFront atoms.old atoms.new }
 {
     let mut found = Vec::new(alloc);

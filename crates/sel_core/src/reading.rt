@@ -4,6 +4,7 @@ ghost use Rattle.tp_base.specs.Names.{Named, with_name};
 ghost use Rattle.sel_core.specs.Bytes.{IsRest};
 ghost use Rattle.sel_core.specs.Grammar as grammar;
 ghost use Rattle.sel_core.specs.Reading as spec;
+ghost use Rattle.sel_core.specs.Readable.{IsReadable};
 ghost use Rattle.sel_core.specs.Results.{Gives, Reads, IsFront};
 ghost use Rattle.sel_core.specs.Drafts.{draft_of, word_view, IsPaired};
 ghost use Rattle.sel_core.specs.Views.{selector_of};
@@ -243,6 +244,7 @@ pub(crate) fn read_piece(
 ) -> Result<Selector, SelFault>
     requires { length text.now ≤ to }
     ensures reads { Reads selector_of result atoms.new (spec.read_piece drops to text.now atoms.old) }
+    ensures readable { IfOk result (λ s. IsReadable atoms.new (selector_of s)) }
     ensures front { IsFront atoms.old atoms.new }
 {
     let mut draft = Draft::new(alloc);
@@ -267,6 +269,7 @@ pub fn read_selector(
     requires from { from ≤ to }
     requires to { to ≤ length text.now }
     ensures reads { Reads selector_of result atoms.new (spec.read_selector text.now from to atoms.old) }
+    ensures readable { IfOk result (λ s. IsReadable atoms.new (selector_of s)) }
     ensures front { IsFront atoms.old atoms.new }
 {
     read_piece(alloc, true, to, &text[from..to], atoms)

@@ -1,6 +1,8 @@
 //! The text of a selector.
 ghost use Rattle.std.specs.Prelude.{◌≡◌, ◌+◌, ◌++◌, length, IfOk, OnOk, slice_get};
 ghost use Rattle.std.specs.List.{flat_map};
+ghost use Rattle.tp_base.specs.Names.{IsDistinct};
+ghost use Rattle.sel_core.specs.Readable.{IsReadable, ReadsAs};
 ghost use Rattle.sel_core.specs.Parts.{join_of, selector_from};
 ghost use Rattle.sel_core.specs.SelectorText.{atom_text, compound_text, join_text, selector_text};
 ghost use Rattle.sel_core.specs.Views.{selector_of};
@@ -11,8 +13,11 @@ use tp_base::{Atom, AtomKind, AtomTable, NoMemory};
 
 /// The selector as it is written with the fewest bytes of white space: ` ` or ` > ` between compounds. An atom
 /// that is not in the table is left out. Linear in the text.
+#[tactic(auto, using(crate::proofs::PlainText::reads_as))]
 pub fn write_selector(alloc: Global, s: &Selector, atoms: &AtomTable) -> Result<Vec<u8>, NoMemory>
-    ensures { IfOk result (λ text. text.items ≡ selector_text atoms.now (selector_of s.now)) }
+    ensures text { IfOk result (λ text. text.items ≡ selector_text atoms.now (selector_of s.now)) }
+    ensures reads_back { IfOk result (λ text. IsDistinct atoms.now → IsReadable atoms.now (selector_of s.now)
+        → ReadsAs text.items (selector_of s.now) atoms.now) }
 {
     let mut text = Vec::new(alloc);
     write_parts(&mut text, s.parts.items(), s.joins.items(), atoms)?;

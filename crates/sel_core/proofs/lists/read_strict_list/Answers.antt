@@ -5,6 +5,7 @@ use Rattle.sel_core.specs.Views.{selector_of}
 use Rattle.sel_core.proofs.Fronts.{front_of_front}
 use Rattle.sel_core.proofs.ListSteps.{goes_on, fails, first_fails}
 use Rattle.sel_core.proofs.Rests.{of_rest, behind_first}
+use Rattle.sel_core.proofs.Sound.{all_kept, all_more}
 use Rattle.sel_core.proofs.lists.read_strict_list.Goals as goal
 
 pub returns-in_err-selector-clause-reads : goal.returns-in_err-selector-clause-reads
@@ -27,4 +28,6 @@ commas-preserved c =
       reads = rw (c.in_ok-push-2.ensures.items, map-append selector_of c.commas.found.items (c.in_ok-selector-2.selector ∷ []))
           (sym (goes_on _ _ _ _ _ _ _ _ c.in_ok-selector-2.ensures.reads c.in_ok-selector-2.ensures.behind c.in_ok-selector-2.ensures.rest) ∙ here);
       front = front_of_front _ _ _ c.commas.invariant.front c.in_ok-selector-2.ensures.front;
+      readable = all_more c.read_one-in-Some.new.atoms c.commas.found.items c.push-in-Some.new.self.items c.in_ok-selector-2.selector c.in_ok-push-2.ensures.items
+          (all_kept c.commas.atoms c.read_one-in-Some.new.atoms c.in_ok-selector-2.ensures.front c.commas.found.items c.commas.invariant.readable) c.in_ok-selector-2.ensures.readable;
     }

@@ -1,7 +1,7 @@
 use Rattle.std.proofs.Common.{length, arith, refl, sym, ◌∙◌}
 use Rattle.std.proofs.lemmas.Bool.{eqb-true}
 use Rattle.sel_core.proofs.Runs.{begins, goes_on}
-use Rattle.sel_core.proofs.Endings.{paired_at_first, ends_with}
+use Rattle.sel_core.proofs.Endings.{paired_at_first, ends_with, read_readable}
 use Rattle.sel_core.proofs.Fronts.{front_itself, front_of_front}
 use Rattle.sel_core.proofs.reading.read_piece.Goals as goal
 
@@ -27,3 +27,6 @@ items-preserved c =
 pub returns-clause-reads : goal.returns-clause-reads
 returns-clause-reads c = ends_with c.finish.result c.args.drops c.args.to c.items.draft c.items.atoms c.items.rest.now _ c.finish.ensures c.items.invariant.reads
     (eqb-true (length c.items.rest.now) 0 (sym c.is_empty.ensures ∙ c.items-test.false))
+
+pub returns-clause-readable : goal.returns-clause-readable
+returns-clause-readable c = read_readable c.finish.result c.items.atoms c.args.drops c.args.to c.args.text.now c.args.atoms.now (returns-clause-reads c)
