@@ -1,0 +1,23 @@
+use Rattle.std.proofs.Common.{[], ◌∷◌, refl}
+use Rattle.tree_sem.proofs.EditLemmas.{IsSome-add_child_old}
+use Rattle.html_subset.specs.Machine.{with_head_node}
+use Rattle.html_subset.proofs.StandLemmas.{counted_child}
+use Rattle.html_subset.proofs.builder.Builder.add_to_head.Goals as goal
+
+pub returns-in-Ok-clause-gives : goal.returns-in-Ok-clause-gives
+unfolding with_head_node
+returns-in-Ok-clause-gives c = λ table. rw (c.in-Ok.ensures.ok, c.in_ok-at.ensures) refl
+
+pub returns-in-Ok-clause-stands : goal.returns-in-Ok-clause-stands
+returns-in-Ok-clause-stands c =
+    let b = c.args.self.now in
+    let s = c.requires.stands in
+    let label = c.args.label in
+    rw (c.in-Ok.ensures.ok, c.in_ok-at.ensures) (record {
+      placed = IsSome-add_child_old (0 ∷ []) b.at label b.tree s.placed;
+      counted = counted_child (0 ∷ []) label b.tree b.nodes c.requires.head s.counted;
+      head = λ page. IsSome-add_child_old (0 ∷ []) (0 ∷ []) label b.tree (s.head page);
+      body = λ page. IsSome-add_child_old (0 ∷ []) (1 ∷ []) label b.tree (s.body page);
+      begun = s.begun;
+      shallow = s.shallow;
+    })

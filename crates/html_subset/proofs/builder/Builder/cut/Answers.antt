@@ -1,0 +1,25 @@
+use Rattle.std.proofs.Common.{◌-◌, length, refl, ap, arith, length-take}
+use Rattle.std.proofs.lemmas.List.{length-map, take-map}
+use Rattle.tree_sem.proofs.PathLemmas.{IsSome-take}
+use Rattle.html_subset.specs.Views.{element_of}
+use Rattle.html_subset.specs.Machine.{cut}
+use Rattle.html_subset.proofs.builder.Builder.cut.Goals as goal
+
+pub returns-clause-cut : goal.returns-clause-cut
+unfolding cut
+returns-clause-cut c = λ table.
+    let b = c.args.self.now in
+    rw (c.truncate.ensures.items, c.go_up.ensures, c.levels_above-levels.ensures, c.deref.ensures.value, take-map element_of c.args.left b.«open».items, length-map b.«open».items element_of) refl
+
+pub returns-clause-stands : goal.returns-clause-stands
+returns-clause-stands c =
+    let b = c.args.self.now in
+    let levels = c.levels_above-levels.result in
+    record {
+      placed = rw c.go_up.ensures (IsSome-take (length b.at - levels) b.at b.tree c.requires.placed);
+      counted = c.requires.counted;
+      head = c.requires.head;
+      body = c.requires.body;
+      begun = c.requires.begun;
+      shallow = λ forest. omega (arith, c.requires.shallow forest, ap length c.go_up.ensures, length-take (length b.at - levels) b.at, ap length c.truncate.ensures.items, length-take c.args.left b.«open».items, c.levels_above-levels.ensures, ap length c.deref.ensures.value);
+    }

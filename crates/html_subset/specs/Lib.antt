@@ -1,0 +1,16 @@
+pub mod Bytes
+pub mod Names
+pub mod Attributes
+pub mod Markup
+pub mod Tokens
+pub mod Views
+pub mod Elements
+pub mod TreeTable
+pub mod Growth
+pub mod Labels
+pub mod Results
+pub mod Building
+pub mod Pages
+pub mod Machine
+pub mod Builders
+pub mod Reading

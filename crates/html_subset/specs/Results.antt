@@ -1,0 +1,20 @@
+-- What the calls return, as the definitions see it.
+use Rattle.std.specs.Prelude.{◌≡◌, ◌≢◌, List, length, take, Result, Ok, Err}
+use Rattle.tp_base.specs.Names.{Named}
+use Rattle.html_subset.specs.declared.faults.PageFault.{PageFault}
+use Rattle.html_subset.specs.declared.faults.PageFault.TheVariants.{Memory}
+use Rattle.html_subset.specs.Labels.{Outcome}
+
+-- the names that were there keep their numbers
+abbrev pub IsFront : List Named → List Named → Type 0
+IsFront old new = take (length old) new ≡ old
+
+-- a call's result, seen by the view, and the names that it leaves are what comes of a step, unless memory ran out
+abbrev pub Does : {X Y : Type 0} → (X → Y) → Result X PageFault → List Named → Outcome Y → Type 0
+Does view (Ok x) table step = step ≡ Ok (view x)
+Does view (Err e) table step = e ≢ Memory → step ≡ Err (e, table)
+
+-- a call's result, and the names that it leaves, are what reading gives, unless memory ran out
+abbrev pub Reads : {X Y : Type 0} → (X → Y) → Result X PageFault → List Named → List Named × Result Y PageFault → Type 0
+Reads view (Ok x) names read = read ≡ (names, Ok (view x))
+Reads view (Err e) names read = e ≢ Memory → read ≡ (names, Err e)

@@ -1,0 +1,116 @@
+//! Reading a page, or markup: its tokens are taken one after the other.
+ghost use Rattle.std.specs.Prelude.{◌≡◌, ◌≤◌, length, option_map, OnOk, IfOk};
+ghost use Rattle.html_subset.specs.Builders.{machine_of, Stands};
+ghost use Rattle.html_subset.specs.Machine as machine;
+ghost use Rattle.html_subset.specs.Pages.{page_of, forest_of};
+ghost use Rattle.html_subset.specs.Reading as spec;
+ghost use Rattle.html_subset.specs.Results.{Does, IsFront, Reads};
+ghost use Rattle.html_subset.specs.Tokens.{tokens};
+ghost use Rattle.html_subset.specs.Views.{token_of};
+
+use crate::builder::Builder;
+use crate::faults::PageFault;
+use crate::tokens::{Token, next};
+use bstr::ByteSlice;
+use std::alloc::Global;
+use tp_base::AtomTable;
+use tree_sem::{Forest, Tree};
+
+/// Without a byte order mark at the front.
+#[tactic(auto, unfolding(crate::specs::Reading::behind_order_mark))]
+fn behind_order_mark(text: &[u8]) -> &[u8]
+    ensures gives { result.now ≡ spec.behind_order_mark text.now }
+    ensures within { length result.now ≤ length text.now }
+{
+    if text.starts_with(b"\xef\xbb\xbf") {
+        text.split_at(3).1
+    } else {
+        text
+    }
+}
+
+/// Goes on by a token, where there is one.
+#[tactic(auto, unfolding(crate::specs::Machine::any_token), using(crate::proofs::Fronts::front_itself))]
+fn take<'a>(
+    builder: &mut Builder<'a>,
+    token: Option<Token<'a>>,
+    atoms: &mut AtomTable,
+) -> Result<(), PageFault>
+    requires stands { Stands builder.old }
+    ensures does { Does (λ _. machine_of builder.new atoms.new) result atoms.new (machine.any_token (option_map token_of token.entry) (machine_of builder.old atoms.old)) }
+    ensures stands { OnOk result (Stands builder.new) }
+    ensures front { IsFront atoms.old atoms.new }
+{
+    match token {
+        None => Ok(()),
+        Some(token) => builder.take_token(token, atoms),
+    }
+}
+
+/// Goes on by the tokens of the last bytes of a file of `size` bytes.
+#[tactic(auto, using(crate::proofs::ReadingSteps::adds, crate::proofs::ReadingSteps::fails, crate::proofs::ReadingSteps::ends, crate::proofs::Fronts::front_itself, crate::proofs::Fronts::front_of_front))]
+fn take_all<'a>(
+    builder: &mut Builder<'a>,
+    size: usize,
+    text: &'a [u8],
+    atoms: &mut AtomTable,
+) -> Result<(), PageFault>
+    requires within { length text.now ≤ size }
+    requires stands { Stands builder.old }
+    ensures does { Does (λ _. machine_of builder.new atoms.new) result atoms.new (machine.run (tokens size text.now) (machine_of builder.old atoms.old)) }
+    ensures front { IsFront atoms.old atoms.new }
+{
+    let mut rest = text;
+    'tokens: while !rest.is_empty() {
+        let (token, behind) = next(size - rest.len(), rest);
+        take(builder, token, atoms)?;
+        rest = behind;
+    }
+    Ok(())
+}
+
+#[tactic(auto, using(crate::proofs::EndingLemmas::page_reads, crate::proofs::EndingLemmas::page_stops, crate::proofs::EndingLemmas::page_fails, crate::proofs::Fronts::front_of_front))]
+fn page(alloc: Global, text: &[u8], atoms: &mut AtomTable) -> Result<Tree, PageFault>
+    ensures reads { Reads (λ t. t) result atoms.new (page_of (tokens (length text.now) (spec.behind_order_mark text.now)) atoms.old) }
+    ensures front { IsFront atoms.old atoms.new }
+{
+    let mut builder = Builder::start_page(alloc, atoms)?;
+    take_all(&mut builder, text.len(), behind_order_mark(text), atoms)?;
+    Ok(builder.finish_page())
+}
+
+#[tactic(auto, using(crate::proofs::Fronts::front_itself))]
+fn forest(alloc: Global, text: &[u8], atoms: &mut AtomTable) -> Result<Forest, PageFault>
+    ensures reads { Reads (λ f. f.tops) result atoms.new (forest_of (tokens (length text.now) text.now) atoms.old) }
+    ensures front { IsFront atoms.old atoms.new }
+{
+    let mut builder = Builder::start_forest(alloc)?;
+    take_all(&mut builder, text.len(), text, atoms)?;
+    builder.finish_forest()
+}
+
+/// Reads a page: its tree has html at the root, and head and body below it. The names that were read before a refusal stay in the
+/// table. Linear in the file, but that each tag costs the depth at which it stands too, and each class the length of its label.
+#[tactic(auto, unfolding(crate::specs::Reading::read_page), using(crate::proofs::ReadingSteps::valid_len, crate::proofs::Fronts::front_itself))]
+pub fn read_page(alloc: Global, text: &[u8], atoms: &mut AtomTable) -> Result<Tree, PageFault>
+    ensures reads { Reads (λ t. t) result atoms.new (spec.read_page text.now atoms.old) }
+    ensures front { IsFront atoms.old atoms.new }
+{
+    match text.to_str() {
+        Err(e) => Err(PageFault::NotUtf8(e.valid_up_to())),
+        Ok(_) => page(alloc, text, atoms),
+    }
+}
+
+/// Reads the markup that a script adds: trees next to one another. The names that were read before a refusal stay in the table.
+/// It costs what `read_page` costs.
+#[tactic(auto, unfolding(crate::specs::Reading::read_forest), using(crate::proofs::ReadingSteps::valid_len, crate::proofs::Fronts::front_itself))]
+pub fn read_forest(alloc: Global, text: &[u8], atoms: &mut AtomTable) -> Result<Forest, PageFault>
+    ensures reads { Reads (λ f. f.tops) result atoms.new (spec.read_forest text.now atoms.old) }
+    ensures front { IsFront atoms.old atoms.new }
+{
+    match text.to_str() {
+        Err(e) => Err(PageFault::NotUtf8(e.valid_up_to())),
+        Ok(_) => forest(alloc, text, atoms),
+    }
+}

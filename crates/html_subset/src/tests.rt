@@ -1,0 +1,187 @@
+use super::{PageFault, read_forest, read_page};
+use std::alloc::Global;
+use std::test::Fail;
+use tp_base::{AtomKind, AtomTable, ClassSet, Path};
+use tree_sem::{Tree, go_on};
+
+fn push_names(out: &mut String, label: &ClassSet, atoms: &AtomTable) -> Result<(), PageFault> {
+    for i in 0..label.len() {
+        if let Some((kind, name)) = atoms.name_of(label.at(i)) {
+            let mark = match kind {
+                AtomKind::Element => "",
+                AtomKind::Ident => "#",
+                AtomKind::Class => ".",
+                _ => "?",
+            };
+            out.push_str(mark)?;
+            out.push_str(str::from_utf8(name).unwrap_or("not utf-8"))?;
+        }
+    }
+    Ok(())
+}
+
+// The nodes in document order, each with the length of its path below `above` and its names.
+fn push_tree(
+    alloc: Global,
+    out: &mut String,
+    above: usize,
+    tree: &Tree,
+    atoms: &AtomTable,
+) -> Result<(), PageFault> {
+    let mut at = Path::root(alloc);
+    'nodes: loop {
+        let depth = format!(in alloc; "{}", above.saturating_add(at.len()))?;
+        out.push_str(&depth)?;
+        if let Some(label) = tree.label(&at) {
+            push_names(out, label, atoms)?;
+        }
+        out.push_str(" ")?;
+        if !go_on(tree, &mut at)? {
+            return Ok(());
+        }
+    }
+}
+
+fn page_outline(alloc: Global, text: &[u8]) -> Result<String, PageFault> {
+    let mut atoms = AtomTable::new(alloc);
+    let tree = read_page(alloc, text, &mut atoms)?;
+    let mut out = String::new(alloc);
+    push_tree(alloc, &mut out, 0, &tree, &atoms)?;
+    Ok(out)
+}
+
+fn forest_outline(alloc: Global, text: &[u8]) -> Result<String, PageFault> {
+    let mut atoms = AtomTable::new(alloc);
+    let forest = read_forest(alloc, text, &mut atoms)?;
+    let mut out = String::new(alloc);
+    for tree in forest.tops.items() {
+        push_tree(alloc, &mut out, 1, tree, &atoms)?;
+    }
+    Ok(out)
+}
+
+fn repeated(alloc: Global, text: &[u8], count: usize) -> Result<Vec<u8>, PageFault> {
+    let mut all = Vec::new(alloc);
+    for _ in 0..count {
+        all.extend_from_slice(text)?;
+    }
+    Ok(all)
+}
+
+static PAGES: [(&[u8], &str); 16] = [
+    (b"", "0html 1head 1body "),
+    (
+        b"<!DOCTYPE html><html class=a><head><title>x<p></title><link></head><body id=b>y<p>z<p></html>",
+        "0html.a 1head 2title 2link 1body#b 2p 2p ",
+    ),
+    (
+        b"<table><tr><td class=\"c\">x</table>",
+        "0html 1head 1body 2table 3tbody 4tr 5td.c ",
+    ),
+    (b"<p id='' class=' x\ty\n'>", "0html 1head 1body 2p.x.y "),
+    (b"\xef\xbb\xbf <style></style>", "0html 1head 2style 1body "),
+    (b" \xef\xbb\xbf<style></style>", "0html 1head 1body 2style "),
+    (
+        b"<title></title><link><p>y<meta>",
+        "0html 1head 2title 2link 1body 2p 3meta ",
+    ),
+    (b"</p><p>", "0html 1head 1body 2p "),
+    (b"x</p>", "0html 1head 1body 2p "),
+    (b"<tr><link>", "0html 1head 1body 2link "),
+    (
+        b"<html><head><link></head><meta>",
+        "0html 1head 2link 2meta 1body ",
+    ),
+    (b"<body id=i><link>", "0html 1head 1body#i 2link "),
+    (
+        b"<body id=''><body class=b><body id=i><body class=c><p>",
+        "0html 1head 1body.b 2p ",
+    ),
+    (b"<li><p></body></html><i>", "0html 1head 1body 2li 3p 4i "),
+    (
+        b"<textarea></textarea><link>",
+        "0html 1head 1body 2textarea 2link ",
+    ),
+    (
+        b"<body class=\"home\">\n<nav id=\"top\"><ul class=\"menu\"><li class=\"tab\"><a href=\"#a\">A</a></li></ul></nav>\n<div id=\"a\" class=\"panel\"><p>One<p>Two</div>\n<form class=\"login\"><input class=\"field\" type=\"text\"><button class=\"send\">Go</button></form>\n<div class=\"modal\"><div class=\"body\"></div></div>\n</body>\n",
+        "0html 1head 1body.home 2nav#top 3ul.menu 4li.tab 5a 2div#a.panel 3p 3p 2form.login 3input.field 3button.send 2div.modal 3div.body ",
+    ),
+];
+
+static FORESTS: [(&[u8], &str); 27] = [
+    (b"", ""),
+    (b"\xef\xbb\xbf<body class=x><B id=y><i>", "1b#y 2i "),
+    (b"<tr><td>x</td></tr><li>y", "1tr 2td 1li "),
+    (b"<option>a<option>b", "1option 1option "),
+    (b"<p><div></div></p>", "1p 1div 1p "),
+    (b"<td>a<td>b", "1td 1td "),
+    (b"<div><td>x", "1div "),
+    (b"<table><td>", "1table 2tbody 3tr 4td "),
+    (b"<tbody><td>", "1tbody 2tr 3td "),
+    (
+        b"<td><table><tr><td>a</table>b<td>",
+        "1td 2table 3tbody 4tr 5td 1td ",
+    ),
+    (
+        b"<table><col><tr><caption>",
+        "1table 2colgroup 3col 2tbody 3tr 2caption ",
+    ),
+    (b"<li>a<ul><li>b</ul><li>c", "1li 2ul 3li 1li "),
+    (b"<dl><dt>a<dd>b<p>c<dt>d", "1dl 2dt 2dd 3p 2dt "),
+    (b"<p>a<li>b", "1p 1li "),
+    (b"<p><button><p></button></p><b>", "1p 2button 3p 1b "),
+    (
+        b"<optgroup><option>a<optgroup><option>",
+        "1optgroup 2option 1optgroup 2option ",
+    ),
+    (b"<option><b><option>", "1option 2b 3option "),
+    (b"<br>x<p><hr></br>", "1br 1p 1hr "),
+    (
+        b"<svg><path/><g><circle/></g></svg><path/><i>",
+        "1svg 2path 2g 3circle 1path 2i ",
+    ),
+    (b"<svg/><i>", "1svg 1i "),
+    (b"<title></title><b>", "1title 1b "),
+    (b"<body id=i><body class=c><p></body>", "1p "),
+    (
+        b"<div><table><tr><td></div>x</table></div><b>",
+        "1div 2table 3tbody 4tr 5td 1b ",
+    ),
+    (b"<table></tr><b>", "1table 2b "),
+    (
+        b"<table><tr></tbody><td>",
+        "1table 2tbody 3tr 2tbody 3tr 4td ",
+    ),
+    (b"<LI>a<Li><b/></B></lI><i>", "1li 1li 2b 1i "),
+    (
+        b"<svg><path/><g><path></svg><I/>",
+        "1svg 2path 2g 3path 1i ",
+    ),
+];
+
+#[test]
+fn pages_and_forests(rt: HostRuntime) -> Result<(), Fail> {
+    let alloc = rt.alloc();
+    for (text, want) in PAGES.iter() {
+        assert_eq!(rt; page_outline(alloc, text)?.as_str(), *want);
+    }
+    for (text, want) in FORESTS.iter() {
+        assert_eq!(rt; forest_outline(alloc, text)?.as_str(), *want);
+    }
+    Ok(())
+}
+
+#[test]
+fn refusals(rt: HostRuntime) -> Result<(), Fail> {
+    let alloc = rt.alloc();
+    let deep = repeated(alloc, b"<div>", 513)?;
+    let page = page_outline(alloc, &deep).err();
+    assert_eq!(rt; page, Some(PageFault::TooDeep(2555)));
+    let forest = forest_outline(alloc, &deep).err();
+    assert_eq!(rt; forest, Some(PageFault::TooDeep(2560)));
+    let page = page_outline(alloc, b"<p>\xff").err();
+    assert_eq!(rt; page, Some(PageFault::NotUtf8(3)));
+    let forest = forest_outline(alloc, b"a\xe2\x82").err();
+    assert_eq!(rt; forest, Some(PageFault::NotUtf8(1)));
+    Ok(())
+}
