@@ -1,0 +1,9 @@
+mod Rows
+pub mod Firsts
+pub mod ItemSteps
+pub mod Lists
+pub mod RuleSteps
+pub mod SkipPlaces
+pub mod Solids
+pub mod Stacks
+pub mod Utf8

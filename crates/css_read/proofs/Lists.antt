@@ -1,0 +1,41 @@
+-- A list of selectors has a byte at least, or its `{` follows.
+use Rattle.std.proofs.Common.{◌≡◌, ℕ, zero, suc, ◌-◌, ◌≤◌, ◌<◌, ◌==◌, ◌&&◌, Bool, true, false, if◌then◌else◌, List, [], ◌∷◌, length, codes, refl, arith}
+use Rattle.std.proofs.lemmas.Bool.Decides.{nat_tests}
+use Rattle.css_read.specs.declared.brackets.Bracket.{Bracket}
+use Rattle.css_read.specs.Units.{after_byte, behind_unit, stops_at, from_first_in, from_first}
+use Rattle.css_read.specs.Rules.{begins, list_ends}
+use Rattle.css_read.specs.Fronts.{IsStart}
+
+choose : (test : Bool) (xs ys : List ℕ) (n : ℕ) → length xs ≤ n → length ys ≤ n → length (if test then xs else ys) ≤ n
+choose true xs ys n first second = first
+choose false xs ys n first second = second
+
+no_longer : (bytes : List ℕ) (brackets : List Bracket) (skip : ℕ) (bs : List ℕ) → length (from_first_in bytes brackets skip bs) ≤ length bs
+unfolding from_first_in
+no_longer bytes brackets skip [] = omega arith
+no_longer bytes brackets (suc skip) (b ∷ bs) = let others = no_longer bytes brackets skip bs in omega arith
+no_longer bytes brackets zero (b ∷ bs) =
+    let left = length bs - length (behind_unit (b ∷ bs)) in
+    let others = no_longer bytes (after_byte b brackets) left bs in
+    choose (stops_at bytes b brackets) (b ∷ bs) (from_first_in bytes (after_byte b brackets) left bs) (length (b ∷ bs)) (omega arith) (omega arith)
+
+brace_begins : (b : ℕ) (bs : List ℕ) → (b == 123) ≡ true → begins (codes "{") (b ∷ bs) ≡ true
+brace_begins b bs same = grind (arith, nat_tests)
+
+stops_at_brace : (inside : Bool) (b : ℕ) → (inside && b == 125) ≡ false → stops_at (list_ends inside) b [] ≡ true → (b == 123) ≡ true
+stops_at_brace true b start stops = grind (arith, nat_tests)
+stops_at_brace false b start stops = grind (arith, nat_tests)
+
+pick : (test : Bool) (b : ℕ) (bs others : List ℕ) → (test ≡ true → (b == 123) ≡ true) → length others ≤ length bs
+    → begins (codes "{") (if test then b ∷ bs else others) ≡ false → length (if test then b ∷ bs else others) < length (b ∷ bs)
+pick true b bs others brace within none = let some = brace_begins b bs (brace refl) in absurd cc
+pick false b bs others brace within none = omega arith
+
+pub shorter : (inside : Bool) (text : List ℕ) → IsStart inside text → begins (codes "{") (from_first (list_ends inside) text) ≡ false
+    → length (from_first (list_ends inside) text) < length text
+unfolding from_first_in
+shorter inside [] start none = absurd start
+shorter inside (b ∷ bs) start none =
+    let left = length bs - length (behind_unit (b ∷ bs)) in
+    let others = from_first_in (list_ends inside) (after_byte b []) left bs in
+    pick (stops_at (list_ends inside) b []) b bs others (stops_at_brace inside b start) (no_longer (list_ends inside) (after_byte b []) left bs) none

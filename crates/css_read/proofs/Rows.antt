@@ -1,0 +1,172 @@
+-- Worked rows: the definitions compute.
+use Rattle.std.proofs.Common.{◌≡◌, ℕ, [], ◌∷◌, Ok, Err, refl}
+use Rattle.std.specs.Prelude.{List, codes, replicate}
+use Rattle.std.specs.Str.{is_utf8, chars}
+use Rattle.std.specs.Str.Lossy.{utf8_valid_len}
+use Rattle.tp_base.specs.Names.{with_name, place_in}
+use Rattle.tp_base.specs.declared.atoms.AtomKind.TheVariants.{Element, Class}
+use Rattle.sel_core.specs.declared.faults.Skip.TheVariants.{Sibling, Pseudo, Bad}
+use Rattle.sel_core.specs.Bytes.{name_len, begins_name, behind_close, behind_gap}
+use Rattle.sel_core.specs.Grammar.{left_at, is_dropped_element, is_dropped_class, behind_word, behind_dropped, any_part, first_part, name_at, behind_child, behind_space, behind_near, join_at}
+use Rattle.sel_core.specs.Selectors.{simple}
+use Rattle.sel_core.specs.Reading.{with_word, with_join, with_part, first_step, later_step, step, finished, run, read_piece, read_selector}
+use Rattle.css_read.specs.declared.faults.SheetFault.TheVariants.{NotUtf8, TooManySelectors}
+use Rattle.css_read.specs.declared.sheets.Range.{Range}
+use Rattle.css_read.specs.Units.{behind_string, behind_unit, after_byte, from_first_in}
+use Rattle.css_read.specs.Rules.{behind_block, holds_rules, at_rule, style_rule, next_front, Rule, rules_from, behind_mark, rules_of}
+use Rattle.css_read.specs.Pieces.{solid_len, piece_of, first_piece, more_pieces, pieces}
+use Rattle.css_read.specs.Sheets.{Outcome, judged, skipped, Item, Sheet}
+use Rattle.css_read.specs.Reading.{Ending, read_item, add_item, add_items, add_rule, add_rules, empty_sheet, read_sheet}
+
+-- ---- rules
+
+abbrev rule : ℕ → ℕ → ℕ → Rule
+rule from brace to = record { from = from; brace = brace; to = to }
+
+none : rules_of (codes "") ≡ []
+unfolding rules_of rules_from next_front behind_unit behind_string after_byte from_first_in at_rule style_rule behind_block holds_rules behind_mark name_len begins_name behind_close
+none = refl
+
+three_times : rules_of (codes ".a{} .a{} @media print { .a{} }") ≡ rule 0 2 4 ∷ rule 5 7 9 ∷ rule 25 27 29 ∷ []
+unfolding rules_of rules_from next_front behind_unit behind_string after_byte from_first_in at_rule style_rule behind_block holds_rules behind_mark name_len begins_name behind_close
+three_times = refl
+
+open_comment : rules_of (codes ".a{ /* x") ≡ rule 0 2 8 ∷ []
+unfolding rules_of rules_from next_front behind_unit behind_string after_byte from_first_in at_rule style_rule behind_block holds_rules behind_mark name_len begins_name behind_close
+open_comment = refl
+
+other_kind_closes_nothing : rules_of (codes "a{(}b{}") ≡ rule 0 1 7 ∷ []
+unfolding rules_of rules_from next_front behind_unit behind_string after_byte from_first_in at_rule style_rule behind_block holds_rules behind_mark name_len begins_name behind_close
+other_kind_closes_nothing = refl
+
+stray_bracket_is_in_a_list : rules_of (codes "}a{}") ≡ rule 0 2 4 ∷ []
+unfolding rules_of rules_from next_front behind_unit behind_string after_byte from_first_in at_rule style_rule behind_block holds_rules behind_mark name_len begins_name behind_close
+stray_bracket_is_in_a_list = refl
+
+string_keeps_braces : rules_of (codes "\"{\"a{}") ≡ rule 0 4 6 ∷ []
+unfolding rules_of rules_from next_front behind_unit behind_string after_byte from_first_in at_rule style_rule behind_block holds_rules behind_mark name_len begins_name behind_close
+string_keeps_braces = refl
+
+line_end_ends_string : rules_of (codes "\"a\n{}b{}") ≡ rule 0 3 5 ∷ rule 5 6 8 ∷ []
+unfolding rules_of rules_from next_front behind_unit behind_string after_byte from_first_in at_rule style_rule behind_block holds_rules behind_mark name_len begins_name behind_close
+line_end_ends_string = refl
+
+escaped_line_end_is_in_string : rules_of (codes "\"a\\\n{\"{}") ≡ rule 0 6 8 ∷ []
+unfolding rules_of rules_from next_front behind_unit behind_string after_byte from_first_in at_rule style_rule behind_block holds_rules behind_mark name_len begins_name behind_close
+escaped_line_end_is_in_string = refl
+
+list_cut_by_block : rules_of (codes "@media{a}b{}") ≡ rule 9 10 12 ∷ []
+unfolding rules_of rules_from next_front behind_unit behind_string after_byte from_first_in at_rule style_rule behind_block holds_rules behind_mark name_len begins_name behind_close
+list_cut_by_block = refl
+
+list_cut_by_end : rules_of (codes "a{}b") ≡ rule 0 1 3 ∷ []
+unfolding rules_of rules_from next_front behind_unit behind_string after_byte from_first_in at_rule style_rule behind_block holds_rules behind_mark name_len begins_name behind_close
+list_cut_by_end = refl
+
+prelude_cut_by_block : rules_of (codes "@media{@media x}a{}") ≡ rule 16 17 19 ∷ []
+unfolding rules_of rules_from next_front behind_unit behind_string after_byte from_first_in at_rule style_rule behind_block holds_rules behind_mark name_len begins_name behind_close
+prelude_cut_by_block = refl
+
+layer_holds_rules : rules_of (codes "@layer{a{}}") ≡ rule 7 8 10 ∷ []
+unfolding rules_of rules_from next_front behind_unit behind_string after_byte from_first_in at_rule style_rule behind_block holds_rules behind_mark name_len begins_name behind_close
+layer_holds_rules = refl
+
+other_at_rule_holds_none : rules_of (codes "@font-face{a{}}b{}") ≡ rule 15 16 18 ∷ []
+unfolding rules_of rules_from next_front behind_unit behind_string after_byte from_first_in at_rule style_rule behind_block holds_rules behind_mark name_len begins_name behind_close
+other_at_rule_holds_none = refl
+
+import_ends_outside_string : rules_of (codes "@import \"x;\";a{}") ≡ rule 13 14 16 ∷ []
+unfolding rules_of rules_from next_front behind_unit behind_string after_byte from_first_in at_rule style_rule behind_block holds_rules behind_mark name_len begins_name behind_close
+import_ends_outside_string = refl
+
+media_without_block : rules_of (codes "@media x;a{}") ≡ rule 9 10 12 ∷ []
+unfolding rules_of rules_from next_front behind_unit behind_string after_byte from_first_in at_rule style_rule behind_block holds_rules behind_mark name_len begins_name behind_close
+media_without_block = refl
+
+longer_name_is_another : rules_of (codes "@media-x{a{}}b{}") ≡ rule 13 14 16 ∷ []
+unfolding rules_of rules_from next_front behind_unit behind_string after_byte from_first_in at_rule style_rule behind_block holds_rules behind_mark name_len begins_name behind_close
+longer_name_is_another = refl
+
+bracket_ends_name : rules_of (codes "@MEDIA(x){a{}}") ≡ rule 10 11 13 ∷ []
+unfolding rules_of rules_from next_front behind_unit behind_string after_byte from_first_in at_rule style_rule behind_block holds_rules behind_mark name_len begins_name behind_close
+bracket_ends_name = refl
+
+comment_ends_name : rules_of (codes "@media/**/x{a{}}") ≡ rule 12 13 15 ∷ []
+unfolding rules_of rules_from next_front behind_unit behind_string after_byte from_first_in at_rule style_rule behind_block holds_rules behind_mark name_len begins_name behind_close
+comment_ends_name = refl
+
+brace_in_bracket_begins_no_block : rules_of (codes "@media({}){a{}}") ≡ rule 11 12 14 ∷ []
+unfolding rules_of rules_from next_front behind_unit behind_string after_byte from_first_in at_rule style_rule behind_block holds_rules behind_mark name_len begins_name behind_close
+brace_in_bracket_begins_no_block = refl
+
+declarations_are_passed : rules_of (codes "a{b:c;d{e}}f{}") ≡ rule 0 1 11 ∷ rule 11 12 14 ∷ []
+unfolding rules_of rules_from next_front behind_unit behind_string after_byte from_first_in at_rule style_rule behind_block holds_rules behind_mark name_len begins_name behind_close
+declarations_are_passed = refl
+
+order_mark_counts : rules_of (0xEF ∷ 0xBB ∷ 0xBF ∷ codes "a{}") ≡ rule 3 4 6 ∷ []
+unfolding rules_of rules_from next_front behind_unit behind_string after_byte from_first_in at_rule style_rule behind_block holds_rules behind_mark name_len begins_name behind_close
+order_mark_counts = refl
+
+-- ---- pieces
+
+abbrev range : ℕ → ℕ → Range
+range from to = record { from = from; to = to }
+
+gaps_and_empty_piece : pieces 9 (codes "a, b/**/,") ≡ range 0 1 ∷ range 3 4 ∷ range 9 9 ∷ []
+unfolding pieces first_piece more_pieces piece_of solid_len behind_unit behind_string after_byte from_first_in behind_gap behind_close
+gaps_and_empty_piece = refl
+
+empty_list : pieces 5 (codes "") ≡ range 5 5 ∷ []
+unfolding pieces first_piece more_pieces piece_of solid_len behind_unit behind_string after_byte from_first_in behind_gap behind_close
+empty_list = refl
+
+commas_inside : pieces 16 (codes "[a,b],\",\",/*,*/c") ≡ range 0 5 ∷ range 6 9 ∷ range 15 16 ∷ []
+unfolding pieces first_piece more_pieces piece_of solid_len behind_unit behind_string after_byte from_first_in behind_gap behind_close
+commas_inside = refl
+
+gap_inside_and_behind : pieces 20 (codes " a > b /* */ /**/") ≡ range 4 9 ∷ []
+unfolding pieces first_piece more_pieces piece_of solid_len behind_unit behind_string after_byte from_first_in behind_gap behind_close
+gap_inside_and_behind = refl
+
+-- ---- sheets
+
+abbrev item : ℕ → ℕ → ℕ → Outcome → Item
+item from to rule outcome = record { from = from; to = to; rule = rule; outcome = outcome }
+
+-- a sheet that is UTF-8
+abbrev read_whole : List ℕ → Ending Sheet
+read_whole text = add_rules text empty_sheet [] (rules_of text)
+
+dropped_and_skipped : read_whole (codes "a:hover{} a + b{} li:first-child{}")
+    ≡ (
+      (Element, codes "a") ∷ (Element, codes "li") ∷ [],
+      Ok (record {
+        items = item 0 7 0 (judged (simple (0 ∷ []))) ∷ item 10 15 1 (skipped Sibling 12) ∷ item 18 32 2 (skipped Pseudo 20) ∷ [];
+        rules = range 0 9 ∷ range 10 17 ∷ range 18 34 ∷ [];
+      }),
+    )
+unfolding add_rules add_rule add_items add_item read_item with_name place_in pieces first_piece more_pieces piece_of solid_len behind_gap read_selector read_piece run finished step later_step first_step with_part with_join with_word join_at behind_near behind_space behind_child name_at first_part any_part behind_dropped behind_word is_dropped_class is_dropped_element left_at rules_of rules_from next_front behind_unit behind_string after_byte from_first_in at_rule style_rule behind_block holds_rules behind_mark name_len begins_name behind_close
+dropped_and_skipped = refl
+
+end_without_compound : read_whole (codes ".a, .b > {},{}")
+    ≡ (
+      (Class, codes "a") ∷ (Class, codes "b") ∷ [],
+      Ok (record {
+        items = item 0 2 0 (judged (simple (0 ∷ []))) ∷ item 4 8 0 (skipped Bad 8) ∷ item 11 11 1 (skipped Bad 11) ∷ item 12 12 1 (skipped Bad 12) ∷ [];
+        rules = range 0 11 ∷ range 11 14 ∷ [];
+      }),
+    )
+unfolding add_rules add_rule add_items add_item read_item with_name place_in pieces first_piece more_pieces piece_of solid_len behind_gap read_selector read_piece run finished step later_step first_step with_part with_join with_word join_at behind_near behind_space behind_child name_at first_part any_part behind_dropped behind_word is_dropped_class is_dropped_element left_at rules_of rules_from next_front behind_unit behind_string after_byte from_first_in at_rule style_rule behind_block holds_rules behind_mark name_len begins_name behind_close
+end_without_compound = refl
+
+not_utf8 : read_sheet (97 ∷ 0xC3 ∷ 40 ∷ []) [] ≡ ([], Err (NotUtf8 1))
+unfolding read_sheet utf8_valid_len is_utf8 chars lib.Utf8.encode
+not_utf8 = refl
+
+one_more : add_item (codes "a{}") 7 [] [] (range 0 1) ≡ ((Element, codes "a") ∷ [], Ok (item 0 1 7 (judged (simple (0 ∷ []))) ∷ []))
+unfolding add_rules add_rule add_items add_item read_item with_name place_in pieces first_piece more_pieces piece_of solid_len behind_gap read_selector read_piece run finished step later_step first_step with_part with_join with_word join_at behind_near behind_space behind_child name_at first_part any_part behind_dropped behind_word is_dropped_class is_dropped_element left_at rules_of rules_from next_front behind_unit behind_string after_byte from_first_in at_rule style_rule behind_block holds_rules behind_mark name_len begins_name behind_close
+one_more = refl
+
+one_too_many : add_item (codes "a{}") 7 (replicate 20000 (item 0 0 0 (skipped Bad 0))) [] (range 0 1) ≡ ([], Err (TooManySelectors 0))
+unfolding add_item
+one_too_many = refl

@@ -1,0 +1,56 @@
+-- The length up to the gap at the end, found from left to right.
+use Rattle.std.proofs.Common.{◌≡◌, ℕ, zero, suc, ◌+◌, ◌-◌, ◌<◌, ◌==◌, true, false, if◌then◌else◌, List, [], ◌∷◌, length, drop, refl, sym, ap, ◌∙◌, arith}
+use Rattle.std.proofs.lemmas.Bool.Decides.{nat_tests}
+use Rattle.sel_core.specs.Bytes.{IsRest}
+use Rattle.css_read.specs.Units.{behind_unit, begins_gap}
+use Rattle.css_read.specs.Pieces.{with_unit, solid_len}
+
+-- so many bytes count of the n that were passed, and so many behind them
+unfoldable pub joined : ℕ → ℕ → ℕ → ℕ
+joined len n others = if others == 0 then len else n + others
+
+skips : (n : ℕ) (bs : List ℕ) → solid_len n bs ≡ solid_len 0 (drop n bs)
+unfolding solid_len
+skips zero bs = refl
+skips (suc n) [] = refl
+skips (suc n) (b ∷ bs) = skips n bs
+
+step : (b : ℕ) (bs : List ℕ) → IsRest (b ∷ bs) (behind_unit (b ∷ bs)) → length (behind_unit (b ∷ bs)) < length (b ∷ bs)
+    → solid_len 0 (b ∷ bs) ≡ with_unit (begins_gap (b ∷ bs)) (length (b ∷ bs) - length (behind_unit (b ∷ bs))) (solid_len 0 (behind_unit (b ∷ bs)))
+unfolding solid_len
+step b bs rest less =
+    let after = behind_unit (b ∷ bs) in
+    let left = length bs - length after in
+    let count : length (b ∷ bs) - length after ≡ suc left = omega arith in
+    let one : 1 + left ≡ length (b ∷ bs) - length after = omega arith in
+    let last : drop left bs ≡ after = ap (λ n. drop n (b ∷ bs)) (sym count) ∙ rest.last in
+    let behind : solid_len left bs ≡ solid_len 0 after = skips left bs ∙ ap (solid_len 0) last in
+    ap (λ n. with_unit (begins_gap (b ∷ bs)) n (solid_len left bs)) one ∙ ap (with_unit (begins_gap (b ∷ bs)) (length (b ∷ bs) - length after)) behind
+
+joins_gap : (len n u others : ℕ) → joined len n (with_unit true u others) ≡ joined len (n + u) others
+unfolding joined
+joins_gap len n u zero = refl
+joins_gap len n u (suc k) = grind (arith, nat_tests)
+
+joins_solid : (len n u others : ℕ) → 0 < u → joined len n (with_unit false u others) ≡ joined (n + u) (n + u) others
+unfolding joined
+joins_solid len n u others some = grind (arith, nat_tests)
+
+pub passes_gap : (len n : ℕ) (bs : List ℕ) → begins_gap bs ≡ true → IsRest bs (behind_unit bs) → length (behind_unit bs) < length bs
+    → joined len n (solid_len 0 bs) ≡ joined len (n + (length bs - length (behind_unit bs))) (solid_len 0 (behind_unit bs))
+passes_gap len n [] gap rest less = absurd (omega arith)
+passes_gap len n (b ∷ bs) gap rest less = rw (step b bs rest less, gap) (joins_gap len n _ _)
+
+pub passes_solid : (len n : ℕ) (bs : List ℕ) → begins_gap bs ≡ false → IsRest bs (behind_unit bs) → length (behind_unit bs) < length bs
+    → joined len n (solid_len 0 bs) ≡ joined (n + (length bs - length (behind_unit bs))) (n + (length bs - length (behind_unit bs))) (solid_len 0 (behind_unit bs))
+passes_solid len n [] gap rest less = absurd (omega arith)
+passes_solid len n (b ∷ bs) gap rest less = rw (step b bs rest less, gap) (joins_solid len n _ _ (omega arith))
+
+pub begins : (bs : List ℕ) → joined 0 0 (solid_len 0 bs) ≡ solid_len 0 bs
+unfolding joined
+begins bs = grind (arith, nat_tests)
+
+pub ends : (len n : ℕ) (bs : List ℕ) → length bs ≡ 0 → joined len n (solid_len 0 bs) ≡ len
+unfolding joined solid_len
+ends len n [] none = refl
+ends len n (b ∷ bs) none = absurd (omega arith)

@@ -1,0 +1,10 @@
+pub mod Drafts
+pub mod Fronts
+pub mod Pieces
+pub mod Places
+pub mod Reading
+pub mod Results
+pub mod Rules
+pub mod Sheets
+pub mod Units
+pub mod Views

@@ -1,0 +1,100 @@
+//! Strings, comments, and what stands outside them and outside brackets.
+ghost use Rattle.std.specs.Prelude.{◌≡◌, ◌<◌, length, reverse, false, IfOk};
+ghost use Rattle.sel_core.specs.Bytes.{IsRest};
+ghost use Rattle.css_read.specs.Units as spec;
+
+use crate::brackets::{Bracket, track};
+use sel_core::{behind_close, is_blank};
+use std::alloc::{AllocError, Global};
+
+/// The text behind a string, from behind its opening quote on.
+#[tactic(auto, unfolding(crate::specs::Units::behind_string), using(sel_core::proofs::Rests::of_rest, sel_core::proofs::Rests::behind_first, sel_core::proofs::Rests::itself))]
+fn behind_string(quote: u8, text: &[u8]) -> &[u8]
+    ensures gives { result.now ≡ spec.behind_string quote false text.now }
+    ensures rest { IsRest text.now result.now }
+{
+    let mut escaped = false;
+    let mut rest = text;
+    'turns: while let Some((first, behind)) = rest.split_first() {
+        if escaped {
+            escaped = false;
+        } else if *first == quote {
+            return behind;
+        } else if *first == b'\n' {
+            return rest;
+        } else {
+            escaped = *first == b'\\';
+        }
+        rest = behind;
+    }
+    rest
+}
+
+fn is_quote(byte: u8) -> bool
+    ensures { result ≡ spec.is_quote byte }
+{
+    byte == b'"' || byte == b'\''
+}
+
+fn begins_comment(text: &[u8]) -> bool
+    ensures { result ≡ spec.begins_comment text.now }
+{
+    text.starts_with(b"/*")
+}
+
+/// The text behind the string, the comment or the byte that it begins with.
+#[tactic(auto, unfolding(crate::specs::Units::behind_unit), using(sel_core::proofs::Rests::of_rest, sel_core::proofs::Rests::behind_first, sel_core::proofs::Rests::dropped))]
+pub(crate) fn behind_unit(text: &[u8]) -> &[u8]
+    ensures gives { result.now ≡ spec.behind_unit text.now }
+    ensures rest { IsRest text.now result.now }
+    ensures shorter { 0 < length text.now → length result.now < length text.now }
+{
+    let Some((first, behind)) = text.split_first() else {
+        return text;
+    };
+    if is_quote(*first) {
+        behind_string(*first, behind)
+    } else if begins_comment(text) {
+        behind_close(behind.split_at(1).1)
+    } else {
+        behind
+    }
+}
+
+/// Whether the text begins with white space or a comment.
+pub(crate) fn begins_gap(text: &[u8]) -> bool
+    ensures { result ≡ spec.begins_gap text.now }
+{
+    match text {
+        [] => false,
+        [first, ..] => is_blank(*first) || begins_comment(text),
+    }
+}
+
+fn stops_at(bytes: &[u8], byte: u8, brackets: &[Bracket]) -> bool
+    ensures { result ≡ spec.stops_at bytes.now byte (reverse brackets.now) }
+{
+    bytes.contains(&byte) && brackets.is_empty()
+}
+
+/// The text from the first of some bytes on, outside brackets, strings and comments. Linear in what is passed over.
+#[tactic(auto, using(crate::proofs::Firsts::goes_on, crate::proofs::Firsts::found, crate::proofs::Firsts::ends, sel_core::proofs::Rests::of_rest))]
+pub(crate) fn from_first<'a>(
+    alloc: Global,
+    bytes: &[u8],
+    text: &'a [u8],
+) -> Result<&'a [u8], AllocError>
+    ensures gives { IfOk result (λ r. r.now ≡ spec.from_first bytes.now text.now) }
+    ensures rest { IfOk result (λ r. IsRest text.now r.now) }
+{
+    let mut brackets = Vec::new(alloc);
+    let mut rest = text;
+    'units: while let Some((first, _)) = rest.split_first() {
+        if stops_at(bytes, *first, &brackets) {
+            return Ok(rest);
+        }
+        track(&mut brackets, *first)?;
+        rest = behind_unit(rest);
+    }
+    Ok(rest)
+}
