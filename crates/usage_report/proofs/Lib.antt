@@ -1,0 +1,4 @@
+pub mod PieceLemmas
+pub mod PlaceLemmas
+pub mod ReportLemmas
+mod Rows

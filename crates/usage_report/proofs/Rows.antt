@@ -1,0 +1,93 @@
+-- Small reports, written by the definitions.
+use Rattle.std.proofs.Common.{◌≡◌, ℕ, List, [], ◌∷◌, codes, Some, None, refl}
+use Rattle.std.specs.Fmt.{digits}
+use Rattle.tp_base.specs.Names.{Named}
+use Rattle.tp_base.specs.declared.atoms.AtomKind.TheVariants as kind
+use Rattle.tp_base.specs.declared.places.Place.{Place}
+use Rattle.sel_core.specs.Selectors.{simple, child}
+use Rattle.sel_core.specs.SelectorText.{selector_text}
+use Rattle.sel_core.specs.declared.faults.Skip.{Skip}
+use Rattle.sel_core.specs.declared.faults.Skip.TheVariants.{Sibling, Pseudo, Attribute, Escape, Long, Bad}
+use Rattle.css_read.specs.Sheets.{judged, skipped, Item}
+use Rattle.usage_report.specs.Answers as answers
+use Rattle.usage_report.specs.Report.{report, place_text, path_text, step_text, shown_text, count_text, answer_text}
+
+-- `.a` at 1:1, and at 2:1 `.a > b`
+abbrev names : List Named
+names = (kind.Class, codes "a") ∷ (kind.Element, codes "b") ∷ []
+
+abbrev text : List ℕ
+text = codes ".a{}\n.a > b{}"
+
+abbrev first : Item
+first = record { from = 0; to = 2; rule = 0; outcome = judged (simple (0 ∷ [])) }
+
+abbrev second : Item
+second = record { from = 5; to = 11; rule = 1; outcome = judged (record { subject = 1 ∷ []; outer = record { join = child; atoms = 0 ∷ [] } ∷ [] }) }
+
+-- three statements
+abbrev places : List Place
+places = record { line = 1; column = 9 } ∷ record { line = 2; column = 27 } ∷ record { line = 10; column = 100 } ∷ []
+
+-- the report on both
+abbrev both : answers.Answer → answers.Answer → List ℕ
+both a b = report text names places (record { items = first ∷ second ∷ []; rules = [] }) (a ∷ b ∷ [])
+
+no_items : report [] [] [] (record { items = []; rules = [] }) [] ≡ codes "treeped 1\n"
+no_items = refl
+
+unused_and_spent : both answers.unused answers.spent ≡ codes "treeped 1\n1:1 unused .a\n2:1 spent .a > b\n"
+unfolding digits answer_text place_text selector_text
+unused_and_spent = refl
+
+used_at_once : both (answers.used 0 (Some (record { steps = []; at = [] }))) answers.used_unshown ≡ codes "treeped 1\n1:1 used 0 .a\n  match /\n2:1 used-unshown .a > b\n"
+unfolding digits answer_text place_text selector_text count_text shown_text path_text step_text
+used_at_once = refl
+
+used_after_steps : both answers.unused (answers.used 2 (Some (record { steps = record { stmt = 1; at = 1 ∷ 0 ∷ [] } ∷ record { stmt = 2; at = [] } ∷ []; at = 1 ∷ 0 ∷ 12 ∷ [] })))
+    ≡ codes "treeped 1\n1:1 unused .a\n2:1 used 2 .a > b\n  2 at 2:27 on /1/0\n  3 at 10:100 on /\n  match /1/0/12\n"
+unfolding digits answer_text place_text selector_text count_text shown_text path_text step_text
+used_after_steps = refl
+
+greatest : both (answers.used 18446744073709551615 None) (answers.used 18446744073709551614 None)
+    ≡ codes "treeped 1\n1:1 used 18446744073709551615+ .a\n  not listed\n2:1 used 18446744073709551614 .a > b\n  not listed\n"
+unfolding digits answer_text place_text selector_text count_text shown_text
+greatest = refl
+
+-- an item that is skipped, on its second line, and the place of the cause
+abbrev at_cause : Skip → ℕ → List ℕ
+at_cause cause at = report (codes "x{}\ny{}") names places (record { items = record { from = 4; to = 5; rule = 1; outcome = skipped cause at } ∷ []; rules = [] }) (answers.skipped cause at ∷ [])
+
+sibling : at_cause Sibling 0 ≡ codes "treeped 1\n2:1 skipped sibling at 1:1\n"
+unfolding digits answer_text place_text
+sibling = refl
+
+pseudo : at_cause Pseudo 2 ≡ codes "treeped 1\n2:1 skipped pseudo at 1:3\n"
+unfolding digits answer_text place_text
+pseudo = refl
+
+attribute : at_cause Attribute 4 ≡ codes "treeped 1\n2:1 skipped attribute at 2:1\n"
+unfolding digits answer_text place_text
+attribute = refl
+
+escape : at_cause Escape 5 ≡ codes "treeped 1\n2:1 skipped escape at 2:2\n"
+unfolding digits answer_text place_text
+escape = refl
+
+long : at_cause Long 6 ≡ codes "treeped 1\n2:1 skipped long at 2:3\n"
+unfolding digits answer_text place_text
+long = refl
+
+bad : at_cause Bad 7 ≡ codes "treeped 1\n2:1 skipped bad at 2:4\n"
+unfolding digits answer_text place_text
+bad = refl
+
+-- past the text's end it is the place of the end
+bad_past_the_end : at_cause Bad 70 ≡ codes "treeped 1\n2:1 skipped bad at 2:4\n"
+unfolding digits answer_text place_text
+bad_past_the_end = refl
+
+-- an item without a selector has an empty text
+no_selector : report (codes "x{}") names places (record { items = record { from = 0; to = 1; rule = 0; outcome = skipped Bad 0 } ∷ []; rules = [] }) (answers.unused ∷ []) ≡ codes "treeped 1\n1:1 unused \n"
+unfolding digits answer_text place_text
+no_selector = refl

@@ -1,0 +1,5 @@
+pub mod Answers
+pub mod Cursor
+pub mod Faults
+pub mod Report
+pub mod Views

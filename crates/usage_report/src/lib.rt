@@ -1,0 +1,16 @@
+//! Answers on the selectors of a sheet, and the report that says them.
+#![tactic(auto)]
+
+mod answers;
+mod cursor;
+mod faults;
+mod lines;
+mod pieces;
+mod report;
+#[cfg(test)]
+mod tests;
+
+pub use answers::{Answer, Steps, Unfolded};
+pub use cursor::Cursor;
+pub use faults::ReportFault;
+pub use report::write_report;

@@ -1,0 +1,62 @@
+//! Pieces of the report: numbers, places and paths.
+ghost use Rattle.std.specs.Prelude.{◌≡◌, ◌++◌, codes, OnOk};
+ghost use Rattle.std.specs.List.{flat_map};
+ghost use Rattle.std.specs.Fmt.{decimal};
+ghost use Rattle.usage_report.specs.Report as spec;
+
+use tp_base::{NoMemory, Path, Place};
+
+/// Bytes of the report.
+#[derive(Drop)]
+pub(crate) struct Piece {
+    pub(crate) bytes: Vec<u8>,
+}
+
+impl Piece {
+    pub(crate) fn put(&mut self, bytes: &[u8]) -> Result<(), NoMemory>
+        ensures { OnOk result (self.new.bytes.items ≡ self.old.bytes.items ++ bytes.now) }
+    {
+        self.bytes.extend_from_slice(bytes)?;
+        Ok(())
+    }
+
+    pub(crate) fn number(&mut self, number: u64) -> Result<(), NoMemory>
+        ensures { OnOk result (self.new.bytes.items ≡ self.old.bytes.items ++ decimal number) }
+    {
+        let digits = number.to_string(*self.bytes.allocator())?;
+        self.put(digits.as_bytes())
+    }
+
+    /// `line:column`.
+    #[tactic(auto, unfolding(crate::specs::Report::place_text), using(std::proofs::Common::append_assoc))]
+    pub(crate) fn place(&mut self, place: Place) -> Result<(), NoMemory>
+        ensures { OnOk result (self.new.bytes.items ≡ self.old.bytes.items ++ spec.place_text place) }
+    {
+        self.number(u64::from(place.line))?;
+        self.put(b":")?;
+        self.number(u64::from(place.column))
+    }
+
+    /// `/` for the root, else `/` before each child number.
+    #[tactic(auto, using(crate::proofs::PieceLemmas::root_text, crate::proofs::PieceLemmas::below_root_text))]
+    pub(crate) fn path(&mut self, at: &Path) -> Result<(), NoMemory>
+        ensures { OnOk result (self.new.bytes.items ≡ self.old.bytes.items ++ spec.path_text at.now) }
+    {
+        if at.len() == 0 {
+            self.put(b"/")
+        } else {
+            self.child_numbers(at)
+        }
+    }
+
+    #[tactic(auto, using(crate::proofs::PieceLemmas::one_number_more))]
+    fn child_numbers(&mut self, at: &Path) -> Result<(), NoMemory>
+        ensures { OnOk result (self.new.bytes.items ≡ self.old.bytes.items ++ flat_map (λ n. codes "/" ++ decimal n) at.now) }
+    {
+        'levels: for i in 0..at.len() {
+            self.put(b"/")?;
+            self.number(u64::from(at.at(i)))?;
+        }
+        Ok(())
+    }
+}

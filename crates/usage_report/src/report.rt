@@ -1,0 +1,108 @@
+//! A report, written to a sink item by item.
+ghost use Rattle.std.specs.Prelude.{◌≡◌, ◌≤◌, length, map, IfOk, OnOk, OnErr};
+ghost use Rattle.tp_base.specs.declared.places.TheConstants.{MOST_BYTES};
+ghost use Rattle.tp_io.specs.Sinks.{Adds, AddsPrefix, Rose};
+ghost use Rattle.css_read.specs.Views.{item_of, sheet_of};
+ghost use Rattle.usage_report.specs.Cursor.{IsAt};
+ghost use Rattle.usage_report.specs.Report as spec;
+ghost use Rattle.usage_report.specs.Views.{answer_of};
+
+use crate::answers::Answer;
+use crate::cursor::Cursor;
+use crate::faults::ReportFault;
+use crate::pieces::Piece;
+use css_read::{Sheet, SheetItem};
+use std::alloc::Global;
+use tp_base::{AtomTable, NoMemory, Place};
+use tp_io::{Sink, put_all};
+
+/// Writes the report on a sheet of this text, with an answer for each item and a place for each statement: its first line is one
+/// piece on the sink, and then the lines of each item. Linear in the text and in what is written, where the items and their
+/// causes stand in the order of the text.
+pub fn write_report<O: Sink>(
+    alloc: Global,
+    sheet: &Sheet,
+    text: &[u8],
+    atoms: &AtomTable,
+    places: &[Place],
+    answers: &[Answer],
+    out: &mut O,
+) -> Result<(), ReportFault>
+    requires in_limit { length text.now ≤ MOST_BYTES }
+    requires answered { length answers.now ≡ length sheet.now.items }
+    ensures ok { OnOk result (Adds (O.written out.old) (O.written out.new)
+        (spec.report text.now atoms.now places.now (sheet_of sheet.now) (map answer_of answers.now))) }
+    ensures err { OnErr result (AddsPrefix (O.written out.old) (O.written out.new)
+        (spec.report text.now atoms.now places.now (sheet_of sheet.now) (map answer_of answers.now))) }
+    ensures write { result ≡ Err ReportFault.Write → Rose (O.faults out.old) (O.faults out.new) }
+    ensures never_falls { O.faults out.old ≤ O.faults out.new }
+{
+    put_all(out, b"treeped 1\n")?;
+    write_items(
+        alloc,
+        sheet.items.items(),
+        text,
+        atoms,
+        places,
+        answers,
+        out,
+    )
+}
+
+/// Writes the lines of all items.
+fn write_items<O: Sink>(
+    alloc: Global,
+    items: &[SheetItem],
+    text: &[u8],
+    atoms: &AtomTable,
+    places: &[Place],
+    answers: &[Answer],
+    out: &mut O,
+) -> Result<(), ReportFault>
+    requires in_limit { length text.now ≤ MOST_BYTES }
+    requires answered { length answers.now ≡ length items.now }
+    ensures ok { OnOk result (Adds (O.written out.old) (O.written out.new)
+        (spec.lines text.now atoms.now places.now (map item_of items.now) (map answer_of answers.now))) }
+    ensures err { OnErr result (AddsPrefix (O.written out.old) (O.written out.new)
+        (spec.lines text.now atoms.now places.now (map item_of items.now) (map answer_of answers.now))) }
+    ensures write { result ≡ Err ReportFault.Write → Rose (O.faults out.old) (O.faults out.new) }
+    ensures never_falls { O.faults out.old ≤ O.faults out.new }
+{
+    let mut cursor = Cursor::new();
+    'items: for i in 0..items.len() {
+        let piece = item_piece(
+            alloc,
+            &mut cursor,
+            text,
+            atoms,
+            places,
+            &items[i],
+            &answers[i],
+        )?;
+        put_all(out, &piece.bytes)?;
+    }
+    Ok(())
+}
+
+/// The lines of one item.
+fn item_piece(
+    alloc: Global,
+    cursor: &mut Cursor,
+    text: &[u8],
+    atoms: &AtomTable,
+    places: &[Place],
+    item: &SheetItem,
+    answer: &Answer,
+) -> Result<Piece, NoMemory>
+    requires here { IsAt text.now cursor.old }
+    requires in_limit { length text.now ≤ MOST_BYTES }
+    ensures lines { IfOk result (λ p. p.bytes.items ≡ spec.item_text text.now atoms.now places.now (item_of item.now) (answer_of answer.now)) }
+    ensures here { IsAt text.now cursor.new }
+{
+    let mut piece = Piece {
+        bytes: Vec::new(alloc),
+    };
+    piece.place(cursor.place_at(text, item.from))?;
+    piece.answer(cursor, text, atoms, places, &item.outcome, answer)?;
+    Ok(piece)
+}
