@@ -8,10 +8,10 @@ use Rattle.tp_io.specs.Sinks.{Adds, Rose}
 use Rattle.tp_io.specs.declared.files.TheConstants.{MOST_BYTES}
 use Rattle.treeped_app.specs.declared.status.Status.{Status}
 use Rattle.treeped_app.specs.declared.status.Status.TheVariants as status
-use Rattle.treeped_app.specs.declared.stops.Part.{Part}
-use Rattle.treeped_app.specs.declared.stops.Part.TheVariants.{Page, Sheet, Script}
+use Rattle.treeped_app.specs.declared.refusals.Part.{Part}
+use Rattle.treeped_app.specs.declared.refusals.Part.TheVariants.{Page, Sheet, Script}
 use Rattle.treeped_app.specs.declared.stops.Stop.{Stop}
-use Rattle.treeped_app.specs.declared.stops.Stop.TheVariants.{Words, TooLarge, ReadFault, NotYetRead, WriteFault, NoMemory}
+use Rattle.treeped_app.specs.declared.stops.Stop.TheVariants.{Words, TooLarge, ReadFault, Unread, WriteFault, NoMemory}
 use Rattle.treeped_app.specs.Words.{Names, command}
 use Rattle.treeped_app.specs.Stops.{line_of, status_of_stop}
 use Rattle.treeped_app.specs.Runs.{Put, Run, Ends, Texts, Inputs, AreTexts, IsAccepted, Exceeds, read_inputs, loads_before, all_loads, name_of, succeeded, failed, is_unused}
@@ -22,7 +22,7 @@ abbrev IsLined : Stop → Type 0
 IsLined Words = Unit {0}
 IsLined (TooLarge part) = Unit {0}
 IsLined (ReadFault part) = Unit {0}
-IsLined (NotYetRead part) = Unit {0}
+IsLined (Unread refusal) = Unit {0}
 IsLined WriteFault = ⊥
 IsLined NoMemory = ⊥
 
@@ -49,7 +49,7 @@ module _ (r : Run) (err : Put) (s : Status) where
   one_end (Err Words) ends told = lined Words tt ends told
   one_end (Err (TooLarge part)) ends told = lined (TooLarge part) tt ends told
   one_end (Err (ReadFault part)) ends told = lined (ReadFault part) tt ends told
-  one_end (Err (NotYetRead part)) ends told = lined (NotYetRead part) tt ends told
+  one_end (Err (Unread refusal)) ends told = lined (Unread refusal) tt ends told
   one_end (Err WriteFault) ends told = unwritten ends told.0
   one_end (Err NoMemory) ends told = spent told.0
 
@@ -156,7 +156,7 @@ module _ (r : Run) (err : Put) (s : Status) where
   words_of (said Words lined ends status_is line) is = ends.0
   words_of (said (TooLarge part) lined ends status_is line) is = cc
   words_of (said (ReadFault part) lined ends status_is line) is = cc
-  words_of (said (NotYetRead part) lined ends status_is line) is = cc
+  words_of (said (Unread refusal) lined ends status_is line) is = cc
   words_of (said WriteFault lined ends status_is line) is = cc
   words_of (said NoMemory lined ends status_is line) is = cc
   words_of (cut stop ends fails) is = absurd (no_failure_of_words err s fails is)
@@ -168,7 +168,7 @@ module _ (r : Run) (err : Put) (s : Status) where
   no_names_of (said Words lined ends status_is line) none = inl status_is
   no_names_of (said (TooLarge part) lined ends status_is line) none = let some = ends.1 in cc
   no_names_of (said (ReadFault part) lined ends status_is line) none = let some = ends.1 in cc
-  no_names_of (said (NotYetRead part) lined ends status_is line) none = let some = ends.1 in cc
+  no_names_of (said (Unread refusal) lined ends status_is line) none = let some = ends.1 in cc
   no_names_of (said WriteFault lined ends status_is line) none = elim lined [ ]
   no_names_of (said NoMemory lined ends status_is line) none = elim lined [ ]
   no_names_of (cut stop ends fails) none = inr fails
@@ -182,24 +182,24 @@ module _ (r : Run) (err : Put) (s : Status) where
   refused_of (unwritten ends status_is) is = cc
   refused_of (spent status_is) is = cc
 
-  not_read_of : (n : Names) (x : Texts) (part : Part) → IsOne r err s → AreTold r n x → Fit x → read_inputs x ≡ Err part → (s ≡ status.Refused) ⊎ (s ≡ status.ReadFault) ⊎ Fails err s
-  not_read_of n x part (reported report ends) told fits refusal = let reads = accepted_reads r n x told ends.0 ends.1 ends.2 in cc
-  not_read_of n x part (said Words lined ends status_is line) told fits refusal = let none = ends.0 in let some = told.are_names in cc
-  not_read_of n x part (said (TooLarge p) lined ends status_is line) told fits refusal = inl status_is
-  not_read_of n x part (said (ReadFault p) lined ends status_is line) told fits refusal = inr (inl status_is)
-  not_read_of n x part (said (NotYetRead p) lined ends status_is line) told fits refusal = inl status_is
-  not_read_of n x part (said WriteFault lined ends status_is line) told fits refusal = elim lined [ ]
-  not_read_of n x part (said NoMemory lined ends status_is line) told fits refusal = elim lined [ ]
-  not_read_of n x part (cut stop ends fails) told fits refusal = inr (inr fails)
-  not_read_of n x part (unwritten ends status_is) told fits refusal = let reads = accepted_reads r n x told ends.0 ends.1 ends.2 in cc
-  not_read_of n x part (spent status_is) told fits refusal = inr (inr (inr status_is))
+  not_read_of : (n : Names) (x : Texts) (stop : Stop) → IsOne r err s → AreTold r n x → Fit x → read_inputs x ≡ Err stop → (s ≡ status.Refused) ⊎ (s ≡ status.ReadFault) ⊎ Fails err s
+  not_read_of n x stop (reported report ends) told fits unread = let reads = accepted_reads r n x told ends.0 ends.1 ends.2 in cc
+  not_read_of n x stop (said Words lined ends status_is line) told fits unread = let none = ends.0 in let some = told.are_names in cc
+  not_read_of n x stop (said (TooLarge p) lined ends status_is line) told fits unread = inl status_is
+  not_read_of n x stop (said (ReadFault p) lined ends status_is line) told fits unread = inr (inl status_is)
+  not_read_of n x stop (said (Unread refusal) lined ends status_is line) told fits unread = inl status_is
+  not_read_of n x stop (said WriteFault lined ends status_is line) told fits unread = elim lined [ ]
+  not_read_of n x stop (said NoMemory lined ends status_is line) told fits unread = elim lined [ ]
+  not_read_of n x stop (cut end ends fails) told fits unread = inr (inr fails)
+  not_read_of n x stop (unwritten ends status_is) told fits unread = let reads = accepted_reads r n x told ends.0 ends.1 ends.2 in cc
+  not_read_of n x stop (spent status_is) told fits unread = inr (inr (inr status_is))
 
   too_large_of : (n : Names) (x : Texts) → IsOne r err s → AreTold r n x → (Fit x → ⊥) → (s ≡ status.Refused) ⊎ (s ≡ status.ReadFault) ⊎ Fails err s
   too_large_of n x (reported report ends) told over = absurd (over (fit r n x told ends.2.names ends.0 ends.2.are_names ends.2.texts))
   too_large_of n x (said Words lined ends status_is line) told over = let none = ends.0 in let some = told.are_names in cc
   too_large_of n x (said (TooLarge p) lined ends status_is line) told over = inl status_is
   too_large_of n x (said (ReadFault p) lined ends status_is line) told over = inr (inl status_is)
-  too_large_of n x (said (NotYetRead p) lined ends status_is line) told over = inl status_is
+  too_large_of n x (said (Unread refusal) lined ends status_is line) told over = inl status_is
   too_large_of n x (said WriteFault lined ends status_is line) told over = elim lined [ ]
   too_large_of n x (said NoMemory lined ends status_is line) told over = elim lined [ ]
   too_large_of n x (cut stop ends fails) told over = inr (inr fails)
@@ -211,7 +211,7 @@ module _ (r : Run) (err : Put) (s : Status) where
   read_fault_of (said Words lined ends status_is line) is = cc
   read_fault_of (said (TooLarge part) lined ends status_is line) is = cc
   read_fault_of (said (ReadFault part) lined ends status_is line) is = (ends.0, part, ends.1, ends.2.0, line)
-  read_fault_of (said (NotYetRead part) lined ends status_is line) is = cc
+  read_fault_of (said (Unread refusal) lined ends status_is line) is = cc
   read_fault_of (said WriteFault lined ends status_is line) is = elim lined [ ]
   read_fault_of (said NoMemory lined ends status_is line) is = elim lined [ ]
   read_fault_of (cut stop ends fails) is = absurd (no_failure_of_read_fault err s fails is)
@@ -224,7 +224,7 @@ module _ (r : Run) (err : Put) (s : Status) where
   failed_load_of n part (said (TooLarge p) lined ends status_is line) at =
       absurd (not_failed_at r n part (loads_before p ends.0 ++ succeeded (name_of p ends.0) ∷ []) (ends.2.0 ∙ append_assoc r.loads (loads_before p ends.0) (succeeded (name_of p ends.0) ∷ [])) (succeeded_before p ends.0) at)
   failed_load_of n part (said (ReadFault p) lined ends status_is line) at = inl status_is
-  failed_load_of n part (said (NotYetRead p) lined ends status_is line) at = absurd (not_failed_at r n part (all_loads ends.0) ends.3.0 (all_succeeded ends.0) at)
+  failed_load_of n part (said (Unread refusal) lined ends status_is line) at = absurd (not_failed_at r n part (all_loads ends.0) ends.3.0 (all_succeeded ends.0) at)
   failed_load_of n part (said WriteFault lined ends status_is line) at = elim lined [ ]
   failed_load_of n part (said NoMemory lined ends status_is line) at = elim lined [ ]
   failed_load_of n part (cut stop ends fails) at = inr fails
@@ -236,7 +236,7 @@ module _ (r : Run) (err : Put) (s : Status) where
   write_fault_of (said Words lined ends status_is line) is = cc
   write_fault_of (said (TooLarge part) lined ends status_is line) is = cc
   write_fault_of (said (ReadFault part) lined ends status_is line) is = cc
-  write_fault_of (said (NotYetRead part) lined ends status_is line) is = cc
+  write_fault_of (said (Unread refusal) lined ends status_is line) is = cc
   write_fault_of (said WriteFault lined ends status_is line) is = elim lined [ ]
   write_fault_of (said NoMemory lined ends status_is line) is = elim lined [ ]
   write_fault_of (cut stop ends (inl fault)) is = inr fault.1
@@ -250,7 +250,7 @@ module _ (r : Run) (err : Put) (s : Status) where
   no_budget_of (said Words lined ends status_is line) is = cc
   no_budget_of (said (TooLarge part) lined ends status_is line) is = cc
   no_budget_of (said (ReadFault part) lined ends status_is line) is = cc
-  no_budget_of (said (NotYetRead part) lined ends status_is line) is = cc
+  no_budget_of (said (Unread refusal) lined ends status_is line) is = cc
   no_budget_of (said WriteFault lined ends status_is line) is = elim lined [ ]
   no_budget_of (said NoMemory lined ends status_is line) is = elim lined [ ]
   no_budget_of (cut stop ends (inl fault)) is = let a = fault.0 in cc
@@ -265,8 +265,8 @@ module _ (r : Run) (err : Put) (s : Status) where
   completes_of n x i (said (TooLarge p) lined ends status_is line) told fits reads loads out errors = absurd (none_exceeds r n x told fits ends.0 p ends.1 ends.2.2)
   completes_of n x i (said (ReadFault p) lined ends status_is line) told fits reads loads out errors =
       absurd (loads p (subst (λ (m : Names). FailedAt r m p) (one_name r n ends.0 told.are_names ends.1) ends.2.0))
-  completes_of n x i (said (NotYetRead p) lined ends status_is line) told fits reads loads out errors =
-      let refusal : read_inputs x ≡ Err p = subst (λ (t : Texts). read_inputs t ≡ Err p) (same_texts r n x told ends.0 ends.2 ends.1 ends.3.1) ends.4 in cc
+  completes_of n x i (said (Unread refusal) lined ends status_is line) told fits reads loads out errors =
+      let unread : read_inputs x ≡ Err (Unread refusal) = subst (λ (t : Texts). read_inputs t ≡ Err (Unread refusal)) (same_texts r n x told ends.0 ends.2 ends.1 ends.3.1) ends.4 in cc
   completes_of n x i (said WriteFault lined ends status_is line) told fits reads loads out errors = elim lined [ ]
   completes_of n x i (said NoMemory lined ends status_is line) told fits reads loads out errors = elim lined [ ]
   completes_of n x i (cut stop ends (inl fault)) told fits reads loads out errors = absurd (errors fault.1)
@@ -282,7 +282,7 @@ module _ (r : Run) (err : Put) (s : Status) where
         words = words_of one;
         no_names = no_names_of one;
         refused = refused_of one;
-        not_read = λ n x part. not_read_of n x part one;
+        not_read = λ n x stop. not_read_of n x stop one;
         too_large = λ n x. too_large_of n x one;
         read_fault = read_fault_of one;
         failed_load = λ n part. failed_load_of n part one;

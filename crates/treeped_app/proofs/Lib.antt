@@ -1,14 +1,12 @@
 pub mod CauseLemmas
-pub mod ClassLoop
-pub mod DerivationLemmas
+pub mod ClosedLemmas
+pub mod ClosingLemmas
+pub mod IndexLemmas
 pub mod JudgingLemmas
+pub mod LevelLemmas
 pub mod LoadingLemmas
-pub mod PageLoop
-pub mod PlaceLemmas
-pub mod ReportLemmas
-mod Rows
+pub mod MatchLemmas
 pub mod ScriptLoop
 pub mod StepLemmas
-pub mod TrailLemmas
-pub mod SoundLemmas
-pub mod SheetLoop
+pub mod StopLemmas
+pub mod TraceLemmas

@@ -1,9 +1,9 @@
--- Steps: lists of them, one that adds a class, and the classes that fit then.
-use Rattle.std.proofs.Common.{◌≡◌, ◌≢◌, ◌⊎◌, ℕ, List, [], ◌∷◌, ◌++◌, map, Some, None, IsSomeAnd, All, Contains, option_map, slice_get, refl, sym, ap, ◌∙◌, subst, inl, inr, arith}
-use Rattle.std.proofs.lemmas.Bool.{cases_order}
+-- Steps of the statements that fire at one node.
+use Rattle.std.proofs.Common.{◌≡◌, ◌≢◌, ℕ, zero, suc, true, List, [], ◌∷◌, ◌++◌, map, Option, Some, None, IsSomeAnd, All, Contains, option_map, slice_get, refl, sym, ap, ◌∙◌, inl, arith}
+use Rattle.std.proofs.lemmas.Bool.{true≢false}
 use Rattle.std.proofs.lemmas.Option.{slice_get-map}
-use Rattle.tp_base.specs.Classes.{with_class}
-use Rattle.tp_base.proofs.ClassLemmas.{with_class-there, Contains-with_class}
+use Rattle.tp_base.specs.Classes.{has_class, with_class}
+use Rattle.tp_base.proofs.ClassLemmas.{Contains-has_class}
 use Rattle.tree_sem.specs.Trees.{LabelTree, label_at, edit_at, add_class}
 use Rattle.tree_sem.specs.declared.actions.Step.{Step}
 use Rattle.tree_sem.proofs.EditLemmas.{label_at-add_class, label_at-add_class_other}
@@ -11,8 +11,9 @@ use Rattle.sel_core.specs.Selectors.{Fits}
 use Rattle.jq_sem.specs.Statements.{Statement}
 use Rattle.jq_sem.specs.Reachability.{IsLegal, after_step, end_of, AreLegal, EachChanges}
 use Rattle.treeped_app.specs.declared.scripts.Rule.{Rule}
-use Rattle.treeped_app.specs.Views.{statement_of}
-use Rattle.treeped_app.proofs.JudgingLemmas.{one_of}
+use Rattle.treeped_app.specs.Scripts.{statement_of}
+use Rattle.treeped_app.specs.Closing.{with_given, label_after, Fires, AreFired}
+use Rattle.treeped_app.proofs.ClosingLemmas.{given_there}
 
 -- more steps at the end
 pub end_of-append : (t : LabelTree) (stmts : List Statement) (ss rest : List Step) → end_of t stmts (ss ++ rest) ≡ end_of (end_of t stmts ss) stmts rest
@@ -27,71 +28,56 @@ pub EachChanges-append : (t : LabelTree) (stmts : List Statement) (ss rest : Lis
 EachChanges-append t stmts [] rest a b = b
 EachChanges-append t stmts (s ∷ ss) rest a b = (a.0, EachChanges-append (after_step t stmts s) stmts ss rest a.1 b)
 
--- a statement of a rule, at a node that has what the rule wants
-module _ (rules : List Rule) (t : LabelTree) (v : List ℕ) (n : ℕ) (rule : Rule) (at : slice_get rules n ≡ Some rule) where
+-- all of one
+pub one_of : (P : ℕ → Type 0) (c : ℕ) → P c → All P (c ∷ [])
+one_of P c holds zero d within = holds
+one_of P c holds (suc k) d within = absurd (omega arith)
+
+pub has_fits : (t : LabelTree) (v label : List ℕ) (a : ℕ) → label_at v t ≡ Some label → has_class a label ≡ true → Fits t v (a ∷ [])
+has_fits t v label a at has = rw at (one_of (Contains label) a (Contains-has_class a label has))
+
+-- statements at one node
+abbrev pub steps_at : List ℕ → List ℕ → List Step
+steps_at v ns = map (λ n. record { stmt = n; at = v }) ns
+
+module _ (rules : List Rule) where
   abbrev stmts : List Statement
   stmts = map statement_of rules
 
-  abbrev here : Step
-  here = record { stmt = n; at = v }
+  pub stmt_at : (n : ℕ) (r : Rule) → slice_get rules n ≡ Some r → slice_get stmts n ≡ Some (statement_of r)
+  stmt_at n r at = slice_get-map statement_of rules n ∙ ap (option_map statement_of) at
 
-  stmt_at : slice_get stmts n ≡ Some (statement_of rule)
-  stmt_at = slice_get-map statement_of rules n ∙ ap (option_map statement_of) at
+  pub step_is : (t : LabelTree) (v : List ℕ) (n : ℕ) (r : Rule) → slice_get rules n ≡ Some r → after_step t stmts (record { stmt = n; at = v }) ≡ edit_at v (add_class r.gives) t
+  step_is t v n r at = rw (stmt_at n r at) refl
 
-  pub step_is : after_step t stmts here ≡ edit_at v (add_class rule.gives) t
-  step_is = rw stmt_at refl
+  step_legal : (t : LabelTree) (v : List ℕ) (n : ℕ) (r : Rule) → slice_get rules n ≡ Some r → Fits t v (r.wants ∷ []) → IsLegal t stmts (record { stmt = n; at = v })
+  step_legal t v n r at fits = rw (stmt_at n r at) (inl (fits, tt))
 
-  pub step_legal : Fits t v (rule.wants ∷ []) → IsLegal t stmts here
-  step_legal fits = rw stmt_at (inl (fits, tt))
+  -- what steps at the node v, whose label is known, make of a tree
+  pub record IsRun (t : LabelTree) (v label ns : List ℕ) : Type 0 where
+    pub legal : AreLegal t stmts (steps_at v ns)
+    pub changes : EachChanges t stmts (steps_at v ns)
+    pub here : label_at v (end_of t stmts (steps_at v ns)) ≡ Some (label_after rules label ns)
+    pub others : (w : List ℕ) → w ≢ v → label_at w (end_of t stmts (steps_at v ns)) ≡ label_at w t
 
--- two paths are the same or not
-same_or_other : (xs ys : List ℕ) → (xs ≡ ys) ⊎ (xs ≢ ys)
-same_or_other [] [] = inl refl
-same_or_other [] (y ∷ ys) = inr (λ e. cc)
-same_or_other (x ∷ xs) [] = inr (λ e. cc)
-same_or_other (x ∷ xs) (y ∷ ys) = elim (same_or_other xs ys) [
-  | inr other ↦ inr (λ e. other (cc))
-  | inl same ↦ elim (cases_order x y) [
-    | inl first ↦ inl (λ i. first i ∷ same i)
-    | inr (inl less) ↦ inr (λ e. let first : x ≡ y = cc in omega arith)
-    | inr (inr more) ↦ inr (λ e. let first : x ≡ y = cc in omega arith)
-  ]
-]
-
-module _ (t : LabelTree) (v : List ℕ) (g : ℕ) where
-  abbrev new : LabelTree
-  new = edit_at v (add_class g) t
-
-  -- the class fits there, where a node is
-  pub added_fits : (w : ℕ) → Fits t v (w ∷ []) → Fits new v (g ∷ [])
-  added_fits w fits =
-      rw (label_at-add_class v g t)
-      (elim (label_at v t) as (λ o. IsSomeAnd o (λ l. All (Contains l) (w ∷ [])) → IsSomeAnd (option_map (with_class g) o) (λ l. All (Contains l) (g ∷ []))) [
-        | None ↦ λ f. f
-        | Some l ↦ λ f. one_of (Contains (with_class g l)) g (with_class-there g l)
-      ] fits)
-
-  -- what fits there then is the class, or fitted before
-  pub added_cases : (a : ℕ) → Fits new v (a ∷ []) → (a ≡ g) ⊎ Fits t v (a ∷ [])
-  added_cases a fits =
-      elim (label_at v t) as (λ o. IsSomeAnd (option_map (with_class g) o) (λ l. All (Contains l) (a ∷ [])) → (a ≡ g) ⊎ IsSomeAnd o (λ l. All (Contains l) (a ∷ []))) [
-        | None ↦ λ f. inr f
-        | Some l ↦ λ f. elim ((Contains-with_class g l a).0 (f 0 a (omega arith))) [
-          | inl same ↦ inl same
-          | inr there ↦ inr (one_of (Contains l) a there)
-        ]
-      ] (rw (← label_at-add_class v g t) fits)
-
-  -- elsewhere nothing changes
-  pub added_anywhere : (u : List ℕ) (a : ℕ) → Fits new u (a ∷ []) → (a ≡ g) ⊎ Fits t u (a ∷ [])
-  added_anywhere u a fits = elim (same_or_other u v) [
-    | inl same ↦ elim (added_cases a (subst (λ q. Fits new q (a ∷ [])) same fits)) [
-      | inl is ↦ inl is
-      | inr there ↦ inr (subst (λ q. Fits t q (a ∷ [])) (sym same) there)
-    ]
-    | inr other ↦ inr (subst (λ o. IsSomeAnd o (λ l. All (Contains l) (a ∷ []))) (label_at-add_class_other v u g t other) fits)
-  ]
-
-  -- a class that is new there changes the tree
-  pub added_changes : (w : ℕ) → Fits t v (w ∷ []) → (Fits t v (g ∷ []) → ⊥) → new ≢ t
-  added_changes w fits fresh same = fresh (subst (λ (s : LabelTree). Fits s v (g ∷ [])) same (added_fits w fits))
+  pub are_run : (ns : List ℕ) (t : LabelTree) (v label : List ℕ) → label_at v t ≡ Some label → AreFired rules label ns → IsRun t v label ns
+  are_run [] t v label at fired = record { legal = tt; changes = tt; here = at; others = λ w other. refl }
+  are_run (n ∷ ns) t v label at fired = elim (slice_get rules n) as (λ o. slice_get rules n ≡ o → IsSomeAnd o (Fires label) → AreFired rules (with_given o label) ns → IsRun t v label (n ∷ ns)) [
+    | None ↦ λ there fires rest. absurd fires
+    | Some r ↦ λ there fires rest.
+        let is = step_is t v n r there in
+        let new : LabelTree = edit_at v (add_class r.gives) t in
+        let grown : label_at v new ≡ Some (with_class r.gives label) = label_at-add_class v r.gives t ∙ ap (option_map (with_class r.gives)) at in
+        let later = are_run ns new v (with_class r.gives label) grown rest in
+        let fresh : new ≢ t = λ same.
+        let both : Some (with_class r.gives label) ≡ Some label = sym grown ∙ ap (label_at v) same ∙ at in
+        let one : with_class r.gives label ≡ label = cc in
+        true≢false (sym (given_there r.gives label) ∙ ap (has_class r.gives) one ∙ fires.1)
+        in
+        record {
+          legal = (step_legal t v n r there (has_fits t v label r.wants at fires.0), rw is later.legal);
+          changes = (λ same. fresh (sym is ∙ same), rw is later.changes);
+          here = ap (λ s. label_at v (end_of s stmts (steps_at v ns))) is ∙ later.here ∙ ap (λ (o : Option Rule). Some (label_after rules (with_given o label) ns)) (sym there);
+          others = λ w other. ap (λ s. label_at w (end_of s stmts (steps_at v ns))) is ∙ later.others w other ∙ label_at-add_class_other v w r.gives t other;
+        }
+  ] refl fired.0 fired.1

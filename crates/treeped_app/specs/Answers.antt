@@ -1,25 +1,15 @@
--- Answers, and when they are right.
---     IsWitness t stmts s u      the steps are legal, and the selector matches the node at their end
---     IsRight t stmts s a        the answer is right for the selector, of what the statements make of the page
+-- When answers are right.
+--     IsWitness t stmts s u      the steps are legal, each changes the tree, and the selector matches the node at their end
+--     IsRight t stmts o a        the answer is right for an item, of what the statements make of the page
 --     AreRight t stmts items as  there is a right answer for each item
-use Rattle.std.specs.Prelude.{◌≡◌, ℕ, nat_le, if◌then◌else◌, List, [], ◌∷◌, length, Option, Some, None}
+use Rattle.std.specs.Prelude.{◌≡◌, nat_le, if◌then◌else◌, List, [], ◌∷◌, length, Option, Some, None}
 use Rattle.tree_sem.specs.Trees.{LabelTree}
-use Rattle.tree_sem.specs.declared.actions.Step.{Step}
-use Rattle.treeped_app.specs.declared.answers.TheConstants.{MOST_LISTED}
 use Rattle.sel_core.specs.Selectors.{Selector, Matches}
-use Rattle.treeped_app.specs.Sheets.{Item}
+use Rattle.css_read.specs.Sheets as sheets
 use Rattle.jq_sem.specs.Statements.{Statement}
 use Rattle.jq_sem.specs.Reachability.{end_of, AreLegal, EachChanges, Reaches}
-
--- steps, and a node at their end
-pub record Unfolded : Type 0 where
-  pub steps : List Step
-  pub at : List ℕ
-
--- a selector is used after so many steps, which may be listed, or it is unused
-pub data Answer : Type 0 where
-  used : (count : ℕ) (listed : Option Unfolded) → Answer
-  unused : Answer
+use Rattle.usage_report.specs.Answers.{Unfolded, Answer, used, used_unshown, unused, skipped, spent}
+use Rattle.treeped_app.specs.declared.judging.TheConstants.{MOST_LISTED}
 
 pub record IsWitness (t : LabelTree) (stmts : List Statement) (s : Selector) (u : Unfolded) : Type 0 where
   pub legal : AreLegal t stmts u.steps
@@ -30,12 +20,19 @@ pub record IsWitness (t : LabelTree) (stmts : List Statement) (s : Selector) (u 
 abbrev pub listing : Unfolded → Option Unfolded
 listing u = if nat_le (length u.steps) MOST_LISTED then Some u else None
 
-abbrev pub IsRight : LabelTree → List Statement → Selector → Answer → Type 0
-IsRight t stmts s (used count listed) = (u : Unfolded) × IsWitness t stmts s u × (count ≡ length u.steps) × (listed ≡ listing u)
-IsRight t stmts s unused = Reaches t stmts s → ⊥
+abbrev pub IsRightFor : LabelTree → List Statement → Selector → Answer → Type 0
+IsRightFor t stmts s (used steps shown) = (u : Unfolded) × IsWitness t stmts s u × (steps ≡ length u.steps) × (shown ≡ listing u)
+IsRightFor t stmts s unused = Reaches t stmts s → ⊥
+IsRightFor t stmts s used_unshown = ⊥
+IsRightFor t stmts s (skipped cause at) = ⊥
+IsRightFor t stmts s spent = ⊥
 
-abbrev pub AreRight : LabelTree → List Statement → List Item → List Answer → Type 0
+abbrev pub IsRight : LabelTree → List Statement → sheets.Outcome → Answer → Type 0
+IsRight t stmts (sheets.judged s) a = IsRightFor t stmts s a
+IsRight t stmts (sheets.skipped cause at) a = a ≡ skipped cause at
+
+abbrev pub AreRight : LabelTree → List Statement → List sheets.Item → List Answer → Type 0
 AreRight t stmts [] [] = Unit {0}
-AreRight t stmts (i ∷ items) (a ∷ answers) = IsRight t stmts i.selector a × AreRight t stmts items answers
+AreRight t stmts (i ∷ items) (a ∷ answers) = IsRight t stmts i.outcome a × AreRight t stmts items answers
 AreRight t stmts [] (a ∷ answers) = ⊥
 AreRight t stmts (i ∷ items) [] = ⊥

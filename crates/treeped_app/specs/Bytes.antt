@@ -1,13 +1,10 @@
 -- Bytes of the three files.
-use Rattle.std.specs.Prelude.{ℕ, ◌==◌, ◌||◌, nat_eq, nat_lt, Bool, if◌then◌else◌, List, [], ◌∷◌, drop}
+use Rattle.std.specs.Prelude.{ℕ, ◌==◌, ◌||◌, nat_eq, Bool, if◌then◌else◌, List, [], ◌∷◌, drop}
 use Rattle.std.specs.List.{starts_with}
 
 -- white space: space, tab, LF, FF and CR
 abbrev pub is_blank : ℕ → Bool
 is_blank b = b == 32 || b == 9 || b == 10 || b == 12 || b == 13
-
-abbrev pub is_ascii : ℕ → Bool
-is_ascii b = nat_lt b 128
 
 -- the text behind a leading byte order mark, where there is one
 unfoldable pub behind_mark : List ℕ → List ℕ

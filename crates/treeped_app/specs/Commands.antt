@@ -6,9 +6,9 @@ use Rattle.tp_io.specs.Sinks.{Adds, AddsPrefix, Rose}
 use Rattle.treeped_app.specs.declared.status.Status.{Status}
 use Rattle.treeped_app.specs.declared.status.Status.TheVariants as status
 use Rattle.tp_io.specs.declared.files.TheConstants.{MOST_BYTES}
-use Rattle.treeped_app.specs.declared.stops.Part.{Part}
+use Rattle.treeped_app.specs.declared.refusals.Part.{Part}
 use Rattle.treeped_app.specs.declared.stops.Stop.{Stop}
-use Rattle.treeped_app.specs.declared.stops.Stop.TheVariants.{Words, TooLarge, ReadFault, NotYetRead, WriteFault, NoMemory}
+use Rattle.treeped_app.specs.declared.stops.Stop.TheVariants.{Words, TooLarge, ReadFault, Unread, WriteFault, NoMemory}
 use Rattle.treeped_app.specs.Stops.{line_of, status_of_stop}
 use Rattle.treeped_app.specs.Words.{Names, command}
 use Rattle.treeped_app.specs.Runs.{Put, Run, Ends, Texts, Inputs, read_inputs, loads_before, name_of, failed}
@@ -42,7 +42,7 @@ abbrev pub Tells : Stop → Put → Status → Type 0
 Tells Words err s = Says Words err s
 Tells (TooLarge part) err s = Says (TooLarge part) err s
 Tells (ReadFault part) err s = Says (ReadFault part) err s
-Tells (NotYetRead part) err s = Says (NotYetRead part) err s
+Tells (Unread refusal) err s = Says (Unread refusal) err s
 Tells WriteFault err s = SaysLast WriteFault err.held err.held' s
 Tells NoMemory err s = SaysLast NoMemory err.held err.held' s
 
@@ -85,7 +85,7 @@ pub record Causes (r : Run) (err : Put) (s : Status) : Type 0 where
   pub words : s ≡ status.Words → command r.words ≡ None
   pub no_names : command r.words ≡ None → (s ≡ status.Words) ⊎ Fails err s
   pub refused : s ≡ status.Refused → (stop : Stop) × IsRefusal stop × Ends r (Err stop) × Adds err.held err.held' (line_of stop)
-  pub not_read : (n : Names) (x : Texts) (part : Part) → AreTold r n x → Fit x → read_inputs x ≡ Err part → (s ≡ status.Refused) ⊎ (s ≡ status.ReadFault) ⊎ Fails err s
+  pub not_read : (n : Names) (x : Texts) (stop : Stop) → AreTold r n x → Fit x → read_inputs x ≡ Err stop → (s ≡ status.Refused) ⊎ (s ≡ status.ReadFault) ⊎ Fails err s
   pub too_large : (n : Names) (x : Texts) → AreTold r n x → (Fit x → ⊥) → (s ≡ status.Refused) ⊎ (s ≡ status.ReadFault) ⊎ Fails err s
   pub read_fault : s ≡ status.ReadFault → (n : Names) × (part : Part) × (command r.words ≡ Some n) × FailedAt r n part × Adds err.held err.held' (line_of (ReadFault part))
   pub failed_load : (n : Names) (part : Part) → FailedAt r n part → (s ≡ status.ReadFault) ⊎ Fails err s

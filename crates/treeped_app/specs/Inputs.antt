@@ -1,19 +1,22 @@
 -- How the definitions see the three files.
 use Rattle.std.specs.Prelude.{◌≡◌, ℕ, List, Result, Ok, Err, Vec}
 use Rattle.std.specs.declared.alloc.Global.{Global}
+use Rattle.tp_base.specs.Names.{Named}
+use Rattle.css_read.specs.Views.{sheet_of}
 use Rattle.treeped_app.specs.declared.stops.Stop.{Stop}
-use Rattle.treeped_app.specs.declared.stops.Stop.TheVariants.{NotYetRead, NoMemory}
-use Rattle.treeped_app.specs.declared.stops.Part.{Part}
+use Rattle.treeped_app.specs.declared.stops.Stop.TheVariants.{Unread, NoMemory}
 use Rattle.treeped_app.specs.declared.inputs.Texts.{Texts}
 use Rattle.treeped_app.specs.declared.inputs.Inputs.{Inputs}
-use Rattle.treeped_app.specs.Views.{sheet_of, script_of}
+use Rattle.treeped_app.specs.Views.{script_of}
+use Rattle.treeped_app.specs.declared.scripts.Script.{Script}
 use Rattle.treeped_app.specs.Runs as runs
+use Rattle.treeped_app.specs.Scripts as scripts
 
 abbrev pub texts_of : Texts → runs.Texts
 texts_of x = record { page = x.page.items; sheet = x.sheet.items; script = x.script.items }
 
 abbrev pub inputs_of : Inputs → runs.Inputs
-inputs_of i = record { tree = i.page; items = (sheet_of i.sheet i.atoms).items; stmts = (script_of i.script i.atoms).stmts; names = i.atoms }
+inputs_of i = record { tree = i.page; sheet = sheet_of i.sheet; stmts = (script_of i.script i.atoms).stmts; names = i.atoms }
 
 abbrev pub loaded_text : Result (Vec ℕ Global) Stop → Result (List ℕ) Stop
 loaded_text (Ok v) = Ok v.items
@@ -23,9 +26,23 @@ abbrev pub loaded_texts : Result Texts Stop → Result runs.Texts Stop
 loaded_texts (Ok x) = Ok (texts_of x)
 loaded_texts (Err e) = Err e
 
--- what was read, or which text is refused, unless memory ran out
-abbrev pub IsRead : Result runs.Inputs Part → Result Inputs Stop → Type 0
+-- what was read of one text, seen by the view, and the names then, or why the run stops at it, unless memory ran out
+abbrev pub IsOpened : {X Y : Type 0} → (X → Y) → Result (Y × List Named) Stop → Result X Stop → List Named → Type 0
+IsOpened view read (Ok x) names = read ≡ Ok (view x, names)
+IsOpened view read (Err (Unread refusal)) names = read ≡ Err (Unread refusal)
+IsOpened view read (Err NoMemory) names = Unit {0}
+IsOpened view read (Err e) names = ⊥
+
+-- the same for a script
+abbrev pub IsScript : Result scripts.Script Stop → Result Script Stop → List Named → Type 0
+IsScript read (Ok s) names = read ≡ Ok (script_of s names)
+IsScript read (Err (Unread refusal)) names = read ≡ Err (Unread refusal)
+IsScript read (Err NoMemory) names = Unit {0}
+IsScript read (Err e) names = ⊥
+
+-- what was read of all three, or why the run stops, unless memory ran out
+abbrev pub IsRead : Result runs.Inputs Stop → Result Inputs Stop → Type 0
 IsRead read (Ok i) = read ≡ Ok (inputs_of i)
-IsRead read (Err (NotYetRead part)) = read ≡ Err part
+IsRead read (Err (Unread refusal)) = read ≡ Err (Unread refusal)
 IsRead read (Err NoMemory) = Unit {0}
 IsRead read (Err e) = ⊥

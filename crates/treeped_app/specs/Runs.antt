@@ -2,7 +2,7 @@
 --     read_inputs texts          what reading the three texts gives
 --     Loaded ..                  what loading the three files comes to
 --     Ends ..                    what the run comes to: a report, or why there is none
-use Rattle.std.specs.Prelude.{◌≡◌, ◌⊎◌, ℕ, ◌<◌, ◌≤◌, Bool, true, false, if◌then◌else◌, List, [], ◌∷◌, ◌++◌, length, take, Option, Some, None, IfSome, Result, Ok, Err}
+use Rattle.std.specs.Prelude.{◌≡◌, ◌⊎◌, ℕ, ◌<◌, ◌≤◌, Bool, true, false, if◌then◌else◌, List, [], ◌∷◌, ◌++◌, length, map, take, Option, Some, None, IfSome, Result, Ok, Err}
 use Rattle.std.specs.List.{list_any}
 use Rattle.tp_base.specs.Names.{Named}
 use Rattle.tp_io.specs.Files.{Load}
@@ -11,20 +11,22 @@ use Rattle.tp_io.specs.declared.files.TheConstants.{MOST_BYTES}
 use Rattle.tree_sem.specs.Trees.{LabelTree}
 use Rattle.treeped_app.specs.declared.status.Status.{Status}
 use Rattle.treeped_app.specs.declared.status.Status.TheVariants as status
-use Rattle.treeped_app.specs.declared.stops.Part.{Part}
-use Rattle.treeped_app.specs.declared.stops.Part.TheVariants.{Page, Sheet, Script}
+use Rattle.treeped_app.specs.declared.refusals.Part.{Part}
+use Rattle.treeped_app.specs.declared.refusals.Part.TheVariants as part
 use Rattle.treeped_app.specs.declared.stops.Stop.{Stop}
-use Rattle.treeped_app.specs.declared.stops.Stop.TheVariants.{Words, TooLarge, ReadFault, NotYetRead, WriteFault, NoMemory}
-use Rattle.treeped_app.specs.declared.form_fault.FormFault.{FormFault}
-use Rattle.treeped_app.specs.declared.form_fault.FormFault.TheVariants as form
-use Rattle.treeped_app.specs.Forms.{Outcome, ◌>>=◌}
-use Rattle.treeped_app.specs.Words.{Names, command}
+use Rattle.treeped_app.specs.declared.stops.Stop.TheVariants.{Words, TooLarge, ReadFault, Unread, WriteFault, NoMemory}
+use Rattle.html_subset.specs.Reading.{read_page}
+use Rattle.css_read.specs.Sheets.{Sheet}
+use Rattle.css_read.specs.Reading.{read_sheet}
 use Rattle.jq_sem.specs.Statements.{Statement}
-use Rattle.treeped_app.specs.Pages.{read_page}
-use Rattle.treeped_app.specs.Sheets.{Item, read_sheet}
+use Rattle.usage_report.specs.Answers.{Answer, unused}
+use Rattle.usage_report.specs.Report.{report}
+use Rattle.treeped_app.specs.Answers.{AreRight}
+use Rattle.treeped_app.specs.Forms.{Outcome, ◌>>=◌}
+use Rattle.treeped_app.specs.Refusals.{page_stop, sheet_stop, script_stop}
+use Rattle.treeped_app.specs.Scripts as scripts
 use Rattle.treeped_app.specs.Scripts.{read_script}
-use Rattle.treeped_app.specs.Answers.{Answer, used, unused, AreRight}
-use Rattle.treeped_app.specs.Report.{report}
+use Rattle.treeped_app.specs.Words.{Names, command}
 
 -- the texts of the three files
 pub record Texts : Type 0 where
@@ -32,31 +34,29 @@ pub record Texts : Type 0 where
   pub sheet : List ℕ
   pub script : List ℕ
 
--- what is read: the page's tree, the sheet's items, the script's statements, and all names
+-- what is read: the page's tree, the sheet, the script's statements, and all names
 pub record Inputs : Type 0 where
   pub tree : LabelTree
-  pub items : List Item
+  pub sheet : Sheet
   pub stmts : List Statement
   pub names : List Named
 
--- what was read of a text, or that this one is refused
-abbrev pub of_part : {A : Type 0} → Part → Outcome A → Result A Part
-of_part part (Ok x) = Ok x
-of_part part (Err e) = Err part
+-- what was read of a text, with the names then, or why the run stops at it
+abbrev pub read_as : {A E : Type 0} → (E → Stop) → List Named × Result A E → Result (A × List Named) Stop
+read_as stop (names, Ok x) = Ok (x, names)
+read_as stop (names, Err e) = Err (stop e)
+
+abbrev pub read_script_as : Outcome scripts.Script → Result scripts.Script Stop
+read_script_as (Ok x) = Ok x
+read_script_as (Err e) = Err (script_stop e)
 
 -- the page, the sheet and the script are read in this order, with one list of names
-unfoldable pub read_inputs : Texts → Result Inputs Part
+unfoldable pub read_inputs : Texts → Result Inputs Stop
 read_inputs x = do
-  p ← of_part Page (read_page x.page [])
-  s ← of_part Sheet (read_sheet x.sheet p.1)
-  j ← of_part Script (read_script x.script s.names)
-  Ok (record { tree = p.0; items = s.items; stmts = j.stmts; names = j.names })
-
--- what was read of a text, or why the run stops at it
-abbrev pub stopped_at : {T : Type 0} → Part → Result T FormFault → Result T Stop
-stopped_at part (Ok x) = Ok x
-stopped_at part (Err form.NotYetRead) = Err (NotYetRead part)
-stopped_at part (Err form.Memory) = Err NoMemory
+  p ← read_as (page_stop x.page) (read_page x.page [])
+  s ← read_as (sheet_stop x.sheet) (read_sheet x.sheet p.1)
+  j ← read_script_as (read_script x.script s.1)
+  Ok (record { tree = p.0; sheet = s.0; stmts = j.stmts; names = j.names })
 
 -- The bytes that each name holds, where they are told.
 abbrev pub Told : Type 0
@@ -82,9 +82,9 @@ pub record AreTexts (told : Told) (n : Names) (x : Texts) : Type 0 where
   pub script_fits : length x.script ≤ MOST_BYTES
 
 abbrev pub name_of : Part → Names → List ℕ
-name_of Page n = n.page
-name_of Sheet n = n.sheet
-name_of Script n = n.script
+name_of part.Page n = n.page
+name_of part.Sheet n = n.sheet
+name_of part.Script n = n.script
 
 -- a load of this name
 abbrev pub succeeded : List ℕ → Load
@@ -95,46 +95,46 @@ failed name = record { name = name; failed = true }
 
 -- the loads before that of a part, none of which failed
 abbrev pub loads_before : Part → Names → List Load
-loads_before Page n = []
-loads_before Sheet n = succeeded n.page ∷ []
-loads_before Script n = succeeded n.page ∷ succeeded n.sheet ∷ []
+loads_before part.Page n = []
+loads_before part.Sheet n = succeeded n.page ∷ []
+loads_before part.Script n = succeeded n.page ∷ succeeded n.sheet ∷ []
 
 abbrev pub all_loads : Names → List Load
 all_loads n = succeeded n.page ∷ succeeded n.sheet ∷ succeeded n.script ∷ []
 
 -- the files before a part are within the limit
 abbrev pub FitBefore : Told → Names → Part → Type 0
-FitBefore told n Page = Unit {0}
-FitBefore told n Sheet = Fits told n.page
-FitBefore told n Script = Fits told n.page × Fits told n.sheet
+FitBefore told n part.Page = Unit {0}
+FitBefore told n part.Sheet = Fits told n.page
+FitBefore told n part.Script = Fits told n.page × Fits told n.sheet
 
 -- What loading one file comes to, with the list of loads before and after.
 abbrev pub OneLoaded : Told → List ℕ → Part → List Load → List Load → Result (List ℕ) Stop → Type 0
-OneLoaded told name part before after (Ok text) = (after ≡ before ++ succeeded name ∷ []) × Holds told name text × (length text ≤ MOST_BYTES)
-OneLoaded told name part before after (Err (TooLarge p)) = (p ≡ part) × (after ≡ before ++ succeeded name ∷ []) × Exceeds told name
-OneLoaded told name part before after (Err (ReadFault p)) = (p ≡ part) × (after ≡ before ++ failed name ∷ [])
-OneLoaded told name part before after (Err NoMemory) = after ≡ before
-OneLoaded told name part before after (Err e) = ⊥
+OneLoaded told name p before after (Ok text) = (after ≡ before ++ succeeded name ∷ []) × Holds told name text × (length text ≤ MOST_BYTES)
+OneLoaded told name p before after (Err (TooLarge q)) = (q ≡ p) × (after ≡ before ++ succeeded name ∷ []) × Exceeds told name
+OneLoaded told name p before after (Err (ReadFault q)) = (q ≡ p) × (after ≡ before ++ failed name ∷ [])
+OneLoaded told name p before after (Err NoMemory) = after ≡ before
+OneLoaded told name p before after (Err e) = ⊥
 
 -- The same for all three, in their order, up to the first that is refused.
 abbrev pub Loaded : Told → Names → List Load → List Load → Result Texts Stop → Type 0
 Loaded told n before after (Ok x) = (after ≡ before ++ all_loads n) × AreTexts told n x
-Loaded told n before after (Err (TooLarge part)) = (after ≡ before ++ loads_before part n ++ succeeded (name_of part n) ∷ []) × FitBefore told n part × Exceeds told (name_of part n)
-Loaded told n before after (Err (ReadFault part)) = (after ≡ before ++ loads_before part n ++ failed (name_of part n) ∷ []) × FitBefore told n part
+Loaded told n before after (Err (TooLarge p)) = (after ≡ before ++ loads_before p n ++ succeeded (name_of p n) ∷ []) × FitBefore told n p × Exceeds told (name_of p n)
+Loaded told n before after (Err (ReadFault p)) = (after ≡ before ++ loads_before p n ++ failed (name_of p n) ∷ []) × FitBefore told n p
 Loaded told n before after (Err NoMemory) = (count : ℕ) × (after ≡ before ++ take count (all_loads n))
 Loaded told n before after (Err e) = ⊥
 
 abbrev pub is_unused : Answer → Bool
-is_unused (used count listed) = false
 is_unused unused = true
+is_unused _ = false
 
 abbrev pub status_of : List Answer → Status
 status_of answers = if list_any is_unused answers then status.Unused else status.Complete
 
 -- a right answer for each item, and the report on them
 pub record IsJudged (x : Texts) (i : Inputs) (answers : List Answer) (text : List ℕ) : Type 0 where
-  pub right : AreRight i.tree i.stmts i.items answers
-  pub text_is : text ≡ report x.sheet i.names i.stmts i.items answers
+  pub right : AreRight i.tree i.stmts i.sheet.items answers
+  pub text_is : text ≡ report x.sheet i.names (map (λ s. s.place) i.stmts) i.sheet answers
 
 -- what a sink held, and the count of its faults, before and after
 pub record Put : Type 0 where
@@ -177,9 +177,9 @@ pub record IsAccepted (r : Run) (x : Texts) (i : Inputs) : Type 0 where
 abbrev pub Ends : Run → Result Status Stop → Type 0
 Ends r (Ok s) = (x : Texts) × (i : Inputs) × IsAccepted r x i × Written x i r.out (Ok s)
 Ends r (Err Words) = (command r.words ≡ None) × (r.loads' ≡ r.loads) × (r.out.held' ≡ r.out.held)
-Ends r (Err (TooLarge part)) = (n : Names) × (command r.words ≡ Some n) × Loaded r.told n r.loads r.loads' (Err (TooLarge part)) × (r.out.held' ≡ r.out.held)
-Ends r (Err (ReadFault part)) = (n : Names) × (command r.words ≡ Some n) × Loaded r.told n r.loads r.loads' (Err (ReadFault part)) × (r.out.held' ≡ r.out.held)
-Ends r (Err (NotYetRead part)) = (n : Names) × (command r.words ≡ Some n) × (x : Texts) × Loaded r.told n r.loads r.loads' (Ok x) × (read_inputs x ≡ Err part) × (r.out.held' ≡ r.out.held)
+Ends r (Err (TooLarge p)) = (n : Names) × (command r.words ≡ Some n) × Loaded r.told n r.loads r.loads' (Err (TooLarge p)) × (r.out.held' ≡ r.out.held)
+Ends r (Err (ReadFault p)) = (n : Names) × (command r.words ≡ Some n) × Loaded r.told n r.loads r.loads' (Err (ReadFault p)) × (r.out.held' ≡ r.out.held)
+Ends r (Err (Unread refusal)) = (n : Names) × (command r.words ≡ Some n) × (x : Texts) × Loaded r.told n r.loads r.loads' (Ok x) × (read_inputs x ≡ Err (Unread refusal)) × (r.out.held' ≡ r.out.held)
 Ends r (Err WriteFault) = (x : Texts) × (i : Inputs) × IsAccepted r x i × Written x i r.out (Err WriteFault)
 Ends r (Err NoMemory) =
     ((n : Names) × (command r.words ≡ Some n) × Loaded r.told n r.loads r.loads' (Err NoMemory) × (r.out.held' ≡ r.out.held))

@@ -1,6 +1,7 @@
 -- Scripts that are read: white space, and statements `$(".X").addClass("Y");`.
-use Rattle.std.specs.Prelude.{ℕ, zero, suc, ◌+◌, ◌-◌, ◌==◌, ◌&&◌, nat_eq, nat_lt, if◌then◌else◌, List, [], ◌∷◌, ◌++◌, length, take, drop, codes, Option, Some, None, option_map, option_and_then, Ok, Err}
-use Rattle.std.specs.List.{starts_with}
+use Rattle.std.specs.Prelude.{ℕ, zero, suc, ◌+◌, ◌-◌, ◌==◌, ◌&&◌, ◌||◌, nat_eq, nat_lt, Bool, false, if◌then◌else◌, List, [], ◌∷◌, ◌++◌, length, take, drop, codes, Option, Some, None, option_map, option_and_then, Ok, Err}
+use Rattle.std.specs.List.{starts_with, prefix_len}
+use Rattle.std.specs.Char.{is_ascii_alphabetic, is_ascii_digit}
 use Rattle.tp_base.specs.Names.{Named, with_name}
 use Rattle.tp_base.specs.Places.{line_of, column_of}
 use Rattle.tp_base.specs.declared.atoms.AtomKind.TheVariants as kind
@@ -8,10 +9,26 @@ use Rattle.tree_sem.specs.declared.actions.Action.TheVariants.{Classes}
 use Rattle.treeped_app.specs.Bytes.{is_blank, behind_mark}
 use Rattle.treeped_app.specs.Forms.{Outcome, ◌>>=◌, wanted}
 use Rattle.sel_core.specs.Selectors.{simple}
-use Rattle.treeped_app.specs.Sheets.{name_len}
+use Rattle.treeped_app.specs.declared.scripts.Rule.{Rule}
 use Rattle.jq_sem.specs.Statements.{Statement, matched}
 use Rattle.treeped_app.specs.declared.form_fault.FormFault.TheVariants.{NotYetRead}
 use Rattle.treeped_app.specs.declared.scripts.TheConstants.{MOST_STATEMENTS}
+
+abbrev pub starts_name : ℕ → Bool
+starts_name b = is_ascii_alphabetic b || b == 95
+
+abbrev pub in_name : ℕ → Bool
+in_name b = starts_name b || is_ascii_digit b || b == 45
+
+-- whether the text begins with a name
+unfoldable pub begins_name : List ℕ → Bool
+begins_name [] = false
+begins_name (b ∷ []) = starts_name b
+begins_name (b ∷ c ∷ bs) = starts_name b || b == 45 && (starts_name c || c == 45)
+
+-- the length of the name that the text begins with; 0 where it begins with none
+unfoldable pub name_len : List ℕ → ℕ
+name_len bs = if begins_name bs then prefix_len in_name bs else 0
 
 -- the name that the text begins with, where these bytes stand behind it, and the length of both
 unfoldable pub name_front : List ℕ → List ℕ → Option (List ℕ × ℕ)
@@ -42,6 +59,9 @@ adding line column x y = record {
   action = Classes (y ∷ []);
   place = record { line = line; column = column };
 }
+
+abbrev pub statement_of : Rule → Statement
+statement_of r = adding r.place.line r.place.column r.wants r.gives
 
 -- the script so far: its statements and the names
 pub record Script : Type 0 where

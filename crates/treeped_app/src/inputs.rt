@@ -1,17 +1,22 @@
 //! The three files: loaded, and read.
-ghost use Rattle.std.specs.Prelude.{◌≡◌, ◌≤◌, vec_len};
+ghost use Rattle.std.specs.Prelude.{◌≡◌, ◌≤◌, length, IfOk, vec_len};
 ghost use Rattle.tp_io.specs.declared.files.TheConstants.{MOST_BYTES};
 ghost use Rattle.treeped_app.specs.Runs as spec;
 ghost use Rattle.treeped_app.specs.Runs.{OneLoaded, Loaded};
-ghost use Rattle.treeped_app.specs.Views.{names_of};
-ghost use Rattle.treeped_app.specs.Inputs.{IsRead, loaded_text, loaded_texts, texts_of};
+ghost use Rattle.html_subset.specs.Reading as html;
+ghost use Rattle.css_read.specs.Reading as css;
+ghost use Rattle.css_read.specs.Views.{sheet_of};
+ghost use Rattle.treeped_app.specs.Inputs.{IsOpened, IsRead, IsScript, loaded_text, loaded_texts, texts_of};
+ghost use Rattle.treeped_app.specs.Refusals.{page_stop, sheet_stop};
+ghost use Rattle.treeped_app.specs.Scripts as scripts;
+ghost use Rattle.treeped_app.specs.Views.{names_of, script_of};
 
-use crate::form_fault::FormFault;
-use crate::pages::read_page;
-use crate::scripts::{Script, read_script};
-use crate::sheets::{Sheet, read_sheet};
-use crate::stops::{Part, Stop};
+use crate::refusals::Part;
+use crate::scripts::{MOST_STATEMENTS, Script, read_script};
+use crate::stops::{Stop, page_stop, script_stop, sheet_stop};
 use crate::words::Names;
+use css_read::{Sheet, read_sheet};
+use html_subset::read_page;
 use std::alloc::Global;
 use tp_base::AtomTable;
 use tp_io::{Files, LoadFault};
@@ -70,13 +75,16 @@ fn load<F: Files>(alloc: Global, name: &str, part: Part, files: &mut F) -> Resul
 /// Reads the page, the sheet and the script, in this order, with one table of names.
 #[tactic(auto, unfolding(crate::specs::Runs::read_inputs))]
 pub(crate) fn read_all(alloc: Global, texts: &Texts) -> Result<Inputs, Stop>
-    requires { vec_len texts.now.script ≤ MOST_BYTES }
-    ensures { IsRead (spec.read_inputs (texts_of texts.now)) result }
+    requires page { vec_len texts.now.page ≤ MOST_BYTES }
+    requires sheet { vec_len texts.now.sheet ≤ MOST_BYTES }
+    requires script { vec_len texts.now.script ≤ MOST_BYTES }
+    ensures read { IsRead (spec.read_inputs (texts_of texts.now)) result }
+    ensures few { IfOk result (λ i. vec_len i.script.rules ≤ MOST_STATEMENTS) }
 {
     let mut atoms = AtomTable::new(alloc);
-    let page = refused(Part::Page, read_page(alloc, &texts.page, &mut atoms))?;
-    let sheet = refused(Part::Sheet, read_sheet(alloc, &texts.sheet, &mut atoms))?;
-    let script = refused(Part::Script, read_script(alloc, &texts.script, &mut atoms))?;
+    let page = open_page(alloc, &texts.page, &mut atoms)?;
+    let sheet = open_sheet(alloc, &texts.sheet, &mut atoms)?;
+    let script = open_script(alloc, &texts.script, &mut atoms)?;
     Ok(Inputs {
         page,
         sheet,
@@ -85,13 +93,36 @@ pub(crate) fn read_all(alloc: Global, texts: &Texts) -> Result<Inputs, Stop>
     })
 }
 
-/// What was read, or why the run stops at this file.
-fn refused<T>(part: Part, read: Result<T, FormFault>) -> Result<T, Stop>
-    ensures { result ≡ spec.stopped_at part read }
+/// What was read of a page, or why the run stops at it.
+fn open_page(alloc: Global, text: &[u8], atoms: &mut AtomTable) -> Result<Tree, Stop>
+    requires { length text.now ≤ MOST_BYTES }
+    ensures { IsOpened (λ t. t) (spec.read_as (page_stop text.now) (html.read_page text.now atoms.old)) result atoms.new }
 {
-    match read {
-        Ok(value) => Ok(value),
-        Err(FormFault::NotYetRead) => Err(Stop::NotYetRead(part)),
-        Err(FormFault::Memory) => Err(Stop::NoMemory),
+    match read_page(alloc, text, atoms) {
+        Ok(tree) => Ok(tree),
+        Err(fault) => Err(page_stop(text, fault)),
+    }
+}
+
+/// What was read of a sheet, or why the run stops at it.
+fn open_sheet(alloc: Global, text: &[u8], atoms: &mut AtomTable) -> Result<Sheet, Stop>
+    requires { length text.now ≤ MOST_BYTES }
+    ensures { IsOpened sheet_of (spec.read_as (sheet_stop text.now) (css.read_sheet text.now atoms.old)) result atoms.new }
+{
+    match read_sheet(alloc, text, atoms) {
+        Ok(sheet) => Ok(sheet),
+        Err(fault) => Err(sheet_stop(text, fault)),
+    }
+}
+
+/// What was read of a script, or why the run stops at it.
+fn open_script(alloc: Global, text: &[u8], atoms: &mut AtomTable) -> Result<Script, Stop>
+    requires { length text.now ≤ MOST_BYTES }
+    ensures opened { IsScript (spec.read_script_as (scripts.read_script text.now atoms.old)) result atoms.new }
+    ensures few { IfOk result (λ s. vec_len s.rules ≤ MOST_STATEMENTS) }
+{
+    match read_script(alloc, text, atoms) {
+        Ok(script) => Ok(script),
+        Err(fault) => Err(script_stop(fault)),
     }
 }

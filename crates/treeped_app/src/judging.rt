@@ -1,189 +1,174 @@
-//! Which selectors a page matches.
-ghost use Rattle.std.specs.Prelude.{◌≡◌, ◌<◌, [], ◌∷◌, ℕ, length, map, IsSome, IsNone, IfSome, IfOk, OnOk, None, Some, false, slice_get, vec_len};
-ghost use Rattle.std.specs.Ordering.{nat_cmp};
-ghost use Rattle.std.specs.Option.{option_or};
-ghost use Rattle.std.specs.BTreeMap.{get};
-ghost use Rattle.tree_sem.specs.Trees.{node_at};
-ghost use Rattle.treeped_app.specs.Answers.{AreRight};
-ghost use Rattle.treeped_app.specs.Derivation.{AreEntries, IsAnswer, Traced, brings};
-ghost use Rattle.treeped_app.specs.Judging.{first_with, noted, noted_at};
-ghost use Rattle.treeped_app.specs.Views.{answer_of, item_of, statement_of};
+//! Which selectors of a sheet match a node, after whatever a script does to a page.
+ghost use Rattle.std.specs.Prelude.{◌≡◌, ◌≤◌, ◌+◌, List, ℕ, length, map, IfOk, IfSome, IsNone, OnOk, vec_len};
+ghost use Rattle.tp_base.specs.Classes.{union_of};
+ghost use Rattle.tree_sem.specs.Trees.{LabelTree};
+ghost use Rattle.sel_core.specs.Selectors.{Matches};
+ghost use Rattle.sel_core.specs.Views.{selector_of};
+ghost use Rattle.css_read.specs.Views.{item_of, outcome_of};
+ghost use Rattle.usage_report.specs.Views.{answer_of};
+ghost use Rattle.treeped_app.specs.Answers.{AreRight, IsRight, IsRightFor};
+ghost use Rattle.treeped_app.specs.ClosedPages.{IsClosedPage};
+ghost use Rattle.treeped_app.specs.Indexes.{IsIndex};
+ghost use Rattle.treeped_app.specs.Matching.{wanted_of, wanted_by};
+ghost use Rattle.treeped_app.specs.Traces.{steps_of, IsTraceTo};
+ghost use Rattle.treeped_app.specs.Scripts.{statement_of};
 
-use crate::answers::{Answer, Listing, MOST_LISTED};
-use crate::classes::number_of;
-use crate::derivation::{Derived, derive};
-use crate::scripts::Rule;
-use crate::sheets::Sheet;
+use crate::closed_page::close_page;
+use crate::index::Index;
+use crate::scripts::{MOST_STATEMENTS, Rule};
+use crate::tracing::{Turn, list_steps, trace};
+use css_read::{Outcome, Sheet};
+use sel_core::{Compound, Selector, matches};
 use std::alloc::Global;
-use std::collections::BTreeMap;
-use tp_base::{ClassSet, NoMemory, Path};
+use tp_base::{Atom, ClassSet, NoMemory, Path};
 use tree_sem::{Tree, go_on};
+use usage_report::{Answer, Steps, Unfolded};
 
-/// An answer for each item of the sheet, of what the statements make of the page. It costs a look-up for each atom of each node, what
-/// the derivation costs, and a look at each class that comes about for each item.
-#[tactic(auto, using(crate::proofs::JudgingLemmas::judged_more))]
+/// How many steps of one answer are listed at most.
+pub(crate) const MOST_LISTED: u64 = 1_000;
+
+/// An answer for each item of the sheet, of what the statements make of the page. It closes the page once, and then tests each
+/// selector at the nodes of the closed page up to the first that it matches.
+
 pub(crate) fn judge(
     alloc: Global,
     page: &Tree,
     sheet: &Sheet,
     rules: &[Rule],
 ) -> Result<Vec<Answer>, NoMemory>
-    ensures right { IfOk result (λ answers. AreRight page.now (map statement_of rules.now) (map item_of sheet.now.items.items) (map answer_of answers.items)) }
-    ensures count { IfOk result (λ answers. vec_len answers ≡ vec_len sheet.now.items) }
+    requires few { length rules.now ≤ MOST_STATEMENTS }
+    ensures right { IfOk result (λ answers. AreRight page.now (map statement_of rules.now) (map item_of sheet.now.items) (map answer_of answers.items)) }
+    ensures count { IfOk result (λ answers. vec_len answers ≡ length sheet.now.items) }
 {
-    let places = first_places(alloc, page)?;
-    let found = derive(alloc, &places, rules)?;
+    let index = Index::new(alloc, rules)?;
+    let closed = close_page(alloc, page, rules, &index)?;
     let mut answers = Vec::new(alloc);
-    for item in &sheet.items {
-        answers.push(answer(alloc, &places, rules, &found, number_of(item.class))?)?;
+    'items: for item in sheet.items.items() {
+        answers.push(answer(alloc, page, &closed, rules, &index, &item.outcome)?)?;
     }
     Ok(answers)
 }
 
-/// The answer for the selector of one class.
+/// The answer for one item.
 fn answer(
     alloc: Global,
-    places: &BTreeMap<u32, Path>,
+    page: &Tree,
+    closed: &Tree,
     rules: &[Rule],
-    found: &[Derived],
-    class: u32,
+    index: &Index,
+    outcome: &Outcome,
 ) -> Result<Answer, NoMemory>
-    requires { AreEntries (get nat_cmp places.now) rules.now found.now }
-    ensures { IfOk result (λ a. IsAnswer (get nat_cmp places.now) rules.now found.now class (answer_of a)) }
+    requires few { length rules.now ≤ MOST_STATEMENTS }
+    requires index { IsIndex rules.now index.now }
+    requires closed { IsClosedPage rules.now page.now closed.now }
+    ensures { IfOk result (λ a. IsRight page.now (map statement_of rules.now) (outcome_of outcome.now) (answer_of a)) }
 {
-    match places.get(&class) {
-        Some(at) => Ok(Answer::Used(
-            0,
-            Some(Listing {
-                stmts: Vec::new(alloc),
-                at: at.copy()?,
-            }),
-        )),
-        None => derived_answer(alloc, places, rules, found, class),
+    match outcome {
+        Outcome::Judged(selector) => judge_selector(alloc, page, closed, rules, index, selector),
+        Outcome::Skipped(cause, at) => Ok(Answer::Skipped(*cause, *at)),
     }
 }
 
-/// The answer for the selector of a class that the page doesn't have.
-fn derived_answer(
+/// The answer for a selector.
+fn judge_selector(
     alloc: Global,
-    places: &BTreeMap<u32, Path>,
+    page: &Tree,
+    closed: &Tree,
     rules: &[Rule],
-    found: &[Derived],
-    class: u32,
+    index: &Index,
+    selector: &Selector,
 ) -> Result<Answer, NoMemory>
-    requires entries { AreEntries (get nat_cmp places.now) rules.now found.now }
-    requires off_page { get nat_cmp places.now class ≡ None }
-    ensures { IfOk result (λ a. IsAnswer (get nat_cmp places.now) rules.now found.now class (answer_of a)) }
+    requires few { length rules.now ≤ MOST_STATEMENTS }
+    requires index { IsIndex rules.now index.now }
+    requires closed { IsClosedPage rules.now page.now closed.now }
+    ensures { IfOk result (λ a. IsRightFor page.now (map statement_of rules.now) (selector_of selector.now) (answer_of a)) }
 {
-    match place_of(found, class) {
+    match first_match(alloc, closed, selector)? {
         None => Ok(Answer::Unused),
-        Some(i) if found[i].count > MOST_LISTED => Ok(Answer::Used(found[i].count, None)),
-        Some(i) => Ok(Answer::Used(found[i].count, Some(trail(alloc, places, rules, found, i)?))),
+        Some(at) => used(alloc, page, rules, index, selector, at),
     }
 }
 
-fn place_of(found: &[Derived], class: u32) -> Option<usize>
-    ensures place { IfSome result (λ i. (d : _) × (slice_get found.now i ≡ Some d) × (d.gives ≡ class)) }
-    ensures in_range { IfSome result (λ i. i < length found.now) }
-    ensures none { IsNone result → brings found.now class ≡ false }
-{
-    for (i, entry) in found.iter().enumerate() {
-        if entry.gives == class {
-            return Some(i);
-        }
-    }
-    None
-}
-
-/// The statements that lead to an entry, from a node of the page on.
-fn trail(
+/// The answer for a selector that matches a node of the closed page.
+fn used(
     alloc: Global,
-    places: &BTreeMap<u32, Path>,
+    page: &Tree,
     rules: &[Rule],
-    found: &[Derived],
-    i: usize,
-) -> Result<Listing, NoMemory>
-    requires entries { AreEntries (get nat_cmp places.now) rules.now found.now }
-    requires there { i < length found.now }
-    ensures { IfOk result (λ l. Traced (get nat_cmp places.now) rules.now found.now i l.at l.stmts.items) }
+    index: &Index,
+    selector: &Selector,
+    at: Path,
+) -> Result<Answer, NoMemory>
+    requires few { length rules.now ≤ MOST_STATEMENTS }
+    requires index { IsIndex rules.now index.now }
+    requires matched { (closed : LabelTree) × IsClosedPage rules.now page.now closed × Matches closed at (selector_of selector.now) }
+    ensures { IfOk result (λ a. IsRightFor page.now (map statement_of rules.now) (selector_of selector.now) (answer_of a)) }
 {
-    let entry = found[i];
-    match entry.from {
-        Some(j) => {
-            let mut listing = trail(alloc, places, rules, found, j)?;
-            listing.stmts.push(entry.stmt)?;
-            Ok(listing)
-        }
-        None => first_of_trail(alloc, places, rules, entry),
+    let turns = turns_to(alloc, page, rules, index, selector, &at)?;
+    let steps = turns.len() as u64;
+    if steps > MOST_LISTED {
+        return Ok(Answer::Used { steps, shown: None });
     }
+    let listed = Steps::new(list_steps(alloc, &at, &turns)?);
+    Ok(Answer::Used {
+        steps,
+        shown: Some(Unfolded { steps: listed, at }),
+    })
 }
 
-/// The statement of an entry, at the first node of the page that has what it wants.
-fn first_of_trail(
+/// The steps that bring the last node of a path what the selector's last compound wants, and those above it what the other ones want.
+fn turns_to(
     alloc: Global,
-    places: &BTreeMap<u32, Path>,
+    page: &Tree,
     rules: &[Rule],
-    entry: Derived,
-) -> Result<Listing, NoMemory>
-    requires there { entry.stmt < length rules.now }
-    requires begun { (rule : _) → slice_get rules.now entry.stmt ≡ Some rule → IsSome (get nat_cmp places.now rule.wants) }
-    ensures stmts { IfOk result (λ l. l.stmts.items ≡ entry.stmt ∷ []) }
-    ensures at { IfOk result (λ l. (rule : _) → slice_get rules.now entry.stmt ≡ Some rule → get nat_cmp places.now rule.wants ≡ Some l.at) }
+    index: &Index,
+    selector: &Selector,
+    at: &Path,
+) -> Result<Vec<Turn>, NoMemory>
+    requires few { length rules.now ≤ MOST_STATEMENTS }
+    requires index { IsIndex rules.now index.now }
+    ensures between { length selector.now.parts ≡ length selector.now.joins + 1 }
+    ensures trace { IfOk result (λ turns. (closed : LabelTree) → IsClosedPage rules.now page.now closed
+        → IsTraceTo page.now closed rules.now (wanted_by selector.now.parts (length at.now)) at.now (length at.now + 1) (steps_of at.now turns.items)) }
 {
-    let rule = rules[entry.stmt];
-    match places.get(&number_of(rule.wants)) {
-        Some(at) => {
-            let mut stmts = Vec::new(alloc);
-            stmts.push(entry.stmt)?;
-            Ok(Listing {
-                stmts,
-                at: at.copy()?,
-            })
-        }
-        None => unreachable!(),
-    }
+    let parts = selector.parts.items();
+    let (outer, last) = parts.split_at(parts.len() - 1);
+    let above = wanted_atoms(alloc, outer)?;
+    let here = wanted_atoms(alloc, last)?;
+    trace(alloc, page, rules, index, &above, &here, at)
 }
 
-/// For each atom the first node that has it, in the order of the document.
-fn first_places(alloc: Global, page: &Tree) -> Result<BTreeMap<u32, Path>, NoMemory>
-    ensures { IfOk result (λ places. (a : ℕ) → get nat_cmp places a ≡ first_with page.now a) }
+/// The first node that the selector matches, in the order of the document.
+fn first_match(alloc: Global, tree: &Tree, selector: &Selector) -> Result<Option<Path>, NoMemory>
+    ensures some { IfOk result (λ o. IfSome o (λ v. Matches tree.now v (selector_of selector.now))) }
+    ensures none { IfOk result (λ o. IsNone o → (v : List ℕ) → Matches tree.now v (selector_of selector.now) → ⊥) }
 {
-    let mut places = BTreeMap::new(alloc);
     let mut at = Path::root(alloc);
     'nodes: loop {
-        note_node(&mut places, page, &at)?;
-        if !go_on(page, &mut at)? {
-            return Ok(places);
+        if matches(tree, &at, selector) {
+            return Ok(Some(at));
+        }
+        if !go_on(tree, &mut at)? {
+            return Ok(None);
         }
     }
 }
 
-/// Notes the path for each atom of its node that has none yet.
-fn note_node(places: &mut BTreeMap<u32, Path>, page: &Tree, at: &Path) -> Result<(), NoMemory>
-    ensures { OnOk result ((a : ℕ) → get nat_cmp places.new a ≡ option_or (get nat_cmp places.old a) (noted_at page.now a at.now)) }
+/// The atoms that compounds want of nodes.
+fn wanted_atoms(alloc: Global, parts: &[Compound]) -> Result<ClassSet, NoMemory>
+    ensures { IfOk result (λ w. w ≡ wanted_of parts.now) }
 {
-    match page.label(at) {
-        Some(label) => note(places, label, at),
-        None => Ok(()),
+    let mut wanted = ClassSet::new(alloc);
+    'parts: for part in parts {
+        want_atoms(&mut wanted, part.atoms.items())?;
     }
+    Ok(wanted)
 }
 
-/// Notes the path for each atom of the label that has none yet.
-#[tactic(auto, using(crate::proofs::JudgingLemmas::one_more))]
-fn note(places: &mut BTreeMap<u32, Path>, label: &ClassSet, at: &Path) -> Result<(), NoMemory>
-    ensures { OnOk result ((a : ℕ) → get nat_cmp places.new a ≡ option_or (get nat_cmp places.old a) (noted label.now a at.now)) }
+fn want_atoms(wanted: &mut ClassSet, atoms: &[Atom]) -> Result<(), NoMemory>
+    ensures { OnOk result (wanted.new ≡ union_of wanted.old atoms.now) }
 {
-    for i in 0..label.len() {
-        note_atom(places, label.at(i).0, at)?;
-    }
-    Ok(())
-}
-
-fn note_atom(places: &mut BTreeMap<u32, Path>, atom: u32, at: &Path) -> Result<(), NoMemory>
-    ensures { OnOk result ((a : ℕ) → get nat_cmp places.new a ≡ option_or (get nat_cmp places.old a) (noted (atom ∷ []) a at.now)) }
-{
-    if !places.contains_key(&atom) {
-        places.insert(atom, at.copy()?)?;
+    'atoms: for atom in atoms {
+        wanted.add(*atom)?;
     }
     Ok(())
 }

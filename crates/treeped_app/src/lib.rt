@@ -1,27 +1,25 @@
 //! The command `treeped`: from its words and three files to a report.
 #![tactic(auto)]
 
-mod answers;
 mod bytes;
-mod classes;
-mod cursor;
-mod derivation;
+mod closed_page;
+mod closing;
 mod form_fault;
+mod index;
 mod inputs;
 mod judging;
-mod pages;
-mod report;
+mod refusals;
 mod runs;
 mod scripts;
-mod sheets;
 mod status;
 mod stops;
-mod tags;
+mod tracing;
 mod words;
 
+pub use refusals::{Fault, Part, Refusal};
 pub use runs::treeped;
 pub use status::Status;
-pub use stops::{Part, Stop};
+pub use stops::Stop;
 
 #[cfg(test)]
 mod sure_runs;

@@ -1,21 +1,24 @@
 //! The command itself.
-ghost use Rattle.std.specs.Prelude.{◌≡◌, ◌≤◌, map, string_bytes, vec_len};
+ghost use Rattle.std.specs.Prelude.{◌≡◌, ◌≤◌, map, string_bytes, vec_len, IfOk};
 ghost use Rattle.std.specs.List.{list_any};
 ghost use Rattle.treeped_app.specs.Runs as spec;
+ghost use Rattle.treeped_app.specs.Scripts.{statement_of};
 ghost use Rattle.treeped_app.specs.Runs.{Ends, Written, put_of, run_of};
 ghost use Rattle.treeped_app.specs.Inputs.{inputs_of, texts_of};
 ghost use Rattle.treeped_app.specs.Commands.{Headline, IsEnded, Causes};
-ghost use Rattle.treeped_app.specs.Views.{answer_of};
+ghost use Rattle.usage_report.specs.Views.{answer_of};
+ghost use Rattle.tp_base.specs.declared.places.TheConstants.{MOST_BYTES};
 
-use crate::answers::Answer;
 use crate::inputs::{Inputs, Texts, load_all, read_all};
 use crate::judging::judge;
-use crate::report::write_report;
+use crate::scripts::{MOST_STATEMENTS, Rule};
 use crate::status::Status;
 use crate::stops::{Stop, tell};
 use crate::words::read_words;
 use std::alloc::Global;
+use tp_base::{NoMemory, Place};
 use tp_io::{Files, Sink};
+use usage_report::{Answer, write_report};
 
 /// Runs the command with the words after the program's name. It loads and reads the page, the sheet and the script that they
 /// name, judges the sheet's selectors and writes the report to `out`; where there is none, or none whole, it says why on `err`.
@@ -42,7 +45,7 @@ pub fn treeped<F: Files, O: Sink, E: Sink>(
 {
     match run(alloc, words, files, out) {
         Ok(status) => status,
-        Err(stop) => tell(stop, err),
+        Err(stop) => tell(alloc, stop, err),
     }
 }
 
@@ -69,25 +72,38 @@ fn report<O: Sink>(
     inputs: &Inputs,
     out: &mut O,
 ) -> Result<Status, Stop>
-    requires { vec_len texts.now.sheet ≤ 16777216 }
+    requires in_limit { vec_len texts.now.sheet ≤ MOST_BYTES }
+    requires few { vec_len inputs.now.script.rules ≤ MOST_STATEMENTS }
     ensures { Written (texts_of texts.now) (inputs_of inputs.now)
         (put_of (O.written out.old) (O.written out.new) (O.faults out.old) (O.faults out.new)) result }
 {
     let answers = judge(alloc, &inputs.page, &inputs.sheet, &inputs.script.rules)?;
+    let places = places_of(alloc, &inputs.script.rules)?;
     write_report(
         alloc,
         &inputs.sheet,
         &texts.sheet,
         &inputs.atoms,
-        &inputs.script.rules,
+        &places,
         &answers,
         out,
     )?;
     Ok(status_of(&answers))
 }
 
+/// The places of the statements, in their order.
+fn places_of(alloc: Global, rules: &[Rule]) -> Result<Vec<Place>, NoMemory>
+    ensures { IfOk result (λ places. places.items ≡ map (λ s. s.place) (map statement_of rules.now)) }
+{
+    let mut places = Vec::new(alloc);
+    'rules: for rule in rules {
+        places.push(rule.place)?;
+    }
+    Ok(places)
+}
+
 /// The status of a report with these answers.
-#[tactic(auto, using(crate::proofs::JudgingLemmas::any_seen))]
+#[tactic(auto, using(crate::proofs::StopLemmas::any_seen))]
 fn status_of(answers: &[Answer]) -> Status
     ensures { result ≡ spec.status_of (map answer_of answers.now) }
 {

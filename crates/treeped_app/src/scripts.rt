@@ -1,18 +1,18 @@
 //! The statements of a script.
-ghost use Rattle.std.specs.Prelude.{◌≡◌, ◌≤◌, ◌+◌, ◌-◌, length, IfOk, IfSome, option_map};
+ghost use Rattle.std.specs.Prelude.{◌≡◌, ◌≤◌, ◌+◌, ◌-◌, length, IfOk, OnOk, IfSome, option_map, vec_len};
+ghost use Rattle.std.specs.List.{prefix_len};
 ghost use Rattle.treeped_app.specs.Bytes.{behind_mark};
-ghost use Rattle.treeped_app.specs.Cursor.{IsAt};
-ghost use Rattle.treeped_app.specs.Forms.{Gives};
+ghost use Rattle.tp_base.specs.Names.{with_name};
+ghost use Rattle.usage_report.specs.Cursor.{IsAt};
+ghost use Rattle.treeped_app.specs.Forms.{Gives, wanted};
 ghost use Rattle.treeped_app.specs.Scripts as spec;
 ghost use Rattle.treeped_app.specs.Views.{front_of, script_of};
 
 use crate::bytes::{behind_mark, is_blank};
-use crate::classes::enter;
-use crate::cursor::Cursor;
 use crate::form_fault::FormFault;
-use crate::sheets::name_len;
 use std::alloc::Global;
 use tp_base::{Atom, AtomKind, AtomTable, Place};
+use usage_report::Cursor;
 
 /// How many statements a script may have.
 pub(crate) const MOST_STATEMENTS: usize = 10_000;
@@ -48,7 +48,8 @@ pub(crate) fn read_script(
     atoms: &mut AtomTable,
 ) -> Result<Script, FormFault>
     requires { length text.now ≤ 16777216 }
-    ensures { Gives (λ s. script_of s atoms.new) result (spec.read_script text.now atoms.old) }
+    ensures gives { Gives (λ s. script_of s atoms.new) result (spec.read_script text.now atoms.old) }
+    ensures few { IfOk result (λ s. vec_len s.rules ≤ MOST_STATEMENTS) }
 {
     let mut script = Script {
         rules: Vec::new(alloc),
@@ -60,8 +61,10 @@ pub(crate) fn read_script(
 /// From left to right, behind a byte order mark.
 #[tactic(auto, using(crate::proofs::ScriptLoop::statement_goes_on, crate::proofs::ScriptLoop::statement_fails, crate::proofs::ScriptLoop::blank_goes_on, crate::proofs::ScriptLoop::other_fails, crate::proofs::ScriptLoop::ends))]
 fn read_statements(script: &mut Script, text: &[u8], atoms: &mut AtomTable) -> Result<(), FormFault>
-    requires { length text.now ≤ 16777216 }
-    ensures { Gives (λ _. script_of script.new atoms.new) result (spec.script_from text.now 0 (script_of script.old atoms.old) (behind_mark text.now)) }
+    requires in_limit { length text.now ≤ 16777216 }
+    requires few { vec_len script.old.rules ≤ MOST_STATEMENTS }
+    ensures gives { Gives (λ _. script_of script.new atoms.new) result (spec.script_from text.now 0 (script_of script.old atoms.old) (behind_mark text.now)) }
+    ensures few { OnOk result (vec_len script.new.rules ≤ MOST_STATEMENTS) }
 {
     let mut cursor = Cursor::new();
     let mut rest = behind_mark(text);
@@ -94,6 +97,7 @@ fn read_statement(
         (spec.statement_read text.now (length text.now - length behind.now) (script_of script.old atoms.old) behind.now) }
     ensures within { IfOk result (λ len. len ≤ length behind.now) }
     ensures here { IsAt text.now cursor.new }
+    ensures few { OnOk result (vec_len script.new.rules ≤ MOST_STATEMENTS) }
 {
     if script.rules.len() >= MOST_STATEMENTS {
         return Err(FormFault::NotYetRead);
@@ -145,4 +149,47 @@ fn name_front<'a>(end: &[u8], text: &'a [u8]) -> Option<(&'a [u8], usize)>
         return None;
     }
     Some((name, name.len() + end.len()))
+}
+
+/// The length of the name that the text begins with; 0 where it begins with none.
+#[tactic(auto, unfolding(crate::specs::Scripts::name_len))]
+fn name_len(text: &[u8]) -> usize
+    ensures gives { result ≡ spec.name_len text.now }
+    ensures within { result ≤ length text.now }
+{
+    if begins_name(text) { run_len(text) } else { 0 }
+}
+
+#[tactic(auto, unfolding(crate::specs::Scripts::begins_name))]
+fn begins_name(text: &[u8]) -> bool
+    ensures { result ≡ spec.begins_name text.now }
+{
+    match text {
+        [] => false,
+        [b'-', second, ..] => starts_name(*second) || *second == b'-',
+        [first, ..] => starts_name(*first),
+    }
+}
+
+fn starts_name(byte: u8) -> bool
+    ensures { result ≡ spec.starts_name byte }
+{
+    byte.is_ascii_alphabetic() || byte == b'_'
+}
+
+fn run_len(text: &[u8]) -> usize
+    ensures gives { result ≡ prefix_len spec.in_name text.now }
+    ensures within { result ≤ length text.now }
+{
+    text.iter()
+        .take_while(|b| starts_name(**b) || b.is_ascii_digit() || **b == b'-')
+        .count()
+}
+
+/// The atom of a name, which is added to the table where it is new.
+fn enter(atoms: &mut AtomTable, kind: AtomKind, name: &[u8]) -> Result<Atom, FormFault>
+    ensures { Gives (λ a. (a, atoms.new)) result (wanted (with_name atoms.old (kind, name.now))) }
+{
+    let atom = atoms.intern(kind, name)?;
+    Ok(atom)
 }

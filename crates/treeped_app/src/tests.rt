@@ -42,25 +42,19 @@ const PLAIN: Case = Case {
     err: "",
 };
 
-/// A run whose page, sheet or script isn't of a form that is read.
-const NO_PAGE: Case = Case {
+/// A run whose page, sheet or script is refused.
+const REFUSED: Case = Case {
     status: 3,
     out: "",
-    err: "treeped: page: not yet read\n",
     ..PLAIN
-};
-
-const NO_SHEET: Case = Case {
-    err: "treeped: sheet: not yet read\n",
-    ..NO_PAGE
 };
 
 const NO_SCRIPT: Case = Case {
     err: "treeped: script: not yet read\n",
-    ..NO_PAGE
+    ..REFUSED
 };
 
-static CASES: [Case; 33] = [
+static CASES: [Case; 31] = [
     PLAIN,
     Case { most: 1, ..PLAIN },
     Case {
@@ -172,36 +166,43 @@ static CASES: [Case; 33] = [
         ..PLAIN
     },
     Case {
-        texts: ["<b></b>", ".a{}", ""],
-        ..NO_PAGE
+        texts: ["", "body{} p{}", ""],
+        status: 1,
+        out: "treeped 1\n1:1 used 0 body\n  match /1\n1:8 unused p\n",
+        ..PLAIN
     },
     Case {
-        texts: ["<p>", ".a{}", ""],
-        ..NO_PAGE
+        texts: ["<a></a>", "a:hover{} a + b{} li:first-child{}", ""],
+        out: "treeped 1\n1:1 used 0 a\n  match /1/0\n1:11 skipped sibling at 1:13\n1:19 skipped pseudo at 1:21\n",
+        ..PLAIN
     },
     Case {
-        texts: ["<p><span><div></div></span></p>", ".a{}", ""],
-        ..NO_PAGE
+        texts: [
+            "<table><tr><td class=\"c\">x</table>",
+            "table > tbody > tr > .c{} table > tr{}",
+            "",
+        ],
+        status: 1,
+        out: "treeped 1\n1:1 used 0 table > tbody > tr > .c\n  match /1/0/0/0/0\n1:27 unused table > tr\n",
+        ..PLAIN
     },
     Case {
-        texts: ["<div></span>", ".a{}", ""],
-        ..NO_PAGE
+        texts: ["<p class=\"a\"></p>", ".a{ /* x", ""],
+        ..PLAIN
     },
     Case {
-        texts: ["<p class='a'></p>", ".a{}", ""],
-        ..NO_PAGE
+        texts: ["", "a{}a{}\n\u{feff}{", "x"],
+        ..NO_SCRIPT
     },
     Case {
-        texts: ["", "p{}", ""],
-        ..NO_SHEET
-    },
-    Case {
-        texts: ["", ".1{}", ""],
-        ..NO_SHEET
-    },
-    Case {
-        texts: ["", ".a {}", ""],
-        ..NO_SHEET
+        texts: [
+            "<div class=\"a\"><p class=\"x\"></p><p class=\"a\"></p></div>",
+            ".b .c{} .b > .a.d{} .c .b{}",
+            "$(\".b\").addClass(\"d\"); $(\".a\").addClass(\"b\"); $(\".x\").addClass(\"c\");",
+        ],
+        status: 1,
+        out: "treeped 1\n1:1 used 2 .b .c\n  2 at 1:32 on /1/0\n  3 at 1:55 on /1/0/0\n  match /1/0/0\n1:9 used 3 .b > .a.d\n  2 at 1:32 on /1/0\n  2 at 1:32 on /1/0/1\n  1 at 1:9 on /1/0/1\n  match /1/0/1\n1:21 unused .c .b\n",
+        ..PLAIN
     },
     Case {
         texts: [
@@ -254,6 +255,65 @@ static CASES: [Case; 33] = [
     },
 ];
 
+/// Pieces of a page and of a sheet, each so many times, and what is said of them.
+struct Limit {
+    page: (&'static [u8], usize),
+    sheet: (&'static [u8], usize),
+    status: u8,
+    err: &'static str,
+}
+
+static LIMITS: [Limit; 8] = [
+    Limit {
+        page: (b"\xff", 1),
+        sheet: (b"", 0),
+        status: 3,
+        err: "treeped: page: not utf-8 at 1:1\n",
+    },
+    Limit {
+        page: (b"<div>", 511),
+        sheet: (b"", 0),
+        status: 0,
+        err: "",
+    },
+    Limit {
+        page: (b"<div>", 512),
+        sheet: (b"", 0),
+        status: 3,
+        err: "treeped: page: too deep at 1:2556\n",
+    },
+    Limit {
+        page: (b"<br>", 99_997),
+        sheet: (b"", 0),
+        status: 0,
+        err: "",
+    },
+    Limit {
+        page: (b"<br>", 99_998),
+        sheet: (b"", 0),
+        status: 3,
+        err: "treeped: page: too many nodes at 1:399989\n",
+    },
+    Limit {
+        page: (b"", 0),
+        sheet: (b"\n\xc3", 2),
+        status: 3,
+        err: "treeped: sheet: not utf-8 at 2:1\n",
+    },
+    Limit {
+        page: (b"", 0),
+        sheet: (b"a{}", 20_000),
+        status: 1,
+        err: "",
+    },
+    Limit {
+        page: (b"", 0),
+        sheet: (b"a{}", 20_001),
+        status: 3,
+        err: "treeped: sheet: too many selectors at 1:60001\n",
+    },
+];
+
 fn strings(alloc: Global, texts: &[&str]) -> Result<Vec<String>, AllocError> {
     let mut strings = Vec::new(alloc);
     for text in texts {
@@ -294,6 +354,45 @@ fn runs_in_memory(rt: HostRuntime) -> Result<(), Fail> {
     let alloc = rt.alloc();
     for case in &CASES {
         run(&rt, alloc, case)?;
+    }
+    Ok(())
+}
+
+/// A piece so many times.
+fn repeated(alloc: Global, (piece, count): (&[u8], usize)) -> Result<Vec<u8>, AllocError> {
+    let mut text = Vec::new(alloc);
+    for _ in 0..count {
+        text.extend_from_slice(piece)?;
+    }
+    Ok(text)
+}
+
+fn run_limit(rt: &impl Abort, alloc: Global, limit: &Limit) -> Result<(), AllocError> {
+    let words = strings(alloc, &NAMES)?;
+    let mut entries = Vec::new(alloc);
+    entries.push((
+        String::from_str(alloc, "page")?,
+        repeated(alloc, limit.page)?,
+    ))?;
+    entries.push((
+        String::from_str(alloc, "sheet")?,
+        repeated(alloc, limit.sheet)?,
+    ))?;
+    entries.push((String::from_str(alloc, "script")?, Vec::new(alloc)))?;
+    let mut files = MemFiles::new(alloc, entries, Vec::new(alloc));
+    let mut out = SureSink::new(alloc);
+    let mut err = SureSink::new(alloc);
+    let status = treeped(alloc, &words, &mut files, &mut out, &mut err);
+    assert!(rt; status.code() == limit.status, "status {status:?}");
+    assert!(rt; err.bytes() == limit.err.as_bytes());
+    Ok(())
+}
+
+#[test]
+fn runs_at_the_limits(rt: HostRuntime) -> Result<(), Fail> {
+    let alloc = rt.alloc();
+    for limit in &LIMITS {
+        run_limit(&rt, alloc, limit)?;
     }
     Ok(())
 }

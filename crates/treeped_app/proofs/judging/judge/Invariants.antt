@@ -1,10 +1,12 @@
-use Rattle.std.proofs.Common.{◌≡◌, map, take, vec_len}
+use Rattle.std.proofs.Common.{◌≡◌, length, map, take}
+use Rattle.css_read.specs.Views.{item_of}
+use Rattle.usage_report.specs.Views.{answer_of}
 use Rattle.treeped_app.specs.Answers.{AreRight}
-use Rattle.treeped_app.specs.Views.{answer_of, item_of, statement_of}
+use Rattle.treeped_app.specs.Scripts.{statement_of}
 use Rattle.treeped_app.proofs.judging.judge.Given as goal
 
-abbrev pub invariant-loop-item : goal.invariant-loop-item
-invariant-loop-item l = record {
-  right : AreRight l.page (map statement_of l.rules) (map item_of (take l.item-index l.sheet.items.items)) (map answer_of l.answers.items);
-  count : vec_len l.answers ≡ l.item-index;
+abbrev pub invariant-items : goal.invariant-items
+invariant-items l = record {
+  right : AreRight l.page (map statement_of l.rules) (map item_of (take l.item-index l.sheet.items)) (map answer_of l.answers.items);
+  count : length l.answers.items ≡ l.item-index;
 }
