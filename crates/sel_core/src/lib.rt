@@ -8,14 +8,12 @@ mod lists;
 mod matching;
 mod reading;
 mod selectors;
-#[cfg(test)]
-mod tests;
 mod writing;
 
 pub use bytes::{behind_close, behind_gap, is_blank, name_len};
 pub use faults::{MOST_PARTS, SelFault, Skip};
 pub use lists::read_strict_list;
-pub use matching::matches;
+pub use matching::{fits, matches};
 pub use reading::read_selector;
 pub use selectors::{Atoms, Compound, Compounds, Join, Joins, Selector};
 pub use writing::write_selector;

@@ -86,7 +86,7 @@ fn placed<'a>(
         joins,
     };
     'children: while let Some((last, parts)) = left.parts.split_last() {
-        if !fits(tree, at, left.level, last) {
+        if !fits_above(tree, at, left.level, last) {
             return None;
         }
         match left.joins.split_last() {
@@ -115,8 +115,16 @@ fn placed<'a>(
     None
 }
 
+/// Whether the node at the path has each atom of the compound; false where no node is there. Linear in the path's
+/// length, and in the compound's times the logarithm of the label's.
+pub fn fits(tree: &Tree, at: &Path, c: &Compound) -> bool
+    ensures { IsTrue result ↔ Fits tree.now at.now c.now.atoms }
+{
+    fits_above(tree, at, at.len(), c)
+}
+
 // Whether the node that the first `level` numbers of the path lead to has each atom of the compound.
-fn fits(tree: &Tree, at: &Path, level: usize, compound: &Compound) -> bool
+fn fits_above(tree: &Tree, at: &Path, level: usize, compound: &Compound) -> bool
     requires { level ≤ length at.now }
     ensures { IsTrue result ↔ Fits tree.now (take level at.now) compound.now.atoms }
 {

@@ -2,6 +2,7 @@
 ghost use Rattle.std.specs.Prelude.{◌≡◌, ◌+◌, [], ◌∷◌, length, IfOk};
 ghost use Rattle.sel_core.specs.Selectors.{simple};
 ghost use Rattle.sel_core.specs.Parts.{selector_from};
+ghost use Rattle.sel_core.specs.Views.{selector_of};
 
 use std::alloc::Global;
 use std::marker::Model;
@@ -33,6 +34,15 @@ impl Atoms {
     {
         &self.items
     }
+
+    /// The same atoms once more. Linear in their number.
+    pub fn copy(&self) -> Result<Atoms, NoMemory>
+        ensures { IfOk result (λ x. x ≡ self.now) }
+    {
+        Ok(Atoms {
+            items: Vec::from_slice(*self.items.allocator(), &self.items)?,
+        })
+    }
 }
 
 /// What one node has to have: the type first, if there is one, and then the classes and ids as written.
@@ -40,6 +50,17 @@ impl Atoms {
 #[derive(Debug, Drop)]
 pub struct Compound {
     pub atoms: Atoms,
+}
+
+impl Compound {
+    /// The same compound once more. Linear in its atoms.
+    pub fn copy(&self) -> Result<Compound, NoMemory>
+        ensures { IfOk result (λ x. x ≡ self.now) }
+    {
+        Ok(Compound {
+            atoms: self.atoms.copy()?,
+        })
+    }
 }
 
 /// How a compound stands to the one on its right.
@@ -78,6 +99,17 @@ impl Compounds {
     {
         &self.items
     }
+
+    /// The same compounds once more. Linear in their atoms.
+    pub fn copy(&self) -> Result<Compounds, NoMemory>
+        ensures { IfOk result (λ x. x ≡ self.now) }
+    {
+        let mut copies = Vec::new(*self.items.allocator());
+        for compound in &self.items {
+            copies.push(compound.copy()?)?;
+        }
+        Ok(Compounds { items: copies })
+    }
 }
 
 /// The joins between compounds, from left to right. A contract sees the list of them.
@@ -107,6 +139,15 @@ impl Joins {
     {
         &self.items
     }
+
+    /// The same joins once more. Linear in their number.
+    pub fn copy(&self) -> Result<Joins, NoMemory>
+        ensures { IfOk result (λ x. x ≡ self.now) }
+    {
+        Ok(Joins {
+            items: Vec::from_slice(*self.items.allocator(), &self.items)?,
+        })
+    }
 }
 
 /// Compounds, and between each two neighbours how they are joined.
@@ -127,6 +168,16 @@ impl Selector {
         Ok(Selector {
             parts: Compounds::new(parts),
             joins: Joins::new(Vec::new(alloc)),
+        })
+    }
+
+    /// The same selector once more. Linear in its atoms.
+    pub fn copy(&self) -> Result<Selector, NoMemory>
+        ensures { IfOk result (λ s. selector_of s ≡ selector_of self.now) }
+    {
+        Ok(Selector {
+            parts: self.parts.copy()?,
+            joins: self.joins.copy()?,
         })
     }
 }

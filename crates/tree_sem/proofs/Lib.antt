@@ -1,10 +1,14 @@
 mod ArenaLemmas
+pub mod BothLemmas
 mod ChangeLemmas
 mod CopyLemmas
 pub mod CountLemmas
 pub mod EditLemmas
+pub mod EmbeddingLemmas
 mod FaultLemmas
 mod GrowLemmas
+pub mod GrowthLemmas
+pub mod ImageLemmas
 pub mod NodeLemmas
 pub mod OrderLemmas
 pub mod PathLemmas

@@ -1,9 +1,12 @@
 -- The list of a tree's nodes in the order of the document.
-use Rattle.std.proofs.Common.{◌≡◌, ◌↔◌, ℕ, zero, suc, ◌+◌, List, [], ◌∷◌, length, map, Contains, Some, None, IsSome, option_and_then, refl, sym, ap, ◌∙◌, subst, inl, inr, arith, length-append}
-use Rattle.std.proofs.lemmas.List.{length-map, get_or-map}
+use Rattle.std.proofs.Common.{◌≡◌, ◌↔◌, ℕ, zero, suc, ◌+◌, List, [], ◌∷◌, ◌++◌, length, take, map, Contains, Some, None, IsSome, IsSomeAnd, option_map, option_and_then, refl, sym, ap, ◌∙◌, subst, inl, inr, arith, length-append}
+use Rattle.std.proofs.Math.Seq.{take-length}
+use Rattle.std.proofs.lemmas.List.{length-map, get_or-map, take-append-le}
 use Rattle.std.proofs.lemmas.List.Elements.{Contains-append_left, Contains-append_right, Contains-append_cases, Contains-push_cases}
 use Rattle.tree_sem.specs.Trees.{Row, no_nodes, node, LabelTree, tree_of, nodes_of, count_of, node_at}
+use Rattle.tree_sem.specs.Nodes.{IsNode, HasAtom}
 use Rattle.tree_sem.specs.Order.{paths_from, paths_of}
+use Rattle.tree_sem.proofs.PathLemmas.{IsSome-take}
 
 pub Contains-map : {X Y : Type 0} (f : X → Y) (xs : List X) (x : X) → Contains xs x → Contains (map f xs) (f x)
 Contains-map f xs x (i, within, at) = (i, omega (arith, length-map xs f), get_or-map f xs i x (f x) within ∙ ap f at)
@@ -115,3 +118,17 @@ Contains-paths_of t v = (to v, from v)
           | None ↦ λ e is. cc
           | Some u ↦ λ e is. Contains-append_right ([] ∷ []) (paths_from 0 t.below) (m ∷ r) (Contains-paths_from t.below 0 m m r u (omega arith) e is)
         ] refl is
+
+-- a node with an atom is one
+pub HasAtom-node : (t : LabelTree) (v : List ℕ) (a : ℕ) → HasAtom t v a → IsNode t v
+HasAtom-node t v a has =
+    elim (node_at v t) as (λ o. IsSomeAnd (option_map (λ (n : LabelTree). n.label) o) (λ l. Contains l a) → IsSome o) [
+      | None ↦ λ has. absurd has
+      | Some s ↦ λ has. refl
+    ] has
+
+-- a front of a node's path is a node's
+pub IsNode-front : (t : LabelTree) (p q : List ℕ) → IsNode t (p ++ q) → IsNode t p
+IsNode-front t p q is =
+    let front : take (length p) (p ++ q) ≡ p = take-append-le (length p) p q (omega arith) ∙ take-length p in
+    rw front at (IsSome-take (length p) (p ++ q) t is)

@@ -13,7 +13,7 @@ use Rattle.tree_sem.specs.Paths.{parent_of}
 use Rattle.tree_sem.specs.Actions.{add_classes, add_trees, act}
 use Rattle.tree_sem.specs.Embedding.{AreWithin, IsWithin, IsImage}
 use Rattle.tree_sem.proofs.RowLemmas.{node_at-append, node_at-child, child_node_at}
-use Rattle.tree_sem.proofs.PathLemmas.{take_take}
+use Rattle.tree_sem.proofs.PathLemmas.{take_take, IsSome-take}
 
 -- each row is within one that has its trees, d places later
 are_within : (ts us : Row) (d : ℕ) → ((k : ℕ) (t : LabelTree) → tree_of ts k ≡ Some t → tree_of us (k + d) ≡ Some t) → AreWithin ts us
@@ -114,7 +114,7 @@ act_within (Beside forest) v t =
 
 -- each node has an image
 pub carried : (v : List ℕ) (t u : LabelTree) → IsWithin t u → IsSome (node_at v t) → (w : List ℕ) × IsImage t u v w
-carried [] t u w is = ([], record { same_length = refl; levels = λ m le s at. at_root m s at })
+carried [] t u w is = ([], record { is_node = is; same_length = refl; levels = λ m le s at. at_root m s at })
   where
     at_root : (m : ℕ) (s : LabelTree) → node_at (take m []) t ≡ Some s → (x : LabelTree) × (node_at (take m []) u ≡ Some x) × IsWithin s x
     at_root zero s at = let same : t ≡ s = cc in (u, refl, subst (λ (z : LabelTree). IsWithin z u) same w)
@@ -125,7 +125,7 @@ carried (k ∷ v) t u w is =
       | Some s ↦ λ e is'.
           let there = within_at t.below u.below w.1 k s e in
           let inner = carried v s there.1 there.3 is' in
-          (there.0 ∷ inner.0, record { same_length = ap suc inner.1.same_length; levels = λ m le x at. image_level m k there.0 v inner.0 t u s there.1 w e there.2 inner.1 le x at })
+          (there.0 ∷ inner.0, record { is_node = rw e is'; same_length = ap suc inner.1.same_length; levels = λ m le x at. image_level m k there.0 v inner.0 t u s there.1 w e there.2 inner.1 le x at })
     ] refl is
   where
     image_level : (m k l : ℕ) (v q : List ℕ) (t u s x : LabelTree) → IsWithin t u → tree_of t.below k ≡ Some s → tree_of u.below l ≡ Some x → IsImage s x v q
@@ -163,6 +163,7 @@ module _ (t u : LabelTree) (v w : List ℕ) (image : IsImage t u v w) where
       let same = image.same_length in (
         child.0,
         record {
+          is_node = rw (child_node_at v k t s c at here) refl;
           same_length = omega arith;
           levels = λ m le y is. elim (cases_lt (length v) m) [
             | inr within ↦
@@ -187,6 +188,7 @@ module _ (t u : LabelTree) (v w : List ℕ) (image : IsImage t u v w) where
       let long = length-take m v in
       let long' = length-take m w in
       record {
+        is_node = IsSome-take m v t image.is_node;
         same_length = omega arith;
         levels = λ n le' y is.
             let part : take n (take m v) ≡ take n v = take_take n m v (omega arith) in

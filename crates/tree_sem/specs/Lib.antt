@@ -1,6 +1,8 @@
 pub mod Actions
 pub mod Arena
 pub mod Embedding
+pub mod Growth
+pub mod Nodes
 pub mod Order
 pub mod Paths
 pub mod Table

@@ -3,9 +3,9 @@
 --     LabelTree       a label, and the row of trees below
 --     node_at         the tree at a path
 --     label_at        its label, and children_at how many children it has
---     edit_at         the tree with a change at a path
+--     edit_at         the tree with a change at a path, and edit_each with one at each of some paths
 --     count_of        how many nodes there are
-use Rattle.std.specs.Prelude.{ℕ, zero, suc, ◌+◌, List, [], ◌∷◌, Option, Some, None, option_map, option_and_then}
+use Rattle.std.specs.Prelude.{ℕ, zero, suc, ◌+◌, List, [], ◌∷◌, Option, Some, None, option_map, option_and_then, fold}
 use Rattle.tp_base.specs.Classes.{with_class}
 
 -- Trees in a row. `node l below next` is a tree with the label l and the trees `below` it, and then the trees `next`.
@@ -72,6 +72,10 @@ children_at p t = option_map (λ n. length_of n.below) (node_at p t)
 abbrev pub edit_at : List ℕ → (LabelTree → LabelTree) → LabelTree → LabelTree
 edit_at [] f t = f t
 edit_at (k ∷ p) f t = record t { below = edit_tree (edit_at p f) t.below k }
+
+-- the tree with f at the node of each path, one path after another
+abbrev pub edit_each : List (List ℕ) → (LabelTree → LabelTree) → LabelTree → LabelTree
+edit_each at f t = fold (λ u p. edit_at p f u) t at
 
 -- the node with one class more
 abbrev pub add_class : ℕ → LabelTree → LabelTree

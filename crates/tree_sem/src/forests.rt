@@ -1,8 +1,9 @@
 //! Trees in a row, as an action adds them.
-ghost use Rattle.std.specs.Prelude.{◌≡◌};
+ghost use Rattle.std.specs.Prelude.{◌≡◌, IfOk};
 
 use crate::label_tree::Tree;
 use std::marker::Model;
+use tp_base::NoMemory;
 
 /// Trees in a row. A contract sees the list of them.
 #[derive(Drop)]
@@ -35,10 +36,32 @@ impl Trees {
     {
         &self.items
     }
+
+    /// The same trees once more. Linear in their labels and nodes.
+    pub fn copy(&self) -> Result<Trees, NoMemory>
+        ensures { IfOk result (λ t. t ≡ self.now) }
+    {
+        let mut copies = Vec::new(*self.items.allocator());
+        for tree in &self.items {
+            copies.push(tree.copy()?)?;
+        }
+        Ok(Trees { items: copies })
+    }
 }
 
 /// What a piece of markup makes: trees next to one another, without a common parent.
 #[derive(Drop)]
 pub struct Forest {
     pub tops: Trees,
+}
+
+impl Forest {
+    /// The same forest once more. Linear in its labels and nodes.
+    pub fn copy(&self) -> Result<Forest, NoMemory>
+        ensures { IfOk result (λ f. f ≡ self.now) }
+    {
+        Ok(Forest {
+            tops: self.tops.copy()?,
+        })
+    }
 }

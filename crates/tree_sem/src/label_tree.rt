@@ -1,13 +1,18 @@
 //! A tree whose nodes have sets of classes as their labels.
 ghost use Rattle.std.specs.Prelude.{◌≡◌, ◌<◌, ◌≤◌, ◌↔◌, not, length, take, All, Contains, IsTrue, IsNone, IsSome, IfOk, IfSome, OnOk, OnErr, IsErrOf, option_map, option_copied};
 ghost use Rattle.tp_base.specs.Classes.{has_class, all_among};
-ghost use Rattle.tree_sem.specs.Actions.{add_classes};
-ghost use Rattle.tree_sem.specs.Trees.{leaf, count_of, length_of, node_at, label_at, children_at, edit_at, add_class, add_child};
+ghost use Rattle.tree_sem.specs.Actions.{add_classes, add_trees};
+ghost use Rattle.tree_sem.specs.Nodes.{IsNode, AllRise};
+ghost use Rattle.tree_sem.specs.Table.{tree_in, IsTable};
+ghost use Rattle.tree_sem.specs.Trees.{leaf, count_of, length_of, node_at, label_at, children_at, edit_at, edit_each, add_class, add_child};
 
+use crate::grafts::{cut_back, graft_each, has_room};
 use crate::slots::{Slot, add_to_label, copy_of, place_of, push_child, unite_label};
 use crate::tree_fault::{MOST_NODES, TreeFault};
+use crate::unions::unite_each;
 use std::alloc::Global;
 use std::marker::Model;
+use std::slice;
 use tp_base::{Atom, ClassSet, NoMemory, Path};
 
 /// A tree. A contract sees labels over rows of trees.
@@ -56,6 +61,7 @@ impl Tree {
     pub fn count(&self) -> u32
         ensures count { result ≡ count_of self.now }
         ensures in_limit { result ≤ MOST_NODES }
+        ensures rise { AllRise self.now }
     {
         self.slots.len() as u32
     }
@@ -138,6 +144,75 @@ impl Tree {
         }
         let step = push_child(&mut self.slots, place, label)?;
         Ok(step)
+    }
+
+    /// Gives the node at the path these trees as its last children, all or none of them. Linear in the path's
+    /// length and in the trees' nodes and labels; where memory fails, in all nodes.
+    pub fn add_trees(&mut self, at: &Path, tops: &[Tree]) -> Result<(), TreeFault>
+        ensures ok { OnOk result (self.new ≡ edit_at at.now (add_trees tops.now) self.old) }
+        ensures no_such_node { IsErrOf result TreeFault.NoSuchNode ↔ IsNone (node_at at.now self.old) }
+        ensures too_many_nodes { IsErrOf result TreeFault.TooManyNodes
+            ↔ (IsSome (node_at at.now self.old) × MOST_NODES < count_of (edit_at at.now (add_trees tops.now) self.old)) }
+        ensures in_limit { count_of self.new ≤ MOST_NODES }
+        ensures err { OnErr result (self.new ≡ self.old) }
+    {
+        self.add_trees_to_each(slice::from_ref(at), tops)
+    }
+
+    /// Gives the nodes at the paths these trees as their last children, one node after another, or leaves the tree
+    /// as it was. Each path is that of a node before the first is given any. Linear in the paths and in all nodes and
+    /// labels that are added; where memory fails, in all nodes.
+    pub fn add_trees_to_each(&mut self, at: &[Path], tops: &[Tree]) -> Result<(), TreeFault>
+        ensures ok { OnOk result (self.new ≡ edit_each at.now (add_trees tops.now) self.old) }
+        ensures no_such_node { IsErrOf result TreeFault.NoSuchNode ↔ ¬ All (IsNode self.old) at.now }
+        ensures too_many_nodes { IsErrOf result TreeFault.TooManyNodes
+            ↔ (All (IsNode self.old) at.now × MOST_NODES < count_of (edit_each at.now (add_trees tops.now) self.old)) }
+        ensures in_limit { count_of self.new ≤ MOST_NODES }
+        ensures err { OnErr result (self.new ≡ self.old) }
+    {
+        if !self.has_each(at) {
+            return Err(TreeFault::NoSuchNode);
+        }
+        if !has_room(self.count(), at.len(), tops) {
+            return Err(TreeFault::TooManyNodes);
+        }
+        let before = self.slots.len();
+        if graft_each(&mut self.slots, at, tops).is_err() {
+            cut_back(&mut self.slots, before);
+            return Err(TreeFault::Memory);
+        }
+        Ok(())
+    }
+
+    /// Adds the classes of a set to the labels of the nodes at the paths, or leaves the tree as it was. Linear in the
+    /// paths, the labels there, and the set's length for each.
+    pub fn add_classes_to_each(&mut self, at: &[Path], classes: &ClassSet) -> Result<(), TreeFault>
+        ensures ok { OnOk result (self.new ≡ edit_each at.now (add_classes classes.now) self.old) }
+        ensures no_such_node { IsErrOf result TreeFault.NoSuchNode ↔ ¬ All (IsNode self.old) at.now }
+        ensures too_many_nodes { IsErrOf result TreeFault.TooManyNodes → ⊥ }
+        ensures in_limit { count_of self.new ≤ MOST_NODES }
+        ensures err { OnErr result (self.new ≡ self.old) }
+    {
+        if !self.has_each(at) {
+            return Err(TreeFault::NoSuchNode);
+        }
+        unite_each(&mut self.slots, at, classes)?;
+        Ok(())
+    }
+
+    // Whether a node is at each of the paths.
+    fn has_each(&self, at: &[Path]) -> bool
+        ensures { IsTrue result ↔ All (IsNode self.now) at.now }
+    {
+        at.iter().all(|path| self.label(path).is_some())
+    }
+
+    /// The nodes, as other tables take them over.
+    pub(crate) fn slots(&self) -> &[Slot]
+        ensures table { IsTable result.now }
+        ensures tree { tree_in result.now 0 ≡ self.now }
+    {
+        &self.slots
     }
 
     // The node whose path is the first `len` numbers of the path.

@@ -4,15 +4,14 @@
 mod actions;
 mod document_order;
 mod forests;
+mod grafts;
 mod label_tree;
 mod slots;
 mod tree_fault;
+mod unions;
 
 pub use actions::{Action, Step};
 pub use document_order::go_on;
 pub use forests::{Forest, Trees};
 pub use label_tree::Tree;
 pub use tree_fault::{MOST_NODES, TreeFault};
-
-#[cfg(test)]
-mod tests;

@@ -3,16 +3,16 @@ use Rattle.sel_core.proofs.FitLemmas.{not_so, so}
 use Rattle.sel_core.proofs.Groups.{reached_front, reached_child, leaves_inside, fits_not, no_parent}
 use Rattle.sel_core.proofs.matching.placed.Goals as goal
 
-pub returns-then-not-fits-clause-none : goal.returns-then-not-fits-clause-none
-returns-then-not-fits-clause-none c =
+pub returns-then-not-fits_above-clause-none : goal.returns-then-not-fits_above-clause-none
+returns-then-not-fits_above-clause-none c =
     fits_not _ _ _ _ _ _ _ _ c.in-Some.last.now c.children.invariant.reached c.in-Some.ensures.cases.0 (omega (arith, c.in-Some.ensures.cases.1))
-    (not_so _ c.fits.result c.fits.ensures c.if-not-fits.true)
+    (not_so _ c.fits_above.result c.fits_above.ensures c.if-not-fits_above.true)
 
 pub returns-in-Some-Inside-default-clause-some : goal.returns-in-Some-Inside-default-clause-some
 returns-in-Some-Inside-default-clause-some c =
     let front = rw c.in-Some-Inside-default.field-0-0-is at (reached_front _ _ _ _ _ _ _ _ c.in-Some-Inside-default.joins.now c.in-Some.last.now _ c.children.invariant.reached c.in-Some.ensures.cases.0
     c.in-Some-Inside-default.ensures.cases.0 (omega (arith, c.in-Some.ensures.cases.1, c.in-Some-Inside-default.ensures.cases.1))) in
-    leaves_inside _ _ _ _ _ _ _ c.in-Some.last.now front (so _ c.fits.result c.fits.ensures c.if-not-fits.false)
+    leaves_inside _ _ _ _ _ _ _ c.in-Some.last.now front (so _ c.fits_above.result c.fits_above.ensures c.if-not-fits_above.false)
     (omega (arith, c.in-Some.ensures.cases.1, c.in-Some-Inside-default.ensures.cases.1))
 
 pub returns-then-left-eq0-clause-none : goal.returns-then-left-eq0-clause-none
@@ -29,5 +29,5 @@ children-preserved c =
       within = omega arith;
       between = omega (arith, c.in-Some.ensures.cases.1, c.in-Some-Child-default.ensures.cases.1);
       fewer = omega (arith, c.in-Some.ensures.cases.1);
-      reached = reached_child _ _ _ _ _ _ _ c.in-Some.last.now front (so _ c.fits.result c.fits.ensures c.if-not-fits.false) (omega arith);
+      reached = reached_child _ _ _ _ _ _ _ c.in-Some.last.now front (so _ c.fits_above.result c.fits_above.ensures c.if-not-fits_above.false) (omega arith);
     }

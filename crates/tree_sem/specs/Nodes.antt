@@ -1,0 +1,16 @@
+-- The nodes of a tree, by their paths, and the atoms of their labels.
+--     IsNode t v      there is a node at v
+--     HasAtom t v a   there is one, and its label has the atom a
+--     AllRise t       each label is a set of atoms, as a list that rises
+use Rattle.std.specs.Prelude.{◌≡◌, ℕ, List, Some, IsSome, IsSomeAnd, Contains}
+use Rattle.std.specs.List.Sorted.{IsStrictlyIncreasing}
+use Rattle.tree_sem.specs.Trees.{LabelTree, node_at, label_at}
+
+abbrev pub IsNode : LabelTree → List ℕ → Type 0
+IsNode t v = IsSome (node_at v t)
+
+abbrev pub HasAtom : LabelTree → List ℕ → ℕ → Type 0
+HasAtom t v a = IsSomeAnd (label_at v t) (λ label. Contains label a)
+
+abbrev pub AllRise : LabelTree → Type 0
+AllRise t = (v label : List ℕ) → label_at v t ≡ Some label → IsStrictlyIncreasing label
