@@ -41,7 +41,7 @@ row_by-push f (d ∷ cs) c = ap (λ rest. node (f d).label (f d).below rest) (ro
 
 module _ (label kids : ℕ → List ℕ) (n : ℕ) (arena : IsArena n kids) where
   -- levels past the table's length change nothing
-  deep_enough : (a b i : ℕ) → i < n → n ≤ i + a → n ≤ i + b → tree_to label kids a i ≡ tree_to label kids b i
+  pub deep_enough : (a b i : ℕ) → i < n → n ≤ i + a → n ≤ i + b → tree_to label kids a i ≡ tree_to label kids b i
   deep_enough zero b i within la lb = absurd (omega arith)
   deep_enough (suc a) zero i within la lb = absurd (omega arith)
   deep_enough (suc a) (suc b) i within la lb =

@@ -6,7 +6,9 @@ pub mod CountLemmas
 pub mod EditLemmas
 pub mod EmbeddingLemmas
 mod FaultLemmas
+mod GraftArena
 mod GrowLemmas
+mod LaterLemmas
 pub mod GrowthLemmas
 pub mod ImageLemmas
 pub mod NodeLemmas

@@ -142,6 +142,13 @@ pub fn cut_back(slots: &mut Vec<Slot>, len: usize)
 fn cut_children(children: &mut Vec<u32>, len: u32)
     ensures { children.new.items ≡ take (prefix_len (λ c. nat_lt c len) children.old.items) children.old.items }
 {
-    let kept = children.iter().take_while(|c| **c < len).count();
+    let kept = count_below(children, len);
     children.truncate(kept);
+}
+
+// How many numbers stand before the first that is not below `len`.
+fn count_below(numbers: &[u32], len: u32) -> usize
+    ensures { result ≡ prefix_len (λ c. nat_lt c len) numbers.now }
+{
+    numbers.iter().take_while(|c| **c < len).count()
 }
