@@ -1,7 +1,9 @@
 -- How many nodes a tree has after an edit.
-use Rattle.std.proofs.Common.{◌≡◌, ℕ, zero, suc, ◌+◌, ◌≤◌, List, [], ◌∷◌, length, Some, None, option_and_then, refl, sym, ap, subst, arith}
+use Rattle.std.proofs.Common.{◌≡◌, ℕ, zero, suc, ◌+◌, ◌≤◌, List, [], ◌∷◌, length, Some, None, option_and_then, fold, refl, sym, ap, subst, arith}
+use Rattle.std.specs.List.{sum_by}
+use Rattle.std.proofs.lemmas.List.Sums.{sum_by-cons}
 use Rattle.tree_sem.specs.Trees.{Row, no_nodes, node, LabelTree, leaf, tree_of, edit_tree, node_at, edit_at, push_tree, nodes_of, count_of, add_class, add_child}
-use Rattle.tree_sem.specs.Actions.{add_classes}
+use Rattle.tree_sem.specs.Actions.{add_classes, add_trees}
 use Rattle.tree_sem.proofs.EditLemmas.{edit_at-none}
 
 pub nodes_of-push_tree : (f : Row) (t : LabelTree) → nodes_of (push_tree f t) ≡ nodes_of f + count_of t
@@ -46,6 +48,14 @@ count_of-add_classes p classes t =
 
 pub count_of-add_child : (p l : List ℕ) (t s : LabelTree) → node_at p t ≡ Some s → count_of (edit_at p (add_child l) t) ≡ count_of t + 1
 count_of-add_child p l t s at = let one = nodes_of-push_tree s.below (leaf l) in count_of-edit_at p (add_child l) t s 1 at (omega arith)
+
+-- trees add their nodes
+pub nodes_of-push_trees : (tops : List LabelTree) (r : Row) → nodes_of (fold push_tree r tops) ≡ nodes_of r + sum_by count_of tops
+nodes_of-push_trees [] r = omega arith
+nodes_of-push_trees (t ∷ tops) r = omega (arith, nodes_of-push_trees tops (push_tree r t), nodes_of-push_tree r t, sum_by-cons count_of t tops)
+
+pub count_of-add_trees : (p : List ℕ) (tops : List LabelTree) (t s : LabelTree) → node_at p t ≡ Some s → count_of (edit_at p (add_trees tops) t) ≡ count_of t + sum_by count_of tops
+count_of-add_trees p tops t s at = let more = nodes_of-push_trees tops s.below in count_of-edit_at p (add_trees tops) t s (sum_by count_of tops) at (omega (arith, more))
 
 nodes_of-tree_of : (r : Row) (k : ℕ) (s : LabelTree) → tree_of r k ≡ Some s → count_of s ≤ nodes_of r
 nodes_of-tree_of no_nodes k s at = cc

@@ -1,7 +1,7 @@
 -- A table with later nodes, and what is left when they are taken away.
 use Rattle.std.proofs.Common.{◌≡◌, ℕ, zero, suc, ◌+◌, ◌<◌, ◌≤◌, nat_lt, Bool, true, false, List, [], ◌∷◌, ◌++◌, length, take, All, Option, Some, None, option_map, option_and_then, unwrap_or, slice_get, get_or, refl, sym, ap, ◌∙◌, inl, inr, append-nil, append_assoc, arith, length-append}
 use Rattle.std.specs.List.{prefix_len}
-use Rattle.std.proofs.lemmas.Bool.{cases_lt, cases_order}
+use Rattle.std.proofs.lemmas.Bool.{cases_lt, cases_order, lt-ltb, le-ltb}
 use Rattle.std.proofs.lemmas.List.{take-append-le}
 use Rattle.std.proofs.lemmas.List.Sums.{prefix_len_is}
 use Rattle.std.proofs.lemmas.Option.{slice_get_past, slice_get_within, get_or_from_slice_get}
@@ -65,11 +65,10 @@ place_later old new arena later (k ∷ p) i j within at =
 kept_children : (n : ℕ) (xs more : List ℕ) → ((k c : ℕ) → slice_get xs k ≡ Some c → c < n) → All (λ c. n ≤ c) more
     → take (prefix_len (λ c. nat_lt c n) (xs ++ more)) (xs ++ more) ≡ xs
 kept_children n [] [] low high = refl
-kept_children n [] (y ∷ more) low high = let no : nat_lt y n ≡ false = omega (arith, high 0 0 (omega arith)) in rw no refl
+kept_children n [] (y ∷ more) low high = rw (le-ltb y n (high 0 0 (omega arith))) refl
 kept_children n (x ∷ xs) more low high =
-    let yes : nat_lt x n ≡ true = omega (arith, low 0 x refl) in
     let count : 1 + prefix_len (λ c. nat_lt c n) (xs ++ more) ≡ suc (prefix_len (λ c. nat_lt c n) (xs ++ more)) = omega arith in
-    rw (yes, count) (ap (λ z. x ∷ z) (kept_children n xs more (λ k c at. low (suc k) c at) high))
+    rw (lt-ltb x n (low 0 x refl), count) (ap (λ z. x ∷ z) (kept_children n xs more (λ k c at. low (suc k) c at) high))
 
 pub same_cut_back : (old mid new : List Slot) → IsArena (length old) (kids_in old) → IsLater old mid → IsCutBack mid new (length old) → IsSame old new
 same_cut_back old mid new arena later cut = record {

@@ -3,6 +3,7 @@ pub mod BothLemmas
 mod ChangeLemmas
 mod CopyLemmas
 pub mod CountLemmas
+pub mod EachLemmas
 pub mod EditLemmas
 pub mod EmbeddingLemmas
 mod FaultLemmas
@@ -19,6 +20,7 @@ pub mod RestLemmas
 pub mod RowLemmas
 pub mod ShapeLemmas
 mod TableLemmas
+mod UnionLemmas
 mod WalkLemmas
 pub mod WithinLemmas
 mod WriteLemmas

@@ -1,11 +1,13 @@
 -- What a table's list says of its nodes.
-use Rattle.std.proofs.Common.{◌≡◌, ℕ, ◌<◌, List, length, take, get_or, Option, Some, None, option_map, refl, sym, ap, ◌∙◌}
+use Rattle.std.proofs.Common.{◌≡◌, ℕ, ◌<◌, List, length, take, get_or, Option, Some, None, option_map, refl, sym, ap, ◌∙◌, subst}
+use Rattle.std.specs.List.Sorted.{IsStrictlyIncreasing}
 use Rattle.std.proofs.lemmas.Option.{slice_get_read}
 use Rattle.std.proofs.Math.Seq.{take-length}
 use Rattle.tree_sem.specs.declared.slots.Slot.{Slot}
 use Rattle.tree_sem.specs.Trees.{LabelTree, node_at, label_at, length_of}
+use Rattle.tree_sem.specs.Nodes.{AllRise}
 use Rattle.tree_sem.specs.Arena.{place_from, IsArena}
-use Rattle.tree_sem.specs.Table.{kids_in, label_in, tree_in}
+use Rattle.tree_sem.specs.Table.{kids_in, label_in, tree_in, IsTable}
 use Rattle.tree_sem.proofs.ArenaLemmas.{unrolled, node_at-tree_to, place_within, length_of-row_by}
 
 -- the children's numbers of the slot that was read, and its label
@@ -42,3 +44,14 @@ pub walked : (items slots : List Slot) (p : List ℕ) (n : ℕ) (o : Option ℕ)
 walked items slots p n o same all is =
     let whole : take n p ≡ p = rw all (take-length p) in
     is ∙ rw (same, whole)
+
+-- the labels rise
+pub all_rise : (slots : List Slot) → IsTable slots → AllRise (tree_in slots 0)
+all_rise slots table v label at = by (place_from (kids_in slots) 0 v) refl
+  where
+    by : (o : Option ℕ) → o ≡ place_from (kids_in slots) 0 v → IsStrictlyIncreasing label
+    by None e = let none : label_at v (tree_in slots 0) ≡ None = ap (option_map (λ (n : LabelTree). n.label)) (no_node slots table.arena v e) in cc
+    by (Some j) e =
+        let some = label_there slots table.arena v j e in
+        let same : label_in slots j ≡ label = cc in
+        subst IsStrictlyIncreasing same (table.rising j)

@@ -97,7 +97,7 @@ same_table old new table same =
       arena = rw (same.count, kids) table.arena;
       counted = rw (kids, labels, same.count) table.counted;
       in_limit = rw same.count table.in_limit;
-      rising = rw labels table.rising;
+      rising = λ i. rw (same.labels i) (table.rising i);
     }
 
 pub same_tree : (old new : List Slot) → IsSame old new → tree_in new 0 ≡ tree_in old 0

@@ -20,7 +20,7 @@ pub fn has_room(count: u32, times: usize, tops: &[Tree]) -> bool
     ensures { IsTrue result ↔ (count + times * sum_by count_of tops.now ≤ MOST_NODES) }
 {
     let mut room = MOST_NODES - count;
-    for _ in 0..times {
+    'times: for done in 0..times {
         match room_after(room, tops) {
             None => return false,
             Some(left) => room = left,

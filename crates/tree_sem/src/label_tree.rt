@@ -7,7 +7,7 @@ ghost use Rattle.tree_sem.specs.Table.{tree_in, IsTable};
 ghost use Rattle.tree_sem.specs.Trees.{leaf, count_of, length_of, node_at, label_at, children_at, edit_at, edit_each, add_class, add_child};
 
 use crate::grafts::{cut_back, graft_each, has_room};
-use crate::slots::{Slot, add_to_label, copy_of, place_of, push_child, unite_label};
+use crate::slots::{Slot, add_to_label, childless, copy_of, place_of, push_child, unite_label};
 use crate::tree_fault::{MOST_NODES, TreeFault};
 use crate::unions::unite_each;
 use std::alloc::Global;
@@ -42,10 +42,7 @@ impl Tree {
         ensures { IfOk result (λ t. t ≡ leaf label) }
     {
         let mut slots = Vec::new(alloc);
-        slots.push(Slot {
-            label,
-            children: Vec::new(alloc),
-        })?;
+        slots.push(childless(alloc, label))?;
         Ok(Tree { slots })
     }
 

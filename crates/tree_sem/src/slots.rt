@@ -1,5 +1,6 @@
 //! The table in which a tree keeps its nodes.
-ghost use Rattle.std.specs.Prelude.{◌≡◌, ◌<◌, ◌≤◌, ◌↔◌, not, length, take, map, All, Contains, IsTrue, vec_len, IfOk, IfSome, OnOk, OnErr};
+ghost use Rattle.std.specs.Prelude.{◌≡◌, ◌<◌, ◌≤◌, ◌↔◌, not, [], length, take, map, All, Contains, IsTrue, vec_len, IfOk, IfSome, OnOk, OnErr};
+ghost use Rattle.std.specs.List.Sorted.{IsStrictlyIncreasing};
 ghost use Rattle.tp_base.specs.Classes.{has_class, all_among, with_class, union_of};
 ghost use Rattle.tree_sem.specs.Arena.{IsArena, place_from};
 ghost use Rattle.tree_sem.specs.Table.{kids_in, label_in, IsSame, IsRelabelled, IsGrown};
@@ -13,6 +14,20 @@ use tp_base::{Atom, ClassSet, NoMemory, Path};
 pub struct Slot {
     pub label: ClassSet,
     pub children: Vec<u32>,
+}
+
+/// A node with this label and without children.
+pub fn childless(alloc: Global, label: ClassSet) -> Slot
+    ensures label { result.label ≡ label }
+    ensures children { result.children.items ≡ [] }
+    ensures rises { IsStrictlyIncreasing label }
+{
+    // Its contract says that a set rises.
+    let _ = label.len();
+    Slot {
+        label,
+        children: Vec::new(alloc),
+    }
 }
 
 /// The place of the node whose path is the first `len` numbers of the path. Linear in `len`.
@@ -67,15 +82,13 @@ pub fn push_child(slots: &mut Vec<Slot>, place: usize, label: ClassSet) -> Resul
     requires room { vec_len slots.old < MOST_NODES }
     requires few { length (kids_in slots.old.items place) < MOST_NODES }
     ensures ok { OnOk result (IsGrown slots.old.items slots.new.items place label) }
+    ensures rises { IsStrictlyIncreasing label }
     ensures number { IfOk result (λ k. k ≡ length (kids_in slots.old.items place)) }
     ensures err { OnErr result (IsSame slots.old.items slots.new.items) }
 {
     let number = slots.len() as u32;
     let alloc = *slots.allocator();
-    slots.push(Slot {
-        label,
-        children: Vec::new(alloc),
-    })?;
+    slots.push(childless(alloc, label))?;
     let slot = &mut slots[place];
     let step = slot.children.len() as u32;
     if slot.children.push(number).is_err() {

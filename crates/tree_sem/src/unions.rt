@@ -1,5 +1,5 @@
 //! Classes that are added to the labels of many nodes, to all or none.
-ghost use Rattle.std.specs.Prelude.{◌≡◌, List, ℕ, Some, map, All, vec_len, IfOk, OnOk, OnErr};
+ghost use Rattle.std.specs.Prelude.{◌≡◌, List, ℕ, Some, length, map, All, vec_len, IfOk, OnOk, OnErr};
 ghost use Rattle.tp_base.specs.Classes.{union_of};
 ghost use Rattle.tree_sem.specs.Actions.{add_classes};
 ghost use Rattle.tree_sem.specs.Arena.{IsArena, place_from};

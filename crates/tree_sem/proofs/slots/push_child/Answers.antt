@@ -11,14 +11,14 @@ returns-clause-ok c =
     let place = c.args.place in
     let here : place < length old = omega arith in
     let was = c.index_mut-slot.result.now in
-    let new : Slot = record { label = c.args.label; children = c.new.result } in
+    let new = c.childless.result in
     let parent : Slot = record { label = was.label; children = c.push-2.new.self } in
     let read = rw (c.in_ok-push.ensures.items, get_or_append_left old (new ∷ []) was place here) at c.index_mut-slot.ensures.value in
     let label = sym (label_in-read old place was here read) in
     let kids = kids_in-read old place was was.children.items here read (ap (λ z. z.children.items) read) in
     let pushed = rw c.if-is_err.ensures.negation at c.push-2.ensures.items in
     let number : c.len-number.result ≡ length old = omega arith in
-    rw c.in_ok-push.ensures.items (grown_by_writes old new parent place c.args.label here refl c.new.ensures.items label (rw (kids, ← number) pushed))
+    rw c.in_ok-push.ensures.items (grown_by_writes old new parent place c.args.label here c.childless.ensures.label c.childless.ensures.children label (rw (kids, ← number) pushed))
 
 pub returns-clause-number : goal.returns-clause-number
 returns-clause-number c =
@@ -26,7 +26,7 @@ returns-clause-number c =
     let place = c.args.place in
     let here : place < length old = omega arith in
     let was = c.index_mut-slot.result.now in
-    let new : Slot = record { label = c.args.label; children = c.new.result } in
+    let new = c.childless.result in
     let read = rw (c.in_ok-push.ensures.items, get_or_append_left old (new ∷ []) was place here) at c.index_mut-slot.ensures.value in
     let kids = kids_in-read old place was was.children.items here read (ap (λ z. z.children.items) read) in
     rw kids (omega arith)
@@ -37,7 +37,7 @@ returns-then-is_err-clause-err c =
     let place = c.args.place in
     let here : place < length old = omega arith in
     let was = c.index_mut-slot.result.now in
-    let new : Slot = record { label = c.args.label; children = c.new.result } in
+    let new = c.childless.result in
     let parent : Slot = record { label = was.label; children = c.push-2.new.self } in
     let read = rw (c.in_ok-push.ensures.items, get_or_append_left old (new ∷ []) was place here) at c.index_mut-slot.ensures.value in
     let label = sym (label_in-read old place was here read) in

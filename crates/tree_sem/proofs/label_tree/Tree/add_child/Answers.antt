@@ -48,7 +48,7 @@ invariant_of-self-2 c =
     let slots = c.self.inside.slots.items in
     let at = walked c.deref.result.now slots c.args.at.now c.len.result (Some c.in-Some.place) c.deref.ensures.value c.len.ensures c.in-Some.ensures.place in
     let within = rw c.deref.ensures.value at c.in-Some.ensures.in_table in
-    grown_table slots c.push_child.new.slots.items c.in-Some.place c.args.label c.self.invariant within (omega arith) c.in_ok-step.ensures.ok c.args.at.now at
+    grown_table slots c.push_child.new.slots.items c.in-Some.place c.args.label c.self.invariant within (omega arith) c.in_ok-step.ensures.ok c.args.at.now at c.in_ok-step.ensures.rises
 
 pub returns-clause-ok : goal.returns-clause-ok
 returns-clause-ok c =

@@ -1,5 +1,6 @@
 use Rattle.std.proofs.Common.{Some, None, refl}
 use Rattle.tp_base.specs.Classes.{with_class}
+use Rattle.tp_base.proofs.ClassLemmas.{IsStrictlyIncreasing-with_class}
 use Rattle.tree_sem.proofs.TableLemmas.{no_node, node_there, label_there, walked}
 use Rattle.tree_sem.proofs.FaultLemmas.{memory_fault, no_fault}
 use Rattle.tree_sem.proofs.WriteLemmas.{same_table}
@@ -27,7 +28,7 @@ invariant_of-self-2 c =
     let slots = c.self.inside.slots.items in
     let at = walked c.deref.result.now slots c.args.at.now c.len.result (Some c.in-Some.place) c.deref.ensures.value c.len.ensures c.in-Some.ensures.place in
     let within = rw c.deref.ensures.value at c.in-Some.ensures.in_table in
-    relabelled_table slots c.add_to_label.new.slots.items c.in-Some.place (with_class c.args.atom) c.self.invariant within c.in_ok-grew.ensures.ok c.args.at.now at
+    relabelled_table slots c.add_to_label.new.slots.items c.in-Some.place (with_class c.args.atom) c.self.invariant within c.in_ok-grew.ensures.ok c.args.at.now at (IsStrictlyIncreasing-with_class c.args.atom)
 
 pub returns-clause-ok : goal.returns-clause-ok
 returns-clause-ok c =

@@ -1,5 +1,6 @@
 use Rattle.std.proofs.Common.{Some, None, refl}
 use Rattle.tp_base.specs.Classes.{union_of}
+use Rattle.tp_base.proofs.ClassLemmas.{IsStrictlyIncreasing-union_of}
 use Rattle.tree_sem.proofs.TableLemmas.{no_node, node_there, label_there, walked}
 use Rattle.tree_sem.proofs.FaultLemmas.{memory_fault, no_fault}
 use Rattle.tree_sem.proofs.WriteLemmas.{same_table, tree_in_limit}
@@ -27,7 +28,7 @@ invariant_of-self-2 c =
     let slots = c.self.inside.slots.items in
     let at = walked c.deref.result.now slots c.args.at.now c.len.result (Some c.in-Some.place) c.deref.ensures.value c.len.ensures c.in-Some.ensures.place in
     let within = rw c.deref.ensures.value at c.in-Some.ensures.in_table in
-    relabelled_table slots c.unite_label.new.slots.items c.in-Some.place (λ l. union_of l c.args.classes.now) c.self.invariant within c.in_ok-any_new.ensures.ok c.args.at.now at
+    relabelled_table slots c.unite_label.new.slots.items c.in-Some.place (λ l. union_of l c.args.classes.now) c.self.invariant within c.in_ok-any_new.ensures.ok c.args.at.now at (λ l rises. IsStrictlyIncreasing-union_of l c.args.classes.now rises)
 
 pub returns-clause-ok : goal.returns-clause-ok
 returns-clause-ok c =
@@ -63,7 +64,7 @@ returns-clause-in_limit c =
     let new = c.unite_label.new.slots.items in
     let at = walked c.deref.result.now slots c.args.at.now c.len.result (Some c.in-Some.place) c.deref.ensures.value c.len.ensures c.in-Some.ensures.place in
     let within = rw c.deref.ensures.value at c.in-Some.ensures.in_table in
-    tree_in_limit new (relabelled_table slots new c.in-Some.place (λ l. union_of l c.args.classes.now) c.self.invariant within c.in_ok-any_new.ensures.ok c.args.at.now at)
+    tree_in_limit new (relabelled_table slots new c.in-Some.place (λ l. union_of l c.args.classes.now) c.self.invariant within c.in_ok-any_new.ensures.ok c.args.at.now at (λ l rises. IsStrictlyIncreasing-union_of l c.args.classes.now rises))
 
 -- memory failed
 pub invariant_of-self : goal.invariant_of-self

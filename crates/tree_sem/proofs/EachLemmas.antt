@@ -1,0 +1,35 @@
+-- Edits at each of some paths.
+use Rattle.std.proofs.Common.{◌≡◌, ℕ, zero, suc, ◌+◌, ◌*◌, ◌<◌, ◌≤◌, List, [], ◌∷◌, length, take, get_or, fold, All, Some, IsSome, refl, sym, ap, ◌∙◌, arith}
+use Rattle.std.specs.List.{sum_by}
+use Rattle.std.proofs.Math.Nat.{suc-mul}
+use Rattle.std.proofs.lemmas.List.Sums.{fold_more}
+use Rattle.std.proofs.lemmas.List.Elements.{All-head, All-tail}
+use Rattle.tree_sem.specs.Trees.{LabelTree, node_at, edit_at, edit_each, push_tree, count_of}
+use Rattle.tree_sem.specs.Nodes.{IsNode}
+use Rattle.tree_sem.specs.Actions.{add_trees}
+use Rattle.tree_sem.specs.Growth.{Grows}
+use Rattle.tree_sem.proofs.RowLemmas.{there}
+use Rattle.tree_sem.proofs.EditLemmas.{edit_at-edit_at}
+use Rattle.tree_sem.proofs.CountLemmas.{count_of-add_trees}
+use Rattle.tree_sem.proofs.GrowthLemmas.{IsNode-grows, add_trees_grows}
+
+-- one path more
+pub edit_each-more : (f : LabelTree → LabelTree) (t : LabelTree) (at : List (List ℕ)) (k : ℕ) (d : List ℕ) → k < length at
+    → edit_each (take (k + 1) at) f t ≡ edit_at (get_or at k d) f (edit_each (take k at) f t)
+edit_each-more f t at k d within = fold_more (λ u p. edit_at p f u) t at k d within
+
+-- one tree more
+pub add_trees-more : (p : List ℕ) (t : LabelTree) (tops : List LabelTree) (k : ℕ) (d : LabelTree) → k < length tops
+    → edit_at p (add_trees (take (k + 1) tops)) t ≡ edit_at p (λ s. record s { below = push_tree s.below (get_or tops k d) }) (edit_at p (add_trees (take k tops)) t)
+add_trees-more p t tops k d within =
+    ap (λ (f : LabelTree → LabelTree). edit_at p f t) (λ i s. record { label = s.label; below = fold_more push_tree s.below tops k d within i })
+    ∙ sym (edit_at-edit_at p (λ s. record s { below = push_tree s.below (get_or tops k d) }) (add_trees (take k tops)) t)
+
+-- how many nodes there are then
+pub count_of-edit_each : (at : List (List ℕ)) (tops : List LabelTree) (t : LabelTree) → All (IsNode t) at → count_of (edit_each at (add_trees tops) t) ≡ count_of t + length at * sum_by count_of tops
+count_of-edit_each [] tops t nodes = omega arith
+count_of-edit_each (p ∷ at) tops t nodes =
+    let here = there (node_at p t) (All-head (IsNode t) p at nodes) in
+    let next = edit_at p (add_trees tops) t in
+    let rest : All (IsNode next) at = λ k d within. IsNode-grows t next (add_trees_grows tops p t) (get_or at k d) (All-tail (IsNode t) p at nodes k d within) in
+    omega (arith, count_of-edit_each at tops next rest, count_of-add_trees p tops t here.0 here.1, suc-mul (length at) (sum_by count_of tops))
