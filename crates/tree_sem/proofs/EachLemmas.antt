@@ -1,7 +1,7 @@
 -- Edits at each of some paths.
 use Rattle.std.proofs.Common.{◌≡◌, ℕ, zero, suc, ◌+◌, ◌*◌, ◌<◌, ◌≤◌, List, [], ◌∷◌, length, take, get_or, fold, All, Some, IsSome, refl, sym, ap, ◌∙◌, arith}
 use Rattle.std.specs.List.{sum_by}
-use Rattle.std.proofs.Math.Nat.{suc-mul}
+use Rattle.std.proofs.Math.Nat.{suc-mul, mul-le-mul_right}
 use Rattle.std.proofs.lemmas.List.Sums.{fold_more}
 use Rattle.std.proofs.lemmas.List.Elements.{All-head, All-tail}
 use Rattle.tree_sem.specs.Trees.{LabelTree, node_at, edit_at, edit_each, push_tree, count_of}
@@ -24,6 +24,13 @@ pub add_trees-more : (p : List ℕ) (t : LabelTree) (tops : List LabelTree) (k :
 add_trees-more p t tops k d within =
     ap (λ (f : LabelTree → LabelTree). edit_at p f t) (λ i s. record { label = s.label; below = fold_more push_tree s.below tops k d within i })
     ∙ sym (edit_at-edit_at p (λ s. record s { below = push_tree s.below (get_or tops k d) }) (add_trees (take k tops)) t)
+
+pub one_more : (k total : ℕ) → (k + 1) * total ≡ k * total + total
+one_more k total = let next : k + 1 ≡ suc k = omega arith in rw next (suc-mul k total)
+
+-- what is added at one path more is within what is added at all
+pub one_more_fits : (k n total : ℕ) → k < n → k * total + total ≤ n * total
+one_more_fits k n total less = let more : suc k * total ≤ n * total = mul-le-mul_right total (omega arith) in omega (arith, more, suc-mul k total)
 
 -- how many nodes there are then
 pub count_of-edit_each : (at : List (List ℕ)) (tops : List LabelTree) (t : LabelTree) → All (IsNode t) at → count_of (edit_each at (add_trees tops) t) ≡ count_of t + length at * sum_by count_of tops

@@ -19,6 +19,7 @@ mod PlaceLemmas
 pub mod RestLemmas
 pub mod RowLemmas
 pub mod ShapeLemmas
+mod SpliceLemmas
 mod TableLemmas
 mod UnionLemmas
 mod WalkLemmas

@@ -1,5 +1,5 @@
 -- What a table's list says of its nodes.
-use Rattle.std.proofs.Common.{◌≡◌, ℕ, ◌<◌, List, length, take, get_or, Option, Some, None, option_map, refl, sym, ap, ◌∙◌, subst}
+use Rattle.std.proofs.Common.{◌≡◌, ℕ, ◌<◌, List, length, take, get_or, Option, Some, None, IsSome, option_map, refl, sym, ap, ◌∙◌, subst}
 use Rattle.std.specs.List.Sorted.{IsStrictlyIncreasing}
 use Rattle.std.proofs.lemmas.Option.{slice_get_read}
 use Rattle.std.proofs.Math.Seq.{take-length}
@@ -38,6 +38,10 @@ module _ (slots : List Slot) (arena : IsArena (length slots) (kids_in slots)) (p
     children_there =
         rw (node_there, unrolled (label_in slots) (kids_in slots) (length slots) arena j there)
         (ap Some (length_of-row_by (tree_in slots) (kids_in slots j)))
+
+-- a node that is missing isn't there
+pub not_there : {X : Type 0} (o : Option X) → o ≡ None → IsSome o → ⊥
+not_there {X = X} o none is = let never : IsSome {T = X} None = rw none at is in cc
 
 -- what a walk over a whole path found
 pub walked : (items slots : List Slot) (p : List ℕ) (n : ℕ) (o : Option ℕ) → items ≡ slots → n ≡ length p → o ≡ place_from (kids_in items) 0 (take n p) → o ≡ place_from (kids_in slots) 0 p

@@ -8,7 +8,7 @@ use Rattle.tp_base.proofs.NamesLemmas.{slice_get-append_left, slice_get-push}
 use Rattle.tree_sem.specs.declared.slots.Slot.{Slot}
 use Rattle.tree_sem.specs.declared.tree_fault.TheConstants.{MOST_NODES}
 use Rattle.tree_sem.specs.Trees.{count_of}
-use Rattle.tree_sem.specs.Table.{kids_in, label_in, tree_in, IsTable, IsGrown, IsSame}
+use Rattle.tree_sem.specs.Table.{kids_in, label_in, tree_in, IsTable, IsGrown, IsRelabelled, IsSame}
 
 pub slice_get-set_same : {X : Type 0} (xs : List X) (j : ℕ) (y : X) → j < length xs → slice_get (set xs j y) j ≡ Some y
 slice_get-set_same [] j y within = absurd (omega arith)
@@ -47,7 +47,20 @@ module _ (old : List Slot) (new parent : Slot) (place : ℕ) (l : List ℕ) (her
     children = λ i within other. rw (at_other i within other);
   }
 
-slice_get-take : {X : Type 0} (n : ℕ) (xs : List X) (i : ℕ) → i < n → slice_get (take n xs) i ≡ slice_get xs i
+-- a slot with another label
+pub relabelled_by_write : (old : List Slot) (place : ℕ) (slot : Slot) (label : List ℕ) → place < length old → slot.label ≡ label → slot.children.items ≡ kids_in old place → IsRelabelled old (set old place slot) place label
+relabelled_by_write old place slot label here same kept = record {
+  count = length-set old place slot;
+  changed = rw (slice_get-set_same old place slot here) same;
+  labels = λ i apart. rw (slice_get-set_other old place i slot apart);
+  children = λ i. elim (cases_order i place) [
+    | inl e ↦ rw (e, slice_get-set_same old place slot here) kept
+    | inr (inl less) ↦ rw (slice_get-set_other old place i slot (λ e. omega arith))
+    | inr (inr above) ↦ rw (slice_get-set_other old place i slot (λ e. omega arith))
+  ];
+}
+
+pub slice_get-take : {X : Type 0} (n : ℕ) (xs : List X) (i : ℕ) → i < n → slice_get (take n xs) i ≡ slice_get xs i
 slice_get-take zero xs i lt = absurd (omega arith)
 slice_get-take (suc n) [] i lt = refl
 slice_get-take (suc n) (x ∷ xs) zero lt = refl

@@ -1,5 +1,5 @@
 //! Whole trees that are put below nodes of a table, and taken away again where memory fails.
-ghost use Rattle.std.specs.Prelude.{◌≡◌, ◌<◌, ◌≤◌, ◌+◌, ◌*◌, ◌↔◌, ℕ, nat_lt, Some, length, take, map, All, IsTrue, IsNone, IsSome, slice_get, vec_len, IfOk, IfSome, OnOk, OnErr};
+ghost use Rattle.std.specs.Prelude.{◌≡◌, ◌<◌, ◌≤◌, ◌+◌, ◌*◌, ◌↔◌, ◌++◌, ℕ, nat_lt, Some, length, take, map, All, IsTrue, IsNone, IsSome, slice_get, vec_len, IfOk, IfSome, OnOk, OnErr};
 ghost use Rattle.std.specs.List.{prefix_len, sum_by};
 ghost use Rattle.tree_sem.specs.Actions.{add_trees};
 ghost use Rattle.tree_sem.specs.Arena.{IsArena};
@@ -100,7 +100,9 @@ fn append(slots: &mut Vec<Slot>, first: u32, nodes: &[Slot]) -> Result<(), NoMem
     requires arena { IsArena (length nodes.now) (kids_in nodes.now) }
     requires room { first + length nodes.now ≤ MOST_NODES }
     ensures front { take first slots.new.items ≡ slots.old.items }
-    ensures count { OnOk result (vec_len slots.new ≡ first + length nodes.now) }
+    ensures labels { OnOk result (map (λ s. s.label) slots.new.items ≡ map (λ s. s.label) slots.old.items ++ map (λ s. s.label) nodes.now) }
+    ensures children { OnOk result (map (λ s. s.children.items) slots.new.items
+        ≡ map (λ s. s.children.items) slots.old.items ++ map (λ s. map (λ c. first + c) s.children.items) nodes.now) }
 {
     let alloc = *slots.allocator();
     for node in nodes {

@@ -174,7 +174,7 @@ impl Tree {
             return Err(TreeFault::TooManyNodes);
         }
         let before = self.slots.len();
-        if graft_each(&mut self.slots, at, tops).is_err() {
+        if let Err(NoMemory) = graft_each(&mut self.slots, at, tops) {
             cut_back(&mut self.slots, before);
             return Err(TreeFault::Memory);
         }
