@@ -1,5 +1,6 @@
 pub mod FitLemmas
 pub mod Groups
+pub mod ImageLemmas
 pub mod PartLemmas
 pub mod WriteLemmas
 pub mod Gaps
