@@ -2,7 +2,6 @@
 ghost use Rattle.std.specs.Prelude.{◌≡◌, ◌+◌, [], ◌∷◌, length, IfOk};
 ghost use Rattle.sel_core.specs.Selectors.{simple};
 ghost use Rattle.sel_core.specs.Parts.{selector_from};
-ghost use Rattle.sel_core.specs.Views.{selector_of};
 
 use std::alloc::Global;
 use std::marker::Model;
@@ -173,7 +172,7 @@ impl Selector {
 
     /// The same selector once more. Linear in its atoms.
     pub fn copy(&self) -> Result<Selector, NoMemory>
-        ensures { IfOk result (λ s. selector_of s ≡ selector_of self.now) }
+        ensures { IfOk result (λ s. selector_from s.parts s.joins ≡ selector_from self.now.parts self.now.joins) }
     {
         Ok(Selector {
             parts: self.parts.copy()?,
