@@ -3,6 +3,7 @@ pub mod CombineLemmas
 pub mod BranchLemmas
 pub mod ArenaLemmas
 pub mod AnswerLemmas
+pub mod ReferenceLemmas
 mod TableLemmas
 mod PairLemmas
 mod MemoLemmas

@@ -3,6 +3,7 @@ pub mod Arena
 pub mod Memo
 pub mod Numbers
 pub mod Pairs
+pub mod References
 pub mod Starts
 pub mod Table
 pub mod TreeCode

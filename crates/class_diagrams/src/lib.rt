@@ -6,8 +6,6 @@ mod faults;
 mod memo;
 mod refs;
 mod table;
-#[cfg(test)]
-mod tests;
 
 pub use diagrams::Diagrams;
 pub use faults::DiagramFault;

@@ -92,6 +92,10 @@ edit_at-append (k ∷ p) q f t =
     let row = edit_tree-alike (edit_at (p ++ q) f) (edit_at p (edit_at q f)) (edit_at-append p q f) t.below k in
     λ i. record { label = t.label; below = row i }
 
+-- what is above the node that was edited
+pub node_at-edit_at_above : (p q : List ℕ) (f : LabelTree → LabelTree) (t : LabelTree) → node_at p (edit_at (p ++ q) f t) ≡ option_map (edit_at q f) (node_at p t)
+node_at-edit_at_above p q f t = ap (node_at p) (edit_at-append p q f t) ∙ node_at-edit_at p (edit_at q f) t
+
 -- an edit of the last tree that was added
 pub edit_tree-push_tree : (f : LabelTree → LabelTree) (r : Row) (t : LabelTree) → edit_tree f (push_tree r t) (length_of r) ≡ push_tree r (f t)
 edit_tree-push_tree f no_nodes t = refl

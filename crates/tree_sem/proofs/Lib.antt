@@ -1,3 +1,4 @@
+pub mod AddTreesLemmas
 mod ArenaLemmas
 pub mod BothLemmas
 mod ChangeLemmas
@@ -17,6 +18,7 @@ pub mod OrderLemmas
 pub mod PathLemmas
 mod PlaceLemmas
 pub mod RestLemmas
+pub mod RiseLemmas
 pub mod RowLemmas
 pub mod ShapeLemmas
 mod SpliceLemmas

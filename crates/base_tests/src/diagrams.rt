@@ -1,4 +1,4 @@
-use crate::{DiagramFault, Diagrams};
+use class_diagrams::{DiagramFault, Diagrams};
 use std::alloc::Global;
 use std::process::Abort;
 use std::test::Fail;

@@ -1,0 +1,9 @@
+//! Tests of trees, selectors and diagrams, as a caller sees them.
+#![tactic(auto)]
+
+#[cfg(test)]
+mod diagrams;
+#[cfg(test)]
+mod selectors;
+#[cfg(test)]
+mod trees;
