@@ -66,24 +66,6 @@ fn reads_well(alloc: Global, tree: &Tree) -> Result<bool, NoMemory> {
     Ok(right)
 }
 
-// The paths of a walk, each with the number of its last child, where the root has none.
-fn walk_of(alloc: Global, tree: &Tree) -> Result<Vec<(usize, u32)>, NoMemory> {
-    let mut nodes = Vec::new(alloc);
-    let mut at = Path::root(alloc);
-    for _ in 0..10 {
-        let last = if at.len() == 0 {
-            9
-        } else {
-            at.at(at.len() - 1)
-        };
-        nodes.push((at.len(), last))?;
-        if tree.label(&at).is_none() || !go_on(tree, &mut at)? {
-            break;
-        }
-    }
-    Ok(nodes)
-}
-
 fn set_of(alloc: Global, atoms: &[u32]) -> Result<ClassSet, NoMemory> {
     let mut set = ClassSet::new(alloc);
     for atom in atoms {
@@ -97,75 +79,198 @@ fn two_trees(alloc: Global) -> Result<Trees, TreeFault> {
     let mut first = Tree::new(alloc, set_of(alloc, &[1])?)?;
     first.add_child(&Path::root(alloc), set_of(alloc, &[2])?)?;
     let second = Tree::new(alloc, set_of(alloc, &[3])?)?;
+    Ok(in_a_row(alloc, first, second)?)
+}
+
+fn in_a_row(alloc: Global, first: Tree, second: Tree) -> Result<Trees, NoMemory> {
     Ok(Trees::new(vec![in alloc; first, second]?))
 }
 
-// What is added to the nodes at some paths of a root with two leaves below it: the trees above, or the class 5.
+fn paths_of(alloc: Global, rows: &[&[u32]]) -> Result<Vec<Path>, NoMemory> {
+    let mut paths = Vec::new(alloc);
+    for steps in rows {
+        paths.push(path_of(alloc, steps)?)?;
+    }
+    Ok(paths)
+}
+
+// What is added to the nodes at some paths of a root with two leaves below it: the two trees, or the class 5.
 struct Addition {
     trees: bool,
     at: &'static [&'static [u32]],
+    fault: Option<TreeFault>,
     // The nodes after it in the order of the document, each by the length of its path, the number of its children,
-    // and its classes up to 5 as a sum of powers of 2.
-    after: Result<&'static [(usize, u32, u32)], TreeFault>,
+    // and its last class, where 9 stands for none.
+    after: &'static [(usize, u32, u32)],
 }
 
-const ADDITIONS: [Addition; 9] = [
+static ADDITIONS: [Addition; 9] = [
     Addition {
         trees: true,
         at: &[],
-        after: Ok(&[(0, 2, 0), (1, 0, 0), (1, 0, 0)]),
+        fault: None,
+        after: &[(0, 2, 9), (1, 0, 9), (1, 0, 9)],
     },
     Addition {
         trees: true,
         at: &[&[]],
-        after: Ok(&[(0, 4, 0), (1, 0, 0), (1, 0, 0), (1, 1, 2), (2, 0, 4), (1, 0, 8)]),
+        fault: None,
+        after: &[(0, 4, 9), (1, 0, 9), (1, 0, 9), (1, 1, 1), (2, 0, 2), (1, 0, 3)],
     },
     Addition {
         trees: true,
         at: &[&[0]],
-        after: Ok(&[(0, 2, 0), (1, 2, 0), (2, 1, 2), (3, 0, 4), (2, 0, 8), (1, 0, 0)]),
+        fault: None,
+        after: &[(0, 2, 9), (1, 2, 9), (2, 1, 1), (3, 0, 2), (2, 0, 3), (1, 0, 9)],
     },
     Addition {
         trees: true,
-        at: &[&[1], &[0], &[1]],
-        after: Ok(&[
-            (0, 2, 0),
-            (1, 2, 0),
-            (2, 1, 2),
-            (3, 0, 4),
-            (2, 0, 8),
-            (1, 4, 0),
-            (2, 1, 2),
-            (3, 0, 4),
-            (2, 0, 8),
-            (2, 1, 2),
-            (3, 0, 4),
-            (2, 0, 8),
-        ]),
+        at: &[&[1], &[], &[1]],
+        fault: None,
+        after: &[
+            (0, 4, 9),
+            (1, 0, 9),
+            (1, 4, 9),
+            (2, 1, 1),
+            (3, 0, 2),
+            (2, 0, 3),
+            (2, 1, 1),
+            (3, 0, 2),
+            (2, 0, 3),
+            (1, 1, 1),
+            (2, 0, 2),
+            (1, 0, 3),
+        ],
     },
     Addition {
         trees: true,
-        at: &[&[0], &[2]],
-        after: Err(TreeFault::NoSuchNode),
+        at: &[&[2]],
+        fault: Some(TreeFault::NoSuchNode),
+        after: &[(0, 2, 9), (1, 0, 9), (1, 0, 9)],
     },
     Addition {
         trees: true,
         at: &[&[0], &[0, 0]],
-        after: Err(TreeFault::NoSuchNode),
+        fault: Some(TreeFault::NoSuchNode),
+        after: &[(0, 2, 9), (1, 0, 9), (1, 0, 9)],
     },
     Addition {
         trees: false,
         at: &[&[1], &[], &[1]],
-        after: Ok(&[(0, 2, 32), (1, 0, 0), (1, 0, 32)]),
+        fault: None,
+        after: &[(0, 2, 5), (1, 0, 9), (1, 0, 5)],
     },
     Addition {
         trees: false,
         at: &[],
-        after: Ok(&[(0, 2, 0), (1, 0, 0), (1, 0, 0)]),
+        fault: None,
+        after: &[(0, 2, 9), (1, 0, 9), (1, 0, 9)],
     },
     Addition {
         trees: false,
         at: &[&[0], &[2]],
-        after: Err(TreeFault::NoSuchNode),
+        fault: Some(TreeFault::NoSuchNode),
+        after: &[(0, 2, 9), (1, 0, 9), (1, 0, 9)],
     },
 ];
+
+fn last_class(label: &ClassSet) -> u32 {
+    if label.len() == 0 {
+        9
+    } else {
+        label.at(label.len() - 1).0
+    }
+}
+
+// The nodes of a tree, as the rows have them.
+fn shape_of(alloc: Global, tree: &Tree) -> Result<Vec<(usize, u32, u32)>, NoMemory> {
+    let mut nodes = Vec::new(alloc);
+    let mut at = Path::root(alloc);
+    for _ in 0..20 {
+        let Some(label) = tree.label(&at) else {
+            break;
+        };
+        nodes.push((at.len(), tree.children(&at).unwrap_or(0), last_class(label)))?;
+        if !go_on(tree, &mut at)? {
+            break;
+        }
+    }
+    Ok(nodes)
+}
+
+// What the call answers, and the tree's nodes after it.
+fn added(
+    alloc: Global,
+    row: &Addition,
+) -> Result<(Result<(), TreeFault>, Vec<(usize, u32, u32)>), TreeFault> {
+    let root = Path::root(alloc);
+    let mut tree = Tree::new(alloc, ClassSet::new(alloc))?;
+    tree.add_child(&root, ClassSet::new(alloc))?;
+    tree.add_child(&root, ClassSet::new(alloc))?;
+    let at = paths_of(alloc, row.at)?;
+    let answer = if !row.trees {
+        tree.add_classes_to_each(&at, &set_of(alloc, &[5])?)
+    } else if let [one] = at.as_slice() {
+        tree.add_trees(one, two_trees(alloc)?.items())
+    } else {
+        tree.add_trees_to_each(&at, two_trees(alloc)?.items())
+    };
+    Ok((answer, shape_of(alloc, &tree)?))
+}
+
+#[test]
+fn adds_to_each_node_or_to_none(rt: HostRuntime) -> Result<(), Fail> {
+    for row in &ADDITIONS {
+        let (answer, after) = added(rt.alloc(), row)?;
+        assert!(rt; answer.err() == row.fault);
+        assert!(rt; after.as_slice() == row.after);
+    }
+    Ok(())
+}
+
+// How many trees and nodes an action adds at the top, and how many classes.
+fn amounts(action: &Action) -> (usize, u32, usize) {
+    match action {
+        Action::Classes(classes) => (0, 0, classes.len()),
+        Action::Inside(forest) => (forest.tops.items().len(), first_count(forest), 0),
+        Action::Beside(forest) => (forest.tops.items().len(), first_count(forest), 1),
+    }
+}
+
+fn first_count(forest: &Forest) -> u32 {
+    match forest.tops.items().first() {
+        None => 0,
+        Some(top) => top.count(),
+    }
+}
+
+#[test]
+fn copies_are_the_same(rt: HostRuntime) -> Result<(), Fail> {
+    let alloc = rt.alloc();
+    let classes = Action::Classes(set_of(alloc, &[4, 6])?);
+    assert!(rt; amounts(&classes.copy()?) == (0, 0, 2));
+    let tops = two_trees(alloc)?;
+    let inside = Action::Inside(Forest { tops });
+    assert!(rt; amounts(&inside.copy()?) == (2, 2, 0));
+    let tops = two_trees(alloc)?;
+    let beside = Action::Beside(Forest { tops });
+    assert!(rt; amounts(&beside.copy()?) == (2, 2, 1));
+    Ok(())
+}
+
+#[test]
+fn builds_reads_and_walks_a_tree(rt: HostRuntime) -> Result<(), Fail> {
+    let alloc = rt.alloc();
+    assert!(rt; first_child(alloc)? == (Err(TreeFault::NoSuchNode), 1, 0, 2));
+    let (tree, numbers, grew) = build(alloc)?;
+    assert!(rt; numbers == [0, 1, 0]);
+    assert!(rt; grew == [true, false, true, false]);
+    let copy = tree.copy()?;
+    for tree in [&tree, &copy] {
+        assert!(rt; reads_well(alloc, tree)?);
+        assert!(rt;
+            shape_of(alloc, tree)?.as_slice() == [(0, 2, 9), (1, 1, 8), (2, 0, 9), (1, 0, 9)].as_slice()
+        );
+    }
+    Ok(())
+}
