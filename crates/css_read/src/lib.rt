@@ -12,6 +12,3 @@ mod units;
 pub use faults::{MOST_SELECTORS, SheetFault};
 pub use reading::read_sheet;
 pub use sheets::{Outcome, Range, Ranges, Sheet, SheetItem, SheetItems};
-
-#[cfg(test)]
-mod tests;

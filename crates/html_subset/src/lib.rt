@@ -16,8 +16,3 @@ mod tokens;
 
 pub use faults::{MOST_DEPTH, MOST_PAGE_NODES, PageFault};
 pub use reading::{read_forest, read_page};
-
-#[cfg(test)]
-mod tests;
-#[cfg(test)]
-mod token_tests;

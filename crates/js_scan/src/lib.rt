@@ -11,6 +11,3 @@ mod token;
 
 pub use scanner::scan;
 pub use token::{Letters, ScanFault, Token, TokenKind};
-
-#[cfg(test)]
-mod tests;

@@ -7,8 +7,6 @@ mod class_set;
 mod no_memory;
 mod paths;
 mod places;
-#[cfg(test)]
-mod tests;
 
 pub use atom_table::{AtomFault, AtomTable};
 pub use atoms::{Atom, AtomKind, MOST_ATOMS};

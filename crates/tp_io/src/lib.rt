@@ -20,6 +20,3 @@ pub use mem_sink::MemSink;
 pub use sinks::{Sink, SinkFault, put_all};
 pub use sure_files::SureFiles;
 pub use sure_sink::SureSink;
-
-#[cfg(test)]
-mod tests;

@@ -7,8 +7,6 @@ mod faults;
 mod lines;
 mod pieces;
 mod report;
-#[cfg(test)]
-mod tests;
 
 pub use answers::{Answer, Steps, Unfolded};
 pub use cursor::Cursor;

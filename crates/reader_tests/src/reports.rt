@@ -1,5 +1,4 @@
 //! Reports on one sheet, and one that is cut off.
-use super::*;
 use css_read::{Outcome, Ranges, Sheet, SheetItem, SheetItems};
 use sel_core::{SelFault, Skip, read_selector};
 use std::alloc::Global;
@@ -7,6 +6,7 @@ use std::test::Fail;
 use tp_base::{AtomTable, NoMemory, Path, Place};
 use tp_io::{MemSink, SureSink};
 use tree_sem::Step;
+use usage_report::{Answer, ReportFault, Steps, Unfolded, write_report};
 
 const TEXT: &str = ".a{}\nli.item > #b, c + d{}\n";
 

@@ -1,4 +1,4 @@
-use crate::{MOST_SELECTORS, Outcome, Sheet, SheetFault, read_sheet};
+use css_read::{MOST_SELECTORS, Outcome, Sheet, SheetFault, read_sheet};
 use sel_core::write_selector;
 use std::alloc::Global;
 use std::process::Abort;

@@ -1,8 +1,8 @@
 //! Each public call once, with ample memory.
-use super::*;
 use std::alloc::Global;
 use std::process::Abort;
 use std::test::Fail;
+use tp_base::{Atom, AtomFault, AtomKind, AtomTable, ClassSet, NoMemory, Path, Place, place_of};
 
 fn check_set(rt: &impl Abort, set: &ClassSet, want: &[u32]) {
     assert_eq!(rt; set.len(), want.len());

@@ -1,7 +1,7 @@
 use Rattle.std.proofs.Common.{length, IsSome}
 use Rattle.tree_sem.specs.Trees.{node_at}
 use Rattle.tree_sem.specs.Order.{rest_of}
-use Rattle.html_subset.proofs.tests.push_tree.Given as goal
+use Rattle.reader_tests.proofs.pages.push_tree.Given as goal
 
 abbrev pub invariant-nodes : goal.invariant-nodes
 invariant-nodes l = record {

@@ -1,4 +1,4 @@
-use super::{PageFault, read_forest, read_page};
+use html_subset::{PageFault, read_forest, read_page};
 use std::alloc::Global;
 use std::test::Fail;
 use tp_base::{AtomKind, AtomTable, ClassSet, Path};
@@ -159,6 +159,40 @@ static FORESTS: [(&[u8], &str); 27] = [
     ),
 ];
 
+// What is a tag, where it ends, and which attributes it has.
+static TAGS: [(&[u8], &str); 24] = [
+    (b"a < b<1<", ""),
+    (b"<<a>>", "1a "),
+    (b"<P Class=a id='b' ID=c>x</p ><i>", "1p#b.a 1i "),
+    (b"<a\tclass\n=\r\"x y\" class>", "1a.x.y "),
+    (b"<a\x0cid = x/>", "1a#x/ "),
+    (b"<a id=>x", "1a "),
+    (b"<a id id=b>", "1a "),
+    (b"<a =id id='q'>", "1a#q "),
+    (b"<a id==b>", "1a#=b "),
+    (b"<a b='>'id=\"'\">", "1a#' "),
+    (b"<a b/id=c>", "1a#c "),
+    (b"<a b = id=c>", "1a "),
+    (b"<a ids=b xid=c id2>", "1a "),
+    (b"<svg:a=1><a<b>", "1svg:a=1 2a<b "),
+    (b"<b></B id='>'/><i>", "1b 1i "),
+    (
+        b"a<!--><b><!---><i><!----><u><!-- > -- --><s><!--!><q>--->",
+        "1b 2i 3u 4s ",
+    ),
+    (b"<!DOCTYPE html><?x><b></3><i></ b><!><u></><!-x>", "1b 2i 3u "),
+    (b"<b>a<!-- <i>", "1b "),
+    (b"<b>a</b", "1b "),
+    (b"<b><i c='>", "1b "),
+    (b"<Script>a<b></scrip></scriptx></SCRIPT ><i>", "1script 1i "),
+    (b"<xmp/><!--</xmp/><i>", "1xmp 1i "),
+    (
+        b"<style></ style><</style><iframe></iframe\n><title></style></title",
+        "1style 1iframe 1title ",
+    ),
+    (b"<scripts><b></pre><i>", "1scripts 2b 3i "),
+];
+
 #[test]
 fn pages_and_forests(rt: HostRuntime) -> Result<(), Fail> {
     let alloc = rt.alloc();
@@ -166,6 +200,9 @@ fn pages_and_forests(rt: HostRuntime) -> Result<(), Fail> {
         assert_eq!(rt; page_outline(alloc, text)?.as_str(), *want);
     }
     for (text, want) in FORESTS.iter() {
+        assert_eq!(rt; forest_outline(alloc, text)?.as_str(), *want);
+    }
+    for (text, want) in TAGS.iter() {
         assert_eq!(rt; forest_outline(alloc, text)?.as_str(), *want);
     }
     Ok(())

@@ -1,4 +1,4 @@
-use super::*;
+use js_scan::{TokenKind, scan};
 use std::alloc::{AllocError, Global};
 use std::test::Fail;
 

@@ -1,11 +1,11 @@
 //! Calls with ample memory, and the system's files and streams once.
-use crate::{
-    Files, HostFiles, HostSink, LoadFault, MOST_BYTES, MemFiles, MemSink, Sink, SinkFault,
-    SureFiles, SureSink, put_all,
-};
 use std::alloc::{AllocError, Global};
 use std::test::Fail;
 use std::{env, fs, process};
+use tp_io::{
+    Files, HostFiles, HostSink, LoadFault, MOST_BYTES, MemFiles, MemSink, Sink, SinkFault,
+    SureFiles, SureSink, put_all,
+};
 
 fn entry(alloc: Global, name: &str, bytes: &[u8]) -> Result<(String, Vec<u8>), AllocError> {
     Ok((
