@@ -94,12 +94,16 @@ fn of_the_system(rt: HostRuntime) -> Result<(), Fail> {
     fs::remove_file(&rt, path.as_path())?;
     let gone = loaded(&mut files, alloc, path.as_str());
     let endless = loaded(&mut files, alloc, "/dev/zero");
+    // A folder opens, and then can't be read.
+    let folder = loaded(&mut files, alloc, env::temp_dir(&rt)?.as_str());
     bytes.truncate(MOST_BYTES as usize);
     assert!(rt; most.0 == Ok(()));
     assert!(rt; most.1 == bytes);
     assert!(rt; more.0 == Err(LoadFault::TooLarge));
     assert!(rt; gone.0 == Err(LoadFault::Failed));
     assert!(rt; endless.0 == Err(LoadFault::TooLarge));
+    assert!(rt; folder.0 == Err(LoadFault::Failed));
+    assert!(rt; folder.1.is_empty());
     Ok(())
 }
 

@@ -180,11 +180,17 @@ static TAGS: [(&[u8], &str); 24] = [
         b"a<!--><b><!---><i><!----><u><!-- > -- --><s><!--!><q>--->",
         "1b 2i 3u 4s ",
     ),
-    (b"<!DOCTYPE html><?x><b></3><i></ b><!><u></><!-x>", "1b 2i 3u "),
+    (
+        b"<!DOCTYPE html><?x><b></3><i></ b><!><u></><!-x>",
+        "1b 2i 3u ",
+    ),
     (b"<b>a<!-- <i>", "1b "),
     (b"<b>a</b", "1b "),
     (b"<b><i c='>", "1b "),
-    (b"<Script>a<b></scrip></scriptx></SCRIPT ><i>", "1script 1i "),
+    (
+        b"<Script>a<b></scrip></scriptx></SCRIPT ><i>",
+        "1script 1i ",
+    ),
     (b"<xmp/><!--</xmp/><i>", "1xmp 1i "),
     (
         b"<style></ style><</style><iframe></iframe\n><title></style></title",

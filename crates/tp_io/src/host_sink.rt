@@ -53,6 +53,8 @@ impl<W: Write> Sink for HostSink<W> {
 
     ghost faults = { λ s. s.faults };
 
+    ghost wants_memory = { ⊥ };
+
     fn put(&mut self, piece: &[u8]) -> Result<usize, SinkFault>
         ensures some { IfOk result (λ count. (0 < count) × (count ≤ length piece.now)) }
         ensures only_failed { IsOkUnless result SinkFault.Failed }

@@ -61,6 +61,8 @@ impl Sink for MemSink {
 
     ghost faults = { λ s. s.faults };
 
+    ghost wants_memory = { Unit {0} };
+
     fn put(&mut self, piece: &[u8]) -> Result<usize, SinkFault>
         requires { 0 < length piece.now }
         ensures failed { IsErrOf result SinkFault.Failed ↔ Contains self.old.fail (next_count self.old.puts) }

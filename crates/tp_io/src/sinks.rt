@@ -35,7 +35,7 @@ impl<T: Drop> From<AllocFailed<T>> for SinkFault {
 }
 
 /// What takes bytes. Each implementation counts its faults, up to the greatest `u64`, and says whether it tells
-/// what was written.
+/// what was written, and whether a put may want memory.
 pub trait Sink {
     ghost use Rattle.std.specs.Prelude.{ℕ, List, Option};
 
@@ -45,6 +45,9 @@ pub trait Sink {
     // How many faults there were so far.
     ghost faults: { Self → ℕ };
 
+    // What holds where a put may want memory.
+    ghost wants_memory: { Type 0 };
+
     /// Takes the first bytes of a piece, and answers how many. `put_all` puts the rest.
     fn put(&mut self, piece: &[u8]) -> Result<usize, SinkFault>
         requires { 0 < length piece.now }
@@ -53,6 +56,7 @@ pub trait Sink {
         ensures err { OnErr result (written self.new ≡ written self.old) }
         ensures failed { result ≡ Err SinkFault.Failed → Rose (faults self.old) (faults self.new) }
         ensures took_nothing { result ≡ Ok 0 → Rose (faults self.old) (faults self.new) }
+        ensures memory { result ≡ Err SinkFault.Memory → wants_memory }
         ensures never_falls { faults self.old ≤ faults self.new };
 }
 
@@ -61,6 +65,7 @@ pub fn put_all<O: Sink>(out: &mut O, piece: &[u8]) -> Result<(), SinkFault>
     ensures ok { OnOk result (Adds (O.written out.old) (O.written out.new) piece.now) }
     ensures err { OnErr result (AddsPrefix (O.written out.old) (O.written out.new) piece.now) }
     ensures failed { result ≡ Err SinkFault.Failed → Rose (O.faults out.old) (O.faults out.new) }
+    ensures memory { result ≡ Err SinkFault.Memory → O.wants_memory }
     ensures never_falls { O.faults out.old ≤ O.faults out.new }
     ensures empty_succeeds { piece.now ≡ [] → IsOk result }
     ensures empty_makes_no_put { piece.now ≡ [] → out.new ≡ out.old }

@@ -43,6 +43,8 @@ impl Sink for SureSink {
 
     ghost faults = { λ _. 0 };
 
+    ghost wants_memory = { Unit {0} };
+
     fn put(&mut self, piece: &[u8]) -> Result<usize, SinkFault>
         ensures all { IfOk result (λ count. count ≡ length piece.now) }
         ensures kept { OnOk result (self.new ≡ self.old ++ piece.now) }

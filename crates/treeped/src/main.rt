@@ -1,10 +1,14 @@
 //! Finds the CSS rules that a page can never use: `treeped PAGE SHEET SCRIPT`.
 #![tactic(auto)]
 
+ghost use Rattle.std.specs.Prelude.{◌≡◌};
+ghost use Rattle.std.specs.Process.{exit_status};
+ghost use Rattle.treeped_app.specs.Stops.{code_of};
+
 use std::alloc::Global;
 use std::io::ErrorKind;
 use std::process::ExitCode;
-use std::rt::Env;
+use std::rt::{Env, Files, Stderr, Stdout};
 use std::{env, io};
 use tp_io::{HostFiles, HostSink, put_all};
 use treeped_app::{Status, treeped};
@@ -14,15 +18,33 @@ fn main(rt: HostRuntime) -> ExitCode {
     let mut out = HostSink::output(rt.stdout());
     let mut err = HostSink::error(rt.stderr());
     let status = match words(&rt, alloc) {
-        Ok(words) => {
-            let mut files = HostFiles::new(alloc, rt);
-            treeped(alloc, &words, &mut files, &mut out, &mut err)
-        }
-        Err(_) => {
-            let _ = put_all(&mut err, b"treeped: no memory\n");
-            Status::NoMemory
-        }
+        Ok(words) => run(alloc, &words, rt, &mut out, &mut err),
+        Err(_) => no_words(&mut err),
     };
+    exit_code(status)
+}
+
+// The report goes to standard output, and what else is said to standard error.
+fn run<R: Files + Drop>(
+    alloc: Global,
+    words: &[String],
+    system: R,
+    out: &mut HostSink<Stdout>,
+    err: &mut HostSink<Stderr>,
+) -> Status {
+    let mut files = HostFiles::new(alloc, system);
+    treeped(alloc, words, &mut files, out, err)
+}
+
+fn no_words(err: &mut HostSink<Stderr>) -> Status {
+    let _ = put_all(err, b"treeped: no memory\n");
+    Status::NoMemory
+}
+
+// The status that the process ends with.
+fn exit_code(status: Status) -> ExitCode
+    ensures { exit_status result ≡ code_of status }
+{
     ExitCode::from(status.code())
 }
 
@@ -40,3 +62,6 @@ fn words<R: Env + Alloc<A = Global>>(rt: &R, alloc: Global) -> io::Result<Vec<St
     }
     Ok(words)
 }
+
+#[cfg(test)]
+mod tests;

@@ -1,5 +1,6 @@
 -- What the command answers, and why.
 --     Headline run s             a report is whole and right
+--     SaysWhy wants err s        the last line of a run without its report is whole
 --     Causes run s               each answer comes where its cause stands, and only there
 use Rattle.std.specs.Prelude.{◌≡◌, ◌≢◌, ◌≤◌, ◌⊎◌, ℕ, List, [], ◌∷◌, ◌++◌, length, Option, Some, None, Result, Ok, Err}
 use Rattle.tp_io.specs.Sinks.{Adds, AddsPrefix, Rose}
@@ -58,6 +59,15 @@ IsEnded r err s = (end : Result Status Stop) × Ends r end × IsTold end err s
 -- standard error failed as a line had to be said, or there was no memory
 abbrev pub Fails : Put → Status → Type 0
 Fails err s = ((s ≡ status.WriteFault) × Rose err.faults err.faults') ⊎ (s ≡ status.NoMemory)
+
+-- the line of this stop is the last that standard error got, and it is whole; or standard error failed, or may have wanted memory
+abbrev pub SaysWhole : Type 0 → Stop → Put → Type 0
+SaysWhole wants_memory stop err = ((between : Option (List ℕ)) × Adds between err.held' (line_of stop)) ⊎ Rose err.faults err.faults' ⊎ wants_memory
+
+-- a run that ends for want of memory or at a failed write doesn't end in silence
+pub record SaysWhy (wants_memory : Type 0) (err : Put) (s : Status) : Type 0 where
+  pub write_fault : s ≡ status.WriteFault → SaysWhole wants_memory WriteFault err
+  pub no_memory : s ≡ status.NoMemory → SaysWhole wants_memory NoMemory err
 
 -- a stop of status `Refused`
 abbrev pub IsRefusal : Stop → Type 0

@@ -5,7 +5,7 @@ ghost use Rattle.treeped_app.specs.Runs as spec;
 ghost use Rattle.treeped_app.specs.Scripts.{statement_of};
 ghost use Rattle.treeped_app.specs.Runs.{Ends, Written, put_of, run_of};
 ghost use Rattle.treeped_app.specs.Inputs.{inputs_of, texts_of};
-ghost use Rattle.treeped_app.specs.Commands.{Headline, IsEnded, Causes};
+ghost use Rattle.treeped_app.specs.Commands.{Headline, IsEnded, SaysWhy, Causes};
 ghost use Rattle.usage_report.specs.Views.{answer_of};
 ghost use Rattle.tp_base.specs.declared.places.TheConstants.{MOST_BYTES};
 
@@ -37,6 +37,7 @@ pub fn treeped<F: Files, O: Sink, E: Sink>(
         in
         let said = put_of (E.written err.old) (E.written err.new) (E.faults err.old) (E.faults err.new)
         in IsEnded run said result }
+    ensures says_why { SaysWhy E.wants_memory (put_of (E.written err.old) (E.written err.new) (E.faults err.old) (E.faults err.new)) result }
     ensures causes { let run = run_of (F.told files.old) (map string_bytes words.now) (F.loads files.old) (F.loads files.new)
         (put_of (O.written out.old) (O.written out.new) (O.faults out.old) (O.faults out.new))
         in

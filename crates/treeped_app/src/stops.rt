@@ -3,7 +3,7 @@ ghost use Rattle.std.specs.Prelude.{◌≡◌, ◌≢◌, ◌≤◌, ◌++◌, l
 ghost use Rattle.std.specs.Fmt.{decimal};
 ghost use Rattle.tp_base.specs.declared.places.TheConstants.{MOST_BYTES};
 ghost use Rattle.tp_io.specs.Sinks.{AddsPrefix};
-ghost use Rattle.treeped_app.specs.Commands.{Tells, Says};
+ghost use Rattle.treeped_app.specs.Commands.{Tells, Says, SaysWhole, SaysWhy};
 ghost use Rattle.treeped_app.specs.Refusals as refusal;
 ghost use Rattle.treeped_app.specs.Runs.{put_of};
 ghost use Rattle.treeped_app.specs.Stops as spec;
@@ -191,7 +191,8 @@ fn fault_text(fault: Fault) -> &'static [u8]
 
 /// Says on standard error why a run ends, and answers its status.
 pub(crate) fn tell<E: Sink>(alloc: Global, stop: Stop, err: &mut E) -> Status
-    ensures { Tells stop (put_of (E.written err.old) (E.written err.new) (E.faults err.old) (E.faults err.new)) result }
+    ensures tells { Tells stop (put_of (E.written err.old) (E.written err.new) (E.faults err.old) (E.faults err.new)) result }
+    ensures why { SaysWhy E.wants_memory (put_of (E.written err.old) (E.written err.new) (E.faults err.old) (E.faults err.new)) result }
 {
     match stop {
         Stop::WriteFault => say_last(stop, err),
@@ -202,7 +203,8 @@ pub(crate) fn tell<E: Sink>(alloc: Global, stop: Stop, err: &mut E) -> Status
 
 /// Says the line of a stop, or why it can't.
 fn say<E: Sink>(alloc: Global, stop: Stop, err: &mut E) -> Status
-    ensures { Says stop (put_of (E.written err.old) (E.written err.new) (E.faults err.old) (E.faults err.new)) result }
+    ensures says { Says stop (put_of (E.written err.old) (E.written err.new) (E.faults err.old) (E.faults err.new)) result }
+    ensures why { SaysWhy E.wants_memory (put_of (E.written err.old) (E.written err.new) (E.faults err.old) (E.faults err.new)) result }
 {
     let Ok(line) = stop.line(alloc) else {
         return say_last(Stop::NoMemory, err);
@@ -219,6 +221,7 @@ fn say_last<E: Sink>(stop: Stop, err: &mut E) -> Status
     requires { spec.IsFixed stop }
     ensures status { result ≡ spec.status_of_stop stop }
     ensures line { AddsPrefix (E.written err.old) (E.written err.new) (spec.line_of stop) }
+    ensures whole { SaysWhole E.wants_memory stop (put_of (E.written err.old) (E.written err.new) (E.faults err.old) (E.faults err.new)) }
     ensures never_falls { E.faults err.old ≤ E.faults err.new }
 {
     let _ = put_all(err, stop.fixed_line());

@@ -6,4 +6,4 @@ pub returns-in-Ok-clause-causes : goal.returns-in-Ok-clause-causes
 returns-in-Ok-clause-causes g c = causes_of _ _ _ (Ok c.in-Ok.status, c.in-Ok.ensures, (refl, refl))
 
 pub returns-in-Err-clause-causes : goal.returns-in-Err-clause-causes
-returns-in-Err-clause-causes g c = causes_of _ _ _ (Err c.in-Err.stop, c.in-Err.ensures, c.tell.ensures)
+returns-in-Err-clause-causes g c = causes_of _ _ _ (Err c.in-Err.stop, c.in-Err.ensures, c.tell.ensures.tells)

@@ -32,5 +32,6 @@ put-tells c =
       err = same_bytes c.result _ c.args.piece.now _ bytes;
       failed = rose_by c.result (Err Failed) _ _ faults (rose_next c.args.self.now.faults);
       took_nothing = rose_by c.result (Ok 0) _ _ faults (rose_next c.args.self.now.faults);
+      memory = λ _. tt;
       never_falls = c.ensures.never_falls;
     }

@@ -1,0 +1,36 @@
+//! Runs over the system's files and streams, each with the status that the process would end with.
+use crate::{exit_code, run};
+use std::alloc::{AllocError, Global};
+use std::process::ExitCode;
+use std::test::Fail;
+use std::{env, fs, process};
+use tp_io::HostSink;
+
+fn strings(alloc: Global, words: &[&str]) -> Result<Vec<String>, AllocError> {
+    let mut strings = Vec::new(alloc);
+    for word in words {
+        strings.push(String::from_str(alloc, word)?)?;
+    }
+    Ok(strings)
+}
+
+#[test]
+fn ends_with_the_status(rt: HostRuntime) -> Result<(), Fail> {
+    let alloc = rt.alloc();
+    let mut path = env::temp_dir(&rt)?;
+    path.push(format!(in alloc; "treeped-{}", process::id(rt.process()))?.as_str())?;
+    // One file is the page without the class, the sheet that asks for it, and no script's text.
+    fs::write(&rt, path.as_path(), b".a{}")?;
+    let mut out = HostSink::output(rt.stdout());
+    let mut err = HostSink::error(rt.stderr());
+    let found = strings(alloc, &[path.as_str(), path.as_str(), "/dev/null"])?;
+    let unused = exit_code(run(alloc, &found, &rt, &mut out, &mut err));
+    let refused = exit_code(run(alloc, &[], &rt, &mut out, &mut err));
+    let missing = strings(alloc, &["/dev/null", "/dev/null/none", "/dev/null"])?;
+    let unread = exit_code(run(alloc, &missing, &rt, &mut out, &mut err));
+    fs::remove_file(&rt, path.as_path())?;
+    assert!(rt; unused == ExitCode::from(1));
+    assert!(rt; refused == ExitCode::from(2));
+    assert!(rt; unread == ExitCode::from(4));
+    Ok(())
+}
