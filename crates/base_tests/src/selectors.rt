@@ -78,7 +78,11 @@ fn matches_at(tree: &Tree, at: &Path, selector: &Selector) -> Result<(bool, bool
         None => false,
         Some(compound) => fits(tree, at, compound),
     };
-    Ok((matches(tree, at, selector), matches(tree, at, &copy), subject))
+    Ok((
+        matches(tree, at, selector),
+        matches(tree, at, &copy),
+        subject,
+    ))
 }
 
 fn path_of(alloc: Global, steps: &[u32]) -> Result<Path, NoMemory> {

@@ -115,13 +115,27 @@ static ADDITIONS: [Addition; 9] = [
         trees: true,
         at: &[&[]],
         fault: None,
-        after: &[(0, 4, 9), (1, 0, 9), (1, 0, 9), (1, 1, 1), (2, 0, 2), (1, 0, 3)],
+        after: &[
+            (0, 4, 9),
+            (1, 0, 9),
+            (1, 0, 9),
+            (1, 1, 1),
+            (2, 0, 2),
+            (1, 0, 3),
+        ],
     },
     Addition {
         trees: true,
         at: &[&[0]],
         fault: None,
-        after: &[(0, 2, 9), (1, 2, 9), (2, 1, 1), (3, 0, 2), (2, 0, 3), (1, 0, 9)],
+        after: &[
+            (0, 2, 9),
+            (1, 2, 9),
+            (2, 1, 1),
+            (3, 0, 2),
+            (2, 0, 3),
+            (1, 0, 9),
+        ],
     },
     Addition {
         trees: true,
@@ -269,7 +283,8 @@ fn builds_reads_and_walks_a_tree(rt: HostRuntime) -> Result<(), Fail> {
     for tree in [&tree, &copy] {
         assert!(rt; reads_well(alloc, tree)?);
         assert!(rt;
-            shape_of(alloc, tree)?.as_slice() == [(0, 2, 9), (1, 1, 8), (2, 0, 9), (1, 0, 9)].as_slice()
+            shape_of(alloc, tree)?.as_slice()
+                == [(0, 2, 9), (1, 1, 8), (2, 0, 9), (1, 0, 9)].as_slice()
         );
     }
     Ok(())

@@ -81,10 +81,10 @@ module _ (f : LabelTree → LabelTree) (keeps : (s x : LabelTree) → IsWithin s
   edit_both =
       edit_image f v w t (edit_at w f u) (image_grows t u v w image (edit_at w f u) (edit_grows f grows w u))
       (λ s x at at'.
-          let found = image_node t u v w image s at in
-          let there : node_at w (edit_at w f u) ≡ Some (f found.0) = node_at-edit_at w f u ∙ ap (option_map f) found.1 in
-          let same : f found.0 ≡ x = cc in
-          subst (λ (z : LabelTree). IsWithin (f s) z) same (keeps s found.0 found.2))
+      let found = image_node t u v w image s at in
+      let there : node_at w (edit_at w f u) ≡ Some (f found.0) = node_at-edit_at w f u ∙ ap (option_map f) found.1 in
+      let same : f found.0 ≡ x = cc in
+      subst (λ (z : LabelTree). IsWithin (f s) z) same (keeps s found.0 found.2))
 
 -- and the node is an image still
 module _ (f : LabelTree → LabelTree) (keeps : (s x : LabelTree) → IsWithin s x → IsWithin (f s) (f x)) (grows : (s : LabelTree) → Grows s (f s))

@@ -62,11 +62,14 @@ row_within (node l below next) us f each =
 -- the tree at each node is within the one that is there later
 pub grows_at : (t u : LabelTree) → Grows t u → (v : List ℕ) (s : LabelTree) → node_at v t ≡ Some s → (x : LabelTree) × (node_at v u ≡ Some x) × IsWithin s x
 grows_at t u grows v s at =
-    let found = grows v s at in
-    (found.0, found.1, (
-      All-from_Contains (Contains found.0.label) s.label found.2,
-      row_within s.below found.0.below (λ k. k) (λ k c is. child_stays s found.0 (below s found.0 at found.1) k c is),
-    ))
+    let found = grows v s at in (
+      found.0,
+      found.1,
+      (
+        All-from_Contains (Contains found.0.label) s.label found.2,
+        row_within s.below found.0.below (λ k. k) (λ k c is. child_stays s found.0 (below s found.0 at found.1) k c is),
+      ),
+    )
   where
     below : (s x : LabelTree) → node_at v t ≡ Some s → node_at v u ≡ Some x → Grows s x
     below s x at at' q y is =

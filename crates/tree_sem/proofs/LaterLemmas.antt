@@ -28,7 +28,7 @@ later_both old mid new a b = record {
       let second = b.children i (omega (arith, a.longer)) in (
         first.0 ++ second.0,
         second.1 ∙ ap (λ z. z ++ second.0) first.1 ∙ append_assoc (kids_in old i) first.0 second.0,
-        all_above (length old) (length mid) first.0 second.0 a.longer first.2 second.2
+        all_above (length old) (length mid) first.0 second.0 a.longer first.2 second.2,
       );
 }
 
