@@ -1,0 +1,9 @@
+pub mod Systems
+pub mod Labels
+pub mod Rounds
+pub mod Pages
+pub mod Pairs
+pub mod Knowledge
+pub mod SimpleSteps
+pub mod Growth
+pub mod Reached

@@ -1,0 +1,48 @@
+-- Steps of a system: one rule, at one node.
+--     IsLegal s t step       the rule is one of s, and what it looks at is there
+--     end_of t steps         the tree after the steps
+--     AreLegal s t steps     each step is legal in the tree before it
+use Rattle.std.specs.Prelude.{◌≡◌, ℕ, List, [], ◌∷◌, ◌++◌, All, Contains, IsSomeAnd}
+use Rattle.tree_sem.specs.Trees.{LabelTree, label_at, edit_at, add_class, add_child}
+use Rattle.tree_sem.specs.Nodes.{IsNode, HasAtom}
+use Rattle.simple_core.specs.declared.rules.Local.{Local}
+use Rattle.simple_core.specs.declared.rules.Link.{Link}
+use Rattle.simple_core.specs.declared.rules.Spawn.{Spawn}
+use Rattle.simple_core.specs.declared.system.System.{System}
+use Rattle.simple_core.specs.Systems.{kind_label}
+
+-- a rule of one of the lists, and the path of the node at which it adds something
+pub data SimpleStep : Type 0 where
+  by_local : Local → List ℕ → SimpleStep
+  by_up : Link → List ℕ → SimpleStep
+  by_down : Link → List ℕ → SimpleStep
+  by_spawn : Spawn → List ℕ → SimpleStep
+
+-- there is a node at v, and it has all these atoms
+abbrev pub HasAll : LabelTree → List ℕ → List ℕ → Type 0
+HasAll t v wanted = IsSomeAnd (label_at v t) (λ label. All (Contains label) wanted)
+
+-- there is a node at v, and it has the atom
+abbrev pub Has : LabelTree → List ℕ → ℕ → Type 0
+Has t v a = HasAtom t v a
+
+-- `up` looks at the parent, and `down` at some child
+abbrev pub IsLegal : System → LabelTree → SimpleStep → Type 0
+IsLegal s t (by_local r v) = Contains s.local r × HasAll t v r.needs
+IsLegal s t (by_up l v) = Contains s.up l × IsNode t v × (p : List ℕ) × (n : ℕ) × (v ≡ p ++ n ∷ []) × HasAtom t p l.from
+IsLegal s t (by_down l v) = Contains s.down l × (n : ℕ) × HasAtom t (v ++ n ∷ []) l.from
+IsLegal s t (by_spawn c v) = Contains s.child c × HasAtom t v c.needs
+
+abbrev pub after_step : System → LabelTree → SimpleStep → LabelTree
+after_step s t (by_local r v) = edit_at v (add_class r.gives) t
+after_step s t (by_up l v) = edit_at v (add_class l.to) t
+after_step s t (by_down l v) = edit_at v (add_class l.to) t
+after_step s t (by_spawn c v) = edit_at v (add_child (kind_label s c.kind)) t
+
+abbrev pub end_of : System → LabelTree → List SimpleStep → LabelTree
+end_of s t [] = t
+end_of s t (step ∷ steps) = end_of s (after_step s t step) steps
+
+abbrev pub AreLegal : System → LabelTree → List SimpleStep → Type 0
+AreLegal s t [] = Unit {0}
+AreLegal s t (step ∷ steps) = IsLegal s t step × AreLegal s (after_step s t step) steps

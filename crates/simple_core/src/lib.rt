@@ -1,0 +1,15 @@
+//! Systems of rules that add an atom or a child at one node at a time.
+#![tactic(auto)]
+
+mod copying;
+mod growth;
+mod rounds;
+mod rules;
+mod summaries;
+mod system;
+
+pub use growth::{brings_closed, keeps_growth, keeps_out};
+pub use rounds::{add_by_links, add_by_rules};
+pub use rules::{Kind, Link, Local, Spawn};
+pub use summaries::{GainFault, Summaries};
+pub use system::{Kinds, Links, Locals, MOST_KINDS, Spawns, System};
