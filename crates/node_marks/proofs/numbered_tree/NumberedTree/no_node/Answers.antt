@@ -1,0 +1,6 @@
+use Rattle.std.proofs.Common.{◌∙◌}
+use Rattle.node_marks.proofs.SetLemmas.{none_marked}
+use Rattle.node_marks.proofs.numbered_tree.NumberedTree.no_node.Goals as goal
+
+pub returns : goal.returns
+returns c = none_marked c.args.self.now c.count.result c.new.result c.count.ensures (c.new.ensures ∙ c.in_ok-filled.ensures)

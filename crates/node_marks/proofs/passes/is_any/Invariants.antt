@@ -1,0 +1,6 @@
+use Rattle.std.proofs.Common.{◌≡◌, ℕ, ◌<◌, true}
+use Rattle.node_marks.specs.Marks.{mark}
+use Rattle.node_marks.proofs.passes.is_any.Given as goal
+
+abbrev pub invariant-nodes : goal.invariant-nodes
+invariant-nodes l = (i : ℕ) → i < l.i → mark l.marks i ≡ true → ⊥

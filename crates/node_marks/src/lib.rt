@@ -1,0 +1,10 @@
+//! Sets of a tree's nodes as marks, and what is made of one set by a step up or down, for all nodes at once.
+#![tactic(auto)]
+
+mod marks;
+mod numbered_tree;
+mod passes;
+mod walk;
+
+pub use marks::Marks;
+pub use numbered_tree::NumberedTree;
