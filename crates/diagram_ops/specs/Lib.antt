@@ -1,0 +1,5 @@
+pub mod Compositions
+pub mod Memo
+pub mod Starts
+pub mod Steps
+pub mod Walks

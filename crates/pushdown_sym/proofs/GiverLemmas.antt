@@ -1,0 +1,117 @@
+-- Rules by the atoms that they give.
+use Rattle.std.proofs.Common.{◌≡◌, ℕ, zero, suc, ◌+◌, ◌<◌, Bool, true, false, ◌==◌, eqb, cond, if◌then◌else◌, List, [], ◌∷◌, ◌++◌, take, length, get_or, slice_get, Some, None, Option, option_map, unwrap_or, Result, refl, sym, ap, subst, ◌∙◌, arith, inl, inr, append_assoc, append-nil}
+use Rattle.std.specs.List.{flat_map}
+use Rattle.std.proofs.lemmas.Bool.{cases_Bool, both_ways, eqb-true}
+use Rattle.std.proofs.lemmas.List.{take_more, length_push, length-take-le}
+use Rattle.class_diagrams.specs.References.{Reference}
+use Rattle.class_diagrams.specs.declared.faults.DiagramFault.{DiagramFault}
+use Rattle.class_diagrams.specs.Arena.{Arena, IsArena, IsIn}
+use Rattle.simple_core.specs.declared.rules.Local.{Local}
+use Rattle.simple_core.specs.declared.rules.Link.{Link}
+use Rattle.simple_core.specs.declared.rules.Spawn.{Spawn}
+use Rattle.pushdown_sym.specs.Terms.{CellTrees, Term}
+use Rattle.pushdown_sym.specs.Adding.{Adds, of_local, of_up, of_down}
+use Rattle.pushdown_sym.specs.Givers.{places_from, places_in, AreGivers, of_place}
+
+-- ### places
+
+places_from-push : {X : Type 0} (passes : X → Bool) (k : ℕ) (xs : List X) (x : X)
+    → places_from passes k (xs ++ x ∷ []) ≡ (if passes x then places_from passes k xs ++ (k + length xs) ∷ [] else places_from passes k xs)
+places_from-push passes k [] x = elim (cases_Bool (passes x)) [
+  | inl here ↦ rw here (let same : k ≡ k + 0 = omega arith in ap (λ n. n ∷ []) same)
+  | inr other ↦ rw other refl
+]
+places_from-push passes k (y ∷ xs) x =
+    let more = places_from-push passes (suc k) xs x in
+    let place : suc k + length xs ≡ k + suc (length xs) = omega arith in
+    elim (cases_Bool (passes y)) [
+      | inl first ↦ elim (cases_Bool (passes x)) [
+        | inl here ↦ rw (first, here) (ap (λ ns. k ∷ ns) ((rw here at more) ∙ ap (λ n. places_from passes (suc k) xs ++ n ∷ []) place))
+        | inr other ↦ rw (first, other) (ap (λ ns. k ∷ ns) (rw other at more))
+      ]
+      | inr skipped ↦ elim (cases_Bool (passes x)) [
+        | inl here ↦ rw (skipped, here) ((rw here at more) ∙ ap (λ n. places_from passes (suc k) xs ++ n ∷ []) place)
+        | inr other ↦ rw (skipped, other) (rw other at more)
+      ]
+    ]
+
+pub unwrap_cond : {X : Type 0} (b : Bool) (x : X) (o : Option X) (d : X) → unwrap_or (cond b (Some x) o) d ≡ cond b x (unwrap_or o d)
+unwrap_cond true x o d = refl
+unwrap_cond false x o d = refl
+
+pub kept : {X : Type 0} (b : Bool) (x y z : X) → b ≡ false → z ≡ cond b x y → z ≡ y
+kept true x y z other is = absurd (both_ways true other refl)
+kept false x y z other is = is
+
+-- first the places are taken, then the longer list is put there
+pub noted : (old taken new : ℕ → List ℕ) (atom : ℕ) (places longer : List ℕ) (place : ℕ) → places ≡ old atom → longer ≡ places ++ place ∷ []
+    → ((a : ℕ) → (atom == a) ≡ false → taken a ≡ old a) → ((a : ℕ) → new a ≡ (if atom == a then longer else taken a))
+    → (a : ℕ) → new a ≡ (if atom == a then old atom ++ place ∷ [] else old a)
+noted old taken new atom places longer place is more others put a = elim (cases_Bool (atom == a)) [
+  | inl here ↦ rw here ((rw here at (put a)) ∙ more ∙ ap (λ ns. ns ++ place ∷ []) is)
+  | inr other ↦ rw other ((rw other at (put a)) ∙ others a other)
+]
+
+module _ {X : Type 0} (gives : X → ℕ) (rules : List X) (i : ℕ) (r : X) (less : i < length rules) (at : r ≡ get_or rules i r) (old new : List (ℕ × List ℕ)) where
+  pub givers_more : AreGivers gives (take i rules) old
+      → ((a : ℕ) → places_in new a ≡ (if gives r == a then places_in old (gives r) ++ i ∷ [] else places_in old a))
+      → AreGivers gives (take (i + 1) rules) new
+  givers_more before put a =
+      let longer : take (i + 1) rules ≡ take i rules ++ r ∷ [] = take_more rules i r less ∙ (λ n. take i rules ++ sym at n ∷ []) in
+      let push = ap (places_from (λ (x : X). gives x == a) 0) longer ∙ places_from-push (λ (x : X). gives x == a) 0 (take i rules) r in
+      let place : 0 + length (take i rules) ≡ i = omega (arith, length-take-le i rules (omega (arith, less))) in
+      elim (cases_Bool (gives r == a)) [
+        | inl here ↦
+            (rw here at (put a))
+            ∙ ap (λ b. places_in old b ++ i ∷ []) (eqb-true (gives r) a here)
+            ∙ (λ n. before a n ++ sym place n ∷ [])
+            ∙ sym (rw here at push)
+        | inr other ↦ (rw other at (put a)) ∙ before a ∙ sym (rw other at push)
+      ]
+
+-- ### what comes of the rules at the places is what comes of all rules
+
+of_place-here : {X Y : Type 0} (f : X → List Y) (before : List X) (x : X) (rest : List X) → of_place f (before ++ x ∷ rest) (length before) ≡ f x
+of_place-here f [] x rest = refl
+of_place-here f (y ∷ before) x rest = of_place-here f before x rest
+
+module _ {X Y : Type 0} (f : X → List Y) (passes : X → Bool) (none : (x : X) → passes x ≡ false → f x ≡ []) where
+  places_behind : (before rest : List X) (k : ℕ) → k ≡ length before → flat_map (of_place f (before ++ rest)) (places_from passes k rest) ≡ flat_map f rest
+  places_behind before [] k is = refl
+  places_behind before (x ∷ rest) k is =
+      let whole : before ++ x ∷ rest ≡ (before ++ x ∷ []) ++ rest = sym (append_assoc before (x ∷ []) rest) in
+      let behind : flat_map (of_place f (before ++ x ∷ rest)) (places_from passes (suc k) rest) ≡ flat_map f rest =
+      ap (λ (xs : List X). flat_map (of_place f xs) (places_from passes (suc k) rest)) whole
+      ∙ places_behind (before ++ x ∷ []) rest (suc k) (omega (arith, is, length_push before x)) in
+      let here : of_place f (before ++ x ∷ rest) k ≡ f x = ap (of_place f (before ++ x ∷ rest)) is ∙ of_place-here f before x rest in
+      elim (cases_Bool (passes x)) [
+        | inl given ↦ rw given (λ n. here n ++ behind n)
+        | inr other ↦ rw other (behind ∙ ap (λ ys. ys ++ flat_map f rest) (sym (none x other)))
+      ]
+
+  pub all_places : (xs : List X) → flat_map (of_place f xs) (places_from passes 0 xs) ≡ flat_map f xs
+  all_places xs = places_behind [] xs 0 refl
+
+pub of_local-none : (now : CellTrees) (j a : ℕ) (r : Local) → (r.gives == a) ≡ false → of_local now j a r ≡ []
+of_local-none now j a r other = rw other refl
+
+pub of_up-none : (a : ℕ) (l : Link) → (l.to == a) ≡ false → of_up a l ≡ []
+of_up-none a l other = rw other refl
+
+pub of_down-none : (spawns : List Spawn) (now : CellTrees) (j a : ℕ) (l : Link) → (l.to == a) ≡ false → of_down spawns now j a l ≡ []
+of_down-none spawns now j a l other = rw other refl
+
+-- the terms of the rules at the places are those of all rules
+pub adds_given : {X : Type 0} (f : X → List Term) (passes : X → Bool) → ((x : X) → passes x ≡ false → f x ≡ []) → (xs rules : List X) (places : List ℕ)
+    → (a b : Arena) (start : Reference) (r : Result Reference DiagramFault) → xs ≡ rules → places ≡ places_from passes 0 rules
+    → Adds a b start (flat_map (of_place f xs) places) r → Adds a b start (flat_map f rules) r
+adds_given {X} f passes none xs rules places a b start r same are adds =
+    subst (λ (ts : List Term). Adds a b start ts r)
+    ((λ n. flat_map (of_place f (same n)) (are n)) ∙ all_places f passes none rules) adds
+
+-- the rule at a place
+pub of_place-at : {X Y : Type 0} (f : X → List Y) (rules : List X) (i : ℕ) (x : X) → slice_get rules i ≡ Some x → of_place f rules i ≡ f x
+of_place-at {X} f rules i x at = ap (λ (o : Option X). unwrap_or (option_map f o) []) at
+
+pub of_place-past : {X Y : Type 0} (f : X → List Y) (rules : List X) (i : ℕ) → slice_get rules i ≡ None → of_place f rules i ≡ []
+of_place-past {X} f rules i past = ap (λ (o : Option X). unwrap_or (option_map f o) []) past

@@ -1,0 +1,11 @@
+pub mod Tests
+pub mod TermLemmas
+pub mod CellLemmas
+pub mod GrownLemmas
+pub mod SkipLemmas
+pub mod AddLemmas
+pub mod SeenLemmas
+mod LinkLemmas
+pub mod MapLemmas
+mod Rows
+mod GiverLemmas

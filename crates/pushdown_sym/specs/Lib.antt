@@ -1,0 +1,6 @@
+pub mod Terms
+pub mod Rounds
+pub mod CellMap
+pub mod Adding
+pub mod Reads
+pub mod Givers

@@ -1,0 +1,122 @@
+//! The cells of the next round.
+ghost use Rattle.std.specs.Prelude.{◌≡◌, ◌<◌, ◌==◌, length, IsErrOf, IfOk};
+ghost use Rattle.class_diagrams.specs.References.{Reference};
+ghost use Rattle.class_diagrams.specs.Arena.{tree_at, IsIn, IsArena, StartsWith};
+ghost use Rattle.diagram_ops.specs.Steps.{held_with_all, AreAmong, Calculates};
+ghost use Rattle.pushdown_sym.specs.Adding.{AreIn, next_in, results_in};
+ghost use Rattle.pushdown_sym.specs.Givers.{places_from};
+
+use crate::cells::Cells;
+use crate::children::add_downs;
+use crate::givers::Givers;
+use crate::links::add_ups;
+use crate::locals::add_locals;
+use class_diagrams::{DiagramFault, Diagrams, Ref};
+use simple_core::System;
+use std::alloc::Global;
+use std::marker::Model;
+use tp_base::{Atom, NoMemory};
+
+/// The rules of a system, and where to find those that give an atom. A contract sees the system.
+#[derive(Drop)]
+pub struct Equations {
+    system: System,
+    locals: Givers,
+    ups: Givers,
+    downs: Givers,
+}
+
+impl Model for Equations {
+    ghost use Rattle.simple_core.specs.declared.system.System.{System};
+    ghost use Rattle.pushdown_sym.specs.Adding.{AreAllGivers};
+
+    ghost Value = { System };
+
+    ghost view = { λ e. e.system };
+
+    ghost invariant = { λ e. AreAllGivers e.system e.locals e.ups e.downs };
+}
+
+impl Equations {
+    /// The rules of a copy of the system. Linear in its size, on average.
+    pub fn new(alloc: Global, system: &System) -> Result<Self, NoMemory>
+        ensures { IfOk result (λ e. e ≡ system.now) }
+    {
+        Ok(Equations {
+            system: system.copy(alloc)?,
+            locals: Givers::of_locals(alloc, system.local.items())?,
+            ups: Givers::of_links(alloc, system.up.items())?,
+            downs: Givers::of_links(alloc, system.down.items())?,
+        })
+    }
+
+    /// The cell of a kind and an atom in the round behind `now`. Of the rules that give the atom: a conjunction for each
+    /// atom that a local one needs, and for each link from a child a look at each kind of child and a composition for
+    /// those that can be there.
+    pub fn next_cell(
+        &self,
+        alloc: Global,
+        d: &mut Diagrams,
+        now: &Cells,
+        kind: u32,
+        atom: Atom,
+    ) -> Result<Ref, DiagramFault>
+        requires kind { kind < length self.now.kinds }
+        requires inside { AreIn d.old.branches now.now }
+        ensures tree { IfOk result (λ r. tree_at d.new.branches r ≡ next_in self.now d.old now.now kind atom) }
+        ensures inside { IfOk result (λ r. IsIn d.new.branches r) }
+        ensures full { IsErrOf result DiagramFault.Full → d.old.limit < length (held_with_all d.old.branches (results_in self.now d.old now.now kind atom)) }
+        ensures stays { StartsWith d.old.branches d.new.branches }
+        ensures only { AreAmong d.new.branches (held_with_all d.old.branches (results_in self.now d.old now.now kind atom)) }
+        ensures references { (p : Reference) → IsIn d.old.branches p
+            → IsIn d.new.branches p × (tree_at d.new.branches p ≡ tree_at d.old.branches p) }
+        ensures limit { d.new.limit ≡ d.old.limit }
+        ensures arena { IsArena d.new }
+    {
+        let _ = d.held();
+        let locals = self.locals.of(atom);
+        let ups = self.ups.of(atom);
+        let downs = self.downs.of(atom);
+        next_of(
+            alloc,
+            &self.system,
+            (locals, ups, downs),
+            d,
+            now,
+            (kind, atom),
+        )
+    }
+}
+
+// The cell, and behind it the terms of the local rules, of the links to the parent, and of those from the children.
+fn next_of(
+    alloc: Global,
+    system: &System,
+    givers: (&[usize], &[usize], &[usize]),
+    d: &mut Diagrams,
+    now: &Cells,
+    cell: (u32, Atom),
+) -> Result<Ref, DiagramFault>
+    requires inside { AreIn d.old.branches now.now }
+    requires arena { IsArena d.old }
+    requires locals { givers.0.now ≡ places_from (λ r. r.gives == cell.1) 0 system.now.local }
+    requires ups { givers.1.now ≡ places_from (λ l. l.to == cell.1) 0 system.now.up }
+    requires downs { givers.2.now ≡ places_from (λ l. l.to == cell.1) 0 system.now.down }
+    ensures { Calculates d.old d.new (results_in system.now d.old now.now cell.0 cell.1) (next_in system.now d.old now.now cell.0 cell.1) result }
+{
+    let (kind, atom) = cell;
+    let start = now.get(kind, atom);
+    let by_locals = add_locals(d, now, kind, atom, system.local.items(), givers.0, start)?;
+    let by_ups = add_ups(d, atom, system.up.items(), givers.1, by_locals)?;
+    add_downs(
+        alloc,
+        d,
+        now,
+        kind,
+        atom,
+        system.down.items(),
+        givers.2,
+        system.child.items(),
+        by_ups,
+    )
+}
