@@ -69,9 +69,12 @@ module _ (s : System) where
       → (after : LabelTree) × (m : ℕ) × IsLater s u after × (node_at (w ++ m ∷ []) after ≡ Some (leaf (kind_label s j)))
   spawned u w j own is has by =
       let here = there (node_at w u) is in
-      let later = later_by_spawn s by.spawn by.listed u w (has by.spawn.needs by.needs) in
-      (edit_at w (add_child (kind_label s by.spawn.kind)) u, length_of here.0.below, later,
-        node_at-add_child_new w (kind_label s by.spawn.kind) u here.0 here.1 ∙ ap (λ z. Some (leaf (kind_label s z))) by.kind)
+      let later = later_by_spawn s by.spawn by.listed u w (has by.spawn.needs by.needs) in (
+        edit_at w (add_child (kind_label s by.spawn.kind)) u,
+        length_of here.0.below,
+        later,
+        node_at-add_child_new w (kind_label s by.spawn.kind) u here.0 here.1 ∙ ap (λ z. Some (leaf (kind_label s z))) by.kind,
+      )
 
   -- a node of kind i, the m-th child of a node at v that has the atoms p
   pub record IsReady (v p : List ℕ) (m i : ℕ) (u : LabelTree) : Type 0 where
