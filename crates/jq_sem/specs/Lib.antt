@@ -1,3 +1,7 @@
+pub mod Laws
 pub mod Reachability
+pub mod Runs
+pub mod Standing
 pub mod Statements
+pub mod Together
 pub mod Views

@@ -1,12 +1,10 @@
 -- What a statement of a script says, and the nodes that it selects.
 --     In t this chain v          v is in the set of the chain, with the node `this`
 --     Selected t stmt v          the statement selects v
---     IsPlain stmt               it has no handlers and no calls, and adds classes
 use Rattle.std.specs.Prelude.{◌≡◌, ◌⊎◌, ℕ, ◌<◌, List, [], ◌∷◌, ◌++◌, length, take, Option, Some, None, IsSome}
 use Rattle.tp_base.specs.declared.places.Place.{Place}
 use Rattle.tree_sem.specs.Trees.{LabelTree, node_at}
 use Rattle.tree_sem.specs.declared.actions.Action.{Action}
-use Rattle.tree_sem.specs.declared.actions.Action.TheVariants.{Classes}
 use Rattle.sel_core.specs.Selectors.{Selector, Fits, Matches}
 
 -- a set to begin with: what one of the selectors matches, or the node that `this` names
@@ -87,9 +85,3 @@ SelectedUnder t u (h ∷ handlers) chain v = (w : List ℕ) × In t u h w × Sel
 
 abbrev pub Selected : LabelTree → Statement → List ℕ → Type 0
 Selected t s v = SelectedUnder t None s.handlers s.chain v
-
--- a statement outside all handlers that calls nothing but `addClass`, as `$(".X").addClass("Y")`
-pub record IsPlain (s : Statement) : Type 0 where
-  pub no_handlers : s.handlers ≡ []
-  pub no_calls : s.chain.calls ≡ []
-  pub adds_classes : (classes : List ℕ) × (s.action ≡ Classes classes)

@@ -1,40 +1,24 @@
 //! Which nodes a statement selects.
-ghost use Rattle.std.specs.Prelude.{◌↔◌, map, IsTrue, IsSome, IfOk};
+ghost use Rattle.std.specs.Prelude.{◌↔◌, IsTrue, IsSome, IfOk};
 ghost use Rattle.tree_sem.specs.Trees.{node_at};
-ghost use Rattle.sel_core.specs.Views.{selector_of};
-ghost use Rattle.jq_sem.specs.Statements.{IsPlain, MatchesOne, Selected};
+ghost use Rattle.jq_sem.specs.Statements.{Selected};
 ghost use Rattle.jq_sem.specs.Views.{statement_of};
 
-use crate::chains::Root;
+use crate::evaluation::selected;
 use crate::stmts::Stmt;
-use sel_core::{Selector, matches};
+use node_marks::NumberedTree;
 use std::alloc::Global;
 use tp_base::{NoMemory, Path};
 use tree_sem::Tree;
 
-/// Whether the statement selects the node at the path; false where no node is there. It costs one match for
-/// each selector of the statement.
-pub fn selects(_alloc: Global, s: &Stmt, tree: &Tree, at: &Path) -> Result<bool, NoMemory>
-    requires { IsPlain (statement_of s.now) }
+/// Whether the statement selects the node at the path; false where no node is there. All chains are evaluated a
+/// set of nodes at a time, from the outermost handler's root on: the cost is that of a walk over the tree, and a
+/// few steps for each node, each call of the handlers and the chain together, and each compound of theirs.
+pub fn selects(alloc: Global, s: &Stmt, tree: &Tree, at: &Path) -> Result<bool, NoMemory>
     ensures selected { IfOk result (λ yes. IsTrue yes ↔ Selected tree.now (statement_of s.now) at.now) }
     ensures node { IfOk result (λ yes. IsTrue yes → IsSome (node_at at.now tree.now)) }
 {
-    match &s.chain.root {
-        Root::List(selectors) => Ok(matches_one(tree, at, selectors.items())),
-        Root::This => Ok(false),
-    }
-}
-
-// Whether one of the selectors matches the node at the path.
-fn matches_one(tree: &Tree, at: &Path, selectors: &[Selector]) -> bool
-    ensures { IsTrue result ↔ MatchesOne tree.now (map selector_of selectors.now) at.now }
-{
-    let mut rest = selectors;
-    'selectors: while let Some((first, others)) = rest.split_first() {
-        if matches(tree, at, first) {
-            return true;
-        }
-        rest = others;
-    }
-    false
+    let numbered = NumberedTree::new(alloc, tree)?;
+    let marks = selected(alloc, &numbered, s)?;
+    Ok(numbered.has(&marks, at))
 }

@@ -1,9 +1,10 @@
 //! Statements: the nodes that a script names, and what it does there.
-ghost use Rattle.std.specs.Prelude.{◌≡◌};
+ghost use Rattle.std.specs.Prelude.{◌≡◌, map, IfOk};
+ghost use Rattle.jq_sem.specs.Views.{chain_of};
 
 use crate::chains::Chain;
 use std::marker::Model;
-use tp_base::Place;
+use tp_base::{NoMemory, Place};
 use tree_sem::Action;
 
 /// Chains, one after another. A contract sees the list of them.
@@ -32,6 +33,17 @@ impl Chains {
         ensures { result.now ≡ self.now }
     {
         &self.items
+    }
+
+    /// The same chains once more. Linear in them.
+    pub fn copy(&self) -> Result<Chains, NoMemory>
+        ensures { IfOk result (λ cs. map chain_of cs ≡ map chain_of self.now) }
+    {
+        let mut copies = Vec::new(*self.items.allocator());
+        for chain in &self.items {
+            copies.push(chain.copy()?)?;
+        }
+        Ok(Chains { items: copies })
     }
 }
 

@@ -4,6 +4,3 @@
 mod replays;
 
 pub use replays::{ReplayFault, replay};
-
-#[cfg(test)]
-mod tests;

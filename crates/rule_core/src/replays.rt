@@ -1,8 +1,7 @@
 //! Steps of a script's statements, taken one after another.
-ghost use Rattle.std.specs.Prelude.{◌≡◌, ◌⊎◌, ℕ, ◌<◌, length, take, All, OnOk, IfErr, IsErrOf};
-ghost use Rattle.jq_sem.specs.Statements.{IsPlain};
+ghost use Rattle.std.specs.Prelude.{◌≡◌, ◌⊎◌, ℕ, ◌<◌, length, take, OnOk, IfErr, IsErrOf};
 ghost use Rattle.jq_sem.specs.Reachability.{AreLegal, end_of};
-ghost use Rattle.jq_sem.specs.Views.{statement_of, statements_of};
+ghost use Rattle.jq_sem.specs.Views.{statements_of};
 ghost use Rattle.rule_core.specs.Replays.{CanTake, IsIllegalAt, IsFullAt, step_of, tree_before, IsReplay, IsStep};
 
 use jq_sem::{Stmt, act, selects};
@@ -31,7 +30,6 @@ pub fn replay(
     tree: &mut Tree,
     steps: &[Step],
 ) -> Result<(), ReplayFault>
-    requires { All (λ s. IsPlain (statement_of s)) stmts.now }
     ensures legal { OnOk result (AreLegal tree.old (statements_of stmts.now) steps.now) }
     ensures taken { OnOk result (CanTake tree.old (statements_of stmts.now) steps.now) }
     ensures ok { OnOk result (tree.new ≡ end_of tree.old (statements_of stmts.now) steps.now) }
@@ -59,7 +57,6 @@ fn take_steps(
     tree: &mut Tree,
     steps: &[Step],
 ) -> Result<(), ReplayFault>
-    requires { All (λ s. IsPlain (statement_of s)) stmts.now }
     ensures { IsReplay tree.old (statements_of stmts.now) steps.now tree.new result }
 {
     for (number, step) in steps.iter().enumerate() {
@@ -76,7 +73,6 @@ fn take_step(
     step: &Step,
     number: usize,
 ) -> Result<(), ReplayFault>
-    requires { All (λ s. IsPlain (statement_of s)) stmts.now }
     ensures { IsStep tree.old (statements_of stmts.now) step.now number tree.new result }
 {
     let Some(stmt) = stmts.get(step.stmt as usize) else {

@@ -15,7 +15,8 @@ use Rattle.treeped_app.specs.ClosedPages.{HasAt, IsGrown, IsClosedPage}
 use Rattle.treeped_app.specs.Traces.{needed, step_of, steps_of, IsTraceTo}
 use Rattle.treeped_app.proofs.ClosingLemmas.{given_cases, after_keeps}
 use Rattle.treeped_app.proofs.TraceLemmas.{needed_right}
-use Rattle.treeped_app.proofs.StepLemmas.{end_of-append, AreLegal-append, EachChanges-append, steps_at, are_run}
+use Rattle.jq_sem.proofs.StepLemmas.{end_of-append, AreLegal-append, EachChanges-append}
+use Rattle.treeped_app.proofs.StepLemmas.{steps_at, are_run}
 
 -- what fires stays within a closed label that has the label it starts from
 pub after_within : (rules : List Rule) (ns label closed : List ℕ) → IsClosed rules closed → ((a : ℕ) → has_class a label ≡ true → has_class a closed ≡ true) → AreFired rules label ns

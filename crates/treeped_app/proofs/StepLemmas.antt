@@ -15,19 +15,6 @@ use Rattle.treeped_app.specs.Scripts.{statement_of}
 use Rattle.treeped_app.specs.Closing.{with_given, label_after, Fires, AreFired}
 use Rattle.treeped_app.proofs.ClosingLemmas.{given_there}
 
--- more steps at the end
-pub end_of-append : (t : LabelTree) (stmts : List Statement) (ss rest : List Step) → end_of t stmts (ss ++ rest) ≡ end_of (end_of t stmts ss) stmts rest
-end_of-append t stmts [] rest = refl
-end_of-append t stmts (s ∷ ss) rest = end_of-append (after_step t stmts s) stmts ss rest
-
-pub AreLegal-append : (t : LabelTree) (stmts : List Statement) (ss rest : List Step) → AreLegal t stmts ss → AreLegal (end_of t stmts ss) stmts rest → AreLegal t stmts (ss ++ rest)
-AreLegal-append t stmts [] rest a b = b
-AreLegal-append t stmts (s ∷ ss) rest a b = (a.0, AreLegal-append (after_step t stmts s) stmts ss rest a.1 b)
-
-pub EachChanges-append : (t : LabelTree) (stmts : List Statement) (ss rest : List Step) → EachChanges t stmts ss → EachChanges (end_of t stmts ss) stmts rest → EachChanges t stmts (ss ++ rest)
-EachChanges-append t stmts [] rest a b = b
-EachChanges-append t stmts (s ∷ ss) rest a b = (a.0, EachChanges-append (after_step t stmts s) stmts ss rest a.1 b)
-
 -- all of one
 pub one_of : (P : ℕ → Type 0) (c : ℕ) → P c → All P (c ∷ [])
 one_of P c holds zero d within = holds

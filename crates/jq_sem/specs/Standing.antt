@@ -1,0 +1,16 @@
+-- The calls of a chain that stand, as a list of references from the first one on.
+use Rattle.std.specs.Prelude.{Bool, true, false, List, [], ◌∷◌}
+use denote.Bor.{Bor}
+use Rattle.jq_sem.specs.declared.chains.Call.{Call}
+use Rattle.jq_sem.specs.Views.{call_of}
+use Rattle.jq_sem.specs.Statements as script
+
+-- the root, or nothing of it
+abbrev pub after : Bool → script.Root → script.Root
+after true root = script.matched []
+after false root = root
+
+-- the calls, last first, before others
+abbrev pub last_first : List (Bor Call) → List script.Call → List script.Call
+last_first [] others = others
+last_first (c ∷ calls) others = last_first calls (call_of c.now ∷ others)

@@ -1,0 +1,113 @@
+//! The sets of chains and statements: for all nodes at once that `this` may name, which go on as one set.
+ghost use Rattle.std.specs.Prelude.{◌≡◌, ◌↔◌, ℕ, List, [], Option, map, IfOk, IsTrue};
+ghost use Rattle.node_marks.specs.Marks.{IsMarked};
+ghost use Rattle.jq_sem.specs.Standing.{after, last_first};
+ghost use Rattle.jq_sem.specs.Statements as spec;
+ghost use Rattle.jq_sem.specs.Statements.{Selected};
+ghost use Rattle.jq_sem.specs.Together.{MadeOf, NamedBy, InRoots, InOne};
+ghost use Rattle.jq_sem.specs.Views.{chain_of, root_of, statement_of};
+
+use crate::chains::{Call, Chain, Root};
+use crate::sets::{matching, of_call};
+use crate::standing_calls::standing;
+use crate::stmts::Stmt;
+use node_marks::{Marks, NumberedTree};
+use std::alloc::Global;
+use tp_base::{NoMemory, Path};
+
+/// What `this` may name.
+#[derive(Drop)]
+pub enum This {
+    /// Nothing: outside all handlers.
+    Nothing,
+    /// One of the marked nodes.
+    Nodes(Marks),
+}
+
+/// The nodes that the statement selects. Each of its calls costs a step for each node and compound.
+pub fn selected(alloc: Global, tree: &NumberedTree, s: &Stmt) -> Result<Marks, NoMemory>
+    ensures { IfOk result (λ m. (v : List ℕ) → IsMarked tree.now m v ↔ Selected tree.now (statement_of s.now) v) }
+{
+    let mut this = This::Nothing;
+    let mut rest = s.handlers.items();
+    'handlers: while let Some((handler, inner)) = rest.split_first() {
+        let marks = of_chain(alloc, tree, &this, handler)?;
+        this = This::Nodes(marks);
+        rest = inner;
+    }
+    of_chain(alloc, tree, &this, &s.chain)
+}
+
+// The set of a chain, with each of the nodes as `this`.
+fn of_chain(
+    alloc: Global,
+    tree: &NumberedTree,
+    this: &This,
+    chain: &Chain,
+) -> Result<Marks, NoMemory>
+    ensures { IfOk result (λ m. (v : List ℕ) → IsMarked tree.now m v ↔ InOne tree.now (NamedBy tree.now this.now) (chain_of chain.now) v) }
+{
+    let some = names_some(alloc, tree, this)?;
+    if !some {
+        return tree.no_node();
+    }
+    let (emptied, calls) = standing(alloc, chain.calls.items())?;
+    let first = of_root(tree, this, emptied, &chain.root)?;
+    of_calls(tree, first, calls.as_slice())
+}
+
+// Whether there is anything that `this` may name; nothing at all, outside handlers, counts as one.
+fn names_some(alloc: Global, tree: &NumberedTree, this: &This) -> Result<bool, NoMemory>
+    ensures { IfOk result (λ some. IsTrue some ↔ ((u : Option (List ℕ)) × NamedBy tree.now this.now u)) }
+{
+    match this {
+        This::Nothing => Ok(true),
+        This::Nodes(marks) => {
+            let all = tree.if_any(marks)?;
+            Ok(tree.has(&all, &Path::root(alloc)))
+        }
+    }
+}
+
+// The set that a chain begins with, where it is left.
+fn of_root(
+    tree: &NumberedTree,
+    this: &This,
+    emptied: bool,
+    root: &Root,
+) -> Result<Marks, NoMemory>
+    requires { (u : Option (List ℕ)) × NamedBy tree.now this.now u }
+    ensures { IfOk result (λ m. (v : List ℕ) → IsMarked tree.now m v ↔ InRoots tree.now (NamedBy tree.now this.now) (after emptied (root_of root.now)) v) }
+{
+    if emptied {
+        return tree.no_node();
+    }
+    match root {
+        Root::List(selectors) => matching(tree, selectors.items()),
+        Root::This => of_this(tree, this),
+    }
+}
+
+fn of_this(tree: &NumberedTree, this: &This) -> Result<Marks, NoMemory>
+    ensures { IfOk result (λ m. (v : List ℕ) → IsMarked tree.now m v ↔ InRoots tree.now (NamedBy tree.now this.now) spec.this v) }
+{
+    match this {
+        This::Nothing => tree.no_node(),
+        This::Nodes(marks) => tree.in_both(marks, marks),
+    }
+}
+
+// What the calls make of a set.
+fn of_calls(
+    tree: &NumberedTree,
+    first: Marks,
+    calls: &[&Call],
+) -> Result<Marks, NoMemory>
+    ensures { IfOk result (λ m. (v : List ℕ) → IsMarked tree.now m v ↔ MadeOf tree.now (IsMarked tree.now first) (last_first calls.now []) v) }
+{
+    let mut marks = first;
+    'calls: for call in calls {
+        marks = of_call(tree, call, &marks)?;
+    }
+    Ok(marks)
+}

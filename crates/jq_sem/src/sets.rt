@@ -1,0 +1,190 @@
+//! The sets that compounds, selectors and calls make, as marks for all nodes of a tree.
+ghost use Rattle.std.specs.Prelude.{◌≡◌, ◌↔◌, ℕ, List, map, IfOk};
+ghost use Rattle.node_marks.specs.Marks.{IsNode, IsMarked};
+ghost use Rattle.sel_core.specs.Selectors as spec;
+ghost use Rattle.sel_core.specs.Selectors.{Matches};
+ghost use Rattle.sel_core.specs.Parts.{join_of, and_then, with_parts};
+ghost use Rattle.sel_core.specs.Views.{selector_of};
+ghost use Rattle.jq_sem.specs.Statements.{FitsOne, MayFit, MatchesOne, IsMade};
+ghost use Rattle.jq_sem.specs.Together.{IsUnder};
+ghost use Rattle.jq_sem.specs.Views.{atoms_of, call_of};
+
+use crate::chains::Call;
+use node_marks::{Marks, NumberedTree};
+use sel_core::{Compound, Join, Selector};
+use tp_base::NoMemory;
+
+/// What a call makes of a set.
+pub fn of_call(
+    tree: &NumberedTree,
+    call: &Call,
+    marks: &Marks,
+) -> Result<Marks, NoMemory>
+    ensures { IfOk result (λ m. (v : List ℕ) → IsMarked tree.now m v ↔ IsMade tree.now (IsMarked tree.now marks.now) (call_of call.now) v) }
+{
+    match call {
+        Call::Find(cs) => {
+            let below = tree.far_below(marks)?;
+            chosen(tree, cs.items(), &below)
+        }
+        Call::Children(cs) => {
+            let below = tree.below(marks)?;
+            narrowed(tree, cs.items(), &below)
+        }
+        Call::Parent(cs) => {
+            let over = tree.over(marks)?;
+            narrowed(tree, cs.items(), &over)
+        }
+        Call::Parents(cs) => {
+            let over = tree.far_over(marks)?;
+            narrowed(tree, cs.items(), &over)
+        }
+        Call::Filter(cs) => chosen(tree, cs.items(), marks),
+        Call::Has(cs) => {
+            let fit = fitting(tree, cs.items())?;
+            let over = tree.far_over(&fit)?;
+            tree.in_both(marks, &over)
+        }
+        Call::Add(selectors) => {
+            let matched = matching(tree, selectors.items())?;
+            tree.in_either(marks, &matched)
+        }
+        Call::End => tree.no_node(),
+    }
+}
+
+/// What one of the selectors matches.
+pub fn matching(
+    tree: &NumberedTree,
+    selectors: &[Selector],
+) -> Result<Marks, NoMemory>
+    ensures { IfOk result (λ m. (v : List ℕ) → IsMarked tree.now m v ↔ MatchesOne tree.now (map selector_of selectors.now) v) }
+{
+    let mut marks = tree.no_node()?;
+    let mut rest = selectors;
+    'selectors: while let Some((first, others)) = rest.split_first() {
+        let matched = of_selector(tree, first)?;
+        let more = tree.in_either(&marks, &matched)?;
+        marks = more;
+        rest = others;
+    }
+    Ok(marks)
+}
+
+// What the selector matches: from left to right, for each compound what all those up to it match.
+fn of_selector(tree: &NumberedTree, s: &Selector) -> Result<Marks, NoMemory>
+    ensures { IfOk result (λ m. (v : List ℕ) → IsMarked tree.now m v ↔ Matches tree.now v (selector_of s.now)) }
+{
+    match s.parts.items().split_first() {
+        None => tree.with_atoms(&[]),
+        Some((first, parts)) => {
+            let marks = tree.with_atoms(first.atoms.items())?;
+            with_joined(tree, marks, s.joins.items(), parts)
+        }
+    }
+}
+
+// What a selector matches that has further compounds on its right, each after its join.
+fn with_joined(
+    tree: &NumberedTree,
+    first: Marks,
+    joins: &[Join],
+    parts: &[Compound],
+) -> Result<Marks, NoMemory>
+    ensures { IfOk result (λ m. (s : spec.Selector) → ((v : List ℕ) → IsMarked tree.now first v ↔ Matches tree.now v s)
+        → (v : List ℕ) → IsMarked tree.now m v ↔ Matches tree.now v (with_parts s joins.now parts.now)) }
+{
+    let mut marks = first;
+    let mut between = joins;
+    let mut right = parts;
+    'joins: while let Some((join, later)) = between.split_first() {
+        let Some((part, others)) = right.split_first() else {
+            return Ok(marks);
+        };
+        marks = joined(tree, &marks, *join, part)?;
+        between = later;
+        right = others;
+    }
+    Ok(marks)
+}
+
+// One compound more.
+fn joined(
+    tree: &NumberedTree,
+    marks: &Marks,
+    join: Join,
+    part: &Compound,
+) -> Result<Marks, NoMemory>
+    ensures { IfOk result (λ m. (s : spec.Selector) → ((v : List ℕ) → IsMarked tree.now marks.now v ↔ Matches tree.now v s)
+        → (v : List ℕ) → IsMarked tree.now m v ↔ Matches tree.now v (and_then s join part.now)) }
+{
+    let fit = tree.with_atoms(part.atoms.items())?;
+    let under = under(tree, marks, join)?;
+    tree.in_both(&fit, &under)
+}
+
+// The nodes from which a join leads to a marked one.
+fn under(
+    tree: &NumberedTree,
+    marks: &Marks,
+    join: Join,
+) -> Result<Marks, NoMemory>
+    ensures { IfOk result (λ m. (v : List ℕ) → IsMarked tree.now m v ↔ (IsNode tree.now v × IsUnder (join_of join) (IsMarked tree.now marks.now) v)) }
+{
+    match join {
+        Join::Child => tree.below(marks),
+        Join::Inside => tree.far_below(marks),
+    }
+}
+
+// The marked nodes that one of the compounds fits.
+fn chosen(
+    tree: &NumberedTree,
+    compounds: &[Compound],
+    marks: &Marks,
+) -> Result<Marks, NoMemory>
+    ensures { IfOk result (λ m. (v : List ℕ) → IsMarked tree.now m v ↔ (FitsOne tree.now (atoms_of compounds.now) v × IsMarked tree.now marks.now v)) }
+{
+    let fit = fitting(tree, compounds)?;
+    tree.in_both(&fit, marks)
+}
+
+// The same, where there are compounds.
+fn narrowed(
+    tree: &NumberedTree,
+    compounds: &[Compound],
+    marks: &Marks,
+) -> Result<Marks, NoMemory>
+    ensures { IfOk result (λ m. (v : List ℕ) → IsMarked tree.now m v ↔ (MayFit tree.now (atoms_of compounds.now) v × IsMarked tree.now marks.now v)) }
+{
+    let may = may_fit(tree, compounds)?;
+    tree.in_both(&may, marks)
+}
+
+// The nodes that one of the compounds fits, where there are compounds.
+fn may_fit(tree: &NumberedTree, compounds: &[Compound]) -> Result<Marks, NoMemory>
+    ensures { IfOk result (λ m. (v : List ℕ) → IsMarked tree.now m v ↔ MayFit tree.now (atoms_of compounds.now) v) }
+{
+    if compounds.is_empty() {
+        return tree.every_node();
+    }
+    fitting(tree, compounds)
+}
+
+// The nodes that one of the compounds fits.
+fn fitting(
+    tree: &NumberedTree,
+    compounds: &[Compound],
+) -> Result<Marks, NoMemory>
+    ensures { IfOk result (λ m. (v : List ℕ) → IsMarked tree.now m v ↔ FitsOne tree.now (atoms_of compounds.now) v) }
+{
+    let mut marks = tree.no_node()?;
+    let mut rest = compounds;
+    'compounds: while let Some((first, others)) = rest.split_first() {
+        let fit = tree.with_atoms(first.atoms.items())?;
+        let more = tree.in_either(&marks, &fit)?;
+        marks = more;
+        rest = others;
+    }
+    Ok(marks)
+}

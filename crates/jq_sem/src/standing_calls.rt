@@ -1,0 +1,30 @@
+//! The calls of a chain that `end` takes nothing back of.
+ghost use Rattle.std.specs.Prelude.{◌≡◌, [], map, IfOk};
+ghost use Rattle.jq_sem.specs.Statements as spec;
+ghost use Rattle.jq_sem.specs.Standing.{after, last_first};
+ghost use Rattle.jq_sem.specs.Views.{call_of};
+
+use crate::chains::Call;
+use std::alloc::Global;
+use tp_base::NoMemory;
+
+/// Whether an `end` takes back more than there is, so that nothing is left of the root, and the calls that stand,
+/// from the first one on. Linear in the calls.
+pub fn standing<'a>(alloc: Global, calls: &'a [Call]) -> Result<(bool, Vec<&'a Call>), NoMemory>
+    ensures { IfOk result (λ s. (root : spec.Root) → spec.standing root [] (map call_of calls.now) ≡ (after s.0 root, last_first s.1.items [])) }
+{
+    let mut emptied = false;
+    let mut stack = Vec::new(alloc);
+    let mut rest = calls;
+    'calls: while let Some((c, later)) = rest.split_first() {
+        if let Call::End = c {
+            if stack.pop().is_none() {
+                emptied = true;
+            }
+        } else {
+            stack.push(c)?;
+        }
+        rest = later;
+    }
+    Ok((emptied, stack))
+}
