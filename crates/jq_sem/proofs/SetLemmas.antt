@@ -215,5 +215,5 @@ pub of_first : (t : LabelTree) (marks : List Bool) (all list parts : List Compou
     → IfOk r (λ m. (v : List ℕ) → IsMarked t m v ↔ Matches t v (selector_from all joins))
 of_first t marks all list parts first atoms joins items is split same between fit r made =
     on_ok r _ _ (λ m joined. from_first t m all parts first joins (sym is ∙ split)
-      (subst (λ (z : List Between). (v : List ℕ) → IsMarked t m v ↔ Matches t v (with_parts (simple first.atoms) z parts)) between
-        (joined (simple first.atoms) (simple_is t first.atoms atoms (IsMarked t marks) same fit)))) made
+    (subst (λ (z : List Between). (v : List ℕ) → IsMarked t m v ↔ Matches t v (with_parts (simple first.atoms) z parts)) between
+    (joined (simple first.atoms) (simple_is t first.atoms atoms (IsMarked t marks) same fit)))) made

@@ -73,7 +73,7 @@ module _ (t : LabelTree) (U : Option (List ℕ) → Type 0) (some : (u : Option 
       let all = made_together root calls v in
       let back' = λ (u : Option (List ℕ)) (m : In t u chain v). subst (λ (s : Root × List Call). InCalls t u s.0 s.1 v) is m in (
         λ on. let m = all.0 (made_of_larger t (IsMarked t first) (InRoots t U root) (λ w. (at_first w).0) calls v ((is_made v).0 on)) in
-        (m.0, m.1, subst (λ (s : Root × List Call). InCalls t m.0 s.0 s.1 v) (sym is) m.2),
+            (m.0, m.1, subst (λ (s : Root × List Call). InCalls t m.0 s.0 s.1 v) (sym is) m.2),
         λ one. (is_made v).1 (made_of_larger t (InRoots t U root) (IsMarked t first) (λ w. (at_first w).1) calls v (all.1 (one.0, one.1, back' one.0 one.2))),
       )
 
@@ -163,8 +163,8 @@ module _ (t : LabelTree) (named : This) (some : (u : Option (List ℕ)) × Named
       → IfOk r (λ m. (v : List ℕ) → IsMarked t m v ↔ InRoots t (NamedBy t named) (after emptied (root_of root)) v)
   root_list ss items stands is same r all_matched =
       rw (stands, is) (on_ok r _ _ (λ m made v. let all = roots_matched t (NamedBy t named) some (map selector_of ss) v in
-        let made' = subst (λ (z : List Selector'). IsMarked t m v ↔ MatchesOne t (map selector_of z) v) same (made v) in
-        (λ on. all.0 (made'.0 on), λ m. made'.1 (all.1 m))) all_matched)
+      let made' = subst (λ (z : List Selector'). IsMarked t m v ↔ MatchesOne t (map selector_of z) v) same (made v) in
+      (λ on. all.0 (made'.0 on), λ m. made'.1 (all.1 m))) all_matched)
 
   pub root_this : emptied ≡ false → root ≡ code_root.This → (r : Result (List Bool) NoMemory) → IfOk r (λ m. (v : List ℕ) → IsMarked t m v ↔ InRoots t (NamedBy t named) this v)
       → IfOk r (λ m. (v : List ℕ) → IsMarked t m v ↔ InRoots t (NamedBy t named) (after emptied (root_of root)) v)

@@ -31,12 +31,7 @@ pub fn act(alloc: Global, s: &Stmt, tree: &mut Tree, at: &Path) -> Result<(), Tr
     act_at_one(alloc, &s.action, tree, at)
 }
 
-fn act_at_one(
-    alloc: Global,
-    action: &Action,
-    tree: &mut Tree,
-    at: &Path,
-) -> Result<(), TreeFault>
+fn act_at_one(alloc: Global, action: &Action, tree: &mut Tree, at: &Path) -> Result<(), TreeFault>
     requires { IsSome (node_at at.now tree.old) }
     ensures { IsChange tree.old (spec.act action.now at.now tree.old) tree.new result }
 {

@@ -70,12 +70,7 @@ fn names_some(alloc: Global, tree: &NumberedTree, this: &This) -> Result<bool, N
 }
 
 // The set that a chain begins with, where it is left.
-fn of_root(
-    tree: &NumberedTree,
-    this: &This,
-    emptied: bool,
-    root: &Root,
-) -> Result<Marks, NoMemory>
+fn of_root(tree: &NumberedTree, this: &This, emptied: bool, root: &Root) -> Result<Marks, NoMemory>
     requires { (u : Option (List ℕ)) × NamedBy tree.now this.now u }
     ensures { IfOk result (λ m. (v : List ℕ) → IsMarked tree.now m v ↔ InRoots tree.now (NamedBy tree.now this.now) (after emptied (root_of root.now)) v) }
 {
@@ -98,11 +93,7 @@ fn of_this(tree: &NumberedTree, this: &This) -> Result<Marks, NoMemory>
 }
 
 // What the calls make of a set.
-fn of_calls(
-    tree: &NumberedTree,
-    first: Marks,
-    calls: &[&Call],
-) -> Result<Marks, NoMemory>
+fn of_calls(tree: &NumberedTree, first: Marks, calls: &[&Call]) -> Result<Marks, NoMemory>
     ensures { IfOk result (λ m. (v : List ℕ) → IsMarked tree.now m v ↔ MadeOf tree.now (IsMarked tree.now first) (last_first calls.now []) v) }
 {
     let mut marks = first;

@@ -15,11 +15,7 @@ use sel_core::{Compound, Join, Selector};
 use tp_base::NoMemory;
 
 /// What a call makes of a set.
-pub fn of_call(
-    tree: &NumberedTree,
-    call: &Call,
-    marks: &Marks,
-) -> Result<Marks, NoMemory>
+pub fn of_call(tree: &NumberedTree, call: &Call, marks: &Marks) -> Result<Marks, NoMemory>
     ensures { IfOk result (λ m. (v : List ℕ) → IsMarked tree.now m v ↔ IsMade tree.now (IsMarked tree.now marks.now) (call_of call.now) v) }
 {
     match call {
@@ -54,10 +50,7 @@ pub fn of_call(
 }
 
 /// What one of the selectors matches.
-pub fn matching(
-    tree: &NumberedTree,
-    selectors: &[Selector],
-) -> Result<Marks, NoMemory>
+pub fn matching(tree: &NumberedTree, selectors: &[Selector]) -> Result<Marks, NoMemory>
     ensures { IfOk result (λ m. (v : List ℕ) → IsMarked tree.now m v ↔ MatchesOne tree.now (map selector_of selectors.now) v) }
 {
     let mut marks = tree.no_node()?;
@@ -124,11 +117,7 @@ fn joined(
 }
 
 // The nodes from which a join leads to a marked one.
-fn under(
-    tree: &NumberedTree,
-    marks: &Marks,
-    join: Join,
-) -> Result<Marks, NoMemory>
+fn under(tree: &NumberedTree, marks: &Marks, join: Join) -> Result<Marks, NoMemory>
     ensures { IfOk result (λ m. (v : List ℕ) → IsMarked tree.now m v ↔ (IsNode tree.now v × IsUnder (join_of join) (IsMarked tree.now marks.now) v)) }
 {
     match join {
@@ -138,11 +127,7 @@ fn under(
 }
 
 // The marked nodes that one of the compounds fits.
-fn chosen(
-    tree: &NumberedTree,
-    compounds: &[Compound],
-    marks: &Marks,
-) -> Result<Marks, NoMemory>
+fn chosen(tree: &NumberedTree, compounds: &[Compound], marks: &Marks) -> Result<Marks, NoMemory>
     ensures { IfOk result (λ m. (v : List ℕ) → IsMarked tree.now m v ↔ (FitsOne tree.now (atoms_of compounds.now) v × IsMarked tree.now marks.now v)) }
 {
     let fit = fitting(tree, compounds)?;
@@ -150,11 +135,7 @@ fn chosen(
 }
 
 // The same, where there are compounds.
-fn narrowed(
-    tree: &NumberedTree,
-    compounds: &[Compound],
-    marks: &Marks,
-) -> Result<Marks, NoMemory>
+fn narrowed(tree: &NumberedTree, compounds: &[Compound], marks: &Marks) -> Result<Marks, NoMemory>
     ensures { IfOk result (λ m. (v : List ℕ) → IsMarked tree.now m v ↔ (MayFit tree.now (atoms_of compounds.now) v × IsMarked tree.now marks.now v)) }
 {
     let may = may_fit(tree, compounds)?;
@@ -172,10 +153,7 @@ fn may_fit(tree: &NumberedTree, compounds: &[Compound]) -> Result<Marks, NoMemor
 }
 
 // The nodes that one of the compounds fits.
-fn fitting(
-    tree: &NumberedTree,
-    compounds: &[Compound],
-) -> Result<Marks, NoMemory>
+fn fitting(tree: &NumberedTree, compounds: &[Compound]) -> Result<Marks, NoMemory>
     ensures { IfOk result (λ m. (v : List ℕ) → IsMarked tree.now m v ↔ FitsOne tree.now (atoms_of compounds.now) v) }
 {
     let mut marks = tree.no_node()?;

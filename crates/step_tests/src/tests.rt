@@ -28,7 +28,11 @@ fn selected(alloc: Global, s: &Stmt, tree: &Tree) -> Result<Vec<u32>, NoMemory> 
 //         7 .b - 8 .a - 9 .c
 //                10 .c
 //         11 .d
-type Selection = (&'static [&'static [Piece]], &'static [Piece], &'static [u32]);
+type Selection = (
+    &'static [&'static [Piece]],
+    &'static [Piece],
+    &'static [u32],
+);
 
 static SELECTIONS: [Selection; 36] = [
     (&[], &[(b'$', &[A])], &[1, 4, 8]),
@@ -49,24 +53,82 @@ static SELECTIONS: [Selection; 36] = [
     (&[], &[(b'$', &[A]), (b'a', &[D])], &[1, 4, 8, 11]),
     (&[], &[(b'$', &[A]), (b'e', &[])], &[]),
     (&[], &[(b'$', &[A]), (b'e', &[]), (b'a', &[D])], &[11]),
-    (&[], &[(b'$', &[A]), (b'f', &[C]), (b'f', &[C]), (b'e', &[])], &[3, 5, 9]),
-    (&[], &[(b'$', &[A]), (b'f', &[C]), (b'c', &[]), (b'e', &[])], &[3, 5, 9]),
-    (&[], &[(b'$', &[A]), (b'f', &[C]), (b'p', &[]), (b'e', &[])], &[3, 5, 9]),
-    (&[], &[(b'$', &[A]), (b'f', &[C]), (b'q', &[]), (b'e', &[])], &[3, 5, 9]),
-    (&[], &[(b'$', &[A]), (b'f', &[C]), (b'k', &[D]), (b'e', &[])], &[3, 5, 9]),
-    (&[], &[(b'$', &[A]), (b'f', &[C]), (b'h', &[D]), (b'e', &[])], &[3, 5, 9]),
-    (&[], &[(b'$', &[A]), (b'f', &[C]), (b'a', &[D]), (b'e', &[])], &[3, 5, 9]),
-    (&[], &[(b'$', &[A]), (b'f', &[C]), (b'c', &[]), (b'e', &[]), (b'e', &[])], &[1, 4, 8]),
-    (&[], &[(b'$', &[A]), (b'f', &[C]), (b'e', &[]), (b'e', &[])], &[]),
+    (
+        &[],
+        &[(b'$', &[A]), (b'f', &[C]), (b'f', &[C]), (b'e', &[])],
+        &[3, 5, 9],
+    ),
+    (
+        &[],
+        &[(b'$', &[A]), (b'f', &[C]), (b'c', &[]), (b'e', &[])],
+        &[3, 5, 9],
+    ),
+    (
+        &[],
+        &[(b'$', &[A]), (b'f', &[C]), (b'p', &[]), (b'e', &[])],
+        &[3, 5, 9],
+    ),
+    (
+        &[],
+        &[(b'$', &[A]), (b'f', &[C]), (b'q', &[]), (b'e', &[])],
+        &[3, 5, 9],
+    ),
+    (
+        &[],
+        &[(b'$', &[A]), (b'f', &[C]), (b'k', &[D]), (b'e', &[])],
+        &[3, 5, 9],
+    ),
+    (
+        &[],
+        &[(b'$', &[A]), (b'f', &[C]), (b'h', &[D]), (b'e', &[])],
+        &[3, 5, 9],
+    ),
+    (
+        &[],
+        &[(b'$', &[A]), (b'f', &[C]), (b'a', &[D]), (b'e', &[])],
+        &[3, 5, 9],
+    ),
+    (
+        &[],
+        &[
+            (b'$', &[A]),
+            (b'f', &[C]),
+            (b'c', &[]),
+            (b'e', &[]),
+            (b'e', &[]),
+        ],
+        &[1, 4, 8],
+    ),
+    (
+        &[],
+        &[(b'$', &[A]), (b'f', &[C]), (b'e', &[]), (b'e', &[])],
+        &[],
+    ),
     (&[&[(b'$', &[A])]], &[(b't', &[])], &[1, 4, 8]),
     (&[&[(b'$', &[A])]], &[(b't', &[]), (b'f', &[C])], &[3, 5, 9]),
-    (&[&[(b'$', &[D])]], &[(b't', &[]), (b'a', &[B])], &[2, 4, 7, 11]),
+    (
+        &[&[(b'$', &[D])]],
+        &[(b't', &[]), (b'a', &[B])],
+        &[2, 4, 7, 11],
+    ),
     (&[&[(b'$', &[9])]], &[(b't', &[]), (b'a', &[B])], &[]),
     (&[&[(b'$', &[9])]], &[(b'$', &[A])], &[]),
     (&[&[(b'$', &[D])]], &[(b'$', &[A])], &[1, 4, 8]),
-    (&[&[(b'$', &[B])], &[(b't', &[]), (b'c', &[])]], &[(b't', &[]), (b'f', &[C])], &[9]),
-    (&[&[(b'$', &[B])], &[(b't', &[]), (b'c', &[])]], &[(b't', &[]), (b'p', &[])], &[2, 7]),
-    (&[&[(b'$', &[B])], &[(b't', &[]), (b'f', &[9])]], &[(b'$', &[A])], &[]),
+    (
+        &[&[(b'$', &[B])], &[(b't', &[]), (b'c', &[])]],
+        &[(b't', &[]), (b'f', &[C])],
+        &[9],
+    ),
+    (
+        &[&[(b'$', &[B])], &[(b't', &[]), (b'c', &[])]],
+        &[(b't', &[]), (b'p', &[])],
+        &[2, 7],
+    ),
+    (
+        &[&[(b'$', &[B])], &[(b't', &[]), (b'f', &[9])]],
+        &[(b'$', &[A])],
+        &[],
+    ),
 ];
 
 fn is_right(alloc: Global, row: &Selection) -> Result<bool, TreeFault> {
@@ -93,18 +155,48 @@ fn shape(alloc: Global, tree: &Tree, numbers: &[u32]) -> Result<Shape, NoMemory>
 }
 
 // An action and the path of its node; what `act` answers, and the shape of the tree then, at a path.
-type Deed = (u8, &'static [u32], Result<(), TreeFault>, &'static [u32], Shape);
+type Deed = (
+    u8,
+    &'static [u32],
+    Result<(), TreeFault>,
+    &'static [u32],
+    Shape,
+);
 
 static DEEDS: [Deed; 9] = [
     (b'+', &[0, 0], Ok(()), &[0, 0], (12, Some(2), Some(true))),
     (b'+', &[], Ok(()), &[], (12, Some(3), Some(true))),
-    (b'+', &[3], Err(TreeFault::NoSuchNode), &[], (12, Some(3), Some(false))),
+    (
+        b'+',
+        &[3],
+        Err(TreeFault::NoSuchNode),
+        &[],
+        (12, Some(3), Some(false)),
+    ),
     (b'i', &[0, 0], Ok(()), &[0, 0], (15, Some(4), Some(false))),
-    (b'i', &[0, 0], Ok(()), &[0, 0, 2], (15, Some(1), Some(false))),
-    (b'i', &[3], Err(TreeFault::NoSuchNode), &[], (12, Some(3), Some(false))),
+    (
+        b'i',
+        &[0, 0],
+        Ok(()),
+        &[0, 0, 2],
+        (15, Some(1), Some(false)),
+    ),
+    (
+        b'i',
+        &[3],
+        Err(TreeFault::NoSuchNode),
+        &[],
+        (12, Some(3), Some(false)),
+    ),
     (b'b', &[0, 0], Ok(()), &[0], (15, Some(4), Some(false))),
     (b'b', &[], Ok(()), &[], (12, Some(3), Some(false))),
-    (b'b', &[0, 2], Err(TreeFault::NoSuchNode), &[0], (12, Some(2), Some(false))),
+    (
+        b'b',
+        &[0, 2],
+        Err(TreeFault::NoSuchNode),
+        &[0],
+        (12, Some(2), Some(false)),
+    ),
 ];
 
 fn done(alloc: Global, row: &Deed) -> Result<bool, TreeFault> {
@@ -115,16 +207,64 @@ fn done(alloc: Global, row: &Deed) -> Result<bool, TreeFault> {
 }
 
 // An action and a chain; what `run_whole` answers, and the shape of the tree then, at a path.
-type Run = (u8, &'static [Piece], Result<u32, TreeFault>, &'static [u32], Shape);
+type Run = (
+    u8,
+    &'static [Piece],
+    Result<u32, TreeFault>,
+    &'static [u32],
+    Shape,
+);
 
 static RUNS: [Run; 7] = [
-    (b'+', &[(b'$', &[A])], Ok(3), &[1, 0], (12, Some(1), Some(true))),
-    (b'+', &[(b'$', &[A])], Ok(3), &[1], (12, Some(2), Some(false))),
-    (b'i', &[(b'$', &[A])], Ok(3), &[0, 0, 1], (21, Some(2), Some(false))),
-    (b'b', &[(b'$', &[C])], Ok(4), &[0, 0], (24, Some(4), Some(false))),
-    (b'b', &[(b'$', &[C]), (b'q', &[])], Ok(5), &[], (24, Some(7), Some(false))),
-    (b'b', &[(b'$', &[A]), (b'p', &[])], Ok(3), &[], (18, Some(5), Some(false))),
-    (b'i', &[(b'$', &[9])], Ok(0), &[], (12, Some(3), Some(false))),
+    (
+        b'+',
+        &[(b'$', &[A])],
+        Ok(3),
+        &[1, 0],
+        (12, Some(1), Some(true)),
+    ),
+    (
+        b'+',
+        &[(b'$', &[A])],
+        Ok(3),
+        &[1],
+        (12, Some(2), Some(false)),
+    ),
+    (
+        b'i',
+        &[(b'$', &[A])],
+        Ok(3),
+        &[0, 0, 1],
+        (21, Some(2), Some(false)),
+    ),
+    (
+        b'b',
+        &[(b'$', &[C])],
+        Ok(4),
+        &[0, 0],
+        (24, Some(4), Some(false)),
+    ),
+    (
+        b'b',
+        &[(b'$', &[C]), (b'q', &[])],
+        Ok(5),
+        &[],
+        (24, Some(7), Some(false)),
+    ),
+    (
+        b'b',
+        &[(b'$', &[A]), (b'p', &[])],
+        Ok(3),
+        &[],
+        (18, Some(5), Some(false)),
+    ),
+    (
+        b'i',
+        &[(b'$', &[9])],
+        Ok(0),
+        &[],
+        (12, Some(3), Some(false)),
+    ),
 ];
 
 fn ran(alloc: Global, row: &Run) -> Result<bool, TreeFault> {
@@ -165,16 +305,51 @@ fn steps_of(alloc: Global, steps: &[(u32, &'static [u32])]) -> Result<Vec<Step>,
 }
 
 // Steps; what `replay` answers, and the shape of the tree then, at a path.
-type Replay = (&'static [(u32, &'static [u32])], Result<(), ReplayFault>, &'static [u32], Shape);
+type Replay = (
+    &'static [(u32, &'static [u32])],
+    Result<(), ReplayFault>,
+    &'static [u32],
+    Shape,
+);
 
 static REPLAYS: [Replay; 7] = [
     (&[], Ok(()), &[0], (12, Some(2), Some(false))),
-    (&[(0, &[0]), (1, &[0])], Ok(()), &[0], (15, Some(4), Some(true))),
-    (&[(1, &[0]), (0, &[0])], Err(ReplayFault::IllegalStep(0)), &[0], (12, Some(2), Some(false))),
-    (&[(0, &[0]), (2, &[0])], Err(ReplayFault::IllegalStep(1)), &[0], (12, Some(2), Some(true))),
-    (&[(1, &[2]), (0, &[2, 0]), (1, &[2, 0])], Ok(()), &[2, 0], (18, Some(3), Some(true))),
-    (&[(1, &[2]), (1, &[2, 0])], Err(ReplayFault::IllegalStep(1)), &[2], (15, Some(2), Some(true))),
-    (&[(0, &[0]), (0, &[4]), (1, &[0])], Err(ReplayFault::IllegalStep(1)), &[0], (12, Some(2), Some(true))),
+    (
+        &[(0, &[0]), (1, &[0])],
+        Ok(()),
+        &[0],
+        (15, Some(4), Some(true)),
+    ),
+    (
+        &[(1, &[0]), (0, &[0])],
+        Err(ReplayFault::IllegalStep(0)),
+        &[0],
+        (12, Some(2), Some(false)),
+    ),
+    (
+        &[(0, &[0]), (2, &[0])],
+        Err(ReplayFault::IllegalStep(1)),
+        &[0],
+        (12, Some(2), Some(true)),
+    ),
+    (
+        &[(1, &[2]), (0, &[2, 0]), (1, &[2, 0])],
+        Ok(()),
+        &[2, 0],
+        (18, Some(3), Some(true)),
+    ),
+    (
+        &[(1, &[2]), (1, &[2, 0])],
+        Err(ReplayFault::IllegalStep(1)),
+        &[2],
+        (15, Some(2), Some(true)),
+    ),
+    (
+        &[(0, &[0]), (0, &[4]), (1, &[0])],
+        Err(ReplayFault::IllegalStep(1)),
+        &[0],
+        (12, Some(2), Some(true)),
+    ),
 ];
 
 fn replayed(alloc: Global, row: &Replay) -> Result<bool, TreeFault> {
@@ -196,7 +371,16 @@ fn replays_steps(rt: HostRuntime) -> Result<(), Fail> {
 }
 
 // What is asked and done with boxes in a page, and the counts of the trees then.
-type Boxes = (Result<(), ReplayFault>, u32, u32, bool, bool, u32, Result<u32, TreeFault>, u32);
+type Boxes = (
+    Result<(), ReplayFault>,
+    u32,
+    u32,
+    bool,
+    bool,
+    u32,
+    Result<u32, TreeFault>,
+    u32,
+);
 
 // Into each box a box is put: the second step is not legal.
 fn boxed(alloc: Global) -> Result<Boxes, TreeFault> {
@@ -213,12 +397,30 @@ fn boxed(alloc: Global) -> Result<Boxes, TreeFault> {
     let stmts = vec![in alloc; stmt]?;
     let steps = steps_of(alloc, &[(0, &[1, 0]), (0, &[1, 1])])?;
     let answer = replay(alloc, &stmts, &mut tree, &steps);
-    Ok((answer, tree.count(), page.count(), here, above, acted.count(), ran, two.count()))
+    Ok((
+        answer,
+        tree.count(),
+        page.count(),
+        here,
+        above,
+        acted.count(),
+        ran,
+        two.count(),
+    ))
 }
 
 #[test]
 fn refuses_an_illegal_second_step(rt: HostRuntime) -> Result<(), Fail> {
-    let want: Boxes = (Err(ReplayFault::IllegalStep(1)), 5, 4, true, false, 5, Ok(2), 7);
+    let want: Boxes = (
+        Err(ReplayFault::IllegalStep(1)),
+        5,
+        4,
+        true,
+        false,
+        5,
+        Ok(2),
+        7,
+    );
     assert!(rt; boxed(rt.alloc())? == want);
     Ok(())
 }

@@ -6,5 +6,5 @@ use Rattle.jq_sem.proofs.sets.joined.Goals as goal
 pub returns : goal.returns
 returns c =
     on_ok c.in_both.result _ _ (λ m both s is v.
-        let fit = subst (λ z. IsMarked c.args.tree.now c.in_ok-fit.fit v ↔ HasAtoms c.args.tree.now v z) c.items.ensures (c.in_ok-fit.ensures v) in
-        under_and_then c.args.tree.now s c.args.marks.now is c.args.join c.args.part.now v fit (c.in_ok-under.ensures v) (both v)) c.in_both.ensures
+    let fit = subst (λ z. IsMarked c.args.tree.now c.in_ok-fit.fit v ↔ HasAtoms c.args.tree.now v z) c.items.ensures (c.in_ok-fit.ensures v) in
+    under_and_then c.args.tree.now s c.args.marks.now is c.args.join c.args.part.now v fit (c.in_ok-under.ensures v) (both v)) c.in_both.ensures
