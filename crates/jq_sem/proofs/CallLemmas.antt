@@ -1,8 +1,9 @@
 -- What each call makes of a set, from the passes over its marks.
 use Rattle.std.proofs.Common.{◌≡◌, ◌↔◌, ◌⊎◌, ℕ, Bool, List, Result, IfOk, map, inl, inr}
 use Rattle.tp_base.specs.declared.no_memory.NoMemory.{NoMemory}
+use Rattle.tree_sem.specs.Nodes.{IsNode}
 use Rattle.tree_sem.specs.Trees.{LabelTree}
-use Rattle.node_marks.specs.Marks.{IsNode, IsMarked, HasParentIn, HasAncestorIn, HasChildIn, HasDescendantIn}
+use Rattle.node_marks.specs.Marks.{IsMarked, HasParentIn, HasAncestorIn, HasChildIn, HasDescendantIn}
 use Rattle.sel_core.specs.declared.selectors.Compound.{Compound}
 use Rattle.sel_core.specs.declared.selectors.Selector.{Selector}
 use Rattle.sel_core.specs.Views.{selector_of}

@@ -1,5 +1,5 @@
 -- What a statement selects in a tree, it selects in each tree that this one is embedded in.
-use Rattle.std.proofs.Common.{◌≡◌, ℕ, suc, ◌+◌, ◌-◌, ◌<◌, ◌≤◌, List, [], ◌∷◌, ◌++◌, length, take, drop, Option, Some, None, option_map, IsSome, IsSomeAnd, All, Contains, refl, sym, ap, ◌∙◌, subst, inl, inr, arith, append_assoc, append-nil, length-append}
+use Rattle.std.proofs.Common.{◌≡◌, ℕ, suc, ◌<◌, ◌≤◌, List, [], ◌∷◌, ◌++◌, length, take, drop, Option, Some, None, option_map, All, Contains, refl, sym, ap, ◌∙◌, subst, inl, inr, arith, append_assoc, append-nil}
 use Rattle.std.proofs.lemmas.List.{take-append-le, take-append-drop, length-take}
 use Rattle.std.proofs.lemmas.List.Elements.{All-weaker}
 use Rattle.std.proofs.Math.Seq.{take-length}
@@ -10,15 +10,15 @@ use Rattle.tree_sem.specs.declared.actions.Step.{Step}
 use Rattle.tree_sem.proofs.GrowthLemmas.{IsNode-grows, HasAtom-grows}
 use Rattle.tree_sem.proofs.EmbeddingLemmas.{image_of, image_is, embedding_of}
 use Rattle.tree_sem.proofs.RowLemmas.{there}
-use Rattle.tree_sem.proofs.PathLemmas.{take_take, IsSome-take}
+use Rattle.tree_sem.proofs.PathLemmas.{IsSome-take}
 use Rattle.tree_sem.proofs.NodeLemmas.{IsNode-front}
 use Rattle.sel_core.specs.Selectors.{Join, child, inside, Outer, Selector, Fits, IsAbove, Above, Matches}
 use Rattle.sel_core.proofs.ImageLemmas.{Fits-node}
-use Rattle.jq_sem.specs.Statements.{Root, matched, this, Call, find, children, parent, parents, filter, has, add, back, Chain, Statement, FitsOne, MayFit, MatchesOne, IsMade, standing, InRoot, InCalls, In, SelectedUnder, Selected}
+use Rattle.jq_sem.specs.Statements.{Root, matched, this, Call, find, children, parent, parents, filter, has, add, back, Chain, Statement, FitsOne, MayFit, MatchesOne, IsMade, standing, InRoot, InCalls, SelectedUnder, Selected}
 use Rattle.jq_sem.specs.Laws.{IsMapped, IsKept}
 use Rattle.jq_sem.specs.Reachability.{end_of}
 use Rattle.jq_sem.proofs.StepLemmas.{end_of-grows}
-use Rattle.jq_sem.proofs.SelectionLemmas.{FitsOne-node, MayFit-node, MatchesOne-node, InCalls-node, Selected-node}
+use Rattle.jq_sem.proofs.SelectionLemmas.{FitsOne-node, MayFit-node, InCalls-node, Selected-node}
 
 above_less : (j : Join) (m n : ℕ) → IsAbove j m n → m < n
 above_less child m n above = omega arith

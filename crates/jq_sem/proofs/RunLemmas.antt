@@ -1,12 +1,12 @@
 -- The nodes that are marked, in the order of the document, and an action at one after another.
-use Rattle.std.proofs.Common.{◌≡◌, ◌↔◌, ◌⊎◌, ℕ, zero, suc, ◌+◌, ◌<◌, ◌≤◌, Bool, true, false, MatchBool, List, [], ◌∷◌, ◌++◌, length, take, get_or, fold, All, AllPairs, Contains, Option, Some, None, IsSome, IsNone, option_map, unwrap_or, Result, Ok, Err, OnOk, OnErr, IfOk, IsErrOf, refl, sym, ap, ◌∙◌, subst, inl, inr, arith, append_assoc, append-nil, length-append}
+use Rattle.std.proofs.Common.{◌≡◌, ◌↔◌, ◌⊎◌, ℕ, zero, suc, ◌+◌, ◌<◌, ◌≤◌, Bool, true, false, MatchBool, List, [], ◌∷◌, ◌++◌, length, take, get_or, All, AllPairs, Contains, Option, Some, None, IsSome, IsNone, option_map, unwrap_or, Result, Ok, Err, OnOk, OnErr, IfOk, IsErrOf, refl, sym, ap, ◌∙◌, subst, inl, inr, arith, append_assoc, append-nil, length-append}
 use Rattle.std.proofs.lemmas.List.{take-append-le, take_more}
 use Rattle.std.proofs.lemmas.List.Kept.{AllPairs-cons}
 use Rattle.std.proofs.lemmas.List.Elements.{Contains-append_left, Contains-append_right, Contains-append_cases, Contains-push_cases}
 use Rattle.std.proofs.Math.Seq.{take-length}
 use Rattle.tp_base.proofs.Rising.{Contains-here, Contains-behind, All-from_Contains}
 use Rattle.tree_sem.specs.declared.actions.Action.{Action}
-use Rattle.tree_sem.specs.declared.actions.Action.TheVariants.{Classes, Inside, Beside}
+use Rattle.tree_sem.specs.declared.actions.Action.TheVariants.{Inside, Beside}
 use Rattle.tree_sem.specs.declared.forests.Forest.{Forest}
 use Rattle.tree_sem.specs.declared.tree_fault.TreeFault.{TreeFault}
 use Rattle.tree_sem.specs.declared.tree_fault.TreeFault.TheVariants.{NoSuchNode, TooManyNodes, Memory}
@@ -19,7 +19,7 @@ use Rattle.tree_sem.specs.Actions.{act, add_trees}
 use Rattle.tree_sem.proofs.NodeLemmas.{length-paths_of}
 use Rattle.tree_sem.proofs.PathLemmas.{parent_of-child, IsSome-parent_of}
 use Rattle.tree_sem.proofs.RestLemmas.{Before-irreflexive, Before-transitive, AllPairs-paths_of}
-use Rattle.node_marks.specs.Marks.{mark, path_at, IsMarked}
+use Rattle.node_marks.specs.Marks.{mark, IsMarked}
 use Rattle.jq_sem.specs.Statements.{Statement, Selected}
 use Rattle.jq_sem.proofs.SelectionLemmas.{Selected-node}
 use Rattle.jq_sem.specs.Runs.{AreSelected, run_at, IsRun, PassesLimit, IsChange, IsRunWhole, and_parent, parents_in, if_marked, marked_from, IsPassed}

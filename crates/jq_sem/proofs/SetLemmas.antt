@@ -3,9 +3,10 @@ use Rattle.std.proofs.Common.{◌≡◌, ◌↔◌, ◌⊎◌, ℕ, zero, suc, �
 use Rattle.std.proofs.lemmas.List.{take-append-le, length-take}
 use Rattle.std.proofs.Math.Seq.{take-length}
 use Rattle.tp_base.specs.declared.no_memory.NoMemory.{NoMemory}
+use Rattle.tree_sem.specs.Nodes.{IsNode}
 use Rattle.tree_sem.specs.Trees.{LabelTree}
 use Rattle.tree_sem.proofs.PathLemmas.{take_take}
-use Rattle.node_marks.specs.Marks.{IsNode, IsMarked, HasAtoms, HasParentIn, HasAncestorIn, HasChildIn, HasDescendantIn}
+use Rattle.node_marks.specs.Marks.{IsMarked, HasAtoms, HasParentIn, HasAncestorIn, HasChildIn, HasDescendantIn}
 use Rattle.sel_core.specs.declared.selectors.Compound.{Compound}
 use Rattle.sel_core.specs.declared.selectors.Join.{Join as Between}
 use Rattle.sel_core.specs.declared.selectors.Join.TheVariants as code
@@ -13,7 +14,7 @@ use Rattle.sel_core.specs.Selectors.{Join, child, inside, Outer, Selector, Fits,
 use Rattle.sel_core.specs.declared.selectors.Selector as code_selector
 use Rattle.sel_core.specs.Views.{selector_of}
 use Rattle.sel_core.specs.Parts.{join_of, and_then, with_parts, selector_from}
-use Rattle.jq_sem.specs.Statements.{Call, find, children, parent, parents, filter, has, add, FitsOne, MayFit, MatchesOne, IsMade}
+use Rattle.jq_sem.specs.Statements.{find, children, parent, parents, has, FitsOne, MayFit, MatchesOne, IsMade}
 use Rattle.jq_sem.specs.Together.{IsUnder}
 use Rattle.jq_sem.specs.Views.{atoms_of}
 use Rattle.sel_core.proofs.ImageLemmas.{Fits-node}

@@ -1,11 +1,11 @@
 -- A chain is evaluated for all nodes that `this` may name at once: each call distributes over unions of sets.
 use Rattle.std.proofs.Common.{◌≡◌, ◌↔◌, ℕ, Bool, true, false, IsTrue, List, [], ◌∷◌, Option, Some, None, Result, IfOk, refl, sym, inl, inr, subst, length, map, arith}
 use Rattle.tree_sem.specs.Trees.{LabelTree}
-use Rattle.node_marks.specs.Marks.{IsNode, IsMarked}
+use Rattle.node_marks.specs.Marks.{IsMarked}
 use Rattle.sel_core.specs.Selectors.{Selector}
 use Rattle.jq_sem.specs.declared.evaluation.This.{This}
 use Rattle.jq_sem.specs.declared.evaluation.This.TheVariants.{Nothing, Nodes}
-use Rattle.jq_sem.specs.Statements.{Root, matched, this, Call, find, children, parent, parents, filter, has, add, back, Chain, Statement, MatchesOne, IsMade, InRoot, InCalls, In, standing, SelectedUnder, Selected}
+use Rattle.jq_sem.specs.Statements.{Root, matched, this, Call, find, children, parent, parents, filter, has, add, back, Chain, Statement, MatchesOne, IsMade, InCalls, In, standing, SelectedUnder, Selected}
 use Rattle.jq_sem.specs.Together.{MadeOf, NamedBy, InRoots, InOne}
 use Rattle.jq_sem.specs.Views.{root_of, call_of, chain_of, statement_of}
 use Rattle.jq_sem.specs.Standing.{after, last_first}
@@ -142,13 +142,8 @@ pub all_made : (t : LabelTree) (first marks : List Bool) (some all : List Call) 
 all_made t first marks some all same is = subst (λ (z : List Call). (v : List ℕ) → IsMarked t marks v ↔ MadeOf t (IsMarked t first) z v) same is
 
 -- `this` may name a node where some node is marked
-pub some_named : (t : LabelTree) (marks all : List Bool) (b : Bool) (root : List ℕ) → root ≡ [] → IsTrue b ↔ IsMarked t all root → ((v : List ℕ) → IsMarked t all v ↔ (IsNode t v × (w : List ℕ) × IsMarked t marks w))
-    → IsTrue b ↔ ((u : Option (List ℕ)) × NamedBy t (Nodes marks) u)
-some_named t marks all b root is test any =
-    let at_root = any root in (
-      λ yes. let found = at_root.0 (test.0 yes) in (Some found.1, found.2),
-      λ named. test.1 (at_root.1 (let some = from named in (subst (IsNode t) (sym is) refl, some.0, some.1))),
-    )
+pub some_named : (t : LabelTree) (marks : List Bool) (b : Bool) → IsTrue b ↔ ((w : List ℕ) × IsMarked t marks w) → IsTrue b ↔ ((u : Option (List ℕ)) × NamedBy t (Nodes marks) u)
+some_named t marks b any = (λ on. let found = any.0 on in (Some found.0, found.1), λ named. any.1 (from named))
   where
     from : ((u : Option (List ℕ)) × NamedBy t (Nodes marks) u) → (w : List ℕ) × IsMarked t marks w
     from (None, named) = absurd named

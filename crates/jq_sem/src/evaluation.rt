@@ -13,7 +13,7 @@ use crate::standing_calls::standing;
 use crate::stmts::Stmt;
 use node_marks::{Marks, NumberedTree};
 use std::alloc::Global;
-use tp_base::{NoMemory, Path};
+use tp_base::NoMemory;
 
 /// What `this` may name.
 #[derive(Drop)]
@@ -47,8 +47,7 @@ fn of_chain(
 ) -> Result<Marks, NoMemory>
     ensures { IfOk result (λ m. (v : List ℕ) → IsMarked tree.now m v ↔ InOne tree.now (NamedBy tree.now this.now) (chain_of chain.now) v) }
 {
-    let some = names_some(alloc, tree, this)?;
-    if !some {
+    if !names_some(tree, this) {
         return tree.no_node();
     }
     let (emptied, calls) = standing(alloc, chain.calls.items())?;
@@ -57,15 +56,12 @@ fn of_chain(
 }
 
 // Whether there is anything that `this` may name; nothing at all, outside handlers, counts as one.
-fn names_some(alloc: Global, tree: &NumberedTree, this: &This) -> Result<bool, NoMemory>
-    ensures { IfOk result (λ some. IsTrue some ↔ ((u : Option (List ℕ)) × NamedBy tree.now this.now u)) }
+fn names_some(tree: &NumberedTree, this: &This) -> bool
+    ensures { IsTrue result ↔ ((u : Option (List ℕ)) × NamedBy tree.now this.now u) }
 {
     match this {
-        This::Nothing => Ok(true),
-        This::Nodes(marks) => {
-            let all = tree.if_any(marks)?;
-            Ok(tree.has(&all, &Path::root(alloc)))
-        }
+        This::Nothing => true,
+        This::Nodes(marks) => tree.is_any(marks),
     }
 }
 
@@ -88,7 +84,7 @@ fn of_this(tree: &NumberedTree, this: &This) -> Result<Marks, NoMemory>
 {
     match this {
         This::Nothing => tree.no_node(),
-        This::Nodes(marks) => tree.in_both(marks, marks),
+        This::Nodes(marks) => marks.copy(),
     }
 }
 

@@ -1,6 +1,7 @@
 //! The sets that compounds, selectors and calls make, as marks for all nodes of a tree.
 ghost use Rattle.std.specs.Prelude.{◌≡◌, ◌↔◌, ℕ, List, map, IfOk};
-ghost use Rattle.node_marks.specs.Marks.{IsNode, IsMarked};
+ghost use Rattle.tree_sem.specs.Nodes.{IsNode};
+ghost use Rattle.node_marks.specs.Marks.{IsMarked};
 ghost use Rattle.sel_core.specs.Selectors as spec;
 ghost use Rattle.sel_core.specs.Selectors.{Matches};
 ghost use Rattle.sel_core.specs.Parts.{join_of, and_then, with_parts};

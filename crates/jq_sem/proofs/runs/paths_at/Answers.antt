@@ -1,5 +1,4 @@
-use Rattle.std.proofs.Common.{◌≡◌, ◌<◌, ◌+◌, ◌++◌, sym, ap, ◌∙◌, arith}
-use Rattle.tree_sem.specs.Trees.{count_of}
+use Rattle.std.proofs.Common.{◌+◌, ◌++◌, sym, ap, ◌∙◌, arith}
 use Rattle.jq_sem.specs.Runs.{if_marked}
 use Rattle.jq_sem.proofs.RunLemmas.{kept_on, passed_on, passed_last, all_kept, few_kept, moved_on, stopped}
 use Rattle.jq_sem.proofs.runs.paths_at.Goals as goal
