@@ -1,0 +1,13 @@
+//! Guards: what is asked of a node and of those round it, what a selector asks, and where a guard holds.
+#![tactic(auto)]
+
+mod copying;
+mod evaluation;
+mod guards;
+mod of_selectors;
+mod rules;
+
+pub use evaluation::holds;
+pub use guards::{Guard, GuardNode, Guards};
+pub use of_selectors::{guard_matches, holds_at_image, of_compound, of_selector};
+pub use rules::Rule;
