@@ -1,0 +1,407 @@
+-- What the table says, and what it says after one step of filling it.
+use Rattle.std.proofs.Common.{◌≡◌, ◌≢◌, ◌⊎◌, ◌↔◌, ℕ, zero, suc, ◌+◌, ◌<◌, ◌≤◌, Bool, true, false, not, nat_le, List, [], ◌∷◌, ◌++◌, map, length, set, take, get_or, Option, Some, None, slice_get, IsSomeAnd, IsTrue, Result, Ok, Err, OnOk, OnErr, All, Contains, refl, sym, ap, ◌∙◌, inl, inr, arith, subst, length-append}
+use Rattle.std.specs.List.{filter}
+use Rattle.std.specs.List.Sorted.{IsStrictlyIncreasing}
+use Rattle.std.proofs.lemmas.Bool.{cases_Bool, cases_lt, cases_order, both_ways, le-leb, leb-true}
+use Rattle.std.proofs.lemmas.List.{map-append, length-map}
+use Rattle.std.proofs.lemmas.List.Elements.{All-contains, Contains-append_left, Contains-append_right, Contains-append_cases}
+use Rattle.tp_base.specs.Classes.{has_class}
+use Rattle.tp_base.proofs.ClassLemmas.{same_members, has_class-Contains, Contains-has_class}
+use Rattle.tp_base.proofs.Rising.{All-from_Contains, Contains-here, Contains-behind, Contains-cons, Contains-none}
+use Rattle.tree_sem.proofs.NodeLemmas.{Contains-map, map-Contains}
+use Rattle.simple_core.specs.declared.system.System.{System}
+use Rattle.simple_core.specs.Systems.{kind_label, IsSound}
+use Rattle.simple_core.specs.Labels.{set_of}
+use Rattle.simple_core.specs.Rounds.{grown, IsFirst}
+use Rattle.simple_core.specs.Pairs.{Pair, Asks, Needed, AreDifferent, HasMore}
+use Rattle.simple_core.proofs.Members.{Among, among_all, filter-Contains, Contains-filter}
+use Rattle.simple_core.proofs.RoundLemmas.{set_of-is, is-set_of, set_of-rises, grown-rises, grown-later, grown-one_more}
+use Rattle.simple_core.proofs.RestLemmas.{first_is}
+use Rattle.simple_core.proofs.PairLemmas.{different_push, one_more}
+use Rattle.need_table.specs.declared.entries.First.{First}
+use Rattle.need_table.specs.declared.entries.Entry.{Entry}
+use Rattle.need_table.specs.Tables.{pair_of, atoms_by, fresh_of, labels, IsDone, IsUpTo, IsTable, IsKept, IsMore, NotedAt, IsNoted, IsUntouched, AreNeeded}
+use Rattle.need_table.proofs.TableLemmas.{Contains-at, at-Contains, at-within}
+
+le_test : (m n : ℕ) → m ≤ n → nat_le m n ≡ true
+le_test m n le = le-leb m n le
+
+test_le : (m n : ℕ) → nat_le m n ≡ true → m ≤ n
+test_le m n h = leb-true m n h
+
+atoms_by-is : (k : ℕ) (firsts : List First) (a : ℕ) → Contains (atoms_by k firsts) a → (f : First) × Contains firsts f × (f.round ≤ k) × (f.atom ≡ a)
+atoms_by-is k firsts a there =
+    let of = map-Contains (λ (f : First). f.atom) (filter (λ (f : First). nat_le f.round k) firsts) a there in
+    let kept = filter-Contains (λ (f : First). nat_le f.round k) firsts of.0 of.1 in
+    (of.0, kept.0, test_le of.0.round k kept.1, sym of.2)
+
+is-atoms_by : (k : ℕ) (firsts : List First) (f : First) → Contains firsts f → f.round ≤ k → Contains (atoms_by k firsts) f.atom
+is-atoms_by k firsts f there le =
+    Contains-map (λ (f : First). f.atom) (filter (λ (f : First). nat_le f.round k) firsts) f (Contains-filter (λ (f : First). nat_le f.round k) firsts f there (le_test f.round k le))
+
+-- the label of a round that was worked out
+pub label_is : (s : System) (e : Entry) (k : ℕ) → IsUpTo s e → IsDone e.rounds k → set_of (atoms_by k e.firsts.items) ≡ grown s k e.kind e.parent
+label_is s e k up done =
+    let atoms = atoms_by k e.firsts.items in
+    let label = grown s k e.kind e.parent in
+    same_members (set_of atoms) label (set_of-rises atoms) (grown-rises s k e.kind e.parent)
+    (among_all (set_of atoms) label (λ a there.
+    let of = atoms_by-is k e.firsts.items a (set_of-is atoms a there) in
+    let first = up.right of.0 of.1 in
+    subst (λ z. Contains label z) of.3 (grown-later s e.kind e.parent of.0.round k of.2 of.0.atom first.1.0)))
+    (among_all label (set_of atoms) (λ a there.
+    let f = up.whole k a done there in
+    let first = up.right f.0 f.1 in
+    let le = (first_is (labels s (pair_of e)) (grown-one_more s e.kind e.parent) f.0.atom f.0.round first.1 k).0 (subst (λ z. Contains label z) (sym f.2) there) in
+    is-set_of atoms a (subst (λ z. Contains atoms z) f.2 (is-atoms_by k e.firsts.items f.0 f.1 le))))
+
+fresh_of-is : (own : List ℕ) (round : ℕ) (next : List ℕ) (f : First) → Contains (fresh_of own round next) f → Contains next f.atom × (Contains own f.atom → ⊥) × (f.round ≡ round)
+fresh_of-is own round next f there =
+    let of = map-Contains (λ (a : ℕ). let g : First = record { atom = a; round = round } in g) (filter (λ a. not (has_class a own)) next) f there in
+    let kept = filter-Contains (λ a. not (has_class a own)) next of.0 of.1 in (
+      subst (λ (g : First). Contains next g.atom) (sym of.2) kept.0,
+      subst (λ (g : First). Contains own g.atom → ⊥) (sym of.2) (λ old. both_ways (not (has_class of.0 own)) (ap not (has_class-Contains of.0 own old)) kept.1),
+      ap (λ (g : First). g.round) of.2,
+    )
+
+is-fresh_of : (own : List ℕ) (round : ℕ) (next : List ℕ) (a : ℕ) → Contains next a → has_class a own ≡ false → Contains (fresh_of own round next) (record { atom = a; round = round })
+is-fresh_of own round next a there new =
+    Contains-map (λ (a : ℕ). let g : First = record { atom = a; round = round } in g) (filter (λ a. not (has_class a own)) next) a (Contains-filter (λ a. not (has_class a own)) next a there (ap not new))
+
+-- a new pair, in round 0
+pub first_up : (s : System) (e : Entry) → e.rounds ≡ Some 0 → e.firsts.items ≡ fresh_of [] 0 (kind_label s e.kind) → IsUpTo s e
+first_up s e at firsts = record {
+  right = λ f there.
+      let of = fresh_of-is [] 0 (kind_label s e.kind) f (subst (λ (z : List First). Contains z f) firsts there) in (
+        subst (λ o. IsDone o f.round) (sym at) (omega (arith, of.2)),
+        subst (λ r. IsFirst (labels s (pair_of e)) f.atom (Some r)) (sym of.2) (is-set_of (kind_label s e.kind) f.atom of.0, λ m less. absurd (omega arith)),
+      );
+  whole = λ k a done there.
+      let le : k ≤ 0 = subst (λ o. IsDone o k) at done in
+      let none : k ≡ 0 = omega arith in
+      let start : Contains (grown s 0 e.kind e.parent) a = subst (λ z. Contains (grown s z e.kind e.parent) a) none there in
+      (record { atom = a; round = 0 }, subst (λ (z : List First). Contains z (record { atom = a; round = 0 })) (sym firsts) (is-fresh_of [] 0 (kind_label s e.kind) a (set_of-is (kind_label s e.kind) a start) refl), refl);
+}
+
+-- one round more
+pub next_up : (s : System) (e e' : Entry) (k : ℕ) → IsUpTo s e → e.rounds ≡ Some k → pair_of e' ≡ pair_of e → e'.rounds ≡ Some (suc k)
+    → e'.firsts.items ≡ e.firsts.items ++ fresh_of (labels s (pair_of e) k) (suc k) (labels s (pair_of e) (suc k)) → IsUpTo s e'
+next_up s e e' k up at pair at' firsts =
+    let own = labels s (pair_of e) k in
+    let next = labels s (pair_of e) (suc k) in
+    let new = fresh_of own (suc k) next in
+    record {
+      right = λ f there. elim (Contains-append_cases e.firsts.items new f (subst (λ (z : List First). Contains z f) firsts there)) [
+        | inl old ↦
+            let was = up.right f old in
+            let le : f.round ≤ k = subst (λ o. IsDone o f.round) at was.0 in
+            (subst (λ o. IsDone o f.round) (sym at') (omega arith), subst (λ (q : Pair). IsFirst (labels s q) f.atom (Some f.round)) (sym pair) was.1)
+        | inr late ↦
+            let of = fresh_of-is own (suc k) next f late in (
+              subst (λ o. IsDone o f.round) (sym at') (omega (arith, of.2)),
+              subst (λ (q : Pair). IsFirst (labels s q) f.atom (Some f.round)) (sym pair)
+                  (subst (λ r. IsFirst (labels s (pair_of e)) f.atom (Some r)) (sym of.2) (of.0, λ m less there. of.1 (grown-later s e.kind e.parent m k (omega arith) f.atom there))),
+            )
+      ];
+      whole = λ m a done there.
+          let le : m ≤ suc k = subst (λ o. IsDone o m) at' done in
+          let there' : Contains (labels s (pair_of e) m) a = subst (λ (q : Pair). Contains (labels s q m) a) pair there in
+          let old : (m' : ℕ) → m' ≤ k → Contains (labels s (pair_of e) m') a → (f : First) × Contains e'.firsts.items f × (f.atom ≡ a) = λ m' le' in_m.
+          let f = up.whole m' a (subst (λ o. IsDone o m') (sym at) le') in_m in
+          (f.0, subst (λ (z : List First). Contains z f.0) (sym firsts) (Contains-append_left e.firsts.items new f.0 f.1), f.2) in
+          elim (cases_lt k m) [
+            | inr early ↦ old m early there'
+            | inl late ↦ elim (cases_Bool (has_class a own)) [
+              | inl was ↦ old k (omega arith) (Contains-has_class a own was)
+              | inr none ↦
+                  let last : m ≡ suc k = omega arith in
+                  let in_next : Contains next a = subst (λ z. Contains (labels s (pair_of e) z) a) last there' in
+                  (record { atom = a; round = suc k }, subst (λ (z : List First). Contains z (record { atom = a; round = suc k })) (sym firsts) (Contains-append_right e.firsts.items new (record { atom = a; round = suc k }) (is-fresh_of own (suc k) next a in_next none)), refl)
+            ]
+          ];
+    }
+
+-- an entry in another's place, and one behind all
+set-Contains : {X : Type 0} (xs : List X) (i : ℕ) (y x : X) → Contains (set xs i y) x → (x ≡ y) ⊎ Contains xs x
+set-Contains [] i y x there = absurd (Contains-none x there)
+set-Contains (z ∷ xs) zero y x there = elim ((Contains-cons x y xs).0 there) [ inl here ↦ inl here | inr behind ↦ inr (Contains-behind x z xs behind) ]
+set-Contains (z ∷ xs) (suc i) y x there = elim ((Contains-cons x z (set xs i y)).0 there) [
+  | inl here ↦ inr (Contains-here x z xs here)
+  | inr behind ↦ elim (set-Contains xs i y x behind) [ inl new ↦ inl new | inr old ↦ inr (Contains-behind x z xs old) ]
+]
+
+pub set-alike : {X Y : Type 0} (f : X → Y) (xs : List X) (i : ℕ) (x y : X) → slice_get xs i ≡ Some x → f y ≡ f x → map f (set xs i y) ≡ map f xs
+set-alike f [] i x y at same = refl
+set-alike f (z ∷ xs) zero x y at same = let here : z ≡ x = cc in ap (λ w. w ∷ map f xs) (same ∙ ap f (sym here))
+set-alike f (z ∷ xs) (suc i) x y at same = ap (λ w. f z ∷ w) (set-alike f xs i x y at same)
+
+pub set-length : {X : Type 0} (xs : List X) (i : ℕ) (y : X) → length (set xs i y) ≡ length xs
+set-length [] i y = refl
+set-length (x ∷ xs) zero y = refl
+set-length (x ∷ xs) (suc i) y = ap suc (set-length xs i y)
+
+set-here : {X : Type 0} (xs : List X) (i : ℕ) (x y : X) → slice_get xs i ≡ Some x → slice_get (set xs i y) i ≡ Some y
+set-here [] i x y at = cc
+set-here (z ∷ xs) zero x y at = refl
+set-here (z ∷ xs) (suc i) x y at = set-here xs i x y at
+
+set-other : {X : Type 0} (xs : List X) (i j : ℕ) (y : X) → j ≢ i → slice_get (set xs i y) j ≡ slice_get xs j
+set-other [] i j y other = refl
+set-other (x ∷ xs) zero zero y other = absurd (other refl)
+set-other (x ∷ xs) zero (suc j) y other = refl
+set-other (x ∷ xs) (suc i) zero y other = refl
+set-other (x ∷ xs) (suc i) (suc j) y other = set-other xs i j y (λ e. other (ap suc e))
+
+push-at : {X : Type 0} (xs : List X) (y : X) (i : ℕ) (x : X) → slice_get xs i ≡ Some x → slice_get (xs ++ y ∷ []) i ≡ Some x
+push-at [] y i x at = cc
+push-at (z ∷ xs) y zero x at = at
+push-at (z ∷ xs) y (suc i) x at = push-at xs y i x at
+
+pub push-last : {X : Type 0} (xs : List X) (y : X) → slice_get (xs ++ y ∷ []) (length xs) ≡ Some y
+push-last [] y = refl
+push-last (x ∷ xs) y = push-last xs y
+
+-- the table with one round more of an entry
+pub table_set : (s : System) (pairs : ℕ) (entries : List Entry) (i : ℕ) (e e' : Entry) (k : ℕ) → IsTable s pairs entries → slice_get entries i ≡ Some e
+    → e.rounds ≡ Some k → pair_of e' ≡ pair_of e → e'.rounds ≡ Some (suc k)
+    → e'.firsts.items ≡ e.firsts.items ++ fresh_of (labels s (pair_of e) k) (suc k) (labels s (pair_of e) (suc k))
+    → ((r : Pair) → Asks s (labels s (pair_of e) k) r → Contains (map pair_of entries) r) → IsTable s pairs (set entries i e')
+table_set s pairs entries i e e' k table at rounds pair rounds' firsts asks =
+    let same = set-alike pair_of entries i e e' at pair in
+    record {
+      sound = table.sound;
+      up_to = λ x there. elim (set-Contains entries i e' x there) [
+        | inl new ↦ subst (λ (z : Entry). IsUpTo s z) (sym new) (next_up s e e' k (table.up_to e (Contains-at entries i e at)) rounds pair rounds' firsts)
+        | inr old ↦ table.up_to x old
+      ];
+      asked = λ x there m r done asked. subst (λ (z : List Pair). Contains z r) (sym same) (elim (set-Contains entries i e' x there) [
+        | inr old ↦ table.asked x old m r done asked
+        | inl new ↦
+            let done' : suc m ≤ suc k = subst (λ o. IsDone o (suc m)) (ap (λ (z : Entry). z.rounds) new ∙ rounds') done in
+            let asked' : Asks s (labels s (pair_of e) m) r = subst (λ (q : Pair). Asks s (labels s q m) r) (ap pair_of new ∙ pair) asked in
+            elim (cases_lt m k) [
+              | inl early ↦ table.asked e (Contains-at entries i e at) m r (subst (λ o. IsDone o (suc m)) (sym rounds) (omega arith)) asked'
+              | inr late ↦ let last : m ≡ k = omega arith in asks r (subst (λ z. Asks s (labels s (pair_of e) z) r) last asked')
+            ]
+      ]);
+      different = subst AreDifferent (sym same) table.different;
+      few = let few = table.few in omega (arith, set-length entries i e');
+    }
+
+pub more_set : (entries : List Entry) (i : ℕ) (e e' : Entry) → slice_get entries i ≡ Some e → IsKept e e' → IsMore entries (set entries i e')
+more_set entries i e e' at kept = record {
+  kept = λ j x at_j. elim (cases_order j i) [
+    | inl same ↦
+        let here : x ≡ e = let both : Some x ≡ Some e = sym at_j ∙ ap (slice_get entries) same ∙ at in cc in
+        subst (λ z. IsSomeAnd (slice_get (set entries i e') z) (IsKept x)) (sym same)
+        (subst (λ o. IsSomeAnd o (IsKept x)) (sym (set-here entries i e e' at)) (subst (λ (z : Entry). IsKept z e') (sym here) kept))
+    | inr (inl less) ↦ subst (λ o. IsSomeAnd o (IsKept x)) (sym (set-other entries i j e' (λ e. omega arith) ∙ at_j)) (kept_itself x)
+    | inr (inr more) ↦ subst (λ o. IsSomeAnd o (IsKept x)) (sym (set-other entries i j e' (λ e. omega arith) ∙ at_j)) (kept_itself x)
+  ];
+  longer = omega (arith, set-length entries i e');
+}
+  where
+    kept_itself : (x : Entry) → IsKept x x
+    kept_itself x = record { pair = refl; rounds = λ k done. done; at_rest = λ h. refl }
+
+pub more_itself : (entries : List Entry) → IsMore entries entries
+more_itself entries = record {
+  kept = λ j x at. subst (λ o. IsSomeAnd o (IsKept x)) (sym at) (record { pair = refl; rounds = λ k done. done; at_rest = λ h. refl });
+  longer = omega arith;
+}
+
+kept_at : (o : Option Entry) (x : Entry) → IsSomeAnd o (IsKept x) → (y : Entry) × (o ≡ Some y) × IsKept x y
+kept_at None x h = absurd h
+kept_at (Some y) x h = (y, refl, h)
+
+-- an entry that is there stands later too
+pub later_at : (old new : List Entry) (i : ℕ) (x : Entry) → IsMore old new → slice_get old i ≡ Some x → (y : Entry) × (slice_get new i ≡ Some y) × IsKept x y
+later_at old new i x more at = kept_at (slice_get new i) x (more.kept i x at)
+
+pub more_twice : (a b c : List Entry) → IsMore a b → IsMore b c → IsMore a c
+more_twice a b c first second = record {
+  kept = λ i x at.
+      let y = later_at a b i x first at in
+      let z = later_at b c i y.0 second y.1 in
+      subst (λ o. IsSomeAnd o (IsKept x)) (sym z.1) (record {
+        pair = z.2.pair ∙ y.2.pair;
+        rounds = λ k done. z.2.rounds k (y.2.rounds k done);
+        at_rest = λ rest.
+            let same = y.2.at_rest rest in
+            z.2.at_rest (ap (λ (w : Entry). w.rounds) same ∙ rest) ∙ same;
+      });
+  longer = let one = first.longer in let two = second.longer in omega arith;
+}
+
+-- what stands in the table stands there later
+pub pairs_more : (old new : List Entry) → IsMore old new → Among (map pair_of old) (map pair_of new)
+pairs_more old new more q there =
+    let of = map-Contains pair_of old q there in
+    let at = at-Contains old of.0 of.1 in
+    let y = later_at old new at.0 of.0 more at.1 in
+    subst (λ z. Contains (map pair_of new) z) (y.2.pair ∙ sym of.2) (Contains-map pair_of new y.0 (Contains-at new at.0 y.0 y.1))
+
+pub more_push : (entries : List Entry) (e : Entry) → IsMore entries (entries ++ e ∷ [])
+more_push entries e = record {
+  kept = λ i x at. subst (λ o. IsSomeAnd o (IsKept x)) (sym (push-at entries e i x at)) (record { pair = refl; rounds = λ k done. done; at_rest = λ h. refl });
+  longer = omega (arith, length-append entries (e ∷ []));
+}
+
+pub table_push : (s : System) (pairs : ℕ) (entries : List Entry) (e : Entry) → IsTable s pairs entries → length entries < pairs → (Contains (map pair_of entries) (pair_of e) → ⊥)
+    → e.rounds ≡ Some 0 → e.firsts.items ≡ fresh_of [] 0 (kind_label s e.kind) → IsTable s pairs (entries ++ e ∷ [])
+table_push s pairs entries e table room new rounds firsts =
+    let same = map-append pair_of entries (e ∷ []) in
+    record {
+      sound = table.sound;
+      up_to = λ x there. elim (Contains-append_cases entries (e ∷ []) x there) [
+        | inl old ↦ table.up_to x old
+        | inr last ↦ elim ((Contains-cons x e []).0 last) [
+          | inl here ↦ subst (λ (z : Entry). IsUpTo s z) (sym here) (first_up s e rounds firsts)
+          | inr none ↦ absurd (Contains-none x none)
+        ]
+      ];
+      asked = λ x there m r done asked. subst (λ (z : List Pair). Contains z r) (sym same) (elim (Contains-append_cases entries (e ∷ []) x there) [
+        | inl old ↦ Contains-append_left (map pair_of entries) (map pair_of (e ∷ [])) r (table.asked x old m r done asked)
+        | inr last ↦ elim ((Contains-cons x e []).0 last) [
+          | inl here ↦ let never : suc m ≤ 0 = subst (λ o. IsDone o (suc m)) (ap (λ (z : Entry). z.rounds) here ∙ rounds) done in absurd (omega arith)
+          | inr none ↦ absurd (Contains-none x none)
+        ]
+      ]);
+      different = subst AreDifferent (sym same) (different_push (map pair_of entries) (pair_of e) table.different new);
+      few = omega (arith, length-append entries (e ∷ []));
+    }
+
+pub needed_push : (s : System) (qs : List Pair) (entries : List Entry) (e : Entry) → AreNeeded s qs entries → Needed s (Contains qs) (pair_of e) → AreNeeded s qs (entries ++ e ∷ [])
+needed_push s qs entries e all one q there = elim (Contains-append_cases (map pair_of entries) (pair_of e ∷ []) q (subst (λ (z : List Pair). Contains z q) (map-append pair_of entries (e ∷ [])) there)) [
+  | inl old ↦ all q old
+  | inr last ↦ elim ((Contains-cons q (pair_of e) []).0 last) [
+    | inl here ↦ subst (Needed s (Contains qs)) (sym here) one
+    | inr none ↦ absurd (Contains-none q none)
+  ]
+]
+
+-- a new pair behind all
+pub record IsPushed (s : System) (pairs : ℕ) (old new : List Entry) (q : Pair) : Type 0 where
+  pub table : IsTable s pairs new
+  pub more : IsMore old new
+  pub place : IsSomeAnd (slice_get new (length old)) (λ e. pair_of e ≡ q)
+  pub needed : (qs : List Pair) → AreNeeded s qs old → Needed s (Contains qs) q → AreNeeded s qs new
+
+pub pushed : (s : System) (pairs : ℕ) (old new : List Entry) (q : Pair) (e : Entry) → IsTable s pairs old → length old < pairs → (Contains (map pair_of old) q → ⊥)
+    → pair_of e ≡ q → e.rounds ≡ Some 0 → e.firsts.items ≡ fresh_of [] 0 (kind_label s q.0) → new ≡ old ++ e ∷ [] → IsPushed s pairs old new q
+pushed s pairs old new q e table room absent pair rounds firsts is = subst (λ (z : List Entry). IsPushed s pairs old z q) (sym is) (record {
+  table = table_push s pairs old e table room (λ there. absent (subst (λ z. Contains (map pair_of old) z) pair there)) rounds
+      (subst (λ (z : Pair). e.firsts.items ≡ fresh_of [] 0 (kind_label s z.0)) (sym pair) firsts);
+  more = more_push old e;
+  place = subst (λ o. IsSomeAnd o (λ e. pair_of e ≡ q)) (sym (push-last old e)) pair;
+  needed = λ qs all one. needed_push s qs old e all (subst (Needed s (Contains qs)) (sym pair) one);
+})
+
+-- a full table, and a pair that isn't in it
+pub full : (s : System) (pairs : ℕ) (entries : List Entry) (q : Pair) → IsTable s pairs entries → pairs ≤ length entries → (Contains (map pair_of entries) q → ⊥)
+    → (qs : List Pair) → AreNeeded s qs entries → Needed s (Contains qs) q → HasMore (Needed s (Contains qs)) pairs
+full s pairs entries q table all absent qs needed one =
+    let few = table.few in
+    let same : length (map pair_of entries) ≡ pairs = omega (arith, length-map entries pair_of) in
+    subst (HasMore (Needed s (Contains qs))) same
+    (one_more (Needed s (Contains qs)) (map pair_of entries) q table.different (All-from_Contains (Needed s (Contains qs)) (map pair_of entries) needed) absent one)
+
+-- an element that was read
+pub read_at : {X : Type 0} (xs : List X) (i : ℕ) (x d : X) → slice_get xs i ≡ Some x → get_or xs i d ≡ x
+read_at [] i x d at = cc
+read_at (y ∷ xs) zero x d at = let same : y ≡ x = cc in same
+read_at (y ∷ xs) (suc i) x d at = read_at xs i x d at
+
+-- an entry that only looks another
+up_same : (s : System) (e e' : Entry) → IsUpTo s e → pair_of e' ≡ pair_of e → e'.rounds ≡ e.rounds → e'.firsts.items ≡ e.firsts.items → IsUpTo s e'
+up_same s e e' up pair rounds firsts = record {
+  right = λ f there.
+      let was = up.right f (subst (λ (z : List First). Contains z f) firsts there) in
+      (subst (λ o. IsDone o f.round) (sym rounds) was.0, subst (λ (q : Pair). IsFirst (labels s q) f.atom (Some f.round)) (sym pair) was.1);
+  whole = λ k a done there.
+      let f = up.whole k a (subst (λ o. IsDone o k) rounds done) (subst (λ (q : Pair). Contains (labels s q k) a) pair there) in
+      (f.0, subst (λ (z : List First). Contains z f.0) (sym firsts) f.1, f.2);
+}
+
+pub table_same : (s : System) (pairs : ℕ) (entries : List Entry) (i : ℕ) (e e' : Entry) → IsTable s pairs entries → slice_get entries i ≡ Some e
+    → pair_of e' ≡ pair_of e → e'.rounds ≡ e.rounds → e'.firsts.items ≡ e.firsts.items → IsTable s pairs (set entries i e')
+table_same s pairs entries i e e' table at pair rounds firsts =
+    let same = set-alike pair_of entries i e e' at pair in
+    record {
+      sound = table.sound;
+      up_to = λ x there. elim (set-Contains entries i e' x there) [
+        | inl new ↦ subst (λ (z : Entry). IsUpTo s z) (sym new) (up_same s e e' (table.up_to e (Contains-at entries i e at)) pair rounds firsts)
+        | inr old ↦ table.up_to x old
+      ];
+      asked = λ x there m r done asked. subst (λ (z : List Pair). Contains z r) (sym same) (elim (set-Contains entries i e' x there) [
+        | inr old ↦ table.asked x old m r done asked
+        | inl new ↦ table.asked e (Contains-at entries i e at) m r (subst (λ o. IsDone o (suc m)) (ap (λ (z : Entry). z.rounds) new ∙ rounds) done)
+            (subst (λ (q : Pair). Asks s (labels s q m) r) (ap pair_of new ∙ pair) asked)
+      ]);
+      different = subst AreDifferent (sym same) table.different;
+      few = let few = table.few in omega (arith, set-length entries i e');
+    }
+
+-- worked out up to k, and not only up to k
+pub farther : (o : Option ℕ) (k : ℕ) → IsDone o k → o ≢ Some k → IsDone o (suc k)
+farther None k done other = tt
+farther (Some n) k done other = elim (cases_order n k) [
+  | inl same ↦ absurd (other (ap Some same))
+  | inr (inl less) ↦ absurd (omega arith)
+  | inr (inr more) ↦ omega arith
+]
+
+-- the table after a round was noted, or couldn't be
+pub record IsStep (s : System) (pairs : ℕ) (old new : List Entry) : Type 0 where
+  pub table : IsTable s pairs new
+  pub more : IsMore old new
+  pub same : map pair_of new ≡ map pair_of old
+
+pub noted_step : (s : System) (pairs : ℕ) (old new : List Entry) (i : ℕ) (k : ℕ) (firsts : List First) (e : Entry) → IsTable s pairs old → slice_get old i ≡ Some e
+    → firsts ≡ fresh_of (labels s (pair_of e) k) (suc k) (labels s (pair_of e) (suc k))
+    → ((r : Pair) → Asks s (labels s (pair_of e) k) r → Contains (map pair_of old) r) → IsDone e.rounds k
+    → NotedAt old new i k firsts e → IsStep s pairs old new × IsSomeAnd (slice_get new i) (λ x. IsDone x.rounds (suc k))
+noted_step s pairs old new i k firsts e table at fresh asks done (inl (e', is, rounds, pair, rounds', firsts')) =
+    let kept : IsKept e e' = record {
+      pair = pair;
+      rounds = λ m done. let le : m ≤ k = subst (λ o. IsDone o m) rounds done in subst (λ o. IsDone o m) (sym rounds') (omega arith);
+      at_rest = λ rest. let never : Some k ≡ None = sym rounds ∙ rest in cc;
+    } in (
+      record {
+        table = subst (λ (z : List Entry). IsTable s pairs z) (sym is) (table_set s pairs old i e e' k table at rounds pair rounds' (firsts' ∙ ap (λ z. e.firsts.items ++ z) fresh) asks);
+        more = subst (λ (z : List Entry). IsMore old z) (sym is) (more_set old i e e' at kept);
+        same = ap (map pair_of) is ∙ set-alike pair_of old i e e' at pair;
+      },
+      subst (λ (z : List Entry). IsSomeAnd (slice_get z i) (λ x. IsDone x.rounds (suc k))) (sym is)
+          (subst (λ o. IsSomeAnd o (λ x. IsDone x.rounds (suc k))) (sym (set-here old i e e' at)) (subst (λ o. IsDone o (suc k)) (sym rounds') (omega arith))),
+    )
+noted_step s pairs old new i k firsts e table at fresh asks done (inr (is, other)) = (
+  record {
+    table = subst (λ (z : List Entry). IsTable s pairs z) (sym is) table;
+    more = subst (λ (z : List Entry). IsMore old z) (sym is) (more_itself old);
+    same = ap (map pair_of) is;
+  },
+  subst (λ (z : List Entry). IsSomeAnd (slice_get z i) (λ x. IsDone x.rounds (suc k))) (sym is)
+      (subst (λ o. IsSomeAnd o (λ x. IsDone x.rounds (suc k))) (sym at) (farther e.rounds k done other)),
+)
+
+pub untouched_step : (s : System) (pairs : ℕ) (old new : List Entry) (i : ℕ) (e : Entry) → IsTable s pairs old → slice_get old i ≡ Some e → IsUntouched old new i → IsStep s pairs old new
+untouched_step s pairs old new i e table at touch =
+    let (e', is, some, pair, rounds, firsts) = touch e at in
+    record {
+      table = subst (λ (z : List Entry). IsTable s pairs z) (sym is) (table_same s pairs old i e e' table at pair rounds firsts);
+      more = subst (λ (z : List Entry). IsMore old z) (sym is) (more_set old i e e' at (record {
+        pair = pair;
+        rounds = λ m done. subst (λ o. IsDone o m) (sym rounds) done;
+        at_rest = λ rest. absurd (some rest);
+      }));
+      same = ap (map pair_of) is ∙ set-alike pair_of old i e e' at pair;
+    }
+
+pub on_err : {T E : Type 0} (P : Type 0) (r : Result T E) → P → OnErr r P
+on_err P (Ok x) h = tt
+on_err P (Err e) h = h
+
+pub on_ok_more : {T E : Type 0} (P Q : Type 0) (r : Result T E) → (P → Q) → OnOk r P → OnOk r Q
+on_ok_more P Q (Ok x) f h = f h
+on_ok_more P Q (Err e) f h = tt

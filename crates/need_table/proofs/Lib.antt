@@ -1,0 +1,7 @@
+mod PlaceLemmas
+pub mod TableLemmas
+pub mod FillLemmas
+pub mod ChildLemmas
+pub mod BoundLemmas
+pub mod SettleLemmas
+pub mod PlainLemmas

@@ -1,0 +1,256 @@
+-- From a table that is worked out to one at rest.
+use Rattle.std.proofs.Common.{◌≡◌, ◌≢◌, ◌⊎◌, ℕ, zero, suc, eqb, ◌+◌, ◌-◌, ◌*◌, ◌<◌, ◌≤◌, true, false, List, [], ◌∷◌, ◌++◌, map, length, set, take, drop, get_or, Option, Some, None, slice_get, IsSomeAnd, IfSome, Contains, refl, sym, ap, ◌∙◌, inl, inr, arith, subst}
+use Rattle.std.proofs.lemmas.Bool.{cases_lt, both_ways, eq-eqb, eqb-true, cases_Bool}
+use Rattle.std.proofs.lemmas.List.{length-map}
+use Rattle.tp_base.proofs.ClassLemmas.{same_members}
+use Rattle.tp_base.proofs.Rising.{Contains-here, Contains-behind, Contains-cons, Contains-none}
+use Rattle.tree_sem.proofs.NodeLemmas.{Contains-map, map-Contains}
+use Rattle.simple_core.specs.Labels.{set_of}
+use Rattle.simple_core.specs.Rounds.{grown, IsRest, IsFirst}
+use Rattle.simple_core.proofs.Members.{among_all}
+use Rattle.simple_core.proofs.RoundLemmas.{set_of-is, is-set_of, set_of-rises, grown-rises, grown-later}
+use Rattle.tp_base.specs.declared.atoms.TheConstants.{MOST_ATOMS}
+use Rattle.simple_core.specs.declared.system.System.{System}
+use Rattle.simple_core.specs.Pairs.{Pair, Needed}
+use Rattle.need_table.specs.declared.entries.First.{First}
+use Rattle.need_table.specs.declared.entries.Entry.{Entry}
+use Rattle.need_table.specs.Tables.{pair_of, labels, round_in, IsDone, IsUpTo, IsTable, IsMore, IsKept, AreNeeded, AllDone, AreDoneBelow, AllRest, has_later, rested}
+use Rattle.need_table.proofs.TableLemmas.{Contains-at, at-Contains, at-within}
+use Rattle.need_table.proofs.FillLemmas.{later_at, pairs_more, read_at}
+use Rattle.need_table.proofs.ChildLemmas.{at_of, and_at, some_at}
+use Rattle.need_table.proofs.BoundLemmas.{done_before, later_is, later_none, quiet_rest, rounds_few, table_rested}
+
+rest_in : (old : List Entry) (i : ℕ) (d : Entry) → i < length old
+    → set (map rested (take i old) ++ drop i old) i (rested (get_or (map rested (take i old) ++ drop i old) i d)) ≡ map rested (take (i + 1) old) ++ drop (i + 1) old
+rest_in [] i d less = absurd (omega arith)
+rest_in (x ∷ xs) zero d less = refl
+rest_in (x ∷ xs) (suc i) d less =
+    subst (λ n. rested x ∷ set (map rested (take i xs) ++ drop i xs) i (rested (get_or (map rested (take i xs) ++ drop i xs) i d)) ≡ map rested (take n (x ∷ xs)) ++ drop n (x ∷ xs)) {x = suc (i + 1)} (omega arith)
+    (ap (λ z. rested x ∷ z) (rest_in xs i d (omega arith)))
+
+pub rest_step : (now old : List Entry) (i : ℕ) (d : Entry) → now ≡ map rested (take i old) ++ drop i old → i < length old
+    → set now i (rested (get_or now i d)) ≡ map rested (take (i + 1) old) ++ drop (i + 1) old
+rest_step now old i d is less = subst (λ (z : List Entry). set z i (rested (get_or z i d)) ≡ map rested (take (i + 1) old) ++ drop (i + 1) old) (sym is) (rest_in old i d less)
+
+rested_in : (old : List Entry) (i : ℕ) → length old ≤ i → map rested (take i old) ++ drop i old ≡ map rested old
+rested_in [] zero le = refl
+rested_in [] (suc i) le = refl
+rested_in (x ∷ xs) zero le = absurd (omega arith)
+rested_in (x ∷ xs) (suc i) le = ap (λ z. rested x ∷ z) (rested_in xs i (omega arith))
+
+pub rested_all : (now old : List Entry) (i : ℕ) → length old ≤ i → now ≡ map rested (take i old) ++ drop i old → now ≡ map rested old
+rested_all now old i le is = is ∙ rested_in old i le
+
+-- one entry more is worked out
+pub done_more : (old new : List Entry) (i r : ℕ) → IsMore old new → i < length old → ((j : ℕ) (e : Entry) → j < i → slice_get old j ≡ Some e → IsDone e.rounds r)
+    → IsSomeAnd (slice_get new i) (λ e. IsDone e.rounds r) → (j : ℕ) (e : Entry) → j < i + 1 → slice_get new j ≡ Some e → IsDone e.rounds r
+done_more old new i r more within done here j e less at = elim (cases_lt j i) [
+  | inl early ↦
+      let x = at_of old j (omega arith) in
+      let y = later_at old new j x.0 more x.1 in
+      let same : y.0 ≡ e = let both : Some y.0 ≡ Some e = sym y.1 ∙ at in cc in
+      subst (λ (z : Entry). IsDone z.rounds r) same (y.2.rounds r (done j x.0 early x.1))
+  | inr late ↦
+      let same : j ≡ i = omega arith in
+      and_at (λ e. IsDone e.rounds r) (slice_get new i) e (subst (λ z. slice_get new z ≡ Some e) same at) here
+]
+
+pub all_done : (entries : List Entry) (i r : ℕ) → length entries ≤ i → ((j : ℕ) (e : Entry) → j < i → slice_get entries j ≡ Some e → IsDone e.rounds r) → AllDone entries r
+all_done entries i r le done e there =
+    let at = at-Contains entries e there in
+    let within = at-within entries at.0 e at.1 in
+    done at.0 e (omega arith) at.1
+
+-- all were worked out up to round 0
+pub start_done : (entries : List Entry) → AllDone entries 0
+start_done entries e there = zero_done e.rounds
+  where
+    zero_done : (o : Option ℕ) → IsDone o 0
+    zero_done None = tt
+    zero_done (Some n) = omega arith
+
+pub all_less : (entries : List Entry) (r r' : ℕ) → r' ≤ r → AllDone entries r → AllDone entries r'
+all_less entries r r' le all e there = done_before e.rounds r r' le (all e there)
+
+-- an entry at a place that was there before is worked out as far
+pub below_kept : (old new : List Entry) (first r r' : ℕ) → IsMore old new → first ≤ length old → r' ≤ r → AreDoneBelow first old r → AreDoneBelow first new r'
+below_kept old new first r r' more within le below j e less at =
+    let x = at_of old j (omega arith) in
+    let y = later_at old new j x.0 more x.1 in
+    let same : y.0 ≡ e = let both : Some y.0 ≡ Some e = sym y.1 ∙ at in cc in
+    subst (λ (z : Entry). IsDone z.rounds r') same (done_before y.0.rounds r r' le (y.2.rounds r (below j x.0 less x.1)))
+
+pub all_below : (entries : List Entry) (first r : ℕ) → AllDone entries r → AreDoneBelow first entries r
+all_below entries first r all j e less at = all e (Contains-at entries j e at)
+
+pub rest_below : (old : List Entry) (first r : ℕ) → AllRest old → AreDoneBelow first old r
+rest_below old first r rest j e less at = subst (λ o. IsDone o r) (sym (rest e (Contains-at old j e at))) tt
+
+-- all are worked out as far as before, where there are no more
+pub done_kept : (old new : List Entry) (r : ℕ) → IsMore old new → length new ≡ length old → AllDone old r → AllDone new r
+done_kept old new r more same all e there =
+    let at = at-Contains new e there in
+    let within = at-within new at.0 e at.1 in
+    below_kept old new (length old) r r more (omega arith) (omega arith) (all_below old (length old) r all) at.0 e (omega arith) at.1
+
+-- one entry more has the next round, if there are still no more than `before`
+pub sweep_next : (old new : List Entry) (i k before : ℕ) → IsMore old new → before ≤ length old → i < length old → (length old ≡ before → AllDone old k × AreDoneBelow i old (suc k))
+    → (length new ≡ before → IsSomeAnd (slice_get new i) (λ e. IsDone e.rounds (suc k))) → length new ≡ before → AllDone new k × AreDoneBelow (i + 1) new (suc k)
+sweep_next old new i k before more le within so_far here same =
+    let longer = more.longer in
+    let was : length old ≡ before = omega arith in
+    let so = so_far was in
+    (done_kept old new k more (omega arith) so.0, done_more old new i (suc k) more within so.1 (here same))
+
+-- the same round, written in another way
+pub next_done : (entries : List Entry) (k : ℕ) → AllDone entries (suc k) → AllDone entries (k + 1)
+next_done entries k all = let one : suc k ≡ k + 1 = omega arith in subst (AllDone entries) one all
+
+more_rested : (entries : List Entry) → IsMore entries (map rested entries)
+more_rested entries = record {
+  kept = λ i x at. subst (λ o. IsSomeAnd o (IsKept x)) (sym (rested_at entries i x at)) (record {
+    pair = refl;
+    rounds = λ k done. tt;
+    at_rest = λ none. same_rested x none;
+  });
+  longer = omega (arith, length-map entries rested);
+}
+  where
+    rested_at : (es : List Entry) (i : ℕ) (x : Entry) → slice_get es i ≡ Some x → slice_get (map rested es) i ≡ Some (rested x)
+    rested_at [] i x at = cc
+    rested_at (e ∷ es) zero x at = let same : e ≡ x = cc in ap (λ z. Some (rested z)) same
+    rested_at (e ∷ es) (suc i) x at = rested_at es i x at
+
+    same_rested : (x : Entry) → x.rounds ≡ None → rested x ≡ x
+    same_rested x none = λ i. record { kind = x.kind; parent = x.parent; firsts = x.firsts; rounds = sym none i }
+
+-- the table at rest, after a round without news
+pub record IsSettled (s : System) (pairs : ℕ) (old new : List Entry) : Type 0 where
+  pub table : IsTable s pairs new
+  pub at_rest : AllRest new
+  pub same : map pair_of new ≡ map pair_of old
+  pub more : IsMore old new
+
+pub settled : (s : System) (pairs : ℕ) (entries new : List Entry) (t : ℕ) → IsTable s pairs entries → 0 < t → AllDone entries t → has_later t entries ≡ false → new ≡ map rested entries → IsSettled s pairs entries new
+settled s pairs entries new zero table some done quiet is = absurd (omega arith)
+settled s pairs entries new (suc k) table some done quiet is =
+    let rest = quiet_rest s pairs entries table k done (λ e f there in_e same. let less = later_none (suc k) entries quiet e f there in_e in absurd (omega arith)) in
+    let all = table_rested s pairs entries k table done rest in
+    subst (λ (z : List Entry). IsSettled s pairs entries z) (sym is) (record { table = all.0; at_rest = all.1; same = all.2; more = more_rested entries })
+
+-- while there is news, the next round is within the bound
+pub next_few : (s : System) (pairs : ℕ) (entries : List Entry) (t : ℕ) → IsTable s pairs entries → AllDone entries t → has_later t entries ≡ true → t ≤ pairs * MOST_ATOMS
+next_few s pairs entries t table done later =
+    let news = later_is t entries later in
+    let few = rounds_few s pairs entries table t done news.0 news.1 news.2 news.3 news.4 in
+    let room = table.few in
+    omega arith
+
+-- the entries that were there before, where all were at rest
+pub old_ones : (old new : List Entry) → AllRest old → IsMore old new → take (length old) new ≡ old
+old_ones old new rest more = go old new (λ i e at. let y = later_at old new i e more at in y.1 ∙ ap Some (y.2.at_rest (rest e (Contains-at old i e at))))
+  where
+    go : (old new : List Entry) → ((i : ℕ) (e : Entry) → slice_get old i ≡ Some e → slice_get new i ≡ Some e) → take (length old) new ≡ old
+    go [] new each = refl
+    go (x ∷ xs) [] each = let never : None ≡ Some x = each 0 x refl in cc
+    go (x ∷ xs) (y ∷ ys) each =
+        let both : Some y ≡ Some x = each 0 x refl in
+        let first : y ≡ x = cc in
+        let rest = go xs ys (λ i e at. each (suc i) e at) in
+        λ i. first i ∷ rest i
+
+-- the last round of some
+last_round : List First → ℕ
+last_round [] = 0
+last_round (f ∷ fs) = f.round + last_round fs
+
+last_is : (fs : List First) (f : First) → Contains fs f → f.round ≤ last_round fs
+unfolding last_round
+last_is [] f there = absurd (Contains-none f there)
+last_is (g ∷ fs) f there = elim ((Contains-cons f g fs).0 there) [
+  | inl here ↦ let same : f.round ≡ g.round = ap (λ (z : First). z.round) here in omega arith
+  | inr behind ↦ let rest = last_is fs f behind in omega arith
+]
+
+-- the label of an entry at rest
+pub rest_label : (s : System) (e : Entry) → IsUpTo s e → e.rounds ≡ None → IsRest s e.kind e.parent (set_of (map (λ f. f.atom) e.firsts.items))
+rest_label s e up none =
+    let atoms = map (λ (f : First). f.atom) e.firsts.items in
+    let k = last_round e.firsts.items in
+    let label = grown s k e.kind e.parent in
+    let all : (m a : ℕ) → Contains (grown s m e.kind e.parent) a → Contains (set_of atoms) a = λ m a there.
+    let f = up.whole m a (subst (λ o. IsDone o m) (sym none) tt) there in
+    is-set_of atoms a (subst (λ z. Contains atoms z) f.2 (Contains-map (λ (f : First). f.atom) e.firsts.items f.0 f.1)) in
+    record {
+      reached = (
+        k,
+        same_members (set_of atoms) label (set_of-rises atoms) (grown-rises s k e.kind e.parent)
+            (among_all (set_of atoms) label (λ a there.
+            let f = map-Contains (λ (f : First). f.atom) e.firsts.items a (set_of-is atoms a there) in
+            let first = (up.right f.0 f.1).1 in
+            subst (λ z. Contains label z) (sym f.2) (grown-later s e.kind e.parent f.0.round k (last_is e.firsts.items f.0 f.1) f.0.atom first.0)))
+            (among_all label (set_of atoms) (λ a there. all k a there)),
+      );
+      whole = λ m. among_all (grown s m e.kind e.parent) (set_of atoms) (λ a there. all m a there);
+    }
+
+pub label_at_rest : (s : System) (pairs : ℕ) (entries : List Entry) (i : ℕ) (q : Pair) (x : Entry) → IsTable s pairs entries → AllRest entries → IsSomeAnd (slice_get entries i) (λ e. pair_of e ≡ q)
+    → x ≡ get_or entries i x → IsRest s q.0 q.1 (set_of (map (λ f. f.atom) x.firsts.items))
+label_at_rest s pairs entries i q x table rest at read =
+    let e = some_at (λ e. pair_of e ≡ q) (slice_get entries i) at in
+    let here : x ≡ e.0 = read ∙ read_at entries i e.0 x e.1 in
+    let there = Contains-at entries i e.0 e.1 in
+    subst (λ (z : Entry). IsRest s q.0 q.1 (set_of (map (λ (f : First). f.atom) z.firsts.items))) (sym here)
+    (subst (λ (z : Pair). IsRest s z.0 z.1 (set_of (map (λ (f : First). f.atom) e.0.firsts.items))) e.2 (rest_label s e.0 (table.up_to e.0 there) (rest e.0 there)))
+
+-- the round that stands with an atom is its first
+round_in-some : (fs : List First) (a r : ℕ) → round_in fs a ≡ Some r → (f : First) × Contains fs f × (f.atom ≡ a) × (f.round ≡ r)
+round_in-some [] a r is = cc
+round_in-some (f ∷ fs) a r is = elim (cases_Bool (eqb f.atom a)) [
+  | inl same ↦ let here : Some f.round ≡ Some r = rw same at is in (f, Contains-here f f fs refl, eqb-true f.atom a same, cc)
+  | inr other ↦ let rest = round_in-some fs a r (rw other at is) in (rest.0, Contains-behind rest.0 f fs rest.1, rest.2, rest.3)
+]
+
+round_in-none : (fs : List First) (a : ℕ) → round_in fs a ≡ None → (f : First) → Contains fs f → f.atom ≢ a
+round_in-none [] a is f there = absurd (Contains-none f there)
+round_in-none (g ∷ fs) a is f there = elim (cases_Bool (eqb g.atom a)) [
+  | inl same ↦ let never : Some g.round ≡ None = rw same at is in cc
+  | inr other ↦ elim ((Contains-cons f g fs).0 there) [
+    | inl here ↦ λ e. both_ways (eqb g.atom a) other (eq-eqb g.atom a (ap (λ (z : First). z.atom) (sym here) ∙ e))
+    | inr behind ↦ round_in-none fs a (rw other at is) f behind
+  ]
+]
+
+pub first_in_rest : (s : System) (e : Entry) (a : ℕ) (r : Option ℕ) → IsUpTo s e → e.rounds ≡ None → round_in e.firsts.items a ≡ r → IsFirst (labels s (pair_of e)) a r
+first_in_rest s e a None up none is = λ k there.
+    let f = up.whole k a (subst (λ o. IsDone o k) (sym none) tt) there in
+    round_in-none e.firsts.items a is f.0 f.1 f.2
+first_in_rest s e a (Some r) up none is =
+    let f = round_in-some e.firsts.items a r is in
+    let first = (up.right f.0 f.1).1 in
+    subst (λ z. IsFirst (labels s (pair_of e)) a (Some z)) f.3 (subst (λ z. IsFirst (labels s (pair_of e)) z (Some f.0.round)) f.2 first)
+
+pub round_bound : (s : System) (pairs : ℕ) (entries : List Entry) (e : Entry) (a : ℕ) (r : Option ℕ) → IsTable s pairs entries → AllRest entries → pairs < 4294967296 → Contains entries e → round_in e.firsts.items a ≡ r → IfSome r (λ k. k < 4611686018427387904)
+round_bound s pairs entries e a None table rest fits there is = tt
+round_bound s pairs entries e a (Some r) table rest fits there is =
+    let f = round_in-some e.firsts.items a r is in
+    let few = rounds_few s pairs entries table f.0.round (λ x in_entries. subst (λ o. IsDone o f.0.round) (sym (rest x in_entries)) tt) e f.0 there f.1 (omega arith) in
+    let room = table.few in
+    let same = f.3 in
+    omega arith
+
+pub first_known : (s : System) (pairs : ℕ) (entries : List Entry) (i : ℕ) (q : Pair) (x : Entry) (a : ℕ) (fs : List First) (r : Option ℕ) → IsTable s pairs entries → AllRest entries
+    → IsSomeAnd (slice_get entries i) (λ e. pair_of e ≡ q) → x ≡ get_or entries i x → fs ≡ x.firsts.items → r ≡ round_in fs a
+    → IsFirst (labels s q) a r × (pairs < 4294967296 → IfSome r (λ k. k < 4611686018427387904))
+first_known s pairs entries i q x a fs r table rest at read is_fs is_r =
+    let e = some_at (λ e. pair_of e ≡ q) (slice_get entries i) at in
+    let here : x ≡ e.0 = read ∙ read_at entries i e.0 x e.1 in
+    let there = Contains-at entries i e.0 e.1 in
+    let round : round_in e.0.firsts.items a ≡ r = sym (is_r ∙ ap (λ z. round_in z a) (is_fs ∙ ap (λ (z : Entry). z.firsts.items) here)) in (
+      subst (λ (z : Pair). IsFirst (labels s z) a r) e.2 (first_in_rest s e.0 a r (table.up_to e.0 there) (rest e.0 there) round),
+      λ fits. round_bound s pairs entries e.0 a r table rest fits there round,
+    )
+
+-- the table after a refusal
+pub as_before : (old new cut : List Entry) (n : ℕ) → AllRest old → IsMore old new → n ≡ length old → cut ≡ take n new → cut ≡ old
+as_before old new cut n rest more count is = is ∙ ap (λ k. take k new) count ∙ old_ones old new rest more

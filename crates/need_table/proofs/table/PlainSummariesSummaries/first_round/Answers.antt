@@ -1,0 +1,11 @@
+use Rattle.std.proofs.Common.{◌≡◌, List, sym, subst}
+use Rattle.need_table.specs.declared.entries.Entry.{Entry}
+use Rattle.need_table.specs.Tables.{AllRest}
+use Rattle.need_table.proofs.PlainLemmas.{rest_asks_all}
+use Rattle.need_table.proofs.table.PlainSummariesSummaries.first_round.Goals as goal
+
+pub returns-clause-first : goal.returns-clause-first
+returns-clause-first c = rw (← c.self.view_is) c.first_at.ensures.first
+
+pub returns-clause-closed : goal.returns-clause-closed
+returns-clause-closed c = rw (← c.self.view_is) (rest_asks_all c.self.inside.system c.self.inside.pairs c.self.inside.table c.self.invariant.table c.self.invariant.at_rest)

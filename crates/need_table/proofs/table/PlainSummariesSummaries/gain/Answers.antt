@@ -1,0 +1,37 @@
+use Rattle.std.proofs.Common.{◌≡◌, ◌⊎◌, List, map, Contains, rules, Err, refl, sym, ap, subst}
+use Rattle.simple_core.specs.Pairs.{Pair, Needed, HasMore}
+use Rattle.simple_core.specs.declared.summaries.GainFault.TheVariants.{Spent}
+use Rattle.need_table.specs.Tables.{pair_of}
+use Rattle.need_table.proofs.PlainLemmas.{rest_asks_all, told_now, spent_now}
+use Rattle.need_table.proofs.table.PlainSummariesSummaries.gain.Goals as goal
+
+pub returns-then-is_some-clause-closed : goal.returns-then-is_some-clause-closed
+returns-then-is_some-clause-closed c = rw (← c.self.view_is) (rest_asks_all c.self.inside.system c.self.inside.pairs c.self.inside.table c.self.invariant.table c.self.invariant.at_rest)
+
+pub returns-in_err-copy-clause-closed : goal.returns-in_err-copy-clause-closed
+returns-in_err-copy-clause-closed c = rw (← c.self.view_is) (rest_asks_all c.self.inside.system c.self.inside.pairs c.self.inside.table c.self.invariant.table c.self.invariant.at_rest)
+
+pub returns-in-Ok-clause-closed : goal.returns-in-Ok-clause-closed
+returns-in-Ok-clause-closed c = rest_asks_all c.self.inside.system c.self.inside.pairs c.ask.new.table c.ask.ensures.table c.ask.ensures.at_rest
+
+pub returns-in-Err-Memory-clause-closed : goal.returns-in-Err-Memory-clause-closed
+returns-in-Err-Memory-clause-closed c = rest_asks_all c.self.inside.system c.self.inside.pairs c.ask.new.table c.ask.ensures.table c.ask.ensures.at_rest
+
+pub returns-in-Err-Spent-clause-closed : goal.returns-in-Err-Spent-clause-closed
+returns-in-Err-Spent-clause-closed c = rest_asks_all c.self.inside.system c.self.inside.pairs c.ask.new.table c.ask.ensures.table c.ask.ensures.at_rest
+
+pub returns-in-Ok-clause-told : goal.returns-in-Ok-clause-told
+returns-in-Ok-clause-told c = rw (← c.self.view_is)
+    (told_now c.self.inside.system c.self.inside.pairs c.self.inside.table c.ask.new.table (c.args.kind, c.args.parent.now)
+    c.ask.ensures.table c.ask.ensures.at_rest c.in-Ok.ensures.there c.ask.ensures.kept c.in-Ok.ensures.needed)
+
+pub invariant_of-self-in-Err-Spent : goal.invariant_of-self-in-Err-Spent
+invariant_of-self-in-Err-Spent c =
+    let question : (c.args.kind, c.in_ok-copy.field-0) ≡ (c.args.kind, c.args.parent.now) = ap (λ z. let q : Pair = (c.args.kind, z) in q) c.in_ok-copy.ensures in
+    let is : c.ask.result ≡ Err Spent = search rules in
+    record {
+      table = c.ask.ensures.table;
+      at_rest = c.ask.ensures.at_rest;
+      too_many = subst (λ (q : Pair). HasMore (Needed c.self.inside.system (λ r. Contains (map pair_of c.ask.new.table) r ⊎ (r ≡ q))) c.self.inside.pairs) (sym question)
+          (spent_now c.self.inside.system c.self.inside.pairs c.self.inside.table c.ask.new.table (c.args.kind, c.args.parent.now) c.in-Err-Spent.ensures.err (c.ask.ensures.spent is));
+    }

@@ -1,0 +1,4 @@
+pub mod Places
+pub mod PlainTables
+pub mod PlainViews
+pub mod Tables

@@ -1,0 +1,103 @@
+-- The table of pairs, while it is filled.
+use Rattle.std.specs.Prelude.{◌≡◌, ◌≢◌, ◌⊎◌, ◌++◌, set, ◌≤◌, ◌<◌, ℕ, suc, List, [], ◌∷◌, map, length, not, nat_le, Bool, Option, Some, None, All, Contains, IsSomeAnd, slice_get, ◌==◌, if◌then◌else◌, option_map, option_and_then, unwrap_or, ◌-◌}
+use Rattle.std.specs.List.{filter, flat_map, list_any}
+use Rattle.tp_base.specs.Classes.{has_class}
+use Rattle.simple_core.specs.declared.system.System.{System}
+use Rattle.simple_core.specs.declared.rules.Spawn.{Spawn}
+use Rattle.simple_core.specs.Systems.{IsSound}
+use Rattle.simple_core.specs.Labels.{given_by_links}
+use Rattle.simple_core.specs.Rounds.{grown, IsFirst}
+use Rattle.simple_core.specs.Pairs.{Pair, Asks, Needed, AreDifferent}
+use Rattle.need_table.specs.declared.entries.First.{First}
+use Rattle.need_table.specs.declared.entries.Entry.{Entry}
+
+abbrev pub pair_of : Entry → Pair
+pair_of e = (e.kind, e.parent)
+
+-- the atoms whose first round is at most k
+abbrev pub atoms_by : ℕ → List First → List ℕ
+atoms_by k firsts = map (λ f. f.atom) (filter (λ f. nat_le f.round k) firsts)
+
+-- the atoms of next that own doesn't have, with the round
+abbrev pub fresh_of : List ℕ → ℕ → List ℕ → List First
+fresh_of own round next = map (λ a. record { atom = a; round = round }) (filter (λ a. not (has_class a own)) next)
+
+abbrev pub labels : System → Pair → ℕ → List ℕ
+labels s q k = grown s k q.0 q.1
+
+-- the round k was worked out
+abbrev pub IsDone : Option ℕ → ℕ → Type 0
+IsDone None k = Unit {0}
+IsDone (Some n) k = k ≤ n
+
+-- each atom that the label has in a round that was worked out is there once, with its first round
+pub record IsUpTo (s : System) (e : Entry) : Type 0 where
+  pub right : (f : First) → Contains e.firsts.items f → IsDone e.rounds f.round × IsFirst (labels s (pair_of e)) f.atom (Some f.round)
+  pub whole : (k a : ℕ) → IsDone e.rounds k → Contains (labels s (pair_of e) k) a → (f : First) × Contains e.firsts.items f × (f.atom ≡ a)
+
+abbrev pub AreUpTo : System → List Entry → Type 0
+AreUpTo s entries = (e : Entry) → Contains entries e → IsUpTo s e
+
+-- different pairs, at most so many; what they ask in rounds before the last that was worked out stands in the table
+pub record IsTable (s : System) (pairs : ℕ) (entries : List Entry) : Type 0 where
+  pub sound : IsSound s
+  pub up_to : AreUpTo s entries
+  pub asked : (e : Entry) → Contains entries e → (k : ℕ) (r : Pair) → IsDone e.rounds (suc k) → Asks s (labels s (pair_of e) k) r → Contains (map pair_of entries) r
+  pub different : AreDifferent (map pair_of entries)
+  pub few : length entries ≤ pairs
+
+-- the same pair, worked out as far or farther, and the same where it was at rest
+pub record IsKept (old new : Entry) : Type 0 where
+  pub pair : pair_of new ≡ pair_of old
+  pub rounds : (k : ℕ) → IsDone old.rounds k → IsDone new.rounds k
+  pub at_rest : old.rounds ≡ None → new ≡ old
+
+pub record IsMore (old new : List Entry) : Type 0 where
+  pub kept : (i : ℕ) (e : Entry) → slice_get old i ≡ Some e → IsSomeAnd (slice_get new i) (IsKept e)
+  pub longer : length old ≤ length new
+
+-- the entry at i got the atoms new, if k was its last round; then it has one round more
+abbrev pub NotedAt : List Entry → List Entry → ℕ → ℕ → List First → Entry → Type 0
+NotedAt old new i k firsts e = ((e' : Entry) × (new ≡ set old i e') × (e.rounds ≡ Some k) × (pair_of e' ≡ pair_of e) × (e'.rounds ≡ Some (suc k)) × (e'.firsts.items ≡ e.firsts.items ++ firsts)) ⊎ ((new ≡ old) × (e.rounds ≢ Some k))
+
+abbrev pub IsNoted : List Entry → List Entry → ℕ → ℕ → List First → Type 0
+IsNoted old new i k firsts = (e : Entry) → slice_get old i ≡ Some e → NotedAt old new i k firsts e
+
+-- nothing that counts is another at i, where a round was to be noted
+abbrev pub IsUntouched : List Entry → List Entry → ℕ → Type 0
+IsUntouched old new i = (e : Entry) → slice_get old i ≡ Some e → (e' : Entry) × (new ≡ set old i e') × (e.rounds ≢ None) × (pair_of e' ≡ pair_of e) × (e'.rounds ≡ e.rounds) × (e'.firsts.items ≡ e.firsts.items)
+
+-- each pair of the table is needed for those of qs
+abbrev pub AreNeeded : System → List Pair → List Entry → Type 0
+AreNeeded s qs entries = (q : Pair) → Contains (map pair_of entries) q → Needed s (Contains qs) q
+
+-- the kinds that the label adds by these rules, and their labels
+abbrev pub kinds_from : List ℕ → List Spawn → List ℕ
+kinds_from own spawns = map (λ c. c.kind) (filter (λ c. has_class c.needs own) spawns)
+
+abbrev pub given_from : System → ℕ → List ℕ → List ℕ → List Spawn → List ℕ
+given_from s k own seen spawns = flat_map (given_by_links s.down) (map (λ j. grown s k j seen) (kinds_from own spawns))
+
+-- the rounds up to t were worked out, for each entry
+abbrev pub AllDone : List Entry → ℕ → Type 0
+AllDone entries t = (e : Entry) → Contains entries e → IsDone e.rounds t
+
+-- the same, for the entries before a place
+abbrev pub AreDoneBelow : ℕ → List Entry → ℕ → Type 0
+AreDoneBelow first entries t = (j : ℕ) (e : Entry) → j < first → slice_get entries j ≡ Some e → IsDone e.rounds t
+
+abbrev pub AllRest : List Entry → Type 0
+AllRest entries = (e : Entry) → Contains entries e → e.rounds ≡ None
+
+-- whether an entry has an atom whose first round is this one or later
+abbrev pub has_later : ℕ → List Entry → Bool
+has_later round entries = list_any (λ e. list_any (λ f. nat_le round f.round) e.firsts.items) entries
+
+-- the entry, at rest
+abbrev pub rested : Entry → Entry
+rested e = record e { rounds = None }
+
+-- the round that stands with the atom
+abbrev pub round_in : List First → ℕ → Option ℕ
+round_in [] a = None
+round_in (f ∷ fs) a = if f.atom == a then Some f.round else round_in fs a

@@ -1,0 +1,147 @@
+//! Questions to the table.
+ghost use Rattle.std.specs.Prelude.{◌≡◌, ◌≤◌, ◌<◌, ◌^◌, ℕ, [], ◌∷◌, ◌++◌, List, map, length, slice_get, Contains, IsSomeAnd, IfOk, OnOk, OnErr, IfSome};
+ghost use Rattle.simple_core.specs.Labels.{set_of};
+ghost use Rattle.simple_core.specs.Rounds.{IsRest, IsFirst};
+ghost use Rattle.simple_core.specs.Pairs.{Pair, Needed, HasMore};
+ghost use Rattle.need_table.specs.Tables.{pair_of, labels, IsTable, IsMore, AreNeeded, AllRest, round_in};
+
+use crate::entries::First;
+use crate::pair_table::Table;
+use crate::settling::fill;
+use simple_core::{GainFault, System};
+use std::alloc::Global;
+use tp_base::{Atom, ClassSet, NoMemory};
+
+// All atoms.
+fn atoms_of(alloc: Global, firsts: &[First]) -> Result<ClassSet, NoMemory>
+    ensures { IfOk result (λ l. l ≡ set_of (map (λ f. f.atom) firsts.now)) }
+{
+    let mut label = ClassSet::new(alloc);
+    let mut rest = firsts;
+    'firsts: while let Some((first, others)) = rest.split_first() {
+        label.add(first.atom)?;
+        rest = others;
+    }
+    Ok(label)
+}
+
+// The round that stands with the atom.
+fn round_of(firsts: &[First], atom: Atom) -> Option<u64>
+    ensures { result ≡ round_in firsts.now atom }
+{
+    let mut rest = firsts;
+    'firsts: while let Some((first, others)) = rest.split_first() {
+        if first.atom == atom {
+            return Some(first.round);
+        }
+        rest = others;
+    }
+    None
+}
+
+/// The first round of an atom at an entry of a table at rest.
+pub(crate) fn first_at(
+    system: &System,
+    table: &Table,
+    pairs: u32,
+    kind: u32,
+    parent: &ClassSet,
+    atom: Atom,
+) -> Option<u64>
+    requires table { IsTable system.now pairs table.now }
+    requires at_rest { AllRest table.now }
+    requires known { Contains (map pair_of table.now) (kind, parent.now) }
+    ensures first { IsFirst (labels system.now (kind, parent.now)) atom result }
+    ensures bound { IfSome result (λ k. k < 2 ^ 62) }
+{
+    let _pairs = pairs;
+    match table.find(kind, parent) {
+        Some(i) => round_of(&table.entry(i).firsts, atom),
+        None => None,
+    }
+}
+
+// The label of a pair that is there already.
+fn known_label(
+    alloc: Global,
+    system: &System,
+    table: &Table,
+    pairs: u32,
+    kind: u32,
+    parent: &ClassSet,
+) -> Result<Option<ClassSet>, NoMemory>
+    requires table { IsTable system.now pairs table.now }
+    requires at_rest { AllRest table.now }
+    ensures label { IfOk result (λ o. IfSome o (λ l. IsRest system.now kind parent.now l)) }
+    ensures there { IfOk result (λ o. IfSome o (λ _. Contains (map pair_of table.now) (kind, parent.now))) }
+{
+    let _pairs = pairs;
+    match table.find(kind, parent) {
+        Some(i) => {
+            let label = atoms_of(alloc, &table.entry(i).firsts)?;
+            Ok(Some(label))
+        }
+        None => Ok(None),
+    }
+}
+
+// Fills the table, and answers the label.
+fn try_ask(
+    alloc: Global,
+    system: &System,
+    table: &mut Table,
+    pairs: u32,
+    kind: u32,
+    parent: &ClassSet,
+) -> Result<ClassSet, GainFault>
+    requires kind { kind < length system.now.kinds }
+    requires table { IsTable system.now pairs table.old }
+    requires at_rest { AllRest table.old }
+    ensures table { OnOk result (IsTable system.now pairs table.new) }
+    ensures more { IsMore table.old table.new }
+    ensures at_rest { OnOk result (AllRest table.new) }
+    ensures label { IfOk result (λ l. IsRest system.now kind parent.now l) }
+    ensures there { OnOk result (Contains (map pair_of table.new) (kind, parent.now)) }
+    ensures needed { OnOk result ((qs : List Pair) → AreNeeded system.now qs table.old → Needed system.now (Contains qs) (kind, parent.now) → AreNeeded system.now qs table.new) }
+    ensures spent { result ≡ Err GainFault.Spent → (qs : List Pair) → AreNeeded system.now qs table.old → Needed system.now (Contains qs) (kind, parent.now)
+        → HasMore (Needed system.now (Contains qs)) pairs }
+{
+    let i = fill(alloc, system, table, pairs, kind, parent)?;
+    let label = atoms_of(alloc, &table.entry(i).firsts)?;
+    Ok(label)
+}
+
+/// The same, with the table as it was after a refusal.
+pub(crate) fn ask(
+    alloc: Global,
+    system: &System,
+    table: &mut Table,
+    pairs: u32,
+    kind: u32,
+    parent: &ClassSet,
+) -> Result<ClassSet, GainFault>
+    requires kind { kind < length system.now.kinds }
+    requires table { IsTable system.now pairs table.old }
+    requires at_rest { AllRest table.old }
+    ensures table { IsTable system.now pairs table.new }
+    ensures at_rest { AllRest table.new }
+    ensures label { IfOk result (λ l. IsRest system.now kind parent.now l) }
+    ensures there { OnOk result (Contains (map pair_of table.new) (kind, parent.now)) }
+    ensures kept { (q : Pair) → Contains (map pair_of table.old) q → Contains (map pair_of table.new) q }
+    ensures needed { OnOk result ((qs : List Pair) → AreNeeded system.now qs table.old → Needed system.now (Contains qs) (kind, parent.now) → AreNeeded system.now qs table.new) }
+    ensures err { OnErr result (table.new ≡ table.old) }
+    ensures spent { result ≡ Err GainFault.Spent → (qs : List Pair) → AreNeeded system.now qs table.old → Needed system.now (Contains qs) (kind, parent.now)
+        → HasMore (Needed system.now (Contains qs)) pairs }
+{
+    if let Some(label) = known_label(alloc, system, table, pairs, kind, parent)? {
+        return Ok(label);
+    }
+    let before = table.len();
+    match try_ask(alloc, system, table, pairs, kind, parent) {
+        Ok(label) => Ok(label),
+        Err(fault) => {
+            table.truncate(before);
+            Err(fault)
+        }
+    }
+}

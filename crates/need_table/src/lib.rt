@@ -1,0 +1,12 @@
+//! A table of what is known of pairs, pair by pair.
+#![tactic(auto)]
+
+mod asking;
+mod entries;
+mod filling;
+mod pair_table;
+mod places;
+mod settling;
+mod table;
+
+pub use table::PlainSummaries;

@@ -1,0 +1,142 @@
+//! The entries of the table.
+ghost use Rattle.std.specs.Prelude.{◌≡◌, ◌↔◌, ◌<◌, ◌^◌, ◌∷◌, ◌++◌, [], map, take, length, slice_get, get_or, Contains, IsNone, IfSome, IsSomeAnd, OnOk, OnErr};
+ghost use Rattle.need_table.specs.Tables.{pair_of, rested, IsNoted, IsUntouched};
+
+use crate::entries::{Entry, First, is_at};
+use crate::places::Places;
+use std::alloc::Global;
+use std::marker::Model;
+use tp_base::{ClassSet, NoMemory};
+
+/// Entries, each with its pair's place. A contract sees the list of the entries.
+#[derive(Drop)]
+pub(crate) struct Table {
+    entries: Vec<Entry>,
+    places: Places,
+}
+
+impl Model for Table {
+    ghost use Rattle.std.specs.Prelude.{List, map};
+    ghost use Rattle.need_table.specs.declared.entries.Entry.{Entry};
+    ghost use Rattle.need_table.specs.Tables.{pair_of};
+    ghost use Rattle.need_table.specs.Places.{AreAt};
+
+    ghost Value = { List Entry };
+
+    ghost view = { λ t. t.entries.items };
+
+    ghost invariant = { λ t. AreAt t.places (map pair_of t.entries.items) };
+}
+
+impl Table {
+    /// A table with no entry.
+    pub(crate) fn new(alloc: Global) -> Table
+        ensures { result ≡ [] }
+    {
+        Table {
+            entries: Vec::new(alloc),
+            places: Places::new(alloc),
+        }
+    }
+
+    pub(crate) fn allocator(&self) -> Global {
+        *self.entries.allocator()
+    }
+
+    pub(crate) fn len(&self) -> usize
+        ensures { result ≡ length self.now }
+    {
+        self.entries.len()
+    }
+
+    /// The entry at a place.
+    pub(crate) fn entry(&self, i: usize) -> &Entry
+        requires { i < length self.now }
+        ensures { result.now ≡ get_or self.now i result.now }
+    {
+        &self.entries[i]
+    }
+
+    pub(crate) fn entries(&self) -> &[Entry]
+        ensures { result.now ≡ self.now }
+    {
+        &self.entries
+    }
+
+    /// Where the pair stands, if it is there. Linear in its atoms, on average.
+    pub(crate) fn find(&self, kind: u32, parent: &ClassSet) -> Option<usize>
+        ensures place { IfSome result (λ i. IsSomeAnd (slice_get self.now i) (λ e. pair_of e ≡ (kind, parent.now))) }
+        ensures within { IfSome result (λ i. i < length self.now) }
+        ensures none { IsNone result ↔ ¬ Contains (map pair_of self.now) (kind, parent.now) }
+    {
+        self.places.find(kind, parent)
+    }
+
+    /// Puts an entry with a new pair behind all.
+    pub(crate) fn push(&mut self, entry: Entry) -> Result<(), NoMemory>
+        requires { ¬ Contains (map pair_of self.old) (pair_of entry) }
+        ensures ok { OnOk result (self.new ≡ self.old ++ entry ∷ []) }
+        ensures err { OnErr result (self.new ≡ self.old) }
+    {
+        let len = self.entries.len();
+        self.places.push(entry.kind, &entry.parent)?;
+        match self.entries.push(entry) {
+            Ok(()) => Ok(()),
+            Err(_) => {
+                self.places.truncate(len);
+                Err(NoMemory)
+            }
+        }
+    }
+
+    /// Notes what is new in the round after k at an entry, unless that was done.
+    pub(crate) fn note(&mut self, i: usize, k: u64, new: &[First]) -> Result<(), NoMemory>
+        requires place { i < length self.old }
+        requires round { k < 2 ^ 62 }
+        ensures ok { OnOk result (IsNoted self.old self.new i k new.now) }
+        ensures err { OnErr result (IsUntouched self.old self.new i) }
+    {
+        note(&mut self.entries, i, k, new)
+    }
+
+    /// Sets all entries at rest.
+    pub(crate) fn rest_all(&mut self)
+        ensures { self.new ≡ map rested self.old }
+    {
+        rest_all(&mut self.entries);
+    }
+
+    /// Forgets the entries from this place on.
+    pub(crate) fn truncate(&mut self, len: usize)
+        ensures { self.new ≡ take len self.old }
+    {
+        self.entries.truncate(len);
+        self.places.truncate(len);
+    }
+}
+
+// Notes what is new in the round after k, unless that was done.
+fn note(entries: &mut Vec<Entry>, i: usize, k: u64, new: &[First]) -> Result<(), NoMemory>
+    requires place { i < length entries.old.items }
+    requires round { k < 2 ^ 62 }
+    ensures ok { OnOk result (IsNoted entries.old.items entries.new.items i k new.now) }
+    ensures err { OnErr result (IsUntouched entries.old.items entries.new.items i) }
+{
+    if is_at(&entries[i], k) {
+        let entry = &mut entries[i];
+        entry.firsts.extend_from_slice(new)?;
+        entry.rounds = Some(k + 1);
+    }
+    Ok(())
+}
+
+// Sets all entries at rest.
+fn rest_all(entries: &mut Vec<Entry>)
+    ensures { entries.new.items ≡ map rested entries.old.items }
+{
+    let mut i = 0;
+    'entries: while i < entries.len() {
+        entries[i].rounds = None;
+        i += 1;
+    }
+}

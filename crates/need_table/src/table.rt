@@ -1,0 +1,105 @@
+//! Summaries in a table of pairs, with a limit on them.
+ghost use Rattle.std.specs.Prelude.{◌≡◌, ◌↔◌, ◌<◌, ◌^◌, ◌∷◌, [], List, length, None, Contains, All, IfOk, OnOk, OnErr, IfSome, IsSome, IsErrOf};
+ghost use Rattle.simple_core.specs.Systems.{IsSound};
+ghost use Rattle.simple_core.specs.Pairs.{Pair};
+ghost use Rattle.simple_core.specs.Rounds.{grown, IsRest, IsFirst};
+ghost use Rattle.simple_core.specs.Knowledge.{KeepsAsking, TellsAfter, IsToldBy};
+
+use crate::asking::{ask, first_at};
+use crate::pair_table::Table;
+use simple_core::{GainFault, Summaries, System};
+use std::alloc::Global;
+use std::marker::Model;
+use tp_base::{Atom, ClassSet, NoMemory};
+
+// The pair on which the table was spent.
+#[derive(Drop)]
+struct Question {
+    kind: u32,
+    parent: ClassSet,
+}
+
+/// A table of pairs, at most so many. It answers what it knows, and works out what it doesn't.
+#[derive(Drop)]
+pub struct PlainSummaries {
+    system: System,
+    pairs: u32,
+    table: Table,
+    spent: Option<Question>,
+}
+
+impl Model for PlainSummaries {
+    ghost use Rattle.need_table.specs.PlainTables.{PlainTable};
+
+    ghost Value = { PlainTable };
+
+    ghost use Rattle.std.specs.Prelude.{map, option_map};
+    ghost use Rattle.need_table.specs.Tables.{pair_of};
+    ghost use Rattle.need_table.specs.PlainViews.{question_of, IsPlain};
+
+    ghost view = { λ t. record {
+      system = t.system;
+      pairs = t.pairs;
+      known = map pair_of t.table;
+      spent = option_map question_of t.spent;
+    } };
+
+    ghost invariant = { λ t. IsPlain t.system t.pairs t.table (option_map question_of t.spent) };
+}
+
+impl PlainSummaries {
+    /// A table for the system, with no pair.
+    pub fn new(alloc: Global, system: &System, pairs: u32) -> Result<PlainSummaries, NoMemory>
+        requires { IsSound system.now }
+        ensures { IfOk result (λ t. t ≡ record { system = system.now; pairs = pairs; known = []; spent = None }) }
+    {
+        Ok(PlainSummaries {
+            system: system.copy(alloc)?,
+            pairs,
+            table: Table::new(alloc),
+            spent: None,
+        })
+    }
+}
+
+impl Summaries for PlainSummaries {
+    ghost use Rattle.std.specs.Prelude.{Contains, Some};
+
+    ghost system = { λ t. t.system };
+
+    ghost known = { λ t q. Contains t.known q };
+
+    ghost told = { λ t. Some t.known };
+
+    ghost spent_on = { λ t. t.spent };
+
+    fn gain(&mut self, kind: u32, parent: &ClassSet) -> Result<ClassSet, GainFault> {
+        if self.spent.is_some() {
+            return Err(GainFault::Spent);
+        }
+        let alloc = self.table.allocator();
+        let question = Question {
+            kind,
+            parent: parent.copy()?,
+        };
+        match ask(
+            alloc,
+            &self.system,
+            &mut self.table,
+            self.pairs,
+            kind,
+            parent,
+        ) {
+            Ok(label) => Ok(label),
+            Err(GainFault::Memory) => Err(GainFault::Memory),
+            Err(GainFault::Spent) => {
+                self.spent = Some(question);
+                Err(GainFault::Spent)
+            }
+        }
+    }
+
+    fn first_round(&self, kind: u32, parent: &ClassSet, atom: Atom) -> Option<u64> {
+        first_at(&self.system, &self.table, self.pairs, kind, parent, atom)
+    }
+}
