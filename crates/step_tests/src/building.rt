@@ -143,17 +143,18 @@ pub fn statement(
     })
 }
 
+fn forest_of(alloc: Global, trees: [Tree; 2]) -> Result<Forest, NoMemory> {
+    Ok(Forest {
+        tops: Trees::new(Vec::from_array(alloc, trees)?),
+    })
+}
+
 /// Two trees: one of a node with a child, and one of a node. The first ones have one class, the child another.
 pub fn forest(alloc: Global) -> Result<Forest, TreeFault> {
     let mut first = Tree::new(alloc, set_of(alloc, &[A])?)?;
     first.add_child(&Path::root(alloc), set_of(alloc, &[B])?)?;
     let second = Tree::new(alloc, set_of(alloc, &[A])?)?;
-    let mut tops = Vec::new(alloc);
-    tops.push(first)?;
-    tops.push(second)?;
-    Ok(Forest {
-        tops: Trees::new(tops),
-    })
+    Ok(forest_of(alloc, [first, second])?)
 }
 
 /// A root with two children, the second of which has as many boxes.
@@ -168,7 +169,7 @@ pub fn boxes(alloc: Global, count: u32) -> Result<Tree, TreeFault> {
     Ok(tree)
 }
 
-fn one_box(alloc: Global) -> Result<Forest, TreeFault> {
+fn one_box(alloc: Global) -> Result<Forest, NoMemory> {
     let mut tops = Vec::new(alloc);
     tops.push(Tree::new(alloc, set_of(alloc, &[A])?)?)?;
     Ok(Forest {

@@ -285,12 +285,24 @@ fn acts_and_runs(rt: HostRuntime) -> Result<(), Fail> {
     Ok(())
 }
 
+fn two(alloc: Global, first: Stmt, second: Stmt) -> Result<Vec<Stmt>, NoMemory> {
+    let mut stmts = Vec::new(alloc);
+    stmts.push(first)?;
+    stmts.push(second)?;
+    Ok(stmts)
+}
+
+fn one(alloc: Global, stmt: Stmt) -> Result<Vec<Stmt>, NoMemory> {
+    let mut stmts = Vec::new(alloc);
+    stmts.push(stmt)?;
+    Ok(stmts)
+}
+
 // Statement 0 gives each `.a` a class, statement 1 puts trees inside each node that has it.
 fn script(alloc: Global) -> Result<Vec<Stmt>, TreeFault> {
-    let mut stmts = Vec::new(alloc);
-    stmts.push(statement(alloc, &[], &[(b'$', &[A])], action(alloc, b'+')?)?)?;
-    stmts.push(statement(alloc, &[], &[(b'$', &[D])], action(alloc, b'i')?)?)?;
-    Ok(stmts)
+    let first = statement(alloc, &[], &[(b'$', &[A])], action(alloc, b'+')?)?;
+    let second = statement(alloc, &[], &[(b'$', &[D])], action(alloc, b'i')?)?;
+    Ok(two(alloc, first, second)?)
 }
 
 fn steps_of(alloc: Global, steps: &[(u32, &'static [u32])]) -> Result<Vec<Step>, NoMemory> {
@@ -385,16 +397,16 @@ type Boxes = (
 // Into each box a box is put: the second step is not legal.
 fn boxed(alloc: Global) -> Result<Boxes, TreeFault> {
     let stmt = statement(alloc, &[], &[(b'$', &[A])], action(alloc, b'1')?)?;
-    let (one, inner) = (path_of(alloc, &[1, 0])?, path_of(alloc, &[1])?);
+    let (inner, above) = (path_of(alloc, &[1, 0])?, path_of(alloc, &[1])?);
     let page = boxes(alloc, 1)?;
-    let here = selects(alloc, &stmt, &page, &one)?;
-    let above = selects(alloc, &stmt, &page, &inner)?;
+    let here = selects(alloc, &stmt, &page, &inner)?;
+    let there = selects(alloc, &stmt, &page, &above)?;
     let mut acted = page.copy()?;
-    act(alloc, &stmt, &mut acted, &one)?;
+    act(alloc, &stmt, &mut acted, &inner)?;
     let mut two = boxes(alloc, 2)?;
     let ran = run_whole(alloc, &stmt, &mut two);
     let mut tree = page.copy()?;
-    let stmts = vec![in alloc; stmt]?;
+    let stmts = one(alloc, stmt)?;
     let steps = steps_of(alloc, &[(0, &[1, 0]), (0, &[1, 1])])?;
     let answer = replay(alloc, &stmts, &mut tree, &steps);
     Ok((
@@ -402,7 +414,7 @@ fn boxed(alloc: Global) -> Result<Boxes, TreeFault> {
         tree.count(),
         page.count(),
         here,
-        above,
+        there,
         acted.count(),
         ran,
         two.count(),
