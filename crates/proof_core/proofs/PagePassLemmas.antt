@@ -1,0 +1,98 @@
+-- The items of a page that were passed, by the numbers of their nodes.
+use Rattle.std.proofs.Common.{◌≡◌, ◌<◌, ◌≤◌, ℕ, suc, drop, slice_get, Bool, true, false, if◌then◌else◌, List, [], ◌∷◌, ◌++◌, length, get_or, set, Option, Some, None, option_map, unwrap_or, refl, sym, ap, subst, ◌∙◌, arith}
+use Rattle.std.proofs.lemmas.List.{map-append, get_or-set_same, get_or-set_other}
+use Rattle.std.proofs.lemmas.Slice.Eq.{bytes_eq-Decides}
+use Rattle.std.specs.Str.{bytes_eq}
+use Rattle.proof_core.specs.declared.nodes.Nodes.{Nodes}
+use Rattle.proof_core.specs.declared.page_passes.PageNode.{PageNode}
+use Rattle.proof_core.specs.declared.passes.Pass.{Pass}
+use Rattle.proof_core.specs.declared.proofs.Below.TheVariants.{Grown}
+use Rattle.proof_core.specs.declared.proofs.Reason.TheVariants.{Down}
+use Rattle.proof_core.specs.declared.proofs.ProofItem.{ProofItem}
+use Rattle.simple_core.specs.declared.rules.Kind.{Kind}
+use Rattle.proof_core.specs.declared.proofs.Entry.{Entry}
+use Rattle.proof_core.specs.declared.proofs.PageItem.{PageItem}
+use Rattle.proof_core.specs.Nodes.{number_in}
+use Rattle.proof_core.specs.Passes.{passed_of, seen, named_for}
+use Rattle.proof_core.specs.PagePasses.{passes_at, seen_in, item_seen, unfold_at}
+use Rattle.proof_core.specs.Trails.{number_for, with_forest_of}
+use Rattle.proof_core.specs.Unfolding.{Progress, Passed, from_of, spawned, needed_by, down_item, unfold_item, unfold_page, unfold_entry, entry_count, reason_count}
+use Rattle.tree_sem.proofs.CountLemmas.{length-node_at}
+use Rattle.tree_sem.specs.declared.tree_fault.TheConstants.{MOST_NODES}
+use Rattle.tree_sem.specs.Trees.{Row, no_nodes, node, LabelTree, length_of, nodes_of, count_of, node_at, children_at}
+use Rattle.simple_core.specs.declared.system.System.{System}
+use Rattle.proof_core.proofs.CountLemmas.{page_steps, reason_steps, entry_steps}
+use Rattle.proof_core.proofs.EntryLemmas.{drop_at, drop_end}
+use Rattle.proof_core.proofs.NodeLemmas.{same_node}
+use Rattle.proof_core.proofs.WalkLemmas.{grown_is}
+
+pub seen_at_number : (nodes : Nodes) (here : List (List Pass)) (v : List ℕ) (n : ℕ) → number_in nodes v ≡ Some n → seen_in nodes here v ≡ seen v (get_or here n [])
+seen_at_number nodes here v n at = ap (λ o. seen v (unwrap_or (option_map (λ m. get_or here m []) o) [])) at
+
+-- an item more at the node v, whose number it has
+pub seen_pushed : (nodes : Nodes) (here : List (List Pass)) (p : Pass) (v : List ℕ) (n : ℕ) → number_in nodes v ≡ Some n → n < length here
+    → (q : List ℕ) → seen_in nodes (set here n (get_or here n [] ++ p ∷ [])) q ≡ (if bytes_eq v q then seen_in nodes here q ++ passed_of v p ∷ [] else seen_in nodes here q)
+seen_pushed nodes here p v n at within q =
+    elim (number_in nodes q) as (λ o. number_in nodes q ≡ o
+    → seen q (unwrap_or (option_map (λ m. get_or (set here n (get_or here n [] ++ p ∷ [])) m []) o) [])
+    ≡ (if bytes_eq v q then seen q (unwrap_or (option_map (λ m. get_or here m []) o) []) ++ passed_of v p ∷ [] else seen q (unwrap_or (option_map (λ m. get_or here m []) o) []))) [
+      | None ↦ λ none. elim (bytes_eq v q) as (λ b. bytes_eq v q ≡ b → [] ≡ (if b then [] ++ passed_of v p ∷ [] else [])) [
+        | false ↦ λ e. refl
+        | true ↦ λ e. let both : None ≡ Some n = sym none ∙ ap (number_in nodes) (sym ((bytes_eq-Decides v q).0 e)) ∙ at in cc
+      ] refl
+      | Some m ↦ λ some. elim (bytes_eq v q) as (λ b. bytes_eq v q ≡ b
+          → seen q (get_or (set here n (get_or here n [] ++ p ∷ [])) m []) ≡ (if b then seen q (get_or here m []) ++ passed_of v p ∷ [] else seen q (get_or here m []))) [
+            | true ↦ λ e.
+                let is : v ≡ q = (bytes_eq-Decides v q).0 e in
+                let both : Some n ≡ Some m = sym at ∙ ap (number_in nodes) is ∙ some in
+                let same : n ≡ m = cc in
+                subst (λ z. seen q (get_or (set here n (get_or here n [] ++ p ∷ [])) z []) ≡ seen q (get_or here z []) ++ passed_of v p ∷ []) same
+                (ap (seen q) (get_or-set_same here n (get_or here n [] ++ p ∷ []) [] within) ∙ map-append (passed_of q) (get_or here n []) (p ∷ []) ∙ ap (λ w. seen q (get_or here n []) ++ passed_of w p ∷ []) (sym is))
+            | false ↦ λ e.
+                ap (seen q) (get_or-set_other here n m (get_or here n [] ++ p ∷ []) [] (λ s. let one = same_node nodes v q m (at ∙ ap Some (sym s)) some in let never : true ≡ false = sym ((bytes_eq-Decides v q).1 one) ∙ e in cc))
+          ] refl
+    ] refl
+
+pub seen_none : (nodes : Nodes) (here : List (List Pass)) → ((m : ℕ) → get_or here m [] ≡ []) → (q : List ℕ) → [] ≡ seen_in nodes here q
+seen_none nodes here none q =
+    elim (number_in nodes q) as (λ o. [] ≡ seen q (unwrap_or (option_map (λ m. get_or here m []) o) [])) [ None ↦ refl | Some m ↦ ap (seen q) (sym (none m)) ]
+
+module _ (s : System) (es : List Entry) (page : LabelTree) where
+  abbrev rest : List PageItem → (List ℕ → List Passed) → Progress → Progress × (List ℕ → List Passed)
+  rest items passed done = unfold_page s (unfold_entry s es (length es)) page items passed done
+
+  -- one item of the page more
+  pub page_one : (items : List PageItem) (i : ℕ) (x : PageItem) (old new : List ℕ → List Passed) (before after : Progress) → slice_get items i ≡ Some x
+      → after ≡ (item_seen s es page x old before).0 → ((q : List ℕ) → new q ≡ (if bytes_eq x.at q then old q ++ (item_seen s es page x old before).1 ∷ [] else old q))
+      → rest (drop i items) old before ≡ rest (drop (suc i) items) new after
+  page_one items i x old new before after at first second =
+      ap (λ xs. rest xs old before) (drop_at items i x at) ∙ (λ j. rest (drop (suc i) items) (λ q. sym (second q) j) (sym first j))
+
+  -- the steps of the next item are among those of the whole
+  pub page_short : (items : List PageItem) (i : ℕ) (x : PageItem) (passed : List ℕ → List Passed) (done : Progress) (n : ℕ) → slice_get items i ≡ Some x
+      → length (rest (drop i items) passed done).0.steps ≤ n → length (item_seen s es page x passed done).0.steps ≤ n
+  page_short items i x passed done n at short =
+      let r = item_seen s es page x passed done in
+      let passed' : List ℕ → List Passed = λ q. if bytes_eq x.at q then passed q ++ r.1 ∷ [] else passed q in
+      let u = unfold_entry s es (length es) in
+      let same : length (rest (drop i items) passed done).0.steps ≡ length (rest (drop (suc i) items) passed' r.0).0.steps = ap (λ xs. length (rest xs passed done).0.steps) (drop_at items i x at) in
+      omega (arith, short, same, page_steps s u (entry_count s es (length es)) (entry_steps s es (length es)) page (drop (suc i) items) passed' r.0)
+
+-- a node has fewer children than the tree has nodes
+length-nodes_of : (r : Row) → length_of r ≤ nodes_of r
+length-nodes_of no_nodes = omega arith
+length-nodes_of (node l below next) = omega (arith, length-nodes_of next)
+
+pub few_children : (page : LabelTree) (v : List ℕ) → count_of page ≤ MOST_NODES → unwrap_or (children_at v page) 0 ≤ MOST_NODES
+few_children page v few =
+    elim (node_at v page) as (λ o. node_at v page ≡ o → unwrap_or (option_map (λ (n : LabelTree). length_of n.below) o) 0 ≤ MOST_NODES) [
+      | None ↦ λ e. omega arith
+      | Some n ↦ λ e. omega (arith, few, length-node_at v page n e, length-nodes_of n.below)
+    ] refl
+
+-- an item whose child is grown, at a node of the page
+pub page_grown : (s : System) (es : List Entry) (x : ProofItem) (l c e child number : ℕ) (kind : Kind) (spot : PageNode) (before after : Progress) → x.reason ≡ Down l (Grown c e) → spawned s c ≡ Some kind
+    → child ≡ named_for (needed_by s c) (get_or spot.here.now spot.number []) → number ≡ number_for kind spot.base spot.at.now before → after ≡ with_forest_of kind spot.at.now child before
+    → unfold_at s es x spot before ≡ down_item s x (from_of (slice_get s.down l)) number (spot.at.now ++ number ∷ []) (unfold_entry s es (length es) e (spot.at.now ++ number ∷ []) after)
+page_grown s es x l c e child number kind spot before after reason is_kind is_child is_number is_after =
+    grown_is s es (unfold_entry s es (length es)) x l c e child number spot.base kind spot.at.now (get_or spot.here.now spot.number []) (λ k. seen_in spot.nodes.now spot.here.now (spot.at.now ++ k ∷ [])) before after reason is_kind is_child is_number is_after

@@ -1,0 +1,12 @@
+pub mod Validity
+pub mod Unfolding
+pub mod Readings
+pub mod Checks
+pub mod Kept
+pub mod Firsts
+pub mod Nodes
+pub mod Trails
+pub mod Passes
+pub mod PagePasses
+pub mod Walks
+pub mod Worlds

@@ -1,0 +1,30 @@
+-- The items of a page that were passed, by the numbers of their nodes.
+--     seen_in nodes here v    those at the node of the path v
+use Rattle.std.specs.Prelude.{ℕ, List, [], ◌∷◌, ◌++◌, length, get_or, option_map, unwrap_or}
+use Rattle.simple_core.specs.declared.system.System.{System}
+use Rattle.tree_sem.specs.Trees.{LabelTree, children_at}
+use Rattle.proof_core.specs.declared.nodes.Nodes.{Nodes}
+use Rattle.proof_core.specs.declared.passes.Pass.{Pass}
+use Rattle.proof_core.specs.declared.page_passes.PageNode.{PageNode}
+use Rattle.proof_core.specs.declared.proofs.Entry.{Entry}
+use Rattle.proof_core.specs.declared.proofs.PageItem.{PageItem}
+use Rattle.proof_core.specs.declared.proofs.ProofItem.{ProofItem}
+use Rattle.proof_core.specs.Nodes.{number_in}
+use Rattle.proof_core.specs.Passes.{seen}
+use Rattle.proof_core.specs.Unfolding.{Progress, Passed, unfold_item, unfold_entry}
+
+abbrev pub passes_at : Nodes → List (List Pass) → List ℕ → List Pass
+passes_at nodes here v = unwrap_or (option_map (λ n. get_or here n []) (number_in nodes v)) []
+
+abbrev pub seen_in : Nodes → List (List Pass) → List ℕ → List Passed
+seen_in nodes here v = seen v (passes_at nodes here v)
+
+-- what an item of the page does, where `passed` is seen at the nodes
+abbrev pub item_seen : System → List Entry → LabelTree → PageItem → (List ℕ → List Passed) → Progress → Progress × Passed
+item_seen s es page i passed done =
+    unfold_item s (unfold_entry s es (length es)) i.item (unwrap_or (children_at i.at page) 0) i.at (passed i.at) (λ k. passed (i.at ++ k ∷ [])) done
+
+-- what an item does at a node
+abbrev pub unfold_at : System → List Entry → ProofItem → PageNode → Progress → Progress × Passed
+unfold_at s es item node done =
+    unfold_item s (unfold_entry s es (length es)) item node.base node.at.now (seen node.at.now (get_or node.here.now node.number [])) (λ k. seen_in node.nodes.now node.here.now (node.at.now ++ k ∷ [])) done

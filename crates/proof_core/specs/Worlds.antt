@@ -1,0 +1,26 @@
+-- How many children the nodes of each kind have from their forests.
+--     HasFewSiblings kinds       what is true of the kinds of a sound system
+use Rattle.std.specs.Prelude.{◌≡◌, ◌<◌, ◌≤◌, ℕ, ◌==◌, Bool, false, if◌then◌else◌, List, All, find, Option, Some, None, option_map, unwrap_or}
+use Rattle.indexmap.specs.IndexMap.{get_by}
+use Rattle.simple_core.specs.declared.rules.Kind.{Kind}
+use Rattle.simple_core.specs.declared.system.TheConstants.{MOST_KINDS}
+use Rattle.proof_core.specs.declared.worlds.Forests.{Forests}
+
+abbrev pub or_first : {X : Type 0} → Option X → Option X → Option X
+or_first None o = o
+or_first (Some x) o = Some x
+
+abbrev pub known_in : Forests → ℕ → Option ℕ
+known_in forests j = get_by (λ k. j == k) forests.children
+
+abbrev pub is_under : ℕ → Kind → Bool
+is_under j kind = unwrap_or (option_map (λ i. i == j) kind.above) false
+
+abbrev pub siblings_below : ℕ → Kind → Option ℕ
+siblings_below j kind = if is_under j kind then Some kind.siblings else None
+
+abbrev pub KnowsForests : Forests → List Kind → Type 0
+KnowsForests forests kinds = (j : ℕ) → known_in forests j ≡ option_map (λ (k : Kind). k.siblings) (find (is_under j) kinds)
+
+abbrev pub HasFewSiblings : List Kind → Type 0
+HasFewSiblings kinds = All (λ (k : Kind). (k.number < k.siblings) × (k.siblings ≤ MOST_KINDS)) kinds

@@ -1,0 +1,157 @@
+//! The steps of a proof, and the node that they lead to.
+ghost use Rattle.std.specs.Prelude.{◌≡◌, ◌↔◌, ◌≤◌, ◌<◌, [], length, reverse, IfOk, IsErrOf};
+ghost use Rattle.proof_core.specs.PagePasses.{seen_in};
+ghost use Rattle.proof_core.specs.Unfolding.{end_for, unfolded, proof_steps};
+ghost use Rattle.proof_core.specs.Validity.{IsValid};
+ghost use Rattle.proof_core.specs.Worlds.{HasFewSiblings};
+
+use crate::counting::is_over;
+use crate::nodes::Nodes;
+use crate::page_passes::{page_passed, way_at};
+use crate::passes::Passes;
+use crate::proofs::Proof;
+use crate::trails::Trail;
+use crate::worlds::{Forests, World};
+use simple_core::System;
+use std::alloc::Global;
+use std::marker::Model;
+use thiserror::Error;
+use tp_base::{Atom, NoMemory, Path};
+use tree_sem::{Step, Tree};
+
+/// Steps, in their order. A contract sees the list of them.
+#[derive(Drop)]
+pub struct Steps {
+    items: Vec<Step>,
+}
+
+impl Model for Steps {
+    ghost use Rattle.std.specs.Prelude.{List};
+    ghost use Rattle.tree_sem.specs.declared.actions.Step.{Step};
+
+    ghost Value = { List Step };
+
+    ghost view = { λ s. s.items.items };
+}
+
+impl Steps {
+    pub fn new(items: Vec<Step>) -> Self
+        ensures { result ≡ items.items }
+    {
+        Steps { items }
+    }
+
+    pub fn items(&self) -> &[Step]
+        ensures { result.now ≡ self.now }
+    {
+        &self.items
+    }
+}
+
+/// The steps that a proof says, and the node that they lead to.
+#[derive(Drop)]
+pub struct Unfolded {
+    pub steps: Steps,
+    pub at: Path,
+}
+
+/// Why a proof wasn't unfolded.
+#[derive(Clone, Copy, Debug, PartialEq, Eq, Error)]
+pub enum UnfoldFault {
+    #[error("more steps than the limit")]
+    OverLimit,
+    #[error("no memory")]
+    Memory,
+}
+
+impl From<NoMemory> for UnfoldFault {
+    ghost use Rattle.proof_core.specs.declared.unfolded.UnfoldFault.TheVariants.{Memory};
+
+    ghost from_gives = { λ _ e. e ≡ Memory };
+
+    fn from(_error: NoMemory) -> UnfoldFault {
+        UnfoldFault::Memory
+    }
+}
+
+/// The steps that a valid proof says, where they are no more than the limit. Linear in the items that are passed, each as often
+/// as it is named, and in the lengths of the steps' paths, on average; an item of the page whose child is one of the page costs the length of
+/// the way from there to the match.
+pub fn unfold(
+    proof: &Proof,
+    system: &System,
+    page: &Tree,
+    target: Atom,
+    limit: u64,
+) -> Result<Unfolded, UnfoldFault>
+    requires siblings { HasFewSiblings system.now.kinds }
+    requires valid { IsValid system.now page.now proof.now target }
+    requires in_limit { limit ≤ 1000000 }
+    ensures steps { IfOk result (λ u. u.steps ≡ (unfolded system.now proof.now page.now target).0) }
+    ensures at { IfOk result (λ u. u.at ≡ (unfolded system.now proof.now page.now target).1) }
+    ensures over { IsErrOf result UnfoldFault.OverLimit ↔ (limit < proof_steps system.now proof.now) }
+{
+    if is_over(proof, system, limit) {
+        return Err(UnfoldFault::OverLimit);
+    }
+    match unfold_all(proof, system, page, target) {
+        Ok(u) => Ok(u),
+        Err(_) => Err(UnfoldFault::Memory),
+    }
+}
+
+fn unfold_all(
+    proof: &Proof,
+    system: &System,
+    page: &Tree,
+    target: Atom,
+) -> Result<Unfolded, NoMemory>
+    requires siblings { HasFewSiblings system.now.kinds }
+    requires short { proof_steps system.now proof.now ≤ 1000000 }
+    ensures steps { IfOk result (λ u. u.steps ≡ (unfolded system.now proof.now page.now target).0) }
+    ensures at { IfOk result (λ u. u.at ≡ (unfolded system.now proof.now page.now target).1) }
+{
+    let alloc = proof.entries.allocator();
+    let items = proof.page.items();
+    let nodes = Nodes::of(alloc, items)?;
+    let forests = Forests::of(alloc, system.kinds.items())?;
+    let world = World {
+        system,
+        entries: &proof.entries,
+        forests: &forests,
+    };
+    let mut trail = Trail::new(alloc);
+    let here = page_passed(items, page, &nodes, &world, &mut trail)?;
+    let at = match_of(&nodes, &here, target, alloc)?;
+    let steps = Steps::new(trail.into_steps());
+    Ok(Unfolded { steps, at })
+}
+
+// Where the walk for the target ends that begins at the root.
+fn match_of(
+    nodes: &Nodes,
+    here: &Vec<Passes>,
+    target: Atom,
+    alloc: Global,
+) -> Result<Path, NoMemory>
+    ensures { IfOk result (λ p. p ≡ end_for target (seen_in nodes.now here.now.items []) []) }
+{
+    let root = Vec::new(alloc);
+    let passes = here.as_slice();
+    let at = root.as_slice();
+    let way = way_at(nodes, passes, at, target, alloc)?;
+    let path = path_of(alloc, way)?;
+    Ok(path)
+}
+
+// The path from the root whose last step is the way's first.
+fn path_of(alloc: Global, way: Vec<u32>) -> Result<Path, NoMemory>
+    ensures { IfOk result (λ p. p ≡ reverse way.items) }
+{
+    let mut path = Path::root(alloc);
+    let mut rest = way;
+    'steps: while let Some(k) = rest.pop() {
+        path.push(k)?;
+    }
+    Ok(path)
+}

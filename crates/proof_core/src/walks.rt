@@ -1,0 +1,268 @@
+//! The steps of an entry at a node, with those of the entries that it names. The levels above wait on a stack, so that a
+//! chain of entries may be as long as memory lets it.
+ghost use Rattle.std.specs.Prelude.{◌≡◌, ◌<◌, ◌≤◌, ◌-◌, ◌∷◌, ◌++◌, ℕ, List, [], IsTrue, IfOk, OnOk, Some, None, false, length, slice_get};
+ghost use Rattle.simple_core.specs.declared.system.TheConstants.{MOST_KINDS};
+ghost use Rattle.proof_core.specs.Trails.{progress_of};
+ghost use Rattle.proof_core.specs.Unfolding.{Progress, unfold_entry};
+ghost use Rattle.proof_core.specs.Walks.{IsFew, GoesOn, level_items, level_base, rest_of, node_of, walk_work};
+ghost use Rattle.proof_core.specs.Passes.{seen};
+ghost use Rattle.proof_core.specs.Worlds.{HasFewSiblings, KnowsForests};
+
+use crate::passes::{Passes, down, plain};
+use crate::proofs::{Below, ProofItem, Reason};
+use crate::trails::Trail;
+use crate::worlds::{World, after_local, from_of, needed_by, spawned};
+use std::alloc::Global;
+use std::mem;
+use tp_base::{Atom, NoMemory, Path};
+
+/// The items of an entry as far as they were passed. Below it `depth - 1` levels of entries may follow.
+#[derive(Drop)]
+pub struct Level {
+    pub entry: u32,
+    pub depth: usize,
+    pub here: Passes,
+}
+
+/// A level that waits for the entry at its child, by an item for this atom and a link from the atom `from`.
+#[derive(Drop)]
+pub struct Frame {
+    pub level: Level,
+    pub atom: Atom,
+    pub from: Atom,
+    pub child: u32,
+}
+
+/// The present node, its level, and the levels above it.
+#[derive(Drop)]
+pub struct Walk {
+    pub at: Path,
+    pub level: Level,
+    pub stack: Vec<Frame>,
+}
+
+/// The items of an entry at a node. Linear in the items that are passed and in the lengths of the steps' paths, on average.
+pub fn entry_passed(
+    entry: u32,
+    at: Path,
+    world: &World<'_>,
+    trail: &mut Trail,
+) -> Result<Passes, NoMemory>
+    requires siblings { HasFewSiblings world.now.system.now.kinds }
+    requires forests { KnowsForests world.now.forests.now world.now.system.now.kinds }
+    requires few { IsFew (progress_of trail.old) }
+    requires short { length (unfold_entry world.now.system.now world.now.entries.now (length world.now.entries.now) entry at (progress_of trail.old)).0.steps ≤ 1000000 }
+    ensures trail { OnOk result (progress_of trail.new ≡ (unfold_entry world.now.system.now world.now.entries.now (length world.now.entries.now) entry at (progress_of trail.old)).0) }
+    ensures here { IfOk result (λ here. seen at here ≡ (unfold_entry world.now.system.now world.now.entries.now (length world.now.entries.now) entry at (progress_of trail.old)).1) }
+    ensures few { OnOk result (IsFew (progress_of trail.new)) }
+{
+    let alloc = trail.allocator();
+    let mut walk = Walk::of(entry, at, world, alloc);
+    'turns: loop {
+        let more = walk.turn(world, trail)?;
+        if !more {
+            return Ok(walk.level.here);
+        }
+    }
+}
+
+// How many children a node of the entry's kind had before all steps.
+fn base_of(entry: u32, world: &World<'_>) -> u32
+    requires siblings { HasFewSiblings world.now.system.now.kinds }
+    requires forests { KnowsForests world.now.forests.now world.now.system.now.kinds }
+    ensures base { result ≡ level_base world.now.system.now world.now.entries.now entry }
+    ensures few { result ≤ MOST_KINDS }
+{
+    match world.entries.items().get(entry as usize) {
+        Some(entry) => world.forests.children_of(entry.kind),
+        None => 0,
+    }
+}
+
+impl Level {
+    // The next item.
+    fn next(&self, world: &World<'_>) -> Option<ProofItem>
+        ensures { result ≡ slice_get (level_items world.now.entries.now self.now.depth self.now.entry) (length self.now.here) }
+    {
+        if self.depth == 0 {
+            return None;
+        }
+        let entry = world.entries.items().get(self.entry as usize)?;
+        let item = entry.items.items().get(self.here.len())?;
+        Some(*item)
+    }
+}
+
+impl Walk {
+    // At an entry's node, with none of its items passed.
+    fn of(entry: u32, at: Path, world: &World<'_>, alloc: Global) -> Walk
+        ensures stands { result.at ≡ node_of at result.stack.items }
+        ensures whole { (done : Progress) → rest_of world.now.system.now world.now.entries.now at result done
+            ≡ unfold_entry world.now.system.now world.now.entries.now (length world.now.entries.now) entry at done }
+    {
+        let here = Passes::new(alloc);
+        let stack = Vec::new(alloc);
+        let depth = world.entries.items().len();
+        Walk {
+            at,
+            level: Level { entry, depth, here },
+            stack,
+        }
+    }
+
+    // Passes the next item, or goes back to the level above. False where the walk has ended.
+    fn turn(&mut self, world: &World<'_>, trail: &mut Trail) -> Result<bool, NoMemory>
+        requires siblings { HasFewSiblings world.now.system.now.kinds }
+        requires forests { KnowsForests world.now.forests.now world.now.system.now.kinds }
+        requires few { IsFew (progress_of trail.old) }
+        requires short { length (progress_of trail.old).steps ≤ 1000000 }
+        ensures on { OnOk result (GoesOn world.now.system.now world.now.entries.now self.old (progress_of trail.old) self.new (progress_of trail.new)) }
+        ensures work { IfOk result (λ more. IsTrue more → walk_work world.now.entries.now self.new < walk_work world.now.entries.now self.old) }
+        ensures end { IfOk result (λ more. more ≡ false → (v : List ℕ) → self.new.at ≡ node_of v self.new.stack.items
+            → rest_of world.now.system.now world.now.entries.now v self.new (progress_of trail.new) ≡ (progress_of trail.new, seen v self.new.level.here)) }
+        ensures few { OnOk result (IsFew (progress_of trail.new)) }
+    {
+        match self.level.next(world) {
+            Some(item) => {
+                self.pass(item, world, trail)?;
+                Ok(true)
+            }
+            None => self.leave(world),
+        }
+    }
+
+    fn pass(
+        &mut self,
+        item: ProofItem,
+        world: &World<'_>,
+        trail: &mut Trail,
+    ) -> Result<(), NoMemory>
+        requires siblings { HasFewSiblings world.now.system.now.kinds }
+        requires forests { KnowsForests world.now.forests.now world.now.system.now.kinds }
+        requires few { IsFew (progress_of trail.old) }
+        requires short { length (progress_of trail.old).steps ≤ 1000000 }
+        requires next { slice_get (level_items world.now.entries.now self.old.level.depth self.old.level.entry) (length self.old.level.here) ≡ Some item }
+        ensures on { OnOk result (GoesOn world.now.system.now world.now.entries.now self.old (progress_of trail.old) self.new (progress_of trail.new)) }
+        ensures work { OnOk result (walk_work world.now.entries.now self.new < walk_work world.now.entries.now self.old) }
+        ensures few { OnOk result (IsFew (progress_of trail.new)) }
+    {
+        let alloc = trail.allocator();
+        match item.reason {
+            Reason::Start => self.level.here.push(plain(alloc, item.atom)),
+            Reason::Up(_) => self.level.here.push(plain(alloc, item.atom)),
+            Reason::Local(l) => {
+                after_local(world.system, l, &self.at, trail)?;
+                self.level.here.push(plain(alloc, item.atom))
+            }
+            Reason::Down(link, below) => self.pass_below(item, link, below, world, trail),
+        }
+    }
+
+    // An item with a `down` link. In an entry no child is one of the page.
+    fn pass_below(
+        &mut self,
+        item: ProofItem,
+        link: u64,
+        below: Below,
+        world: &World<'_>,
+        trail: &mut Trail,
+    ) -> Result<(), NoMemory>
+        requires siblings { HasFewSiblings world.now.system.now.kinds }
+        requires forests { KnowsForests world.now.forests.now world.now.system.now.kinds }
+        requires few { IsFew (progress_of trail.old) }
+        requires short { length (progress_of trail.old).steps ≤ 1000000 }
+        requires next { slice_get (level_items world.now.entries.now self.old.level.depth self.old.level.entry) (length self.old.level.here) ≡ Some item }
+        requires reason { item.reason ≡ Reason.Down link below }
+        ensures on { OnOk result (GoesOn world.now.system.now world.now.entries.now self.old (progress_of trail.old) self.new (progress_of trail.new)) }
+        ensures work { OnOk result (walk_work world.now.entries.now self.new < walk_work world.now.entries.now self.old) }
+        ensures few { OnOk result (IsFew (progress_of trail.new)) }
+    {
+        match below {
+            Below::Real(k) => {
+                let pass = down(item.atom, k, Vec::new(trail.allocator()))?;
+                self.level.here.push(pass)
+            }
+            Below::Grown(spawn, entry) => self.pass_grown(item, link, spawn, entry, world, trail),
+        }
+    }
+
+    // An item whose child a spawn rule adds.
+    fn pass_grown(
+        &mut self,
+        item: ProofItem,
+        link: u64,
+        spawn: u64,
+        entry: u32,
+        world: &World<'_>,
+        trail: &mut Trail,
+    ) -> Result<(), NoMemory>
+        requires siblings { HasFewSiblings world.now.system.now.kinds }
+        requires forests { KnowsForests world.now.forests.now world.now.system.now.kinds }
+        requires few { IsFew (progress_of trail.old) }
+        requires short { length (progress_of trail.old).steps ≤ 1000000 }
+        requires next { slice_get (level_items world.now.entries.now self.old.level.depth self.old.level.entry) (length self.old.level.here) ≡ Some item }
+        requires reason { item.reason ≡ Reason.Down link (Below.Grown spawn entry) }
+        ensures on { OnOk result (GoesOn world.now.system.now world.now.entries.now self.old (progress_of trail.old) self.new (progress_of trail.new)) }
+        ensures work { OnOk result (walk_work world.now.entries.now self.new < walk_work world.now.entries.now self.old) }
+        ensures few { OnOk result (IsFew (progress_of trail.new)) }
+    {
+        let alloc = trail.allocator();
+        match spawned(world.system, spawn) {
+            Some(kind) => {
+                let child = self.level.here.child_for(needed_by(world.system, spawn));
+                let base = base_of(self.level.entry, world);
+                let number = trail.bring(kind, base, &self.at, child)?;
+                self.enter(entry, number, item.atom, from_of(world.system, link), alloc)
+            }
+            None => self.level.here.push(plain(alloc, item.atom)),
+        }
+    }
+
+    // Goes on with an entry at the child of this number, for an item of this atom and a link from the atom `from`.
+    fn enter(
+        &mut self,
+        entry: u32,
+        child: u32,
+        atom: Atom,
+        from: Atom,
+        alloc: Global,
+    ) -> Result<(), NoMemory>
+        ensures at { OnOk result (self.new.at ≡ self.old.at ++ child ∷ []) }
+        ensures level { OnOk result (self.new.level ≡ record { entry = entry; depth = self.old.level.depth - 1; here = [] }) }
+        ensures stack { OnOk result (self.new.stack.items ≡ self.old.stack.items ++ record { level = self.old.level; atom = atom; from = from; child = child } ∷ []) }
+    {
+        let above = Level {
+            entry,
+            depth: self.level.depth.saturating_sub(1),
+            here: Passes::new(alloc),
+        };
+        let level = mem::replace(&mut self.level, above);
+        self.at.push(child)?;
+        self.stack.push(Frame {
+            level,
+            atom,
+            from,
+            child,
+        })?;
+        Ok(())
+    }
+
+    // Goes back to the level above, where the present one has no more items.
+    fn leave(&mut self, world: &World<'_>) -> Result<bool, NoMemory>
+        requires none { slice_get (level_items world.now.entries.now self.old.level.depth self.old.level.entry) (length self.old.level.here) ≡ None }
+        ensures on { (done : Progress) → OnOk result (GoesOn world.now.system.now world.now.entries.now self.old done self.new done) }
+        ensures work { IfOk result (λ more. IsTrue more → walk_work world.now.entries.now self.new < walk_work world.now.entries.now self.old) }
+        ensures end { (done : Progress) → IfOk result (λ more. more ≡ false → (v : List ℕ) → self.new.at ≡ node_of v self.new.stack.items
+            → rest_of world.now.system.now world.now.entries.now v self.new done ≡ (done, seen v self.new.level.here)) }
+    {
+        let Some(frame) = self.stack.pop() else {
+            return Ok(false);
+        };
+        self.at.pop();
+        let inside = mem::replace(&mut self.level, frame.level);
+        let way = inside.here.into_way(frame.from);
+        let pass = down(frame.atom, frame.child, way)?;
+        self.level.here.push(pass)?;
+        Ok(true)
+    }
+}
