@@ -1,0 +1,10 @@
+pub mod ArgumentSteps
+pub mod CallTable
+pub mod FitSteps
+pub mod ListSteps
+pub mod ListTables
+pub mod NameSteps
+pub mod Orders
+pub mod Rests
+pub mod Stacks
+pub mod TextSteps

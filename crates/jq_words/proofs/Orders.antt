@@ -1,0 +1,30 @@
+-- Tokens in order are within their text.
+use Rattle.std.proofs.Common.{◌≡◌, ℕ, zero, suc, ◌≤◌, ◌<◌, List, [], ◌∷◌, length, take, refl, arith}
+use Rattle.js_scan.specs.declared.token.Token.{Token}
+use Rattle.js_scan.specs.Tokens.{InOrder}
+use Rattle.jq_words.specs.Words.{words_behind}
+
+pub order : (low high : ℕ) (ts : List Token) → InOrder low high ts → low ≤ high
+order low high [] sorted = sorted
+order low high (t ∷ ts) sorted = let behind = order t.to high ts sorted.2 in omega (arith, sorted.0, sorted.1, behind)
+
+pub first_within : (low high : ℕ) (t : Token) (ts : List Token) → InOrder low high (t ∷ ts) → t.to ≤ high
+first_within low high t ts sorted = order t.to high ts sorted.2
+
+pub front_in_order : (low high k : ℕ) (ts : List Token) → InOrder low high ts → InOrder low high (take k ts)
+front_in_order low high zero ts sorted = order low high ts sorted
+front_in_order low high (suc k) [] sorted = sorted
+front_in_order low high (suc k) (t ∷ ts) sorted = (sorted.0, sorted.1, front_in_order t.to high k ts sorted.2)
+
+pub front_words : (text : List ℕ) (end k : ℕ) (ts : List Token) → words_behind text end (take k ts) ≡ take k (words_behind text end ts)
+unfolding words_behind
+front_words text end zero ts = refl
+front_words text end (suc k) [] = refl
+front_words text end (suc k) (t ∷ ts) = rw (front_words text t.to k ts) refl
+
+pub all_words : (text : List ℕ) (end k : ℕ) (ts : List Token) → length ts ≤ k → take k (words_behind text end ts) ≡ words_behind text end ts
+unfolding words_behind
+all_words text end zero [] few = refl
+all_words text end zero (t ∷ ts) few = let never : ⊥ = omega (arith, few) in absurd never
+all_words text end (suc k) [] few = refl
+all_words text end (suc k) (t ∷ ts) few = let fewer : length ts ≤ k = omega (arith, few) in rw (all_words text t.to k ts fewer) refl

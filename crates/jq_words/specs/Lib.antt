@@ -1,0 +1,9 @@
+pub mod Words
+pub mod Results
+pub mod Brackets
+pub mod Texts
+pub mod FreeLists
+pub mod Functions
+pub mod Calls
+pub mod CallViews
+pub mod Views

@@ -1,0 +1,139 @@
+//! The three kinds of brackets, and those that are open.
+ghost use Rattle.std.specs.Prelude.{◌≡◌, ◌+◌, [], ◌∷◌, length, drop, not, reverse, OnOk, IfOk, IfErr, Option};
+ghost use Rattle.jq_words.specs.Brackets as spec;
+ghost use Rattle.jq_words.specs.declared.faults.ScriptFault.TheVariants.{Memory};
+
+use crate::faults::ScriptFault;
+use crate::words::{Word, Words};
+use std::alloc::Global;
+use std::marker::Model;
+
+/// A kind of bracket.
+#[derive(Clone, Copy, Debug, PartialEq, Eq)]
+pub enum Bracket {
+    /// `(` and `)`.
+    Round,
+    /// `[` and `]`.
+    Square,
+    /// `{` and `}`.
+    Curly,
+}
+
+#[tactic(auto, unfolding(crate::specs::Brackets::opened_by))]
+pub fn opened_by(word: &Word<'_>) -> Option<Bracket>
+    ensures { result ≡ spec.opened_by word.now }
+{
+    if word.is_mark(b"(") {
+        Some(Bracket::Round)
+    } else if word.is_mark(b"[") {
+        Some(Bracket::Square)
+    } else if word.is_mark(b"{") {
+        Some(Bracket::Curly)
+    } else {
+        None
+    }
+}
+
+#[tactic(auto, unfolding(crate::specs::Brackets::closed_by))]
+pub fn closed_by(word: &Word<'_>) -> Option<Bracket>
+    ensures { result ≡ spec.closed_by word.now }
+{
+    if word.is_mark(b")") {
+        Some(Bracket::Round)
+    } else if word.is_mark(b"]") {
+        Some(Bracket::Square)
+    } else if word.is_mark(b"}") {
+        Some(Bracket::Curly)
+    } else {
+        None
+    }
+}
+
+/// Brackets that are open. A contract sees the list of them, from the innermost outward.
+#[derive(Drop)]
+pub struct OpenBrackets {
+    items: Vec<Bracket>,
+}
+
+impl Model for OpenBrackets {
+    ghost use Rattle.std.specs.Prelude.{List, reverse};
+    ghost use Rattle.jq_words.specs.declared.brackets.Bracket.{Bracket};
+
+    ghost Value = { List Bracket };
+
+    ghost view = { λ o. reverse o.items.items };
+}
+
+impl OpenBrackets {
+    pub fn none(alloc: Global) -> Self
+        ensures { result ≡ [] }
+    {
+        OpenBrackets {
+            items: Vec::new(alloc),
+        }
+    }
+
+    pub fn len(&self) -> usize
+        ensures { result ≡ length self.now }
+    {
+        self.items.len()
+    }
+
+    pub fn is_empty(&self) -> bool
+        ensures { result ≡ spec.is_empty self.now }
+    {
+        self.items.is_empty()
+    }
+
+    #[tactic(auto, unfolding(crate::specs::Brackets::closes_outer))]
+    pub fn closes_outer(&self, word: &Word<'_>) -> bool
+        ensures { result ≡ spec.closes_outer self.now word.now }
+    {
+        match closed_by(word) {
+            None => false,
+            Some(bracket) => self.items.last() != Some(&bracket),
+        }
+    }
+
+    /// The brackets that are open behind a word.
+    #[tactic(auto, unfolding(crate::specs::Brackets::brackets_behind), using(crate::proofs::Stacks::pushed_last, crate::proofs::Stacks::popped_last))]
+    pub fn pass(&mut self, word: &Word<'_>) -> Result<(), ScriptFault>
+        ensures passed { OnOk result (self.new ≡ spec.brackets_behind self.old word.now) }
+        ensures only_memory { IfErr result (λ e. e ≡ Memory) }
+    {
+        if closed_by(word).is_some() {
+            self.items.pop();
+        } else if let Some(bracket) = opened_by(word) {
+            self.items.push(bracket)?;
+        }
+        Ok(())
+    }
+}
+
+#[tactic(auto, unfolding(crate::specs::Brackets::ends_argument))]
+fn ends_argument(others: bool, open_brackets: &OpenBrackets, word: &Word<'_>) -> bool
+    ensures { result ≡ spec.ends_argument others open_brackets.now word.now }
+{
+    open_brackets.closes_outer(word)
+        || (open_brackets.is_empty() && (word.is_mark(b";") || (others && word.is_mark(b","))))
+}
+
+/// How many words the next argument has; where there are others, a comma ends it.
+#[tactic(auto, using(crate::proofs::ArgumentSteps::goes_on, crate::proofs::ArgumentSteps::over, crate::proofs::ArgumentSteps::ends))]
+pub fn argument_len(alloc: Global, others: bool, words: &Words<'_>) -> Result<usize, ScriptFault>
+    ensures gives { IfOk result (λ n. n ≡ spec.argument_len others [] words.now) }
+    ensures only_memory { IfErr result (λ e. e ≡ Memory) }
+{
+    let mut open_brackets = OpenBrackets::none(alloc);
+    let mut rest = words.again();
+    let mut count: usize = 0;
+    'words: while let Some(word) = rest.first() {
+        if ends_argument(others, &open_brackets, &word) {
+            return Ok(count);
+        }
+        open_brackets.pass(&word)?;
+        count = count.checked_add(1).ok_or(ScriptFault::Memory)?;
+        rest.pass();
+    }
+    Ok(count)
+}

@@ -1,0 +1,22 @@
+//! The words of a script, and what is read of them without its names: brackets, strings that are joined, lists of any expressions, and
+//! the calls of a chain.
+#![tactic(auto)]
+
+mod brackets;
+mod calls;
+mod faults;
+mod free_lists;
+mod functions;
+mod texts;
+mod words;
+
+pub use brackets::{Bracket, OpenBrackets, argument_len, closed_by, opened_by};
+pub use calls::{Form, Row, row_of};
+pub use faults::{MOST_CALLS, MOST_FOREST_NODES, MOST_OPEN, MOST_STATEMENTS, ScriptFault};
+pub use free_lists::{Rules, free};
+pub use functions::declared_in;
+pub use texts::{closed_texts, holds_texts_behind, is_blank, is_markup, joined_texts};
+pub use words::{
+    Word, Words, begins, begins_any_name, begins_name, begins_name_among, end, end_fits, is_one_of,
+    letters, only, place, want, want_name, want_open,
+};

@@ -1,0 +1,405 @@
+//! The words of a script: its tokens, with their spelling and with the ends of lines between them.
+ghost use Rattle.std.specs.Prelude.{◌≡◌, ◌≤◌, ◌<◌, ◌+◌, ◌==◌, not, true, false, [], ◌∷◌, length, map, take, drop, codes, Ok, Err, IfOk, IfErr, IfSome, IfNone, OnOk, IsTrue};
+ghost use Rattle.jq_words.specs.Words as spec;
+ghost use Rattle.js_scan.specs.Tokens.{InOrder};
+ghost use Rattle.jq_words.specs.Results.{Finds, Leaves, IsRest, IsBehind};
+
+use crate::faults::ScriptFault;
+use js_scan::{Letters, Token, TokenKind};
+use std::alloc::Global;
+use std::marker::Model;
+
+/// A token, its bytes, and what stands between the token before it and it. A contract sees it as a word of the definitions.
+#[derive(Drop)]
+pub struct Word<'a> {
+    kind: &'a TokenKind,
+    spelling: &'a [u8],
+    at: usize,
+    gap: &'a [u8],
+}
+
+impl<'a> Model for Word<'a> {
+    ghost use Rattle.std.specs.Prelude.{◌==◌};
+    ghost use Rattle.std.specs.List.{list_any};
+    ghost use Rattle.jq_words.specs.Words.{Word};
+
+    ghost Value = { Word };
+
+    ghost view = { λ w. record { kind = w.kind.now; spelling = w.spelling.now; at = w.at; later = list_any (λ b. b == 10) w.gap.now } };
+}
+
+/// Whether a spelling is one of these.
+#[tactic(auto, unfolding(crate::specs::Words::is_among))]
+pub fn is_one_of(names: &[&[u8]], name: &[u8]) -> bool
+    ensures { result ≡ spec.is_among (map (λ k. k.now) names.now) name.now }
+{
+    let mut left = names;
+    'names: while let [first, others @ ..] = left {
+        if *first == name {
+            return true;
+        }
+        left = others;
+    }
+    false
+}
+
+/// A spelling, as letters of its own.
+pub fn letters(alloc: Global, spelling: &[u8]) -> Result<Letters, ScriptFault>
+    ensures letters { IfOk result (λ l. l ≡ spelling.now) }
+    ensures only_memory { IfErr result (λ e. e ≡ ScriptFault.Memory) }
+{
+    let mut bytes = Vec::new(alloc);
+    bytes.extend_from_slice(spelling)?;
+    match String::from_utf8(bytes) {
+        Ok(text) => Ok(Letters::new(text)),
+        Err(_) => Err(ScriptFault::Memory),
+    }
+}
+
+impl<'a> Word<'a> {
+    #[tactic(auto, unfolding(crate::specs::Words::is_mark))]
+    pub fn is_mark(&self, spelling: &[u8]) -> bool
+        ensures { result ≡ spec.is_mark spelling.now self.now }
+    {
+        matches!(*self.kind, TokenKind::Mark) && self.spelling == spelling
+    }
+
+    #[tactic(auto, unfolding(crate::specs::Words::is_name))]
+    pub fn is_name(&self, spelling: &[u8]) -> bool
+        ensures { result ≡ spec.is_name spelling.now self.now }
+    {
+        matches!(*self.kind, TokenKind::Name) && self.spelling == spelling
+    }
+
+    #[tactic(auto, unfolding(crate::specs::Words::is_any_name))]
+    pub fn is_any_name(&self) -> bool
+        ensures { result ≡ spec.is_any_name self.now }
+    {
+        matches!(*self.kind, TokenKind::Name)
+    }
+
+    #[tactic(auto, unfolding(crate::specs::Words::is_number))]
+    pub fn is_number(&self) -> bool
+        ensures { result ≡ spec.is_number self.now }
+    {
+        matches!(*self.kind, TokenKind::Number)
+    }
+
+    #[tactic(auto, unfolding(crate::specs::Words::is_text))]
+    pub fn is_text(&self) -> bool
+        ensures { result ≡ spec.is_text self.now }
+    {
+        matches!(*self.kind, TokenKind::Text(_))
+    }
+
+    #[tactic(auto, unfolding(crate::specs::Words::is_mark_among))]
+    pub fn is_mark_among(&self, spellings: &[&[u8]]) -> bool
+        ensures { result ≡ spec.is_mark_among (map (λ k. k.now) spellings.now) self.now }
+    {
+        matches!(*self.kind, TokenKind::Mark) && is_one_of(spellings, self.spelling)
+    }
+
+    #[tactic(auto, unfolding(crate::specs::Words::is_name_among))]
+    pub fn is_name_among(&self, spellings: &[&[u8]]) -> bool
+        ensures { result ≡ spec.is_name_among (map (λ k. k.now) spellings.now) self.now }
+    {
+        matches!(*self.kind, TokenKind::Name) && is_one_of(spellings, self.spelling)
+    }
+
+    /// The letters of a Text; none of any other word.
+    #[tactic(auto, unfolding(crate::specs::Words::letters_of))]
+    pub fn text(&self) -> &'a [u8]
+        ensures { result.now ≡ spec.letters_of self.now }
+    {
+        match self.kind {
+            TokenKind::Text(letters) => letters.items(),
+            _ => &[],
+        }
+    }
+
+    /// Its spelling, as letters of its own.
+    pub fn letters(&self, alloc: Global) -> Result<Letters, ScriptFault>
+        ensures letters { IfOk result (λ l. l ≡ self.now.spelling) }
+        ensures only_memory { IfErr result (λ e. e ≡ ScriptFault.Memory) }
+    {
+        letters(alloc, self.spelling)
+    }
+
+    pub fn at(&self) -> usize
+        ensures { result ≡ self.now.at }
+    {
+        self.at
+    }
+
+    /// Whether an LF stands before it. It looks through all that stands between the token before it and it.
+    pub fn later(&self) -> bool
+        ensures { result ≡ self.now.later }
+    {
+        self.gap.contains(&b'\n')
+    }
+
+    pub fn spelling(&self) -> &'a [u8]
+        ensures { result.now ≡ self.now.spelling }
+    {
+        self.spelling
+    }
+}
+
+/// The words from a place on. A contract sees the list of them.
+#[derive(Drop)]
+pub struct Words<'a> {
+    text: &'a [u8],
+    /// Where the token before ends.
+    end: usize,
+    tokens: &'a [Token],
+}
+
+impl<'a> Model for Words<'a> {
+    ghost use Rattle.std.specs.Prelude.{◌≤◌, List, length};
+    ghost use Rattle.js_scan.specs.Tokens.{InOrder};
+    ghost use Rattle.jq_words.specs.Words.{Word, words_behind};
+
+    ghost Value = { List Word };
+
+    ghost view = { λ w. words_behind w.text.now w.end w.tokens.now };
+
+    ghost invariant = { λ w. InOrder w.end (length w.text.now) w.tokens.now };
+}
+
+impl<'a> Words<'a> {
+    /// All words of a file.
+    #[tactic(auto, unfolding(crate::specs::Words::words))]
+    pub fn new(text: &'a [u8], tokens: &'a [Token]) -> Self
+        requires { InOrder 0 (length text.now) tokens.now }
+        ensures { result ≡ spec.words text.now tokens.now }
+    {
+        Words {
+            text,
+            end: 0,
+            tokens,
+        }
+    }
+
+    /// The same words again, to look ahead.
+    pub fn again(&self) -> Words<'a>
+        ensures { result ≡ self.now }
+    {
+        Words {
+            text: self.text,
+            end: self.end,
+            tokens: self.tokens,
+        }
+    }
+
+    /// The words behind the first, to look ahead.
+    pub fn behind(&self) -> Words<'a>
+        ensures { result ≡ drop 1 self.now }
+    {
+        let mut rest = self.again();
+        rest.pass();
+        rest
+    }
+
+    /// The first of the words, so many of them.
+    #[tactic(auto, using(crate::proofs::Orders::front_in_order, crate::proofs::Orders::front_words, crate::proofs::Orders::all_words))]
+    pub fn front(&self, count: usize) -> Words<'a>
+        ensures { result ≡ take count self.now }
+    {
+        if self.tokens.len() <= count {
+            return self.again();
+        }
+        let (tokens, _) = self.tokens.split_at(count);
+        Words {
+            text: self.text,
+            end: self.end,
+            tokens,
+        }
+    }
+
+    /// Passes so many words.
+    #[tactic(auto, using(crate::proofs::Rests::itself, crate::proofs::Rests::of_rest, crate::proofs::Rests::behind_first, crate::proofs::Rests::one_more_dropped, crate::proofs::Rests::some_dropped))]
+    pub fn pass_all(&mut self, count: usize)
+        ensures passed { self.new ≡ drop count self.old }
+        ensures rest { IsRest self.old self.new }
+        ensures behind { 0 < count → IsBehind self.old self.new }
+    {
+        for i in 0..count {
+            self.pass();
+        }
+    }
+
+    /// The first word.
+    #[tactic(auto, unfolding(crate::specs::Words::words_behind), using(crate::proofs::Orders::first_within))]
+    pub fn first(&self) -> Option<Word<'a>>
+        ensures some { IfSome result (λ w. self.now ≡ w ∷ drop 1 self.now) }
+        ensures none { IfNone result (self.now ≡ []) }
+    {
+        match self.tokens.split_first() {
+            None => None,
+            Some((token, _)) => Some(Word {
+                kind: &token.kind,
+                spelling: &self.text[token.from..token.to],
+                at: token.from,
+                gap: &self.text[self.end..token.from],
+            }),
+        }
+    }
+
+    /// Goes on behind the first word.
+    #[tactic(auto, unfolding(crate::specs::Words::words_behind), using(crate::proofs::Rests::passed))]
+    pub fn pass(&mut self)
+        ensures passed { self.new ≡ drop 1 self.old }
+        ensures rest { IsBehind self.old self.new }
+    {
+        if let Some((token, behind)) = self.tokens.split_first() {
+            self.end = token.to;
+            self.tokens = behind;
+        }
+    }
+}
+
+#[tactic(auto, unfolding(crate::specs::Words::first_is))]
+pub fn begins(words: &Words<'_>, spelling: &[u8]) -> bool
+    ensures gives { result ≡ spec.begins spelling.now words.now }
+    ensures some { IsTrue result → 0 < length words.now }
+{
+    match words.first() {
+        None => false,
+        Some(word) => word.is_mark(spelling),
+    }
+}
+
+#[tactic(auto, unfolding(crate::specs::Words::first_is))]
+pub fn begins_name(words: &Words<'_>, spelling: &[u8]) -> bool
+    ensures gives { result ≡ spec.begins_name spelling.now words.now }
+    ensures some { IsTrue result → 0 < length words.now }
+{
+    match words.first() {
+        None => false,
+        Some(word) => word.is_name(spelling),
+    }
+}
+
+#[tactic(auto, unfolding(crate::specs::Words::first_is))]
+pub fn begins_name_among(words: &Words<'_>, names: &[&[u8]]) -> bool
+    ensures { spec.first_is (spec.is_name_among (map (λ k. k.now) names.now)) words.now ≡ result }
+{
+    match words.first() {
+        None => false,
+        Some(word) => word.is_name_among(names),
+    }
+}
+
+#[tactic(auto, unfolding(crate::specs::Words::first_is))]
+pub fn begins_any_name(words: &Words<'_>) -> bool
+    ensures { result ≡ spec.first_is spec.is_any_name words.now }
+{
+    match words.first() {
+        None => false,
+        Some(word) => word.is_any_name(),
+    }
+}
+
+/// The word, where it is one alone.
+#[tactic(auto, using(crate::proofs::FitSteps::one_word, crate::proofs::FitSteps::no_word, crate::proofs::FitSteps::two_words))]
+pub fn only<'a>(words: &Words<'a>) -> Option<Word<'a>>
+    ensures some { IfSome result (λ w. words.now ≡ w ∷ []) }
+    ensures none { IfNone result (spec.is_one words.now ≡ false) }
+{
+    let Some(word) = words.first() else {
+        return None;
+    };
+    if words.behind().first().is_some() {
+        return None;
+    }
+    Some(word)
+}
+
+/// The offset of the first word, or the file's length.
+#[tactic(auto, unfolding(crate::specs::Words::place))]
+pub fn place(size: usize, words: &Words<'_>) -> usize
+    ensures { result ≡ spec.place size words.now }
+{
+    match words.first() {
+        None => size,
+        Some(word) => word.at(),
+    }
+}
+
+/// Passes a mark that is wanted.
+#[tactic(auto, unfolding(crate::specs::Words::want), using(crate::proofs::Rests::itself, crate::proofs::Rests::passed))]
+pub fn want(size: usize, spelling: &[u8], words: &mut Words<'_>) -> Result<(), ScriptFault>
+    ensures gives { Leaves words.new result (spec.want size spelling.now words.old) }
+    ensures rest { OnOk result (IsBehind words.old words.new) }
+{
+    if !begins(words, spelling) {
+        return Err(ScriptFault::UnknownForm(place(size, words)));
+    }
+    words.pass();
+    Ok(())
+}
+
+/// Passes an opening bracket that is wanted, where so many may still be opened.
+#[tactic(auto, unfolding(crate::specs::Words::want_open), using(crate::proofs::Rests::itself, crate::proofs::Rests::passed))]
+pub fn want_open(
+    size: usize,
+    room: usize,
+    spelling: &[u8],
+    words: &mut Words<'_>,
+) -> Result<(), ScriptFault>
+    ensures gives { Leaves words.new result (spec.want_open size room spelling.now words.old) }
+    ensures rest { OnOk result (IsBehind words.old words.new) }
+    ensures opened { OnOk result (0 < room) }
+{
+    if !begins(words, spelling) {
+        return Err(ScriptFault::UnknownForm(place(size, words)));
+    }
+    if room == 0 {
+        return Err(ScriptFault::TooDeep(place(size, words)));
+    }
+    words.pass();
+    Ok(())
+}
+
+/// Whether a statement may be over before these words.
+#[tactic(auto, unfolding(crate::specs::Words::end_fits))]
+pub fn end_fits(words: &Words<'_>) -> bool
+    ensures { result ≡ spec.end_fits words.now }
+{
+    match words.first() {
+        None => true,
+        Some(word) => word.is_mark(b";") || word.is_mark(b"}") || word.later(),
+    }
+}
+
+/// Passes the end of a statement.
+#[tactic(auto, unfolding(crate::specs::Words::end), using(crate::proofs::Rests::itself, crate::proofs::Rests::behind_first))]
+pub fn end(size: usize, words: &mut Words<'_>) -> Result<(), ScriptFault>
+    ensures gives { Leaves words.new result (spec.end size words.old) }
+    ensures rest { OnOk result (IsRest words.old words.new) }
+{
+    if begins(words, b";") {
+        words.pass();
+        return Ok(());
+    }
+    if end_fits(words) {
+        return Ok(());
+    }
+    Err(ScriptFault::UnknownForm(place(size, words)))
+}
+
+/// Passes a name that is wanted, whichever it is.
+#[tactic(auto, unfolding(crate::specs::Words::want_name), using(crate::proofs::Rests::passed))]
+pub fn want_name<'a>(size: usize, words: &mut Words<'a>) -> Result<&'a [u8], ScriptFault>
+    ensures gives { Finds (λ n. n.now) words.new result (spec.want_name size words.old) }
+    ensures rest { OnOk result (IsBehind words.old words.new) }
+{
+    let Some(word) = words.first() else {
+        return Err(ScriptFault::UnknownForm(size));
+    };
+    if !word.is_any_name() {
+        return Err(ScriptFault::UnknownForm(word.at()));
+    }
+    words.pass();
+    Ok(word.spelling())
+}
