@@ -36,7 +36,9 @@ fn run<R: Files + Drop>(
     treeped(alloc, words, &mut files, out, err)
 }
 
-fn no_words(err: &mut HostSink<Stderr>) -> Status {
+fn no_words(err: &mut HostSink<Stderr>) -> Status
+    ensures { result ≡ Status.NoMemory }
+{
     let _ = put_all(err, b"treeped: no memory\n");
     Status::NoMemory
 }
