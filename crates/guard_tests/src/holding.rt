@@ -1,0 +1,82 @@
+use crate::building::{Deed, Word, path_of, statement, tree_of};
+use guard_sem::{Guard, GuardNode, holds};
+use rule_translate::translate;
+use sel_core::SelFault;
+use std::alloc::Global;
+use std::test::Fail;
+use tp_base::{AtomTable, NoMemory};
+use tree_sem::Tree;
+
+// Where a guard is asked, seen from a node.
+#[derive(Clone, Copy)]
+enum Round {
+    Here,
+    Parent,
+    Ancestor,
+    Child,
+    Descendant,
+    Somewhere,
+}
+
+fn asked(alloc: Global, round: Round, g: Guard) -> Result<Guard, NoMemory> {
+    let inner = Box::new(alloc, g)?;
+    let node = match round {
+        Round::Here => return Ok(Box::into_inner(inner)),
+        Round::Parent => GuardNode::Parent(inner),
+        Round::Ancestor => GuardNode::Ancestor(inner),
+        Round::Child => GuardNode::Child(inner),
+        Round::Descendant => GuardNode::Descendant(inner),
+        Round::Somewhere => GuardNode::Somewhere(inner),
+    };
+    Ok(Guard { node })
+}
+
+// A page with one box.
+static PAGE: [(&[u32], &str); 3] = [(&[], "head"), (&[], "body"), (&[1], "div.box")];
+
+// A list of selectors, where its guard is asked, seen from a node, and whether it holds.
+type Row = (Round, &'static str, &'static [u32], bool);
+
+static ROWS: [Row; 20] = [
+    (Round::Somewhere, ".box", &[0], true),
+    (Round::Somewhere, ".box", &[2], false),
+    (Round::Somewhere, ".boxes", &[0], false),
+    (Round::Child, ".box", &[1], true),
+    (Round::Child, ".box", &[1, 0], false),
+    (Round::Child, ".box", &[], false),
+    (Round::Descendant, ".box", &[], true),
+    (Round::Descendant, ".box", &[1, 0], false),
+    (Round::Parent, "body", &[1, 0], true),
+    (Round::Parent, "body", &[1], false),
+    (Round::Parent, "*", &[], false),
+    (Round::Ancestor, "*", &[1, 0], true),
+    (Round::Ancestor, "div", &[1, 0], false),
+    (Round::Here, "*", &[0], true),
+    (Round::Here, "*", &[1, 1], false),
+    (Round::Here, "div.box", &[1, 0], true),
+    (Round::Here, "body.box", &[1, 0], false),
+    (Round::Here, "head, .box", &[1, 0], true),
+    (Round::Here, "head, .box", &[1], false),
+    (Round::Here, "", &[1, 0], false),
+];
+
+fn is_right(
+    alloc: Global,
+    tree: &Tree,
+    row: &Row,
+    atoms: &mut AtomTable,
+) -> Result<bool, SelFault> {
+    let stmt = statement(alloc, &[], &[(Word::Matched, row.1)], Deed::Adds, atoms)?;
+    let guard = asked(alloc, row.0, translate(alloc, &stmt)?.guard)?;
+    Ok(holds(alloc, tree, &path_of(alloc, row.2)?, &guard)? == row.3)
+}
+
+#[test]
+fn guards_hold(rt: HostRuntime) -> Result<(), Fail> {
+    let mut atoms = AtomTable::new(rt.alloc());
+    let tree = tree_of(rt.alloc(), &PAGE, &mut atoms)?;
+    for row in &ROWS {
+        assert!(rt; is_right(rt.alloc(), &tree, row, &mut atoms)?);
+    }
+    Ok(())
+}

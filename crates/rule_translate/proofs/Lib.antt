@@ -1,0 +1,3 @@
+pub mod CompoundLemmas
+pub mod StepLemmas
+pub mod TranslationLemmas
