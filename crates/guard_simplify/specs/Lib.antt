@@ -1,0 +1,12 @@
+pub mod Firsts
+pub mod Auxiliaries
+pub mod Simplified
+pub mod Law
+pub mod Outcome
+pub mod Conditions
+pub mod Keys
+pub mod Numbered
+pub mod KeyRules
+pub mod ForestRules
+pub mod SeenRules
+pub mod Counted

@@ -1,0 +1,19 @@
+//! Rules and guards, simplified to rules that look at one node and the one next to it.
+#![tactic(auto)]
+
+mod assembly;
+mod class_rules;
+mod counting;
+mod forest_nodes;
+mod formula_numbers;
+mod formula_rules;
+mod keys;
+mod kinds;
+mod node_numbers;
+mod seen_rules;
+mod simplification;
+mod simplified;
+mod spawns;
+
+pub use simplification::{simplify, steps_agree};
+pub use simplified::{MOST_VISIBLE, Simplified, SimplifyFault};

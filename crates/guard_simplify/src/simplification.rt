@@ -1,0 +1,44 @@
+//! The simple system of rules, and the law that ties its steps to theirs.
+ghost use Rattle.std.specs.Prelude.{◌≡◌, ◌≤◌, length, IfOk, All};
+ghost use Rattle.simple_core.specs.declared.system.TheConstants.{MOST_KINDS};
+ghost use Rattle.simple_core.specs.Systems.{IsSound};
+ghost use Rattle.guard_simplify.specs.Auxiliaries.{places};
+ghost use Rattle.guard_simplify.specs.Law.{IsOver, IsRuleOver, IsTreeOver, Follows, GoesBack};
+ghost use Rattle.guard_simplify.specs.Outcome.{simplified, Gives};
+
+use crate::assembly::within_limits;
+use crate::counting::count_all;
+use crate::simplified::{Simplified, SimplifyFault};
+use guard_sem::{Guard, Rule};
+use std::alloc::Global;
+use tp_base::AtomTable;
+use tree_sem::Tree;
+
+/// The system of the rules and of the guards that are handed in. Linear in the guards, the classes and the forests,
+/// but for the look-ups and the sets of atoms.
+pub fn simplify(
+    alloc: Global,
+    rules: &[Rule],
+    guards: &[Guard],
+    atoms: &AtomTable,
+) -> Result<Simplified, SimplifyFault>
+    requires rules_over { All (IsRuleOver (length atoms.now)) rules.now }
+    requires guards_over { All (IsOver (length atoms.now)) guards.now }
+    requires few_rules { length rules.now ≤ 10000 }
+    requires few_nodes { length (places rules.now) ≤ MOST_KINDS }
+    ensures system { Gives result (simplified rules.now guards.now (length atoms.now)) }
+    ensures sound { IfOk result (λ s. IsSound s.system) }
+{
+    let first = atoms.count();
+    let counted = count_all(alloc, first, rules, guards)?;
+    within_limits(alloc, first, rules, &counted)
+}
+
+/// What the system does is what the rules do.
+pub fn steps_agree(rules: &[Rule], guards: &[Guard], atoms: &AtomTable, page: &Tree)
+    requires rules_over { All (IsRuleOver (length atoms.now)) rules.now }
+    requires guards_over { All (IsOver (length atoms.now)) guards.now }
+    requires page_over { IsTreeOver (length atoms.now) page.now }
+    ensures follows { Follows rules.now guards.now (length atoms.now) page.now }
+    ensures back { GoesBack rules.now guards.now (length atoms.now) page.now }
+{}
