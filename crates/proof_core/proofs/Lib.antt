@@ -1,8 +1,3 @@
-pub mod Rows
-pub mod FirstLemmas
-pub mod EntryLemmas
-pub mod RightLemmas
-pub mod NodeLemmas
 pub mod TrailLemmas
 pub mod PagePassLemmas
 pub mod WorldLemmas
@@ -10,13 +5,8 @@ pub mod WalkLemmas
 pub mod WorkLemmas
 pub mod PassLemmas
 pub mod KeepLemmas
-pub mod ItemLemmas
 pub mod SimpleLemmas
 pub mod GrowthLemmas
 pub mod TrackLemmas
 pub mod UnfoldLemmas
-pub mod CountLemmas
-pub mod StepLemmas
-pub mod CheckLemmas
-pub mod DepthLemmas
 mod ReadingExample

@@ -3,34 +3,34 @@ use Rattle.std.proofs.Common.{◌≡◌, ◌<◌, ◌≤◌, ℕ, suc, drop, sli
 use Rattle.std.proofs.lemmas.List.{map-append, get_or-set_same, get_or-set_other}
 use Rattle.std.proofs.lemmas.Slice.Eq.{bytes_eq-Decides}
 use Rattle.std.specs.Str.{bytes_eq}
-use Rattle.proof_core.specs.declared.nodes.Nodes.{Nodes}
+use Rattle.proof_check.specs.NodePaths.{NodePaths}
 use Rattle.proof_core.specs.declared.page_passes.PageNode.{PageNode}
 use Rattle.proof_core.specs.declared.passes.Pass.{Pass}
-use Rattle.proof_core.specs.declared.proofs.Below.TheVariants.{Grown}
-use Rattle.proof_core.specs.declared.proofs.Reason.TheVariants.{Down}
-use Rattle.proof_core.specs.declared.proofs.ProofItem.{ProofItem}
+use Rattle.proof_check.specs.declared.proofs.Below.TheVariants.{Grown}
+use Rattle.proof_check.specs.declared.proofs.Reason.TheVariants.{Down}
+use Rattle.proof_check.specs.declared.proofs.ProofItem.{ProofItem}
 use Rattle.simple_core.specs.declared.rules.Kind.{Kind}
-use Rattle.proof_core.specs.declared.proofs.Entry.{Entry}
-use Rattle.proof_core.specs.declared.proofs.PageItem.{PageItem}
-use Rattle.proof_core.specs.Nodes.{number_in}
+use Rattle.proof_check.specs.declared.proofs.Entry.{Entry}
+use Rattle.proof_check.specs.declared.proofs.PageItem.{PageItem}
+use Rattle.proof_check.specs.Nodes.{number_in}
 use Rattle.proof_core.specs.Passes.{passed_of, seen, named_for}
 use Rattle.proof_core.specs.PagePasses.{passes_at, seen_in, item_seen, unfold_at}
 use Rattle.proof_core.specs.Trails.{number_for, with_forest_of}
-use Rattle.proof_core.specs.Unfolding.{Progress, Passed, from_of, spawned, needed_by, down_item, unfold_item, unfold_page, unfold_entry, entry_count, reason_count}
+use Rattle.proof_check.specs.Unfolding.{Progress, Passed, from_of, spawned, needed_by, down_item, unfold_item, unfold_page, unfold_entry, entry_count, reason_count}
 use Rattle.tree_sem.proofs.CountLemmas.{length-node_at}
 use Rattle.tree_sem.specs.declared.tree_fault.TheConstants.{MOST_NODES}
 use Rattle.tree_sem.specs.Trees.{Row, no_nodes, node, LabelTree, length_of, nodes_of, count_of, node_at, children_at}
 use Rattle.simple_core.specs.declared.system.System.{System}
-use Rattle.proof_core.proofs.CountLemmas.{page_steps, reason_steps, entry_steps}
-use Rattle.proof_core.proofs.EntryLemmas.{drop_at, drop_end}
-use Rattle.proof_core.proofs.NodeLemmas.{same_node}
+use Rattle.proof_check.proofs.CountLemmas.{page_steps, reason_steps, entry_steps}
+use Rattle.proof_check.proofs.EntryLemmas.{drop_at, drop_end}
+use Rattle.proof_check.proofs.NodeLemmas.{same_node}
 use Rattle.proof_core.proofs.WalkLemmas.{grown_is}
 
-pub seen_at_number : (nodes : Nodes) (here : List (List Pass)) (v : List ℕ) (n : ℕ) → number_in nodes v ≡ Some n → seen_in nodes here v ≡ seen v (get_or here n [])
+pub seen_at_number : (nodes : NodePaths) (here : List (List Pass)) (v : List ℕ) (n : ℕ) → number_in nodes v ≡ Some n → seen_in nodes here v ≡ seen v (get_or here n [])
 seen_at_number nodes here v n at = ap (λ o. seen v (unwrap_or (option_map (λ m. get_or here m []) o) [])) at
 
 -- an item more at the node v, whose number it has
-pub seen_pushed : (nodes : Nodes) (here : List (List Pass)) (p : Pass) (v : List ℕ) (n : ℕ) → number_in nodes v ≡ Some n → n < length here
+pub seen_pushed : (nodes : NodePaths) (here : List (List Pass)) (p : Pass) (v : List ℕ) (n : ℕ) → number_in nodes v ≡ Some n → n < length here
     → (q : List ℕ) → seen_in nodes (set here n (get_or here n [] ++ p ∷ [])) q ≡ (if bytes_eq v q then seen_in nodes here q ++ passed_of v p ∷ [] else seen_in nodes here q)
 seen_pushed nodes here p v n at within q =
     elim (number_in nodes q) as (λ o. number_in nodes q ≡ o
@@ -53,7 +53,7 @@ seen_pushed nodes here p v n at within q =
           ] refl
     ] refl
 
-pub seen_none : (nodes : Nodes) (here : List (List Pass)) → ((m : ℕ) → get_or here m [] ≡ []) → (q : List ℕ) → [] ≡ seen_in nodes here q
+pub seen_none : (nodes : NodePaths) (here : List (List Pass)) → ((m : ℕ) → get_or here m [] ≡ []) → (q : List ℕ) → [] ≡ seen_in nodes here q
 seen_none nodes here none q =
     elim (number_in nodes q) as (λ o. [] ≡ seen q (unwrap_or (option_map (λ m. get_or here m []) o) [])) [ None ↦ refl | Some m ↦ ap (seen q) (sym (none m)) ]
 

@@ -6,7 +6,7 @@ use Rattle.std.specs.Option.{option_copied}
 use Rattle.std.specs.Prelude.{Result, Ok, Err, OnOk, is_err}
 use Rattle.proof_core.specs.declared.passes.Pass.{Pass}
 use Rattle.proof_core.specs.Passes.{first_place, passed_of, seen, way_for, named_for}
-use Rattle.proof_core.specs.Unfolding.{Passed, child_for, end_for}
+use Rattle.proof_check.specs.Unfolding.{Passed, child_for, end_for}
 use Rattle.proof_core.specs.Worlds.{or_first}
 
 pub find_place : {X : Type 0} (test : X → Bool) (xs : List X) → find test xs ≡ option_and_then (slice_get xs) (first_place test xs)

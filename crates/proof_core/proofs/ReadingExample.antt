@@ -10,7 +10,7 @@ use Rattle.simple_core.specs.declared.system.System.{System}
 use Rattle.simple_core.specs.Systems.{kind_label}
 use Rattle.tree_sem.specs.Nodes.{HasAtom}
 use Rattle.proof_core.specs.Readings.{step_at, Reading, IsReading}
-use Rattle.proof_core.specs.Unfolding.{forest_children}
+use Rattle.proof_check.specs.Unfolding.{forest_children}
 use Rattle.proof_core.proofs.KeepLemmas.{kept, kept_node, node_has, has_there}
 
 abbrev the_rule : rule.Local

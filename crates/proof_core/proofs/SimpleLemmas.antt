@@ -11,17 +11,17 @@ use Rattle.simple_core.specs.declared.system.System.{System}
 use Rattle.simple_core.specs.Systems.{kind_label}
 use Rattle.tree_sem.specs.Nodes.{HasAtom}
 use Rattle.simple_core.specs.SimpleSteps.{SimpleStep, by_local, by_up, by_down, by_spawn, IsLegal, after_step, end_of, AreLegal}
-use Rattle.proof_core.specs.declared.proofs.Below.TheVariants.{Real, Grown}
-use Rattle.proof_core.specs.declared.proofs.Reason.{Reason}
-use Rattle.proof_core.specs.declared.proofs.Reason.TheVariants.{Start, Local, Up, Down}
-use Rattle.proof_core.specs.declared.proofs.ProofItem.{ProofItem}
-use Rattle.proof_core.specs.declared.proofs.Entry.{Entry}
-use Rattle.proof_core.specs.declared.proofs.PageItem.{PageItem}
-use Rattle.proof_core.specs.declared.proofs.Proof.{Proof}
-use Rattle.proof_core.specs.Validity.{atoms_of, items_at, Place, IsSound, AreSound, in_entry, at_page, ArePlaced, IsValid}
+use Rattle.proof_check.specs.declared.proofs.Below.TheVariants.{Real, Grown}
+use Rattle.proof_check.specs.declared.proofs.Reason.{Reason}
+use Rattle.proof_check.specs.declared.proofs.Reason.TheVariants.{Start, Local, Up, Down}
+use Rattle.proof_check.specs.declared.proofs.ProofItem.{ProofItem}
+use Rattle.proof_check.specs.declared.proofs.Entry.{Entry}
+use Rattle.proof_check.specs.declared.proofs.PageItem.{PageItem}
+use Rattle.proof_check.specs.declared.proofs.Proof.{Proof}
+use Rattle.proof_check.specs.Validity.{atoms_of, items_at, Place, IsSound, AreSound, in_entry, at_page, ArePlaced, IsValid}
 use Rattle.tree_sem.specs.Growth.{Grows}
 use Rattle.proof_core.proofs.KeepLemmas.{keeps_itself, keeps_both, node_has, kept, kept_node, edit_keeps, add_class_keeps, push_keeps, has_added, new_child}
-use Rattle.proof_core.proofs.ItemLemmas.{slice_get-Contains, atoms_of-cases, page_cases}
+use Rattle.proof_check.proofs.ItemLemmas.{slice_get-Contains, atoms_of-cases, page_cases}
 
 -- an item stands at v in t, with what its place says
 pub record Stands (t : LabelTree) (place : Place) (v : List ℕ) : Type 0 where

@@ -8,9 +8,9 @@ use Rattle.tree_sem.specs.Trees.{LabelTree, node_at, length_of, children_at, edi
 use Rattle.tree_sem.specs.Actions.{add_classes, add_trees}
 use Rattle.tree_sem.proofs.RowLemmas.{there}
 use Rattle.simple_core.specs.declared.rules.Link.{Link}
-use Rattle.proof_core.specs.declared.proofs.ProofItem.{ProofItem}
-use Rattle.proof_core.specs.Unfolding.{Progress, Passed, with_step, with_children}
-use Rattle.proof_core.specs.Validity.{atoms_of, IsDown, Place}
+use Rattle.proof_check.specs.declared.proofs.ProofItem.{ProofItem}
+use Rattle.proof_check.specs.Unfolding.{Progress, Passed, with_step, with_children}
+use Rattle.proof_check.specs.Validity.{atoms_of, IsDown, Place}
 use Rattle.tree_sem.specs.Growth.{Grows}
 use Rattle.proof_core.specs.Readings.{end_by, AreLegalBy, step_at, Reading, IsReading}
 use Rattle.proof_core.proofs.KeepLemmas.{keeps_itself, keeps_both, kept_node, edit_keeps}

@@ -9,7 +9,7 @@ use Rattle.simple_core.specs.declared.rules.Local as rule
 use Rattle.simple_core.specs.declared.system.System.{System}
 use Rattle.simple_core.specs.declared.system.TheConstants.{MOST_KINDS}
 use Rattle.proof_core.specs.Trails.{no_progress, grown_at, step_of_forest}
-use Rattle.proof_core.specs.Unfolding.{Progress, with_children, with_step, after_local}
+use Rattle.proof_check.specs.Unfolding.{Progress, with_children, with_step, after_local}
 use Rattle.proof_core.specs.Walks.{IsFew}
 
 bytes_eq-sym : (xs ys : List ℕ) → bytes_eq xs ys ≡ bytes_eq ys xs

@@ -13,19 +13,19 @@ use Rattle.simple_core.specs.declared.rules.Kind.{Kind}
 use Rattle.simple_core.specs.declared.rules.Local as rule
 use Rattle.simple_core.specs.declared.rules.Spawn.{Spawn}
 use Rattle.tree_sem.specs.Nodes.{HasAtom}
-use Rattle.proof_core.specs.declared.proofs.Below.TheVariants.{Real, Grown}
-use Rattle.proof_core.specs.declared.proofs.Reason.{Reason}
-use Rattle.proof_core.specs.declared.proofs.Reason.TheVariants.{Start, Local, Up, Down}
-use Rattle.proof_core.specs.declared.proofs.ProofItem.{ProofItem}
-use Rattle.proof_core.specs.declared.proofs.Entry.{Entry}
-use Rattle.proof_core.specs.declared.proofs.PageItem.{PageItem}
-use Rattle.proof_core.specs.declared.proofs.Proof.{Proof}
-use Rattle.proof_core.specs.Unfolding.{Progress, Passed, with_step, with_children, forest_children, child_for, end_for, from_of, spawned, needed_by, with_forest, after_local, plain_item, down_item, grown_item, unfold_reason, unfold_item, unfold_items, unfold_page, unfold_entry, nothing_yet, passing, unfolded}
-use Rattle.proof_core.specs.Validity.{atoms_of, items_at, IsDown, Place, IsBelow, IsSound, AreSound, in_entry, at_page, ArePlaced, IsValid}
+use Rattle.proof_check.specs.declared.proofs.Below.TheVariants.{Real, Grown}
+use Rattle.proof_check.specs.declared.proofs.Reason.{Reason}
+use Rattle.proof_check.specs.declared.proofs.Reason.TheVariants.{Start, Local, Up, Down}
+use Rattle.proof_check.specs.declared.proofs.ProofItem.{ProofItem}
+use Rattle.proof_check.specs.declared.proofs.Entry.{Entry}
+use Rattle.proof_check.specs.declared.proofs.PageItem.{PageItem}
+use Rattle.proof_check.specs.declared.proofs.Proof.{Proof}
+use Rattle.proof_check.specs.Unfolding.{Progress, Passed, with_step, with_children, forest_children, child_for, end_for, from_of, spawned, needed_by, with_forest, after_local, plain_item, down_item, grown_item, unfold_reason, unfold_item, unfold_items, unfold_page, unfold_entry, nothing_yet, passing, unfolded}
+use Rattle.proof_check.specs.Validity.{atoms_of, items_at, IsDown, Place, IsBelow, IsSound, AreSound, in_entry, at_page, ArePlaced, IsValid}
 use Rattle.tree_sem.specs.Growth.{Grows}
 use Rattle.proof_core.specs.Readings.{end_by, AreLegalBy, step_at, Reading, IsReading}
 use Rattle.proof_core.proofs.KeepLemmas.{keeps_itself, keeps_both, kept_node}
-use Rattle.proof_core.proofs.ItemLemmas.{slice_get-Contains, items_at-append}
+use Rattle.proof_check.proofs.ItemLemmas.{slice_get-Contains, items_at-append}
 use Rattle.proof_core.proofs.TrackLemmas.{now, Counted, IsGood, IsLater, IsBrought, IsTracked, AreTracked, IsReached, later_itself, later_twice, are_tracked_later, reached_later, tracked_push, tracked_find, end_by-append, act_later, forest_done, forest_good, forest_later, forest_keeps, forest_brought}
 
 module _ (r : Reading) (page : LabelTree) (reading : IsReading r page) where

@@ -4,20 +4,20 @@ use Rattle.std.proofs.lemmas.List.{append-nil, map-append}
 use Rattle.simple_core.specs.declared.rules.Kind.{Kind}
 use Rattle.simple_core.specs.declared.system.System.{System}
 use Rattle.proof_core.specs.declared.passes.Pass.{Pass}
-use Rattle.proof_core.specs.declared.proofs.Below.TheVariants.{Real, Grown}
-use Rattle.proof_core.specs.declared.proofs.Reason.{Reason}
-use Rattle.proof_core.specs.declared.proofs.Reason.TheVariants.{Start, Local, Up, Down}
-use Rattle.proof_core.specs.declared.proofs.ProofItem.{ProofItem}
-use Rattle.proof_core.specs.declared.proofs.Entry.{Entry}
+use Rattle.proof_check.specs.declared.proofs.Below.TheVariants.{Real, Grown}
+use Rattle.proof_check.specs.declared.proofs.Reason.{Reason}
+use Rattle.proof_check.specs.declared.proofs.Reason.TheVariants.{Start, Local, Up, Down}
+use Rattle.proof_check.specs.declared.proofs.ProofItem.{ProofItem}
+use Rattle.proof_check.specs.declared.proofs.Entry.{Entry}
 use Rattle.proof_core.specs.declared.walks.Frame.{Frame}
 use Rattle.proof_core.specs.declared.walks.Level.{Level}
 use Rattle.proof_core.specs.declared.walks.Walk.{Walk}
 use Rattle.proof_core.specs.Passes.{passed_of, seen, way_for, named_for}
 use Rattle.proof_core.specs.Trails.{number_for, with_forest_of}
-use Rattle.proof_core.specs.Unfolding.{Progress, Passed, child_for, from_of, spawned, needed_by, forest_children, number_at, after_spawn, down_item, grown_item, unfold_reason, unfold_item, unfold_items, unfold_entry, entry_count, end_for}
+use Rattle.proof_check.specs.Unfolding.{Progress, Passed, child_for, from_of, spawned, needed_by, forest_children, number_at, after_spawn, down_item, grown_item, unfold_reason, unfold_item, unfold_items, unfold_entry, entry_count, end_for}
 use Rattle.proof_core.specs.Walks.{Outcome, level_items, level_base, on_from, level_rest, frame_pass, frame_rest, frames_rest, rest_of, node_of, GoesOn}
-use Rattle.proof_core.proofs.CountLemmas.{items_steps, entry_steps}
-use Rattle.proof_core.proofs.EntryLemmas.{drop_at, drop_end}
+use Rattle.proof_check.proofs.CountLemmas.{items_steps, entry_steps}
+use Rattle.proof_check.proofs.EntryLemmas.{drop_at, drop_end}
 use Rattle.proof_core.proofs.PassLemmas.{child-seen, passed_down}
 
 drop_none : {X : Type 0} (xs : List X) → drop 0 xs ≡ xs

@@ -1,16 +1,16 @@
 -- Each turn of a walk leaves less work.
 use Rattle.std.proofs.Common.{◌≡◌, ◌<◌, ◌≤◌, ℕ, zero, suc, ◌+◌, ◌-◌, List, [], ◌∷◌, ◌++◌, length, drop, Some, slice_get, refl, sym, ap, subst, ◌∙◌, arith, length-append}
 use Rattle.proof_core.specs.declared.passes.Pass.{Pass}
-use Rattle.proof_core.specs.declared.proofs.Below.TheVariants.{Real, Grown}
-use Rattle.proof_core.specs.declared.proofs.Reason.{Reason}
-use Rattle.proof_core.specs.declared.proofs.Reason.TheVariants.{Start, Local, Up, Down}
-use Rattle.proof_core.specs.declared.proofs.ProofItem.{ProofItem}
-use Rattle.proof_core.specs.declared.proofs.Entry.{Entry}
+use Rattle.proof_check.specs.declared.proofs.Below.TheVariants.{Real, Grown}
+use Rattle.proof_check.specs.declared.proofs.Reason.{Reason}
+use Rattle.proof_check.specs.declared.proofs.Reason.TheVariants.{Start, Local, Up, Down}
+use Rattle.proof_check.specs.declared.proofs.ProofItem.{ProofItem}
+use Rattle.proof_check.specs.declared.proofs.Entry.{Entry}
 use Rattle.proof_core.specs.declared.walks.Frame.{Frame}
 use Rattle.proof_core.specs.declared.walks.Level.{Level}
 use Rattle.proof_core.specs.declared.walks.Walk.{Walk}
 use Rattle.proof_core.specs.Walks.{level_items, reason_work, items_work, entry_work, work_from, frame_work, frames_work, walk_work}
-use Rattle.proof_core.proofs.EntryLemmas.{drop_at}
+use Rattle.proof_check.proofs.EntryLemmas.{drop_at}
 
 some_work : (inside : ℕ → ℕ) (reason : Reason) → 0 < reason_work inside reason
 some_work inside Start = omega arith

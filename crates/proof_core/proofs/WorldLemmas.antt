@@ -7,10 +7,10 @@ use Rattle.simple_core.specs.declared.rules.Kind.{Kind}
 use Rattle.simple_core.specs.declared.rules.Spawn.{Spawn}
 use Rattle.simple_core.specs.declared.system.System.{System}
 use Rattle.simple_core.specs.declared.system.TheConstants.{MOST_KINDS}
-use Rattle.proof_core.specs.Unfolding.{spawned}
+use Rattle.proof_check.specs.Unfolding.{spawned}
 use Rattle.proof_core.specs.Worlds.{or_first, is_under, siblings_below, HasFewSiblings}
-use Rattle.proof_core.proofs.EntryLemmas.{drop_at}
-use Rattle.proof_core.proofs.ItemLemmas.{slice_get-Contains}
+use Rattle.proof_check.proofs.EntryLemmas.{drop_at}
+use Rattle.proof_check.proofs.ItemLemmas.{slice_get-Contains}
 
 pub or_none : {X : Type 0} (o : Option X) → o ≡ or_first o None
 or_none None = refl

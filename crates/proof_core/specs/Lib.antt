@@ -1,10 +1,6 @@
-pub mod Validity
-pub mod Unfolding
+pub use Rattle.proof_check.specs.Validity
+pub use Rattle.proof_check.specs.Unfolding
 pub mod Readings
-pub mod Checks
-pub mod Kept
-pub mod Firsts
-pub mod Nodes
 pub mod Trails
 pub mod Passes
 pub mod PagePasses

@@ -3,20 +3,20 @@
 use Rattle.std.specs.Prelude.{ℕ, List, [], ◌∷◌, ◌++◌, length, get_or, option_map, unwrap_or}
 use Rattle.simple_core.specs.declared.system.System.{System}
 use Rattle.tree_sem.specs.Trees.{LabelTree, children_at}
-use Rattle.proof_core.specs.declared.nodes.Nodes.{Nodes}
+use Rattle.proof_check.specs.NodePaths.{NodePaths}
 use Rattle.proof_core.specs.declared.passes.Pass.{Pass}
 use Rattle.proof_core.specs.declared.page_passes.PageNode.{PageNode}
-use Rattle.proof_core.specs.declared.proofs.Entry.{Entry}
-use Rattle.proof_core.specs.declared.proofs.PageItem.{PageItem}
-use Rattle.proof_core.specs.declared.proofs.ProofItem.{ProofItem}
-use Rattle.proof_core.specs.Nodes.{number_in}
+use Rattle.proof_check.specs.declared.proofs.Entry.{Entry}
+use Rattle.proof_check.specs.declared.proofs.PageItem.{PageItem}
+use Rattle.proof_check.specs.declared.proofs.ProofItem.{ProofItem}
+use Rattle.proof_check.specs.Nodes.{number_in}
 use Rattle.proof_core.specs.Passes.{seen}
-use Rattle.proof_core.specs.Unfolding.{Progress, Passed, unfold_item, unfold_entry}
+use Rattle.proof_check.specs.Unfolding.{Progress, Passed, unfold_item, unfold_entry}
 
-abbrev pub passes_at : Nodes → List (List Pass) → List ℕ → List Pass
+abbrev pub passes_at : NodePaths → List (List Pass) → List ℕ → List Pass
 passes_at nodes here v = unwrap_or (option_map (λ n. get_or here n []) (number_in nodes v)) []
 
-abbrev pub seen_in : Nodes → List (List Pass) → List ℕ → List Passed
+abbrev pub seen_in : NodePaths → List (List Pass) → List ℕ → List Passed
 seen_in nodes here v = seen v (passes_at nodes here v)
 
 -- what an item of the page does, where `passed` is seen at the nodes

@@ -3,7 +3,7 @@
 use Rattle.std.specs.Prelude.{◌≡◌, ℕ, suc, Bool, ◌==◌, if◌then◌else◌, List, [], ◌∷◌, ◌++◌, map, find, reverse, Option, Some, None, option_map, option_and_then, unwrap_or}
 use Rattle.indexmap.specs.IndexMap.{IndexMap, get_by}
 use Rattle.proof_core.specs.declared.passes.Pass.{Pass}
-use Rattle.proof_core.specs.Unfolding.{Passed}
+use Rattle.proof_check.specs.Unfolding.{Passed}
 
 abbrev pub first_place : {X : Type 0} → (X → Bool) → List X → Option ℕ
 first_place test [] = None

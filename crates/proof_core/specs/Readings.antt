@@ -1,6 +1,7 @@
 -- What the atoms, rules and kinds of a system say of trees and of the statements that change them.
 --     end_by, AreLegalBy the tree after some steps, and whether each is legal in the tree before it
 --     IsReading          the rules of the system are right about the meaning of its atoms
+--     IsWitness          a proof unfolds to legal steps, and at their end to a node where the target is right
 use Rattle.std.specs.Prelude.{◌≡◌, ℕ, true, false, if◌then◌else◌, List, [], ◌∷◌, ◌++◌, length, Contains, Some, None, IsSome, slice_get}
 use Rattle.tree_sem.specs.declared.actions.Step.{Step}
 use Rattle.tree_sem.specs.Nodes.{HasAtom}
@@ -13,7 +14,8 @@ use Rattle.simple_core.specs.declared.rules.Local as rule
 use Rattle.simple_core.specs.declared.rules.Spawn.{Spawn}
 use Rattle.simple_core.specs.declared.system.System.{System}
 use Rattle.simple_core.specs.Systems.{kind_label}
-use Rattle.proof_core.specs.Unfolding.{forest_children}
+use Rattle.proof_check.specs.declared.proofs.Proof.{Proof}
+use Rattle.proof_check.specs.Unfolding.{forest_children, unfolded}
 
 abbrev pub end_by : (LabelTree → Step → LabelTree) → LabelTree → List Step → LabelTree
 end_by after t [] = t
@@ -36,6 +38,18 @@ pub record Reading : Type 1 where
   pub Means : LabelTree → List ℕ → ℕ → Type 0
   pub target : ℕ
   pub Goal : LabelTree → List ℕ → Type 0
+
+abbrev pub read_by : System → (ℕ → LabelTree) → (LabelTree → Step → Type 0) → (LabelTree → Step → LabelTree) → (LabelTree → List ℕ → ℕ → Type 0) → ℕ
+    → (LabelTree → List ℕ → Type 0) → Reading
+read_by system kind_tree legal after means target found = record {
+  system = system;
+  kind_tree = kind_tree;
+  Legal = legal;
+  after = after;
+  Means = means;
+  target = target;
+  Goal = found;
+}
 
 pub record IsReading (r : Reading) (page : LabelTree) : Type 0 where
   -- what holds goes on holding
@@ -70,3 +84,8 @@ pub record IsReading (r : Reading) (page : LabelTree) : Type 0 where
   pub target_local : (rule : rule.Local) → Contains r.system.local rule → rule.gives ≡ r.target → (t : LabelTree) (v : List ℕ) → ((a : ℕ) → Contains rule.needs a → r.Means t v a) → r.Goal t v
   pub target_up : (link : Link) → Contains r.system.up link → link.to ≡ r.target → ⊥
   pub target_down : (link : Link) → Contains r.system.down link → link.to ≡ r.target → link.from ≡ r.target
+
+-- the steps of the proof are legal from the page, and what the target says of a node is so at their end of the node that is named
+pub record IsWitness (r : Reading) (page : LabelTree) (proof : Proof) : Type 0 where
+  pub legal : AreLegalBy r.Legal r.after page (unfolded r.system proof page r.target).0
+  pub found : r.Goal (end_by r.after page (unfolded r.system proof page r.target).0) (unfolded r.system proof page r.target).1

@@ -3,7 +3,7 @@ use Rattle.std.specs.Prelude.{ℕ, ◌+◌, Option, Some, None, option_map, List
 use Rattle.indexmap.specs.IndexMap.{get_by}
 use Rattle.simple_core.specs.declared.rules.Kind.{Kind}
 use Rattle.proof_core.specs.declared.trails.Trail.{Trail}
-use Rattle.proof_core.specs.Unfolding.{Progress, Passed, with_children, with_step, end_for}
+use Rattle.proof_check.specs.Unfolding.{Progress, Passed, with_children, with_step, end_for}
 
 abbrev pub progress_of : Trail → Progress
 progress_of trail = record { steps = trail.steps.items; added = λ q. unwrap_or (get_by (λ k. bytes_eq q k.items) trail.added) 0 }

@@ -5,15 +5,15 @@ use Rattle.std.specs.Prelude.{◌≡◌, ℕ, zero, suc, ◌+◌, ◌-◌, ◌*�
 use Rattle.simple_core.specs.declared.system.System.{System}
 use Rattle.simple_core.specs.declared.system.TheConstants.{MOST_KINDS}
 use Rattle.proof_core.specs.Passes.{seen}
-use Rattle.proof_core.specs.declared.proofs.Below.TheVariants.{Real, Grown}
-use Rattle.proof_core.specs.declared.proofs.Reason.{Reason}
-use Rattle.proof_core.specs.declared.proofs.Reason.TheVariants.{Start, Local, Up, Down}
-use Rattle.proof_core.specs.declared.proofs.ProofItem.{ProofItem}
-use Rattle.proof_core.specs.declared.proofs.Entry.{Entry}
+use Rattle.proof_check.specs.declared.proofs.Below.TheVariants.{Real, Grown}
+use Rattle.proof_check.specs.declared.proofs.Reason.{Reason}
+use Rattle.proof_check.specs.declared.proofs.Reason.TheVariants.{Start, Local, Up, Down}
+use Rattle.proof_check.specs.declared.proofs.ProofItem.{ProofItem}
+use Rattle.proof_check.specs.declared.proofs.Entry.{Entry}
 use Rattle.proof_core.specs.declared.walks.Frame.{Frame}
 use Rattle.proof_core.specs.declared.walks.Level.{Level}
 use Rattle.proof_core.specs.declared.walks.Walk.{Walk}
-use Rattle.proof_core.specs.Unfolding.{Progress, Passed, end_for, forest_children, unfold_items, unfold_entry}
+use Rattle.proof_check.specs.Unfolding.{Progress, Passed, end_for, forest_children, unfold_items, unfold_entry}
 
 -- each step has added no more children than a kind can have siblings
 abbrev pub IsFew : Progress → Type 0

@@ -1,26 +1,16 @@
-//! Proofs that a selector is used.
+//! What a proof that a selector is used unfolds to, and what a valid one shows.
 #![tactic(auto)]
 
-mod checking;
-mod counting;
-mod entry_checks;
-mod firsts;
 mod laws;
-mod nodes;
-mod page_checks;
 mod page_passes;
 mod passes;
-mod premises;
-mod proofs;
 mod trails;
 mod unfolded;
 mod walks;
 mod worlds;
 
-pub use checking::check;
-pub use counting::steps;
-pub use laws::valid_shows;
-pub use proofs::{
-    Below, Entries, Entry, PageItem, PageItems, Proof, ProofItem, ProofItems, Reason,
+pub use laws::{Reading, unfolding_is_right, valid_shows};
+pub use proof_check::{
+    Below, Entries, Entry, PageItem, PageItems, Proof, ProofItem, ProofItems, Reason, check, steps,
 };
 pub use unfolded::{Steps, UnfoldFault, Unfolded, unfold};

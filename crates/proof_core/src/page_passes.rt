@@ -2,20 +2,19 @@
 ghost use Rattle.std.specs.Prelude.{◌≡◌, ◌∷◌, ◌++◌, ◌≤◌, ℕ, List, [], Some, true, is_some, length, get_or, unwrap_or, if◌then◌else◌, bytes_eq, IfOk, OnOk};
 ghost use Rattle.tree_sem.specs.Trees.{children_at};
 ghost use Rattle.tree_sem.specs.declared.tree_fault.TheConstants.{MOST_NODES};
-ghost use Rattle.proof_core.specs.Nodes.{number_in, HasAll};
+ghost use Rattle.proof_check.specs.Nodes.{number_in, HasAll};
 ghost use Rattle.proof_core.specs.Passes.{passed_of, named_for, way_for};
 ghost use Rattle.proof_core.specs.PagePasses.{passes_at, seen_in, item_seen, unfold_at};
 ghost use Rattle.proof_core.specs.Trails.{progress_of};
-ghost use Rattle.proof_core.specs.Unfolding.{unfold_entry, unfold_page};
+ghost use Rattle.proof_check.specs.Unfolding.{unfold_entry, unfold_page};
 ghost use Rattle.proof_core.specs.Walks.{IsFew};
 ghost use Rattle.proof_core.specs.Worlds.{HasFewSiblings, KnowsForests};
 
-use crate::nodes::{Nodes, steps_of};
 use crate::passes::{Pass, Passes, down, plain};
-use crate::proofs::{Below, PageItem, ProofItem, Reason};
 use crate::trails::Trail;
 use crate::walks::entry_passed;
 use crate::worlds::{World, after_local, from_of, needed_by, spawned};
+use proof_check::{Below, Nodes, PageItem, ProofItem, Reason, steps_of};
 use std::alloc::Global;
 use tp_base::{Atom, NoMemory, Path};
 use tree_sem::Tree;
@@ -77,14 +76,14 @@ fn item_passed_at(
     requires siblings { HasFewSiblings world.now.system.now.kinds }
     requires forests { KnowsForests world.now.forests.now world.now.system.now.kinds }
     requires numbered { is_some (number_in nodes.now item.now.at) ≡ true }
-    requires size { length here.old.items ≡ length nodes.now.paths.keys }
+    requires size { length here.old.items ≡ length nodes.now }
     requires few { IsFew (progress_of trail.old) }
     requires short { length (item_seen world.now.system.now world.now.entries.now page.now item.now (seen_in nodes.now here.old.items) (progress_of trail.old)).0.steps ≤ 1000000 }
     ensures trail { OnOk result (progress_of trail.new ≡ (item_seen world.now.system.now world.now.entries.now page.now item.now (seen_in nodes.now here.old.items) (progress_of trail.old)).0) }
     ensures here { OnOk result ((q : List ℕ) → seen_in nodes.now here.new.items q ≡ (if bytes_eq item.now.at q
         then seen_in nodes.now here.old.items q ++ (item_seen world.now.system.now world.now.entries.now page.now item.now (seen_in nodes.now here.old.items) (progress_of trail.old)).1 ∷ []
         else seen_in nodes.now here.old.items q)) }
-    ensures size { OnOk result (length here.new.items ≡ length nodes.now.paths.keys) }
+    ensures size { OnOk result (length here.new.items ≡ length nodes.now) }
     ensures few { OnOk result (IsFew (progress_of trail.new)) }
 {
     let path = steps_of(trail.allocator(), &item.at)?;

@@ -3,11 +3,11 @@ ghost use Rattle.std.specs.Prelude.{◌≡◌, ◌+◌, ◌<◌, ◌≤◌, ◌*
 ghost use Rattle.simple_core.specs.declared.system.TheConstants.{MOST_KINDS};
 ghost use Rattle.tree_sem.specs.declared.tree_fault.TheConstants.{MOST_NODES};
 ghost use Rattle.proof_core.specs.Trails.{progress_of, grown_at, no_progress, step_of_forest, number_for, with_forest_of};
-ghost use Rattle.proof_core.specs.Unfolding as spec;
+ghost use Rattle.proof_check.specs.Unfolding as spec;
 ghost use Rattle.proof_core.specs.Walks.{IsFew};
 
-use crate::nodes::steps_of;
 use indexmap::IndexMap;
+use proof_check::steps_of;
 use simple_core::Kind;
 use std::alloc::Global;
 use tp_base::{NoMemory, Path};

@@ -1,17 +1,15 @@
 //! The steps of a proof, and the node that they lead to.
-ghost use Rattle.std.specs.Prelude.{◌≡◌, ◌↔◌, ◌≤◌, ◌<◌, [], length, reverse, IfOk, IsErrOf};
+ghost use Rattle.std.specs.Prelude.{◌≡◌, ◌↔◌, ◌≤◌, ◌<◌, [], length, min, reverse, IsTrue, IfOk, IsErrOf};
 ghost use Rattle.proof_core.specs.PagePasses.{seen_in};
-ghost use Rattle.proof_core.specs.Unfolding.{end_for, unfolded, proof_steps};
-ghost use Rattle.proof_core.specs.Validity.{IsValid};
+ghost use Rattle.proof_check.specs.Unfolding.{end_for, unfolded};
+ghost use Rattle.proof_check.specs.Validity.{MOST_STEPS, IsValid};
 ghost use Rattle.proof_core.specs.Worlds.{HasFewSiblings};
 
-use crate::counting::is_over;
-use crate::nodes::Nodes;
 use crate::page_passes::{page_passed, way_at};
 use crate::passes::Passes;
-use crate::proofs::Proof;
 use crate::trails::Trail;
 use crate::worlds::{Forests, World};
+use proof_check::{Nodes, Proof, steps};
 use simple_core::System;
 use std::alloc::Global;
 use std::marker::Model;
@@ -74,9 +72,9 @@ impl From<NoMemory> for UnfoldFault {
     }
 }
 
-/// The steps that a valid proof says, where they are no more than the limit. Linear in the items that are passed, each as often
-/// as it is named, and in the lengths of the steps' paths, on average; an item of the page whose child is one of the page costs the length of
-/// the way from there to the match.
+/// The steps that a valid proof says, where they are no more than the limit, and the node of the match. The condition on siblings is
+/// one of those that a sound system meets. Linear in the items that are passed, each as often as it is named, and in the lengths of
+/// the steps' paths, on average; an item of the page whose child is one of the page costs the length of the way from there to the match.
 pub fn unfold(
     proof: &Proof,
     system: &System,
@@ -89,15 +87,32 @@ pub fn unfold(
     requires in_limit { limit ≤ 1000000 }
     ensures steps { IfOk result (λ u. u.steps ≡ (unfolded system.now proof.now page.now target).0) }
     ensures at { IfOk result (λ u. u.at ≡ (unfolded system.now proof.now page.now target).1) }
-    ensures over { IsErrOf result UnfoldFault.OverLimit ↔ (limit < proof_steps system.now proof.now) }
+    ensures over { IsErrOf result UnfoldFault.OverLimit ↔ (limit < length (unfolded system.now proof.now page.now target).0) }
 {
-    if is_over(proof, system, limit) {
+    if is_over(proof, system, page, target, limit) {
         return Err(UnfoldFault::OverLimit);
     }
     match unfold_all(proof, system, page, target) {
         Ok(u) => Ok(u),
         Err(_) => Err(UnfoldFault::Memory),
     }
+}
+
+// How many steps it has.
+fn count_of(proof: &Proof, system: &System, page: &Tree, target: Atom) -> u64
+    requires valid { IsValid system.now page.now proof.now target }
+    ensures { result ≡ min (length (unfolded system.now proof.now page.now target).0) MOST_STEPS }
+{
+    steps(proof, system)
+}
+
+// Whether the proof has more steps than this.
+fn is_over(proof: &Proof, system: &System, page: &Tree, target: Atom, limit: u64) -> bool
+    requires valid { IsValid system.now page.now proof.now target }
+    requires in_limit { limit ≤ 1000000 }
+    ensures { IsTrue result ↔ (limit < length (unfolded system.now proof.now page.now target).0) }
+{
+    count_of(proof, system, page, target) > limit
 }
 
 fn unfold_all(
@@ -107,7 +122,7 @@ fn unfold_all(
     target: Atom,
 ) -> Result<Unfolded, NoMemory>
     requires siblings { HasFewSiblings system.now.kinds }
-    requires short { proof_steps system.now proof.now ≤ 1000000 }
+    requires short { length (unfolded system.now proof.now page.now target).0 ≤ 1000000 }
     ensures steps { IfOk result (λ u. u.steps ≡ (unfolded system.now proof.now page.now target).0) }
     ensures at { IfOk result (λ u. u.at ≡ (unfolded system.now proof.now page.now target).1) }
 {

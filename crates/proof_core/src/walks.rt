@@ -3,15 +3,15 @@
 ghost use Rattle.std.specs.Prelude.{◌≡◌, ◌<◌, ◌≤◌, ◌-◌, ◌∷◌, ◌++◌, ℕ, List, [], IsTrue, IfOk, OnOk, Some, None, false, length, slice_get};
 ghost use Rattle.simple_core.specs.declared.system.TheConstants.{MOST_KINDS};
 ghost use Rattle.proof_core.specs.Trails.{progress_of};
-ghost use Rattle.proof_core.specs.Unfolding.{Progress, unfold_entry};
+ghost use Rattle.proof_check.specs.Unfolding.{Progress, unfold_entry};
 ghost use Rattle.proof_core.specs.Walks.{IsFew, GoesOn, level_items, level_base, rest_of, node_of, walk_work};
 ghost use Rattle.proof_core.specs.Passes.{seen};
 ghost use Rattle.proof_core.specs.Worlds.{HasFewSiblings, KnowsForests};
 
 use crate::passes::{Passes, down, plain};
-use crate::proofs::{Below, ProofItem, Reason};
 use crate::trails::Trail;
 use crate::worlds::{World, after_local, from_of, needed_by, spawned};
+use proof_check::{Below, ProofItem, Reason};
 use std::alloc::Global;
 use std::mem;
 use tp_base::{Atom, NoMemory, Path};

@@ -3,11 +3,11 @@ ghost use Rattle.std.specs.Prelude.{◌≡◌, ◌==◌, ℕ, OnOk, IfOk, Some, 
 ghost use Rattle.std.specs.Option.{option_copied};
 ghost use Rattle.proof_core.specs.Trails.{progress_of};
 ghost use Rattle.proof_core.specs.Worlds.{known_in, or_first, siblings_below, KnowsForests};
-ghost use Rattle.proof_core.specs.Unfolding as spec;
+ghost use Rattle.proof_check.specs.Unfolding as spec;
 
-use crate::proofs::Entries;
 use crate::trails::Trail;
 use indexmap::IndexMap;
+use proof_check::Entries;
 use simple_core::{Kind, System};
 use std::alloc::Global;
 use tp_base::{Atom, NoMemory, Path};

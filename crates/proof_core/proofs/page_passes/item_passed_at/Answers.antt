@@ -2,11 +2,11 @@ use Rattle.std.proofs.Common.{◌≡◌, ◌<◌, [], ◌∷◌, ◌++◌, Some,
 use Rattle.std.proofs.lemmas.List.Quantifiers.{position-Some}
 use Rattle.std.proofs.lemmas.Option.{slice_get_read, get_or_from_slice_get}
 use Rattle.std.specs.Str.{bytes_eq}
-use Rattle.proof_core.specs.Nodes.{number_in}
+use Rattle.proof_check.specs.Nodes.{number_in}
 use Rattle.proof_core.specs.Passes.{passed_of, seen}
 use Rattle.proof_core.specs.PagePasses.{seen_in, item_seen}
 use Rattle.proof_core.specs.Trails.{progress_of}
-use Rattle.proof_core.specs.Unfolding.{unfold_item, unfold_entry}
+use Rattle.proof_check.specs.Unfolding.{unfold_item, unfold_entry}
 use Rattle.proof_core.proofs.PagePassLemmas.{seen_at_number, seen_pushed}
 use Rattle.proof_core.proofs.page_passes.item_passed_at.Goals as goal
 
@@ -22,7 +22,7 @@ returns-clause-here c = λ q.
     let p = c.in_ok-pass.pass in
     let old = c.index_mut.result.now in
     let at : number_in nodes item.at ≡ Some n = ap (number_in nodes) (sym (c.deref.ensures.value ∙ c.in_ok-path.ensures)) ∙ c.number_of-number.ensures in
-    let known = (position-Some (λ k. bytes_eq item.at k.items) nodes.paths.keys n c.in_ok-path.path at).0 in
+    let known = (position-Some (λ k. bytes_eq item.at k.items) nodes n c.in_ok-path.path at).0 in
     let within : n < length here = omega (arith, known, c.requires.size) in
     let got : get_or here n [] ≡ old = get_or_from_slice_get here n old [] (slice_get_read here (length here) n old refl within c.index_mut.ensures.value) in
     let pushed : c.push.new.self ≡ get_or here n [] ++ p ∷ [] = c.in_ok-push.ensures ∙ ap (λ h. h ++ p ∷ []) (sym got) in

@@ -2,7 +2,7 @@ use Rattle.std.proofs.Common.{◌≡◌, ◌≤◌, ℕ, List, [], suc, length, 
 use Rattle.std.proofs.lemmas.Option.{slice_get_read}
 use Rattle.proof_core.specs.PagePasses.{seen_in}
 use Rattle.proof_core.specs.Trails.{progress_of}
-use Rattle.proof_core.specs.Unfolding.{Progress, Passed, unfold_page, unfold_entry}
+use Rattle.proof_check.specs.Unfolding.{Progress, Passed, unfold_page, unfold_entry}
 use Rattle.proof_core.proofs.PagePassLemmas.{page_one, page_short}
 use Rattle.proof_core.proofs.page_passes.page_passed.Goals as goal
 

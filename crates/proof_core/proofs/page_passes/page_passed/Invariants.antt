@@ -1,7 +1,7 @@
 use Rattle.std.proofs.Common.{◌≡◌, [], drop, length}
 use Rattle.proof_core.specs.PagePasses.{seen_in}
 use Rattle.proof_core.specs.Trails.{progress_of}
-use Rattle.proof_core.specs.Unfolding.{unfold_page, unfold_entry}
+use Rattle.proof_check.specs.Unfolding.{unfold_page, unfold_entry}
 use Rattle.proof_core.specs.Walks.{IsFew}
 use Rattle.proof_core.proofs.page_passes.page_passed.Given as goal
 
@@ -9,6 +9,6 @@ abbrev pub invariant-loop-i : goal.invariant-loop-i
 invariant-loop-i l = record {
   whole : unfold_page l.world.system.now (unfold_entry l.world.system.now l.world.entries.now (length l.world.entries.now)) l.page l.items (λ q. []) (progress_of l.fn.trail)
       ≡ unfold_page l.world.system.now (unfold_entry l.world.system.now l.world.entries.now (length l.world.entries.now)) l.page (drop l.i-index l.items) (seen_in l.nodes l.here.items) (progress_of l.trail);
-  size : length l.here.items ≡ length l.nodes.paths.keys;
+  size : length l.here.items ≡ length l.nodes;
   few : IsFew (progress_of l.trail);
 }

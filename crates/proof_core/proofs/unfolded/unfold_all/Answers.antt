@@ -1,9 +1,8 @@
 use Rattle.std.proofs.Common.{◌≡◌, ◌≤◌, ℕ, List, [], length, sym, ap, subst, ◌∙◌, arith}
-use Rattle.proof_core.specs.declared.proofs.PageItem.{PageItem}
+use Rattle.proof_check.specs.declared.proofs.PageItem.{PageItem}
 use Rattle.proof_core.specs.Trails.{progress_of, no_progress}
-use Rattle.proof_core.specs.Unfolding.{Progress, Passed, end_for, unfold_page, unfold_entry, proof_steps}
+use Rattle.proof_check.specs.Unfolding.{Progress, Passed, end_for, unfold_page, unfold_entry}
 use Rattle.proof_core.specs.Walks.{IsFew}
-use Rattle.proof_core.proofs.CountLemmas.{length-unfolded}
 use Rattle.proof_core.proofs.TrailLemmas.{few_none}
 use Rattle.proof_core.proofs.unfolded.unfold_all.Goals as goal
 
@@ -16,8 +15,7 @@ page_passed-requires-clause-short c =
     let es = c.args.proof.now.entries in
     let page = c.args.page.now in
     let made : List PageItem → Progress → Progress × (List ℕ → List Passed) = λ items done. unfold_page s (unfold_entry s es (length es)) page items (λ q. []) done in
-    let count : length (made c.args.proof.now.page no_progress).0.steps ≡ proof_steps s c.args.proof.now = length-unfolded s c.args.proof.now page c.args.target in
-    let short : length (made c.args.proof.now.page no_progress).0.steps ≤ 1000000 = omega (arith, count, c.requires.short) in
+    let short : length (made c.args.proof.now.page no_progress).0.steps ≤ 1000000 = c.requires.short in
     subst (λ items. length (made items (progress_of c.new-trail.result)).0.steps ≤ 1000000) (sym c.items-items.ensures)
     (subst (λ done. length (made c.args.proof.now.page done).0.steps ≤ 1000000) (sym c.new-trail.ensures) short)
 

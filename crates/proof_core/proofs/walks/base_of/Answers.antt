@@ -1,8 +1,8 @@
 use Rattle.std.proofs.Common.{◌≡◌, ◌≤◌, length, option_map, unwrap_or, sym, ap, subst, ◌∙◌, arith}
 use Rattle.std.proofs.lemmas.Option.{slice_get_past}
 use Rattle.simple_core.specs.declared.system.TheConstants.{MOST_KINDS}
-use Rattle.proof_core.specs.declared.proofs.Entry.{Entry}
-use Rattle.proof_core.specs.Unfolding.{forest_children}
+use Rattle.proof_check.specs.declared.proofs.Entry.{Entry}
+use Rattle.proof_check.specs.Unfolding.{forest_children}
 use Rattle.proof_core.specs.Worlds.{is_under}
 use Rattle.proof_core.proofs.WorldLemmas.{few_siblings}
 use Rattle.proof_core.proofs.walks.base_of.Goals as goal

@@ -1,6 +1,6 @@
 use Rattle.std.proofs.Common.{◌≡◌, ◌≤◌, List, length, sym, ap, ◌∙◌, arith}
 use Rattle.proof_core.specs.Trails.{progress_of}
-use Rattle.proof_core.specs.Unfolding.{Progress, Passed}
+use Rattle.proof_check.specs.Unfolding.{Progress, Passed}
 use Rattle.proof_core.proofs.WalkLemmas.{rest_longer}
 use Rattle.proof_core.proofs.walks.entry_passed.Goals as goal
 

@@ -1,6 +1,6 @@
 use Rattle.std.proofs.Common.{◌≡◌, length}
 use Rattle.proof_core.specs.Trails.{progress_of}
-use Rattle.proof_core.specs.Unfolding.{unfold_entry}
+use Rattle.proof_check.specs.Unfolding.{unfold_entry}
 use Rattle.proof_core.specs.Walks.{IsFew, node_of, rest_of, walk_work}
 use Rattle.proof_core.proofs.walks.entry_passed.Given as goal
 

@@ -1,6 +1,6 @@
 use Rattle.std.proofs.Common.{◌≡◌, ◌<◌, ◌≤◌, ◌*◌, ◌^◌, length, sym, ap, subst, ◌∙◌, arith}
 use Rattle.proof_core.specs.Trails.{progress_of, grown_at, step_of_forest}
-use Rattle.proof_core.specs.Unfolding.{Progress}
+use Rattle.proof_check.specs.Unfolding.{Progress}
 use Rattle.proof_core.specs.Walks.{IsFew}
 use Rattle.proof_core.proofs.TrailLemmas.{few_grown}
 use Rattle.proof_core.proofs.trails.Trail.bring.Goals as goal

@@ -1,7 +1,7 @@
 use Rattle.std.proofs.Common.{Vec, Global, ◌≡◌, ℕ, ◌+◌, List, ◌∙◌, sym, ap, unwrap_or}
 use Rattle.std.specs.Map.{lookup}
 use Rattle.std.specs.Str.{bytes_eq}
-use Rattle.proof_core.specs.Unfolding.{Progress}
+use Rattle.proof_check.specs.Unfolding.{Progress}
 use Rattle.proof_core.proofs.TrailLemmas.{counts-inserted}
 use Rattle.proof_core.proofs.trails.Trail.grow.Goals as goal
 

@@ -1,7 +1,7 @@
 use Rattle.std.proofs.Common.{◌≡◌, ◌++◌, [], length, sym, ap, ◌∙◌}
 use Rattle.std.proofs.lemmas.List.{append-nil}
 use Rattle.proof_core.specs.declared.walks.Level.{Level}
-use Rattle.proof_core.specs.Unfolding.{unfold_entry}
+use Rattle.proof_check.specs.Unfolding.{unfold_entry}
 use Rattle.proof_core.specs.Walks.{node_of, frames_rest, level_rest}
 use Rattle.proof_core.proofs.WalkLemmas.{level_starts}
 use Rattle.proof_core.proofs.walks.Walk.of.Goals as goal

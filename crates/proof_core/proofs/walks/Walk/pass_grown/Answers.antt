@@ -1,7 +1,7 @@
 use Rattle.std.proofs.Common.{◌≡◌, Some, None, ◌++◌, ◌∷◌, [], slice_get, refl, sym, ap, subst, ◌∙◌}
 use Rattle.std.proofs.lemmas.Result.{on_ok_weaker}
-use Rattle.proof_core.specs.declared.proofs.Below.TheVariants.{Real, Grown}
-use Rattle.proof_core.specs.declared.proofs.Reason.TheVariants.{Start, Local, Up, Down}
+use Rattle.proof_check.specs.declared.proofs.Below.TheVariants.{Real, Grown}
+use Rattle.proof_check.specs.declared.proofs.Reason.TheVariants.{Start, Local, Up, Down}
 use Rattle.proof_core.specs.Trails.{progress_of}
 use Rattle.proof_core.specs.Walks.{IsFew}
 use Rattle.proof_core.proofs.PassLemmas.{passed_plain, passed_alone}
@@ -13,7 +13,7 @@ use Rattle.std.specs.Option.{option_copied}
 use Rattle.proof_core.specs.declared.walks.Walk.{Walk}
 use Rattle.proof_core.specs.Passes.{named_for}
 use Rattle.proof_core.specs.Trails.{number_for}
-use Rattle.proof_core.specs.Unfolding.{spawned}
+use Rattle.proof_check.specs.Unfolding.{spawned}
 use Rattle.proof_core.proofs.walks.Walk.pass_grown.Goals as goal
 
 pub bring-requires-clause-number : goal.bring-requires-clause-number

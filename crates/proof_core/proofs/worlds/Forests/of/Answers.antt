@@ -2,7 +2,7 @@ use Rattle.std.proofs.Common.{◌≡◌, ℕ, suc, length, drop, find, Option, N
 use Rattle.std.proofs.lemmas.Option.{slice_get_read}
 use Rattle.simple_core.specs.declared.rules.Kind.{Kind}
 use Rattle.proof_core.specs.Worlds.{known_in, or_first, is_under}
-use Rattle.proof_core.proofs.EntryLemmas.{drop_end}
+use Rattle.proof_check.proofs.EntryLemmas.{drop_end}
 use Rattle.proof_core.proofs.WorldLemmas.{known_pushed, or_none}
 use Rattle.proof_core.proofs.worlds.Forests.of.Goals as goal
 

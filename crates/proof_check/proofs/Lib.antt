@@ -1,0 +1,9 @@
+pub mod Rows
+pub mod FirstLemmas
+pub mod EntryLemmas
+pub mod RightLemmas
+pub mod NodeLemmas
+pub mod ItemLemmas
+pub mod CountLemmas
+pub mod StepLemmas
+pub mod CheckLemmas

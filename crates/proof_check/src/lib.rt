@@ -1,0 +1,18 @@
+//! Proofs that a selector is used: what they are, whether they hold, and how many steps they have.
+#![tactic(auto)]
+
+mod checking;
+mod counting;
+mod entry_checks;
+mod firsts;
+mod nodes;
+mod page_checks;
+mod premises;
+mod proofs;
+
+pub use checking::check;
+pub use counting::steps;
+pub use nodes::{Nodes, steps_of};
+pub use proofs::{
+    Below, Entries, Entry, PageItem, PageItems, Proof, ProofItem, ProofItems, Reason,
+};
