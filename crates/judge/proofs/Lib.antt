@@ -1,0 +1,10 @@
+pub mod LossLemmas
+pub mod Reach
+pub mod ForestTrees
+pub mod TableLemmas
+pub mod Meanings
+pub mod Statements
+pub mod KindTrees
+pub mod SystemReading
+pub mod JudgedSelectors
+mod Examples

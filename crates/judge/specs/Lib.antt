@@ -1,0 +1,4 @@
+pub mod Losses
+pub mod Tables
+pub mod TheSystem
+pub mod Witnesses

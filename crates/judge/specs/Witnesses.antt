@@ -1,0 +1,25 @@
+-- What proofs of a selector's atom show.
+--     IsProofFor ..  s proof     the proof is a valid one of that atom
+--     IsWitness ..  s proof      its unfolded steps are legal from the page, and at their end the selector matches the node that is named
+use Rattle.std.specs.Prelude.{ℕ, List}
+use Rattle.tree_sem.specs.declared.actions.Step.{Step}
+use Rattle.tree_sem.specs.Trees.{LabelTree}
+use Rattle.sel_core.specs.Selectors.{Selector, Matches}
+use Rattle.jq_sem.specs.Statements.{Statement}
+use Rattle.jq_sem.specs.Reachability.{AreLegal, end_of}
+use Rattle.proof_check.specs.declared.proofs.Proof.{Proof}
+use Rattle.proof_check.specs.Unfolding.{unfolded}
+use Rattle.proof_check.specs.Validity.{IsValid}
+use Rattle.judge.specs.TheSystem.{the_system, seen_atom}
+
+module _ (stmts : List Statement) (sheet : List Selector) (n : ℕ) (page : LabelTree) (s : Selector) (proof : Proof) where
+  abbrev pub IsProofFor : Type 0
+  IsProofFor = IsValid (the_system stmts sheet n) page proof (seen_atom stmts sheet n s)
+
+  -- the steps, and the node
+  abbrev shown : List Step × List ℕ
+  shown = unfolded (the_system stmts sheet n) proof page (seen_atom stmts sheet n s)
+
+  pub record IsWitness : Type 0 where
+    pub legal : AreLegal page stmts shown.0
+    pub match : Matches (end_of page stmts shown.0) shown.1 s
