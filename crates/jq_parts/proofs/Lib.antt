@@ -1,0 +1,14 @@
+pub mod KeywordTables
+pub mod PlaceSteps
+pub mod SelectionSteps
+pub mod ClassSteps
+pub mod NameSteps
+pub mod PlacesSteps
+pub mod RootSteps
+pub mod TargetSteps
+pub mod ParameterSteps
+pub mod StatingSteps
+pub mod ValueSteps
+pub mod SpanSteps
+pub mod OrderSteps
+pub mod NoteSteps

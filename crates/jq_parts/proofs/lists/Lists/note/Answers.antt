@@ -1,0 +1,13 @@
+use Rattle.jq_parts.proofs.NoteSteps.{same_noted, one_noted}
+use Rattle.jq_parts.proofs.lists.Lists.note.Goals as goal
+
+pub invariant_of-self : goal.invariant_of-self
+invariant_of-self c = (c.self.invariant.0, same_noted _ _ _ c.self.invariant.1 c.in_err-insert.ensures.err)
+
+pub invariant_of-self-2 : goal.invariant_of-self-2
+invariant_of-self-2 c = (
+  c.self.invariant.0,
+  one_noted _ _ _ c.in-Some.pending c.in-Some-first.word c.in_ok-noted.noted c.args.whole c.args.behind.now c.self.invariant.0 c.self.invariant.1
+      (rw (← c.self.view_is, c.in-Some.is) at c.requires) c.in-Some-first.ensures.some (rw c.behind.ensures at c.in_ok-noted.ensures.gives)
+      (rw c.at.ensures at c.in_ok-insert.ensures.updates.0),
+)

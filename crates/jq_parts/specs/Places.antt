@@ -1,0 +1,32 @@
+-- Where names stand last in a list of declarations.
+--     last_in       the place of the last one of a name
+--     IsIndexed     a table tells the last place of each name, and each entry the place of the one that it hides
+use Rattle.std.specs.Prelude.{◌≡◌, ⊤, ℕ, suc, if◌then◌else◌, List, [], ◌∷◌, ◌++◌, map, bytes_eq, Option, Some, None, unwrap_or}
+use Rattle.indexmap.specs.IndexMap.{get_by}
+use Rattle.jq_parts.specs.declared.entries.Entry.{Entry}
+use Rattle.jq_parts.specs.declared.last_places.LastPlaces.{LastPlaces}
+use Rattle.jq_parts.specs.Bindings.{or_else}
+
+-- the place that a table has for a name
+abbrev pub place_in : LastPlaces → List ℕ → Option ℕ
+place_in table q = unwrap_or (get_by (λ k. bytes_eq q k.items) table.table) None
+
+-- the place of the last of these names that is this one, where the first has this place
+abbrev pub last_in : ℕ → List ℕ → List (List ℕ) → Option ℕ
+last_in n q [] = None
+last_in n q (m ∷ ms) = or_else (last_in (suc n) q ms) (if bytes_eq m q then Some n else None)
+
+abbrev pub name_of : Entry → List ℕ
+name_of e = e.declaration.name.now
+
+abbrev pub names_in : List Entry → List (List ℕ)
+names_in es = map name_of es
+
+-- each keeps its name, and hides the last of the same name before it, behind others of these names
+abbrev pub HideThose : List (List ℕ) → List Entry → Type 0
+HideThose before [] = ⊤
+HideThose before (e ∷ es) = (e.key.items ≡ name_of e) × (e.hides ≡ last_in 0 (name_of e) before) × HideThose (before ++ name_of e ∷ []) es
+
+pub record IsIndexed (es : List Entry) (places : List ℕ → Option ℕ) : Type 0 where
+  pub last : (q : List ℕ) → places q ≡ last_in 0 q (names_in es)
+  pub hidden : HideThose [] es

@@ -1,0 +1,22 @@
+-- What the scopes and effects of the code are to the definitions.
+use Rattle.std.specs.Prelude.{map, List, Option, option_map}
+use Rattle.tree_sem.specs.declared.actions.Action.{Action}
+use Rattle.jq_sem.specs.declared.chains.Chain as code_chain
+use Rattle.jq_sem.specs.Views as sem
+use Rattle.jq_parts.specs.declared.scopes.Handler as code_handler
+use Rattle.jq_parts.specs.declared.scopes.Scope as code_scope
+use Rattle.jq_parts.specs.Views.{declarations_of}
+use Rattle.jq_parts.specs.Scopes.{Handler, Scope}
+use Rattle.jq_parts.specs.Stating.{Effect}
+
+abbrev pub handler_of : code_handler.Handler → Handler
+handler_of h = record { chain = sem.chain_of h.chain; at = h.at }
+
+abbrev pub handlers_of : List code_handler.Handler → List Handler
+handlers_of hs = map handler_of hs
+
+abbrev pub scope_of : code_scope.Scope → Scope
+scope_of s = record { handlers = handlers_of s.handlers.items; has_this = s.has_this; declarations = declarations_of s.declarations }
+
+abbrev pub effect_of : Option (code_chain.Chain × Action) → Effect
+effect_of e = option_map (λ a. (sem.chain_of a.0, a.1)) e

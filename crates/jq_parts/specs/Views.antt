@@ -1,0 +1,19 @@
+-- What the values and declarations of the code are to the definitions.
+use Rattle.std.specs.Prelude.{List, map, option_map}
+use Rattle.jq_sem.specs.Views as sem
+use Rattle.jq_parts.specs.declared.values.Value as code_value
+use Rattle.jq_parts.specs.declared.values.Value.TheVariants as code
+use Rattle.jq_parts.specs.declared.values.Declaration as code_declaration
+use Rattle.jq_parts.specs.Bindings.{Value, elements, everywhere, markup, placed, Declaration}
+
+abbrev pub value_of : code_value.Value → Value
+value_of (code.Elements chain) = elements (sem.chain_of chain)
+value_of code.Everywhere = everywhere
+value_of (code.Markup forest) = markup forest.tops
+value_of code.Placed = placed
+
+abbrev pub declaration_of : code_declaration.Declaration → Declaration
+declaration_of d = record { name = d.name.now; value = option_map value_of d.value; under = d.under.items }
+
+abbrev pub declarations_of : List code_declaration.Declaration → List Declaration
+declarations_of ds = map declaration_of ds

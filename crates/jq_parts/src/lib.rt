@@ -1,0 +1,37 @@
+//! Parts of a script's chains: what a name is bound to, what a chain begins with, the arguments of its calls, and whether a declared
+//! value is one.
+#![tactic(auto)]
+
+mod argument_lists;
+mod arguments;
+mod cursors;
+mod declarations;
+mod entries;
+mod keywords;
+mod last_places;
+mod lists;
+mod markup;
+mod open_lists;
+mod parameter_lists;
+mod roots;
+mod scopes;
+mod selections;
+mod stating;
+mod targets;
+mod value_chains;
+mod values;
+
+pub use arguments::{markup_argument, text_argument};
+pub use cursors::{Cursor, Enclosed, counts};
+pub use declarations::Declarations;
+pub use keywords::{JQUERY, PAGES, begins_jquery, is_jquery_call, spelled};
+pub use lists::Lists;
+pub use markup::forest;
+pub use parameter_lists::parameters;
+pub use roots::{jquery_argument, root};
+pub use scopes::{Handler, Scope, is_bound, used};
+pub use selections::{class_set, compounds, selectors};
+pub use stating::stated;
+pub use targets::target;
+pub use value_chains::is_chain;
+pub use values::{Declaration, Value, matched, this_chain};

@@ -1,0 +1,56 @@
+//! The letters of an argument as markup.
+ghost use Rattle.std.specs.Prelude.{◌≡◌, IfOk, IfErr};
+ghost use Rattle.sel_core.specs.Results.{IsFront};
+ghost use Rattle.jq_words.specs.Results.{Finds};
+ghost use Rattle.jq_words.specs.declared.faults.ScriptFault.TheVariants.{Memory};
+ghost use Rattle.jq_parts.specs.Markup as spec;
+
+use html_subset::{PageFault, read_forest};
+use jq_words::{MOST_FOREST_NODES, ScriptFault};
+use std::alloc::Global;
+use tp_base::AtomTable;
+use tree_sem::{Forest, Tree};
+
+/// How many nodes some trees have.
+fn count_nodes(trees: &[Tree]) -> Result<usize, ScriptFault>
+    ensures count { IfOk result (λ n. n ≡ spec.nodes_in trees.now) }
+    ensures only_memory { IfErr result (λ e. e ≡ Memory) }
+{
+    let mut count: usize = 0;
+    for tree in trees {
+        count = count
+            .checked_add(tree.count() as usize)
+            .ok_or(ScriptFault::Memory)?;
+    }
+    Ok(count)
+}
+
+/// The trees in the letters of markup, whose first Text stands at an offset, and in `nodes` how many nodes all markup has. Names read
+/// before a refusal stay in the table. Linear in the letters but for look-ups.
+#[tactic(auto, unfolding(crate::specs::Markup::forest))]
+pub fn forest(
+    alloc: Global,
+    at: usize,
+    letters: &[u8],
+    nodes: &mut usize,
+    atoms: &mut AtomTable,
+) -> Result<Forest, ScriptFault>
+    ensures gives { Finds (λ f. f.tops) (spec.grown atoms.new nodes.new) result (spec.forest at letters.now (spec.grown atoms.old nodes.old)) }
+    ensures front { IsFront atoms.old atoms.new }
+{
+    let found = match read_forest(alloc, letters, atoms) {
+        Ok(found) => found,
+        Err(PageFault::TooDeep(_)) => return Err(ScriptFault::TooDeep(at)),
+        Err(PageFault::TooManyNodes(_)) => return Err(ScriptFault::TooManyForestNodes(at)),
+        Err(PageFault::TooManyAtoms(_)) => return Err(ScriptFault::TooManyAtoms(at)),
+        Err(PageFault::NotUtf8(_)) => return Err(ScriptFault::UnknownForm(at)),
+        Err(PageFault::Memory) => return Err(ScriptFault::Memory),
+    };
+    let count = count_nodes(found.tops.items())?;
+    let all = nodes.checked_add(count).ok_or(ScriptFault::Memory)?;
+    if all > MOST_FOREST_NODES {
+        return Err(ScriptFault::TooManyForestNodes(at));
+    }
+    *nodes = all;
+    Ok(found)
+}

@@ -1,0 +1,75 @@
+//! The parameters of a function.
+ghost use Rattle.std.specs.Prelude.{◌≡◌, [], ◌∷◌, ◌++◌, OnOk, IfErr};
+ghost use Rattle.jq_words.specs.Results.{Leaves, IsRest, IsBehind};
+ghost use Rattle.jq_words.specs.declared.faults.ScriptFault.TheVariants.{Memory};
+ghost use Rattle.jq_parts.specs.Parameters as spec;
+ghost use Rattle.jq_parts.specs.Views.{declarations_of};
+
+use crate::cursors::Cursor;
+use crate::declarations::Declarations;
+use crate::values::Declaration;
+use jq_words::{ScriptFault, begins};
+use std::alloc::Global;
+
+/// A parameter hides what its name was bound to.
+#[tactic(auto, using(crate::proofs::ParameterSteps::one_hidden))]
+fn hide<'a>(
+    alloc: Global,
+    name: &'a [u8],
+    declarations: &mut Declarations<'a>,
+) -> Result<(), ScriptFault>
+    ensures hidden { OnOk result (declarations_of declarations.new ≡ declarations_of declarations.old ++ spec.hidden name.now ∷ []) }
+    ensures only_memory { IfErr result (λ e. e ≡ Memory) }
+{
+    let declaration = Declaration {
+        name,
+        value: None,
+        under: Vec::new(alloc),
+    };
+    declarations.push(declaration)?;
+    Ok(())
+}
+
+/// Further parameters, each behind a comma.
+#[tactic(auto, using(crate::proofs::ParameterSteps::goes_on, crate::proofs::ParameterSteps::fails, crate::proofs::ParameterSteps::ends, jq_words::proofs::Rests::itself, jq_words::proofs::Rests::behind_first, jq_words::proofs::Rests::is_rest, jq_words::proofs::Rests::of_rest))]
+fn more_parameters<'a>(
+    alloc: Global,
+    size: usize,
+    declarations: &mut Declarations<'a>,
+    words: &mut Cursor<'a>,
+) -> Result<(), ScriptFault>
+    ensures gives { Leaves (declarations_of declarations.new, words.new) result (spec.more_parameters size (declarations_of declarations.old) words.old) }
+    ensures rest { OnOk result (IsRest words.old words.new) }
+{
+    'names: while begins(words.words(), b",") {
+        words.pass();
+        let name = words.want_name(size)?;
+        hide(alloc, name, declarations)?;
+    }
+    Ok(())
+}
+
+/// Passes parameters in brackets, of which so many may still be opened: each hides what its name was bound to. Linear in them but for
+/// look-ups.
+#[tactic(auto, unfolding(crate::specs::Parameters::parameters, crate::specs::Parameters::named_parameters), using(jq_words::proofs::Rests::passed, jq_words::proofs::Rests::behind_behind, jq_words::proofs::Rests::behind_rest))]
+pub fn parameters<'a>(
+    alloc: Global,
+    size: usize,
+    room: usize,
+    declarations: &mut Declarations<'a>,
+    words: &mut Cursor<'a>,
+) -> Result<(), ScriptFault>
+    ensures gives { Leaves (declarations_of declarations.new, words.new) result (spec.parameters size room (declarations_of declarations.old) words.old) }
+    ensures rest { OnOk result (IsBehind words.old words.new) }
+{
+    words.want_open(size, room, b"(")?;
+    if begins(words.words(), b")") {
+        words.pass();
+        return Ok(());
+    }
+    let name = words.want_name(size)?;
+    hide(alloc, name, declarations)?;
+    more_parameters(alloc, size, declarations, words)?;
+    words.want(size, b")")?;
+    Ok(())
+}

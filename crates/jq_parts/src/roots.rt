@@ -1,0 +1,143 @@
+//! What a chain begins with.
+ghost use Rattle.std.specs.Prelude.{◌≡◌, map, OnOk};
+ghost use Rattle.sel_core.specs.Results.{IsFront};
+ghost use Rattle.sel_core.specs.Views.{selector_of};
+ghost use Rattle.jq_words.specs.Results.{Gives, Finds, Turns, IsBehind};
+ghost use Rattle.jq_parts.specs.Markup.{grown};
+ghost use Rattle.jq_parts.specs.Roots as spec;
+ghost use Rattle.jq_parts.specs.Views.{value_of};
+ghost use Rattle.jq_parts.specs.ScopeViews.{scope_of};
+
+use crate::cursors::Cursor;
+use crate::keywords::{PAGES, is_jquery_call, spelled};
+use crate::markup::forest;
+use crate::scopes::{Scope, used};
+use crate::selections::selectors;
+use crate::values::{Value, matched, this_chain};
+use jq_words::{ScriptFault, Words, argument_len, is_markup, joined_texts, only, place};
+use std::alloc::Global;
+use tp_base::AtomTable;
+
+/// `this`, document or window, or a bound name. What a copy of the name's value costs.
+#[tactic(auto, using(crate::proofs::RootSteps::no_root, crate::proofs::RootSteps::this_root, crate::proofs::RootSteps::this_refused, crate::proofs::RootSteps::page_root, crate::proofs::RootSteps::name_root, crate::proofs::RootSteps::other_root))]
+fn named_root(
+    alloc: Global,
+    size: usize,
+    scope: &Scope<'_>,
+    words: &Words<'_>,
+) -> Result<Value, ScriptFault>
+    ensures { Gives value_of result (spec.named_root size (scope_of scope.now) words.now) }
+{
+    let at = place(size, words);
+    let Some(word) = only(words) else {
+        return Err(ScriptFault::ComplexArgument(at));
+    };
+    if word.is_name(b"this") {
+        if !scope.has_this {
+            return Err(ScriptFault::ThisOutside(at));
+        }
+        return Ok(Value::Elements(this_chain(alloc)));
+    }
+    if word.is_name_among(&PAGES) {
+        return Ok(Value::Everywhere);
+    }
+    if !word.is_any_name() {
+        return Err(ScriptFault::ComplexArgument(at));
+    }
+    used(alloc, scope, word.spelling(), at)
+}
+
+/// The letters of Texts: markup, or a list of selectors.
+#[tactic(auto, unfolding(crate::specs::Roots::lettered_root))]
+fn lettered_root(
+    alloc: Global,
+    at: usize,
+    letters: &[u8],
+    nodes: &mut usize,
+    atoms: &mut AtomTable,
+) -> Result<Value, ScriptFault>
+    ensures gives { Finds value_of (grown atoms.new nodes.new) result (spec.lettered_root at letters.now (grown atoms.old nodes.old)) }
+    ensures front { IsFront atoms.old atoms.new }
+{
+    if is_markup(letters) {
+        let trees = forest(alloc, at, letters, nodes, atoms)?;
+        return Ok(Value::Markup(trees));
+    }
+    let list = selectors(alloc, at, letters, atoms)?;
+    Ok(Value::Elements(matched(alloc, list)))
+}
+
+/// What stands in the brackets of J. Linear in it but for look-ups.
+#[tactic(auto, unfolding(crate::specs::Roots::jquery_argument), using(html_subset::proofs::Fronts::front_itself))]
+pub fn jquery_argument(
+    alloc: Global,
+    size: usize,
+    scope: &Scope<'_>,
+    words: &Words<'_>,
+    nodes: &mut usize,
+    atoms: &mut AtomTable,
+) -> Result<Value, ScriptFault>
+    ensures gives { Finds value_of (grown atoms.new nodes.new) result (spec.jquery_argument size (scope_of scope.now) words.now (grown atoms.old nodes.old)) }
+    ensures front { IsFront atoms.old atoms.new }
+{
+    match joined_texts(alloc, words)? {
+        Some(letters) => lettered_root(alloc, place(size, words), &letters, nodes, atoms),
+        None => named_root(alloc, size, scope, words),
+    }
+}
+
+/// The argument of J behind it, in brackets, of which so many may still be opened.
+#[tactic(auto, unfolding(crate::specs::Roots::wrapped_root))]
+fn wrapped_root(
+    alloc: Global,
+    size: usize,
+    room: usize,
+    scope: &Scope<'_>,
+    nodes: &mut usize,
+    atoms: &mut AtomTable,
+    words: &mut Cursor<'_>,
+) -> Result<Value, ScriptFault>
+    ensures gives { Turns value_of (grown atoms.new nodes.new) words.new result (spec.wrapped_root size room (scope_of scope.now) (grown atoms.old nodes.old) words.old) }
+    ensures rest { OnOk result (IsBehind words.old words.new) }
+    ensures front { IsFront atoms.old atoms.new }
+{
+    words.want_open(size, room, b"(")?;
+    let count = argument_len(alloc, false, words.words())?;
+    let given = words.words().front(count);
+    if given.first().is_none() {
+        return Err(ScriptFault::UnknownForm(place(size, words.words())));
+    }
+    let value = jquery_argument(alloc, size, scope, &given, nodes, atoms)?;
+    words.pass_all(count);
+    words.want(size, b")")?;
+    Ok(value)
+}
+
+/// Passes what a chain begins with: J with its argument, or a bound name. Linear in it but for look-ups.
+#[tactic(auto, unfolding(crate::specs::Roots::root))]
+pub fn root(
+    alloc: Global,
+    size: usize,
+    room: usize,
+    scope: &Scope<'_>,
+    nodes: &mut usize,
+    atoms: &mut AtomTable,
+    words: &mut Cursor<'_>,
+) -> Result<Value, ScriptFault>
+    ensures gives { Turns value_of (grown atoms.new nodes.new) words.new result (spec.root size room (scope_of scope.now) (grown atoms.old nodes.old) words.old) }
+    ensures rest { OnOk result (IsBehind words.old words.new) }
+    ensures front { IsFront atoms.old atoms.new }
+{
+    if is_jquery_call(words.words()) {
+        words.pass();
+        return wrapped_root(alloc, size, room, scope, nodes, atoms, words);
+    }
+    let value = used(
+        alloc,
+        scope,
+        spelled(words.words()),
+        place(size, words.words()),
+    )?;
+    words.pass();
+    Ok(value)
+}

@@ -1,0 +1,196 @@
+//! The chain on which markup is placed.
+ghost use Rattle.std.specs.Prelude.{◌≡◌, [], ◌∷◌, Bool, false, codes, drop, IfSome, IfNone};
+ghost use Rattle.sel_core.specs.Results.{IsFront};
+ghost use Rattle.jq_sem.specs.Views.{chain_of};
+ghost use Rattle.jq_words.specs.Words.{Word, is_mark, is_name_among, is_form, spelled};
+ghost use Rattle.jq_words.specs.Results.{Gives, Finds};
+ghost use Rattle.jq_parts.specs.Keywords.{jquery, is_name_besides};
+ghost use Rattle.jq_parts.specs.Bindings.{bound};
+ghost use Rattle.jq_parts.specs.Arguments as spec;
+ghost use Rattle.jq_parts.specs.Views.{declarations_of};
+ghost use Rattle.jq_parts.specs.ScopeViews.{scope_of};
+
+use crate::declarations::Declarations;
+use crate::keywords::{PAGES, is_jquery_call, spelled};
+use crate::scopes::{Scope, used};
+use crate::selections::selectors;
+use crate::values::{Value, matched, this_chain};
+use jq_sem::Chain;
+use jq_words::{ScriptFault, Word, Words, joined_texts, only, place, want_open};
+use std::alloc::Global;
+use tp_base::AtomTable;
+
+/// Whether a name is bound to a chain without elements.
+#[tactic(auto, unfolding(crate::specs::Bindings::bound))]
+fn is_apart(declarations: &Declarations<'_>, name: &[u8]) -> bool
+    ensures { spec.is_apart (bound name.now (declarations_of declarations.now)) ≡ result }
+{
+    let Some(declaration) = declarations.latest(name) else {
+        return false;
+    };
+    match &declaration.value {
+        None | Some(Value::Elements(_)) => false,
+        Some(_) => true,
+    }
+}
+
+/// The elements of a bound name that stands at an offset, in an argument that begins at another.
+#[tactic(auto, unfolding(crate::specs::Arguments::named_target))]
+fn named_target(
+    alloc: Global,
+    scope: &Scope<'_>,
+    at: usize,
+    name: &[u8],
+    name_at: usize,
+) -> Result<Chain, ScriptFault>
+    ensures { Gives chain_of result (spec.named_target (scope_of scope.now) at name.now name_at) }
+{
+    if is_apart(&scope.declarations, name) {
+        return Err(ScriptFault::ComplexArgument(at));
+    }
+    match used(alloc, scope, name, name_at)? {
+        Value::Elements(chain) => Ok(chain),
+        _ => Err(ScriptFault::ComplexArgument(at)),
+    }
+}
+
+/// The word that stands before a closing bracket, where these two are all.
+#[tactic(auto, using(crate::proofs::TargetSteps::closed, crate::proofs::TargetSteps::none_closed, crate::proofs::TargetSteps::other_closed, crate::proofs::TargetSteps::more_closed))]
+fn closed_word<'a>(words: &Words<'a>) -> Option<Word<'a>>
+    ensures first { IfSome result (λ w. words.now ≡ w ∷ drop 1 words.now) }
+    ensures some { IfSome result (λ w. (p : Word → Bool) → is_form (p ∷ is_mark (codes ")") ∷ []) words.now ≡ p w) }
+    ensures none { IfNone result ((p : Word → Bool) → is_form (p ∷ is_mark (codes ")") ∷ []) words.now ≡ false) }
+{
+    let Some(word) = words.first() else {
+        return None;
+    };
+    let Some(close) = only(&words.behind()) else {
+        return None;
+    };
+    if !close.is_mark(b")") {
+        return None;
+    }
+    Some(word)
+}
+
+/// The word in the brackets of J, where that is all there is.
+#[tactic(auto, using(jq_words::proofs::FitSteps::form_then_two, jq_words::proofs::FitSteps::form_no_two))]
+fn wrapped_word<'a>(words: &Words<'a>) -> Option<Word<'a>>
+    ensures first { IfSome result (λ w. drop 1 (drop 1 words.now) ≡ w ∷ drop 1 (drop 1 (drop 1 words.now))) }
+    ensures some { IfSome result (λ w. (p : Word → Bool) → is_form (is_name_among jquery ∷ is_mark (codes "(") ∷ p ∷ is_mark (codes ")") ∷ []) words.now ≡ p w) }
+    ensures none { IfNone result ((p : Word → Bool) → is_form (is_name_among jquery ∷ is_mark (codes "(") ∷ p ∷ is_mark (codes ")") ∷ []) words.now ≡ false) }
+{
+    if !is_jquery_call(words) {
+        return None;
+    }
+    closed_word(&words.behind().behind())
+}
+
+/// The elements of a name in the brackets of J, which begin these words.
+#[tactic(auto, unfolding(crate::specs::Arguments::wrapped_target))]
+fn wrapped_target(
+    alloc: Global,
+    size: usize,
+    room: usize,
+    scope: &Scope<'_>,
+    at: usize,
+    words: &Words<'_>,
+) -> Result<Chain, ScriptFault>
+    ensures { Gives chain_of result (spec.wrapped_target size room (scope_of scope.now) at words.now) }
+{
+    let mut inside = words.again();
+    if is_apart(&scope.declarations, spelled(&words.behind())) {
+        return Err(ScriptFault::ComplexArgument(at));
+    }
+    want_open(size, room, b"(", &mut inside)?;
+    named_target(alloc, scope, at, spelled(&inside), place(size, &inside))
+}
+
+/// `this` in the brackets of J.
+#[tactic(auto, unfolding(crate::specs::Arguments::wrapped_this))]
+fn wrapped_this(
+    alloc: Global,
+    size: usize,
+    room: usize,
+    scope: &Scope<'_>,
+    words: &Words<'_>,
+) -> Result<Chain, ScriptFault>
+    ensures { Gives chain_of result (spec.wrapped_this size room (scope_of scope.now) words.now) }
+{
+    let mut inside = words.again();
+    want_open(size, room, b"(", &mut inside)?;
+    if !scope.has_this {
+        return Err(ScriptFault::ThisOutside(place(size, &inside)));
+    }
+    Ok(this_chain(alloc))
+}
+
+/// A bound name alone, in an argument that begins at an offset.
+#[tactic(auto, using(crate::proofs::TargetSteps::no_bare, crate::proofs::TargetSteps::other_bare, crate::proofs::TargetSteps::this_bare, crate::proofs::TargetSteps::bare))]
+fn bare_target(
+    alloc: Global,
+    scope: &Scope<'_>,
+    at: usize,
+    words: &Words<'_>,
+) -> Result<Chain, ScriptFault>
+    ensures { Gives chain_of result (spec.bare_target (scope_of scope.now) at words.now) }
+{
+    let Some(word) = only(words) else {
+        return Err(ScriptFault::ComplexArgument(at));
+    };
+    if !word.is_any_name() {
+        return Err(ScriptFault::ComplexArgument(at));
+    }
+    if word.is_name(b"this") {
+        return Err(ScriptFault::ComplexArgument(at));
+    }
+    named_target(alloc, scope, at, word.spelling(), at)
+}
+
+/// `J(this)`, `J(name)` or a bound name.
+#[tactic(auto, using(crate::proofs::TargetSteps::not_wrapped, crate::proofs::TargetSteps::this_wrapped, crate::proofs::TargetSteps::other_wrapped, crate::proofs::TargetSteps::page_wrapped, crate::proofs::TargetSteps::name_wrapped, crate::proofs::KeywordTables::same_pages))]
+fn other_target(
+    alloc: Global,
+    size: usize,
+    room: usize,
+    scope: &Scope<'_>,
+    words: &Words<'_>,
+) -> Result<Chain, ScriptFault>
+    ensures { Gives chain_of result (spec.other_target size room (scope_of scope.now) words.now) }
+{
+    let at = place(size, words);
+    let Some(word) = wrapped_word(words) else {
+        return bare_target(alloc, scope, at, words);
+    };
+    if word.is_name(b"this") {
+        return wrapped_this(alloc, size, room, scope, &words.behind());
+    }
+    if !word.is_any_name() {
+        return Err(ScriptFault::ComplexArgument(at));
+    }
+    if word.is_name_among(&PAGES) {
+        return Err(ScriptFault::ComplexArgument(at));
+    }
+    wrapped_target(alloc, size, room, scope, at, &words.behind())
+}
+
+/// The chain on which markup is placed: that of Texts, `J(this)`, `J(name)` or a bound name, where so many brackets may still be
+/// opened. What a copy of the name's chain costs.
+#[tactic(auto, unfolding(crate::specs::Arguments::target), using(html_subset::proofs::Fronts::front_itself))]
+pub fn target(
+    alloc: Global,
+    size: usize,
+    room: usize,
+    scope: &Scope<'_>,
+    words: &Words<'_>,
+    atoms: &mut AtomTable,
+) -> Result<Chain, ScriptFault>
+    ensures gives { Finds chain_of atoms.new result (spec.target size room (scope_of scope.now) words.now atoms.old) }
+    ensures front { IsFront atoms.old atoms.new }
+{
+    let Some(letters) = joined_texts(alloc, words)? else {
+        return other_target(alloc, size, room, scope, words);
+    };
+    let list = selectors(alloc, place(size, words), &letters, atoms)?;
+    Ok(matched(alloc, list))
+}

@@ -1,0 +1,76 @@
+//! What a chain has come to, and the names that are bound to it.
+ghost use Rattle.std.specs.Prelude.{◌≡◌, map, IfOk};
+ghost use Rattle.sel_core.specs.Views.{selector_of};
+ghost use Rattle.jq_sem.specs.Views.{chain_of};
+ghost use Rattle.jq_parts.specs.Scopes as spec;
+ghost use Rattle.jq_parts.specs.Views.{value_of};
+
+use jq_sem::{Calls, Chain, Root, Selectors};
+use sel_core::Selector;
+use std::alloc::Global;
+use tp_base::NoMemory;
+use tree_sem::Forest;
+
+/// What a chain has come to.
+#[derive(Drop)]
+pub enum Value {
+    Elements(Chain),
+    /// Document or window.
+    Everywhere,
+    /// Markup that is still to be placed.
+    Markup(Forest),
+    /// Markup that was placed, which ends a chain.
+    Placed,
+}
+
+impl Value {
+    /// The same value once more. Linear in it.
+    pub fn copy(&self) -> Result<Value, NoMemory>
+        ensures { IfOk result (λ v. value_of v ≡ value_of self.now) }
+    {
+        match self {
+            Value::Elements(chain) => Ok(Value::Elements(chain.copy()?)),
+            Value::Everywhere => Ok(Value::Everywhere),
+            Value::Markup(forest) => Ok(Value::Markup(forest.copy()?)),
+            Value::Placed => Ok(Value::Placed),
+        }
+    }
+
+    /// Whether it is a chain that begins with `this`. Constant.
+    pub fn is_this(&self) -> bool
+        ensures { result ≡ spec.is_this (value_of self.now) }
+    {
+        match self {
+            Value::Elements(chain) => matches!(chain.root, Root::This),
+            _ => false,
+        }
+    }
+}
+
+/// A name, the chain to which it is bound, if it is one, and the places of the handlers round the declaration.
+#[derive(Drop)]
+pub struct Declaration<'a> {
+    pub name: &'a [u8],
+    pub value: Option<Value>,
+    pub under: Vec<usize>,
+}
+
+/// The chain of some selectors, without calls. Constant.
+pub fn matched(alloc: Global, selectors: Vec<Selector>) -> Chain
+    ensures { chain_of result ≡ spec.matched_chain (map selector_of selectors.items) }
+{
+    Chain {
+        root: Root::List(Selectors::new(selectors)),
+        calls: Calls::new(Vec::new(alloc)),
+    }
+}
+
+/// The chain of `this`, without calls. Constant.
+pub fn this_chain(alloc: Global) -> Chain
+    ensures { chain_of result ≡ spec.this_chain }
+{
+    Chain {
+        root: Root::This,
+        calls: Calls::new(Vec::new(alloc)),
+    }
+}
