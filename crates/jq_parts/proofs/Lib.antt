@@ -12,3 +12,5 @@ pub mod ValueSteps
 pub mod SpanSteps
 pub mod OrderSteps
 pub mod NoteSteps
+pub mod SelectorLaws
+pub mod TableLaws

@@ -1,19 +1,29 @@
 -- One statement more, and its place.
-use Rattle.std.proofs.Common.{◌≡◌, ℕ, ◌≤◌, List, [], ◌∷◌, ◌++◌, length, map, take, refl, sym, ◌∙◌, arith}
-use Rattle.std.proofs.lemmas.List.{map-append, take_all}
-use Rattle.tp_base.specs.Places.{line_of, column_of}
+use Rattle.std.proofs.Common.{◌≡◌, ℕ, List, [], ◌∷◌, ◌++◌, length, map, take, min, sym, ◌∙◌, inl, inr, arith}
+use Rattle.std.proofs.lemmas.Bool.{cases_lt}
+use Rattle.std.proofs.lemmas.List.{map-append, append_assoc, append-nil, take_all}
 use Rattle.jq_sem.specs.declared.stmts.Stmt.{Stmt}
-use Rattle.jq_sem.specs.Views.{statement_of}
+use Rattle.jq_sem.specs.Statements.{Statement}
+use Rattle.jq_sem.specs.Views.{statement_of, statements_of}
+use Rattle.jq_parts.specs.declared.placing.Stated.{Stated}
+use Rattle.jq_parts.specs.ScopeViews.{stated_in}
 
-pub one_stated : (ss : List Stmt) (s : Stmt) → map statement_of (ss ++ s ∷ []) ≡ map statement_of ss ++ statement_of s ∷ []
-one_stated ss s = map-append statement_of ss (s ∷ [])
+pub one_stated : (text : List ℕ) (ss : List Stated) (s : Stated) → map (stated_in text) (ss ++ s ∷ []) ≡ map (stated_in text) ss ++ stated_in text s ∷ []
+one_stated text ss s = map-append (stated_in text) ss (s ∷ [])
 
--- a place behind a text is its end
-behind_text : (text : List ℕ) (at : ℕ) → length text ≤ at → take (length text) text ≡ take at text
-behind_text text at past = take_all (length text) text (omega arith) ∙ sym (take_all at text past)
+-- one statement more has its place
+pub placed_more : (text : List ℕ) (found : List Stmt) (s : Stmt) (t : Stated) (rest : List Stated) (all : List Statement) →
+    statement_of s ≡ stated_in text t → statements_of found ++ map (stated_in text) (t ∷ rest) ≡ all → statements_of (found ++ s ∷ []) ++ map (stated_in text) rest ≡ all
+placed_more text found s t rest all is before =
+    rw (map-append statement_of found (s ∷ []), is) (append_assoc (statements_of found) (stated_in text t ∷ []) (map (stated_in text) rest) ∙ before)
 
-pub same_line : (text : List ℕ) (at : ℕ) → length text ≤ at → line_of text (length text) ≡ line_of text at
-same_line text at past = rw (behind_text text at past) refl
+-- all of them have
+pub placed_all : (text : List ℕ) (found : List Stmt) (all : List Statement) → statements_of found ++ map (stated_in text) [] ≡ all → statements_of found ≡ all
+placed_all text found all before = sym (append-nil (statements_of found)) ∙ before
 
-pub same_column : (text : List ℕ) (at : ℕ) → length text ≤ at → column_of text (length text) ≡ column_of text at
-same_column text at past = rw (behind_text text at past) refl
+-- what is taken up to an offset past the end is all
+pub take_within : (n m : ℕ) (text : List ℕ) → m ≡ min n (length text) → take m text ≡ take n text
+take_within n m text is = elim (cases_lt n (length text)) [
+  | inl lt ↦ let same : m ≡ n = omega arith in rw same
+  | inr ge ↦ let same : m ≡ length text = omega arith in rw same (take_all (length text) text (omega arith) ∙ sym (take_all n text ge))
+]

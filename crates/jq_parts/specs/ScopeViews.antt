@@ -1,13 +1,15 @@
--- What the scopes and effects of the code are to the definitions.
-use Rattle.std.specs.Prelude.{map, List, Option, option_map}
+-- What the scopes, effects and statements of the code are to the definitions.
+use Rattle.std.specs.Prelude.{ℕ, map, List, Option, option_map}
 use Rattle.tree_sem.specs.declared.actions.Action.{Action}
 use Rattle.jq_sem.specs.declared.chains.Chain as code_chain
 use Rattle.jq_sem.specs.Views as sem
+use Rattle.jq_sem.specs.Statements.{Statement}
+use Rattle.jq_parts.specs.declared.placing.Stated.{Stated}
 use Rattle.jq_parts.specs.declared.scopes.Handler as code_handler
 use Rattle.jq_parts.specs.declared.scopes.Scope as code_scope
 use Rattle.jq_parts.specs.Views.{declarations_of}
 use Rattle.jq_parts.specs.Scopes.{Handler, Scope}
-use Rattle.jq_parts.specs.Stating.{Effect}
+use Rattle.jq_parts.specs.Stating.{Effect, place_in}
 
 abbrev pub handler_of : code_handler.Handler → Handler
 handler_of h = record { chain = sem.chain_of h.chain; at = h.at }
@@ -20,3 +22,7 @@ scope_of s = record { handlers = handlers_of s.handlers.items; has_this = s.has_
 
 abbrev pub effect_of : Option (code_chain.Chain × Action) → Effect
 effect_of e = option_map (λ a. (sem.chain_of a.0, a.1)) e
+
+-- a statement of a text, which has an offset in the place of its place
+abbrev pub stated_in : List ℕ → Stated → Statement
+stated_in text s = record { handlers = map sem.chain_of s.handlers; chain = sem.chain_of s.chain; action = s.action; place = place_in text s.at }

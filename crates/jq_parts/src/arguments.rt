@@ -1,9 +1,10 @@
 //! Arguments that are Texts, and those that are markup.
-ghost use Rattle.std.specs.Prelude.{◌≡◌, option_map, IfOk, IfErr, OnOk};
+ghost use Rattle.std.specs.Prelude.{◌≡◌, ◌≤◌, option_map, IfOk, IfErr, OnOk};
 ghost use Rattle.sel_core.specs.Results.{IsFront};
 ghost use Rattle.jq_words.specs.Words.{place};
 ghost use Rattle.jq_words.specs.Results.{Finds, Turns, IsBehind};
 ghost use Rattle.jq_words.specs.declared.faults.ScriptFault.TheVariants.{Memory};
+ghost use Rattle.jq_words.specs.declared.faults.TheConstants.{MOST_FOREST_NODES};
 ghost use Rattle.jq_parts.specs.Markup.{grown};
 ghost use Rattle.jq_parts.specs.Arguments as spec;
 
@@ -22,7 +23,7 @@ use tree_sem::Forest;
 pub fn text_argument(
     alloc: Global,
     size: usize,
-    words: &mut Cursor<'_>,
+    words: &mut Cursor<'_, '_>,
 ) -> Result<Vec<u8>, ScriptFault>
     ensures gives { Turns (λ l. l.items) (place size words.old) words.new result (spec.text_argument size words.old) }
     ensures rest { OnOk result (IsBehind words.old words.new) }
@@ -67,6 +68,7 @@ fn wrapped_forest(
     atoms: &mut AtomTable,
 ) -> Result<Forest, ScriptFault>
     ensures gives { Finds (λ f. f.tops) (grown atoms.new nodes.new) result (spec.wrapped_forest size room words.now (grown atoms.old nodes.old) (spec.wrapped words.now)) }
+    ensures few { OnOk result (nodes.new ≤ MOST_FOREST_NODES) }
     ensures front { IsFront atoms.old atoms.new }
 {
     let Some(letters) = wrapped(alloc, words)? else {
@@ -88,6 +90,7 @@ pub fn markup_argument(
     atoms: &mut AtomTable,
 ) -> Result<Forest, ScriptFault>
     ensures gives { Finds (λ f. f.tops) (grown atoms.new nodes.new) result (spec.markup_argument size room words.now (grown atoms.old nodes.old)) }
+    ensures few { OnOk result (nodes.new ≤ MOST_FOREST_NODES) }
     ensures front { IsFront atoms.old atoms.new }
 {
     if let Some(letters) = joined_texts(alloc, words)? {

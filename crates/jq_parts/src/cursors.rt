@@ -18,12 +18,12 @@ use std::marker::Model;
 
 /// The words of a file from a place on. A contract sees the list of them.
 #[derive(Drop)]
-pub struct Cursor<'a> {
+pub struct Cursor<'l, 'a> {
     words: Words<'a>,
-    lists: &'a Lists<'a>,
+    lists: &'l Lists<'a>,
 }
 
-impl<'a> Model for Cursor<'a> {
+impl<'l, 'a> Model for Cursor<'l, 'a> {
     ghost use Rattle.std.specs.Prelude.{List};
     ghost use Rattle.jq_words.specs.Words.{Word};
     ghost use Rattle.jq_words.specs.Results.{IsRest};
@@ -37,16 +37,16 @@ impl<'a> Model for Cursor<'a> {
 
 /// How many arguments a call has, whether all brackets that they open are closed in them, and the words behind them.
 #[derive(Drop)]
-pub struct Enclosed<'a> {
+pub struct Enclosed<'l, 'a> {
     pub count: usize,
     pub whole: bool,
-    pub behind: Cursor<'a>,
+    pub behind: Cursor<'l, 'a>,
 }
 
-impl<'a> Cursor<'a> {
+impl<'l, 'a> Cursor<'l, 'a> {
     /// The file's first word. Constant.
     #[tactic(auto, using(jq_words::proofs::Rests::itself))]
-    pub fn new(lists: &'a Lists<'a>) -> Self
+    pub fn new(lists: &'l Lists<'a>) -> Self
         ensures { result ≡ lists.now }
     {
         Cursor {
@@ -56,7 +56,7 @@ impl<'a> Cursor<'a> {
     }
 
     /// The same place again, to look ahead. Constant.
-    pub fn again(&self) -> Cursor<'a>
+    pub fn again(&self) -> Cursor<'l, 'a>
         ensures { result ≡ self.now }
     {
         Cursor {
@@ -158,7 +158,7 @@ impl<'a> Cursor<'a> {
     }
 
     /// The arguments behind the first word, which is a call's bracket. Constant on average: they were noted when the file was begun.
-    pub fn enclosed(&self, alloc: Global) -> Result<Enclosed<'a>, ScriptFault>
+    pub fn enclosed(&self, alloc: Global) -> Result<Enclosed<'l, 'a>, ScriptFault>
         ensures gives { IfOk result (λ e. extent_of e ≡ spec.extent (drop 1 self.now)) }
         ensures only_memory { IfErr result (λ e. e ≡ Memory) }
     {
@@ -173,7 +173,7 @@ impl<'a> Cursor<'a> {
 
     /// A list of arguments behind the first word, with its place.
     #[tactic(auto, using(crate::proofs::NoteSteps::behind_part))]
-    fn with_place(&self, list: &ArgumentList<'a>) -> Enclosed<'a>
+    fn with_place(&self, list: &ArgumentList<'a>) -> Enclosed<'l, 'a>
         requires { extent_in list.now ≡ spec.extent (drop 1 self.now) }
         ensures { extent_of result ≡ extent_in list.now }
     {
@@ -190,7 +190,7 @@ impl<'a> Cursor<'a> {
 
 /// Whether a call has as many arguments as there are. Constant.
 #[tactic(auto, unfolding(crate::specs::Lists::counts))]
-pub fn counts(row: &Row<'_>, enclosed: &Enclosed<'_>) -> bool
+pub fn counts(row: &Row<'_>, enclosed: &Enclosed<'_, '_>) -> bool
     ensures { result ≡ spec.counts (row_from row.now.0.now row.now.1 row.now.2 row.now.3) (extent_of enclosed.now) }
 {
     let few = enclosed.count < row.1 && begins(&enclosed.behind.words, b")");

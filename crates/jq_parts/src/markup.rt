@@ -1,8 +1,9 @@
 //! The letters of an argument as markup.
-ghost use Rattle.std.specs.Prelude.{◌≡◌, IfOk, IfErr};
+ghost use Rattle.std.specs.Prelude.{◌≡◌, ◌≤◌, IfOk, IfErr, OnOk};
 ghost use Rattle.sel_core.specs.Results.{IsFront};
 ghost use Rattle.jq_words.specs.Results.{Finds};
 ghost use Rattle.jq_words.specs.declared.faults.ScriptFault.TheVariants.{Memory};
+ghost use Rattle.jq_words.specs.declared.faults.TheConstants.{MOST_FOREST_NODES};
 ghost use Rattle.jq_parts.specs.Markup as spec;
 
 use html_subset::{PageFault, read_forest};
@@ -36,6 +37,7 @@ pub fn forest(
     atoms: &mut AtomTable,
 ) -> Result<Forest, ScriptFault>
     ensures gives { Finds (λ f. f.tops) (spec.grown atoms.new nodes.new) result (spec.forest at letters.now (spec.grown atoms.old nodes.old)) }
+    ensures few { OnOk result (nodes.new ≤ MOST_FOREST_NODES) }
     ensures front { IsFront atoms.old atoms.new }
 {
     let found = match read_forest(alloc, letters, atoms) {

@@ -36,7 +36,7 @@ fn more_parameters<'a>(
     alloc: Global,
     size: usize,
     declarations: &mut Declarations<'a>,
-    words: &mut Cursor<'a>,
+    words: &mut Cursor<'_, 'a>,
 ) -> Result<(), ScriptFault>
     ensures gives { Leaves (declarations_of declarations.new, words.new) result (spec.more_parameters size (declarations_of declarations.old) words.old) }
     ensures rest { OnOk result (IsRest words.old words.new) }
@@ -57,7 +57,7 @@ pub fn parameters<'a>(
     size: usize,
     room: usize,
     declarations: &mut Declarations<'a>,
-    words: &mut Cursor<'a>,
+    words: &mut Cursor<'_, 'a>,
 ) -> Result<(), ScriptFault>
     ensures gives { Leaves (declarations_of declarations.new, words.new) result (spec.parameters size room (declarations_of declarations.old) words.old) }
     ensures rest { OnOk result (IsBehind words.old words.new) }

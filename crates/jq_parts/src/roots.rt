@@ -1,8 +1,9 @@
 //! What a chain begins with.
-ghost use Rattle.std.specs.Prelude.{◌≡◌, map, OnOk};
+ghost use Rattle.std.specs.Prelude.{◌≡◌, ◌≤◌, map, OnOk};
 ghost use Rattle.sel_core.specs.Results.{IsFront};
 ghost use Rattle.sel_core.specs.Views.{selector_of};
 ghost use Rattle.jq_words.specs.Results.{Gives, Finds, Turns, IsBehind};
+ghost use Rattle.jq_words.specs.declared.faults.TheConstants.{MOST_FOREST_NODES};
 ghost use Rattle.jq_parts.specs.Markup.{grown};
 ghost use Rattle.jq_parts.specs.Roots as spec;
 ghost use Rattle.jq_parts.specs.Views.{value_of};
@@ -57,6 +58,7 @@ fn lettered_root(
     atoms: &mut AtomTable,
 ) -> Result<Value, ScriptFault>
     ensures gives { Finds value_of (grown atoms.new nodes.new) result (spec.lettered_root at letters.now (grown atoms.old nodes.old)) }
+    ensures few { nodes.old ≤ MOST_FOREST_NODES → OnOk result (nodes.new ≤ MOST_FOREST_NODES) }
     ensures front { IsFront atoms.old atoms.new }
 {
     if is_markup(letters) {
@@ -78,6 +80,7 @@ pub fn jquery_argument(
     atoms: &mut AtomTable,
 ) -> Result<Value, ScriptFault>
     ensures gives { Finds value_of (grown atoms.new nodes.new) result (spec.jquery_argument size (scope_of scope.now) words.now (grown atoms.old nodes.old)) }
+    ensures few { nodes.old ≤ MOST_FOREST_NODES → OnOk result (nodes.new ≤ MOST_FOREST_NODES) }
     ensures front { IsFront atoms.old atoms.new }
 {
     match joined_texts(alloc, words)? {
@@ -95,9 +98,10 @@ fn wrapped_root(
     scope: &Scope<'_>,
     nodes: &mut usize,
     atoms: &mut AtomTable,
-    words: &mut Cursor<'_>,
+    words: &mut Cursor<'_, '_>,
 ) -> Result<Value, ScriptFault>
     ensures gives { Turns value_of (grown atoms.new nodes.new) words.new result (spec.wrapped_root size room (scope_of scope.now) (grown atoms.old nodes.old) words.old) }
+    ensures few { nodes.old ≤ MOST_FOREST_NODES → OnOk result (nodes.new ≤ MOST_FOREST_NODES) }
     ensures rest { OnOk result (IsBehind words.old words.new) }
     ensures front { IsFront atoms.old atoms.new }
 {
@@ -122,9 +126,10 @@ pub fn root(
     scope: &Scope<'_>,
     nodes: &mut usize,
     atoms: &mut AtomTable,
-    words: &mut Cursor<'_>,
+    words: &mut Cursor<'_, '_>,
 ) -> Result<Value, ScriptFault>
     ensures gives { Turns value_of (grown atoms.new nodes.new) words.new result (spec.root size room (scope_of scope.now) (grown atoms.old nodes.old) words.old) }
+    ensures few { nodes.old ≤ MOST_FOREST_NODES → OnOk result (nodes.new ≤ MOST_FOREST_NODES) }
     ensures rest { OnOk result (IsBehind words.old words.new) }
     ensures front { IsFront atoms.old atoms.new }
 {

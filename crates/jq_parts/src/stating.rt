@@ -1,17 +1,18 @@
 //! The statements of a script, one more at a time.
-ghost use Rattle.std.specs.Prelude.{◌≡◌, ◌≤◌, length, map, IfOk, IfErr};
-ghost use Rattle.tp_base.specs.declared.places.TheConstants.{MOST_BYTES};
-ghost use Rattle.jq_sem.specs.Views.{chain_of, statements_of};
+ghost use Rattle.std.specs.Prelude.{◌≡◌, ◌≤◌, ℕ, List, length, map, IfOk, IfErr, OnOk};
+ghost use Rattle.jq_sem.specs.Views.{chain_of};
 ghost use Rattle.jq_words.specs.Results.{Leaves};
 ghost use Rattle.jq_words.specs.declared.faults.ScriptFault.TheVariants.{Memory};
+ghost use Rattle.jq_words.specs.declared.faults.TheConstants.{MOST_STATEMENTS};
 ghost use Rattle.jq_parts.specs.Stating as spec;
-ghost use Rattle.jq_parts.specs.ScopeViews.{handlers_of, effect_of};
+ghost use Rattle.jq_parts.specs.ScopeViews.{handlers_of, effect_of, stated_in};
 
+use crate::placing::Stated;
 use crate::scopes::Handler;
-use jq_sem::{Chain, Chains, Stmt};
+use jq_sem::{Chain, Chains};
 use jq_words::{MOST_CALLS, MOST_STATEMENTS, ScriptFault};
 use std::alloc::Global;
-use tp_base::{NoMemory, Place, place_of};
+use tp_base::NoMemory;
 use tree_sem::Action;
 
 /// How many calls some chains have together.
@@ -28,18 +29,6 @@ fn calls_in(chains: &[Chain]) -> Result<usize, ScriptFault>
     Ok(count)
 }
 
-/// The place of an offset.
-#[tactic(auto, using(crate::proofs::StatingSteps::same_line, crate::proofs::StatingSteps::same_column))]
-fn place_in(text: &[u8], at: usize) -> Place
-    requires { length text.now ≤ MOST_BYTES }
-    ensures { result ≡ spec.place_in text.now at }
-{
-    if at < text.len() {
-        return place_of(text, at);
-    }
-    place_of(text, text.len())
-}
-
 /// The chains of handlers, outermost first.
 fn chains_of(alloc: Global, handlers: &[Handler]) -> Result<Vec<Chain>, NoMemory>
     ensures { IfOk result (λ v. map chain_of v.items ≡ spec.chains_of (handlers_of handlers.now)) }
@@ -51,19 +40,18 @@ fn chains_of(alloc: Global, handlers: &[Handler]) -> Result<Vec<Chain>, NoMemory
     Ok(copy)
 }
 
-/// Adds the statement of a call in a file, where it acts: the call stands in these handlers, and its name at an offset. Linear in the
-/// file up to there, and in the handlers' chains.
+/// Adds the statement of a call, where it acts: the call stands in these handlers, and its name at an offset. Linear in the handlers'
+/// chains.
 #[tactic(auto, unfolding(crate::specs::Stating::stated), using(crate::proofs::StatingSteps::one_stated))]
 pub fn stated(
     alloc: Global,
-    text: &[u8],
     handlers: &[Handler],
     at: usize,
     effect: Option<(Chain, Action)>,
-    statements: &mut Vec<Stmt>,
+    statements: &mut Vec<Stated>,
 ) -> Result<(), ScriptFault>
-    requires { length text.now ≤ MOST_BYTES }
-    ensures { Leaves (statements_of statements.new.items) result (spec.stated text.now (handlers_of handlers.now) at (effect_of effect) (statements_of statements.old.items)) }
+    ensures gives { (text : List ℕ) → Leaves (map (stated_in text) statements.new.items) result (spec.stated text (handlers_of handlers.now) at (effect_of effect) (map (stated_in text) statements.old.items)) }
+    ensures few { length statements.old.items ≤ MOST_STATEMENTS → OnOk result (length statements.new.items ≤ MOST_STATEMENTS) }
 {
     let Some((chain, action)) = effect else {
         return Ok(());
@@ -79,9 +67,8 @@ pub fn stated(
     if all > MOST_CALLS {
         return Err(ScriptFault::TooLong(at));
     }
-    let place = place_in(text, at);
-    statements.push(Stmt {
-        place,
+    statements.push(Stated {
+        at,
         handlers: Chains::new(chains),
         chain,
         action,

@@ -28,7 +28,7 @@ fn reads_with(name: &[u8], count: usize, inside: &Words<'_>) -> bool
 }
 
 /// The words behind a list and its closing bracket, where it is closed.
-fn behind_list<'a>(enclosed: &Enclosed<'a>) -> Option<Cursor<'a>>
+fn behind_list<'l, 'a>(enclosed: &Enclosed<'l, 'a>) -> Option<Cursor<'l, 'a>>
     ensures some { IfSome result (λ c. spec.behind_extent (extent_of enclosed.now) ≡ c) }
     ensures none { IfNone result (spec.behind_extent (extent_of enclosed.now) ≡ []) }
 {
@@ -71,7 +71,10 @@ fn is_known(name: &[u8]) -> bool
 
 /// The arguments of a name behind a `.`, where it is a call of the table that reads no value.
 #[tactic(auto, using(crate::proofs::ValueSteps::no_call, crate::proofs::ValueSteps::unknown_call))]
-fn chain_call<'a>(alloc: Global, words: &Cursor<'a>) -> Result<Option<Enclosed<'a>>, ScriptFault>
+fn chain_call<'l, 'a>(
+    alloc: Global,
+    words: &Cursor<'l, 'a>,
+) -> Result<Option<Enclosed<'l, 'a>>, ScriptFault>
     ensures call { IfOk result (λ r. IfSome r (λ e. spec.is_chain_call words.now ≡ true)) }
     ensures arguments { IfOk result (λ r. IfSome r (λ e. extent_of e ≡ extent (drop 1 (drop 1 words.now)))) }
     ensures other { IfOk result (λ r. IfNone r (spec.is_chain_call words.now ≡ false)) }
@@ -92,7 +95,7 @@ fn chain_call<'a>(alloc: Global, words: &Cursor<'a>) -> Result<Option<Enclosed<'
 
 /// Whether the calls of a value, each with its `.`, are those of a chain.
 #[tactic(auto, using(crate::proofs::ValueSteps::goes_on, crate::proofs::ValueSteps::ends, crate::proofs::ValueSteps::fails, crate::proofs::ValueSteps::over, crate::proofs::ValueSteps::shorter))]
-fn are_chain_calls(alloc: Global, words: Cursor<'_>) -> Result<bool, ScriptFault>
+fn are_chain_calls(alloc: Global, words: Cursor<'_, '_>) -> Result<bool, ScriptFault>
     ensures gives { IfOk result (λ b. spec.are_chain_calls 0 words.entry ≡ b) }
     ensures only_memory { IfErr result (λ e. e ≡ Memory) }
 {
@@ -112,7 +115,7 @@ fn are_chain_calls(alloc: Global, words: Cursor<'_>) -> Result<bool, ScriptFault
 
 /// Whether a value that begins with J and a bracket is a chain.
 #[tactic(auto, using(crate::proofs::ValueSteps::behind_it, crate::proofs::ValueSteps::none_behind))]
-fn is_jquery_chain(alloc: Global, words: &Cursor<'_>) -> Result<bool, ScriptFault>
+fn is_jquery_chain(alloc: Global, words: &Cursor<'_, '_>) -> Result<bool, ScriptFault>
     ensures gives { IfOk result (λ b. spec.are_chain_calls 0 (spec.behind_list (drop 1 (drop 1 words.now))) ≡ b) }
     ensures only_memory { IfErr result (λ e. e ≡ Memory) }
 {
@@ -147,7 +150,7 @@ fn begins_bound(declarations: &Declarations<'_>, words: &Words<'_>) -> bool
 pub fn is_chain(
     alloc: Global,
     declarations: &Declarations<'_>,
-    words: &Cursor<'_>,
+    words: &Cursor<'_, '_>,
 ) -> Result<bool, ScriptFault>
     ensures gives { IfOk result (λ b. spec.is_chain (declarations_of declarations.now) words.now ≡ b) }
     ensures only_memory { IfErr result (λ e. e ≡ Memory) }
