@@ -1,0 +1,9 @@
+pub mod CallSteps
+pub mod ChainSteps
+pub mod DeclarationSteps
+pub mod HandlerSteps
+pub mod SequenceSteps
+pub mod SeveralSteps
+pub mod Tables
+pub mod ReadingLaws
+pub mod LimitLaws

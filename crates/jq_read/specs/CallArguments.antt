@@ -1,0 +1,104 @@
+-- The arguments of a call that takes no function.
+--     move_arguments, unite_arguments, class_arguments, grow_arguments, place_arguments
+use Rattle.std.specs.Prelude.{ℕ, Bool, true, false, if◌then◌else◌, List, [], ◌∷◌, ◌++◌, drop, codes, Option, Some, None, Ok}
+use Rattle.tp_base.specs.Names.{Named}
+use Rattle.tree_sem.specs.Trees.{LabelTree}
+use Rattle.tree_sem.specs.declared.actions.Action.{Action}
+use Rattle.tree_sem.specs.declared.actions.Action.TheVariants.{Classes, Inside, Beside}
+use Rattle.jq_sem.specs.Statements.{Call, find, children, parent, parents, filter, has, add, back, Chain}
+use Rattle.jq_words.specs.Words.{Word, begins, Outcome, ◌>>=◌, unexpected}
+use Rattle.jq_words.specs.Brackets.{is_empty, argument, behind_argument}
+use Rattle.jq_words.specs.FreeLists.{free}
+use Rattle.jq_words.specs.Calls.{Form, moves, finding, to_children, to_parent, to_parents, filtering, having}
+use Rattle.jq_parts.specs.Bindings.{Value, elements, markup, placed}
+use Rattle.jq_parts.specs.Selections.{selectors, compounds, class_set}
+use Rattle.jq_parts.specs.Arguments.{text_argument, markup_argument, target}
+use Rattle.jq_parts.specs.Stating.{Effect}
+use Rattle.jq_read.specs.States.{Context, State, size, with_names, scope_in}
+use Rattle.jq_read.specs.Functions.{rules_in, elements_in}
+
+-- What the arguments of a call leave: the chain's value, what the call does, the state, and the words from the closing bracket on.
+abbrev pub Done : Type 0
+Done = Outcome ((Value × Effect) × State × List Word)
+
+abbrev pub done : Value → Effect → State → List Word → Done
+done v e s ws = Ok ((v, e), s, ws)
+
+-- ---- calls that make a set
+
+-- the call of a form that makes a set, by a list of compounds or by going back
+abbrev pub made : Form → List (List ℕ) → Call
+made (moves finding) cs = find cs
+made (moves to_children) cs = children cs
+made (moves to_parent) cs = parent cs
+made (moves to_parents) cs = parents cs
+made (moves filtering) cs = filter cs
+made (moves having) cs = has cs
+made f cs = back
+
+-- the chain of a value that is a set of elements, with one call more; no other value gets a call that makes a set
+abbrev pub and_call : Value → Call → Value
+and_call (elements chain) call = elements (record chain { calls = chain.calls ++ call ∷ [] })
+and_call v call = v
+
+-- a list of compounds, or no argument where there may be none
+unfoldable pub compounds_argument : ℕ → Bool → List Named → List Word → Outcome (List (List ℕ) × List Named × List Word)
+compounds_argument size none names ws =
+    if none then Ok ([], names, ws)
+    else (text_argument size ws >>= λ t. compounds t.1 t.0 names >>= λ r. Ok (r.0, r.1, t.2))
+
+unfoldable pub move_arguments : Context → Form → Bool → Value → State → List Word → Done
+move_arguments c f none v s ws = do
+  m ← compounds_argument (size c) none s.grown.names ws
+  done (and_call v (made f m.0)) None (with_names m.1 s) m.2
+
+unfoldable pub unite_arguments : Context → Value → State → List Word → Done
+unite_arguments c v s ws = do
+  t ← text_argument (size c) ws
+  r ← selectors t.1 t.0 s.grown.names
+  done (and_call v (add r.0)) None (with_names r.1 s) t.2
+
+-- ---- calls that act
+
+-- what is done to the elements of a value
+abbrev pub acting : Option Chain → Action → Effect
+acting (Some chain) action = Some (chain, action)
+acting None action = None
+
+-- a comma and a list, where there is a comma
+unfoldable pub and_list : Context → ℕ → List Word → Outcome (List Word)
+and_list c room ws = if begins (codes ",") ws then free (size c) (rules_in c room true) (drop 1 ws) else Ok ws
+
+-- classes, and then a list where there is a comma
+unfoldable pub class_arguments : Context → ℕ → Value → State → List Word → Done
+class_arguments c room v s ws = do
+  t ← text_argument (size c) ws
+  r ← class_set t.1 t.0 s.grown.names
+  rest ← and_list c room t.2
+  done v (acting (elements_in v) (Classes r.0)) (with_names r.1 s) rest
+
+abbrev pub added : Bool → List LabelTree → Action
+added true trees = Beside (record { tops = trees })
+added false trees = Inside (record { tops = trees })
+
+-- an argument, of which there has to be something, and what is behind it
+unfoldable pub some_argument : ℕ → List Word → Outcome (List Word × List Word)
+some_argument size ws = if is_empty (argument ws) then unexpected size ws else Ok (argument ws, behind_argument ws)
+
+-- markup that is added
+unfoldable pub grow_arguments : Context → ℕ → Bool → Value → State → List Word → Done
+grow_arguments c room beside v s ws = do
+  given ← some_argument (size c) ws
+  f ← markup_argument (size c) room given.0 s.grown
+  done v (acting (elements_in v) (added beside f.0)) (record s { grown = f.1 }) given.1
+
+abbrev pub trees_in : Value → List LabelTree
+trees_in (markup trees) = trees
+trees_in v = []
+
+-- the root's markup is placed, which ends the chain
+unfoldable pub place_arguments : Context → ℕ → Value → State → List Word → Done
+place_arguments c room v s ws = do
+  given ← some_argument (size c) ws
+  r ← target (size c) room (scope_in c s) given.0 s.grown.names
+  done placed (Some (r.0, Inside (record { tops = trees_in v }))) (with_names r.1 s) given.1

@@ -1,0 +1,278 @@
+//! The arguments of a call that takes no function.
+ghost use Rattle.std.specs.Prelude.{◌≡◌, ◌≤◌, ◌==◌, true, false, [], ◌∷◌, length, take, drop, map, option_map, Some, None, Ok, IfOk, IfErr, OnOk};
+ghost use Rattle.sel_core.specs.Results.{IsFront};
+ghost use Rattle.sel_core.specs.Views.{selector_of};
+ghost use Rattle.jq_sem.specs.Statements.{back};
+ghost use Rattle.jq_sem.specs.Views as sem;
+ghost use Rattle.jq_words.specs.Brackets.{argument, behind_argument, is_empty};
+ghost use Rattle.jq_words.specs.CallViews.{form_of};
+ghost use Rattle.jq_words.specs.Results.{Gives, Finds, Leaves, Turns, IsRest, IsBehind};
+ghost use Rattle.jq_words.specs.declared.faults.ScriptFault.TheVariants.{Memory};
+ghost use Rattle.jq_parts.specs.ScopeViews.{effect_of};
+ghost use Rattle.jq_read.specs.CallArguments as spec;
+ghost use Rattle.jq_read.specs.Functions.{elements_in};
+ghost use Rattle.jq_read.specs.Readers.{context_of, state_of};
+ghost use Rattle.jq_read.specs.Views.{reached_of, done_of};
+
+use crate::functions::list_in;
+use crate::states::{Reader, State};
+use crate::values::{Done, Reached, elements, with_call};
+use jq_parts::{Cursor, class_set, compounds, markup_argument, selectors, target, text_argument};
+use jq_sem::{Call, Selectors};
+use jq_words::{Form, ScriptFault, Words, argument_len, begins, place};
+use sel_core::{Compound, Compounds};
+use tp_base::AtomTable;
+use tree_sem::{Action, Forest, Trees};
+
+/// The call of a form that makes a set, by a list of compounds or by going back.
+fn made(form: Form, compounds: Vec<Compound>) -> Call
+    ensures { sem.call_of result ≡ spec.made (form_of form) (sem.atoms_of compounds.items) }
+{
+    let compounds = Compounds::new(compounds);
+    match form {
+        Form::Find => Call::Find(compounds),
+        Form::Children => Call::Children(compounds),
+        Form::Parent => Call::Parent(compounds),
+        Form::Parents => Call::Parents(compounds),
+        Form::Filter => Call::Filter(compounds),
+        Form::Has => Call::Has(compounds),
+        _ => Call::End,
+    }
+}
+
+/// A list of compounds, or no argument where there may be none.
+#[tactic(auto, unfolding(crate::specs::CallArguments::compounds_argument), using(sel_core::proofs::Fronts::front_itself, jq_words::proofs::Rests::itself, jq_words::proofs::Rests::is_rest))]
+fn compounds_argument(
+    reader: Reader<'_>,
+    none: bool,
+    atoms: &mut AtomTable,
+    words: &mut Cursor<'_, '_>,
+) -> Result<Vec<Compound>, ScriptFault>
+    ensures gives { Turns (λ v. sem.atoms_of v.items) atoms.new words.new result (spec.compounds_argument (length reader.entry.text.now) none atoms.old words.old) }
+    ensures rest { OnOk result (IsRest words.old words.new) }
+    ensures front { IsFront atoms.old atoms.new }
+{
+    if none {
+        return Ok(Vec::new(reader.alloc));
+    }
+    let at = place(reader.text.len(), words.words());
+    let letters = text_argument(reader.alloc, reader.text.len(), words)?;
+    let found = compounds(reader.alloc, at, &letters, atoms)?;
+    Ok(found)
+}
+
+/// The arguments of a call that makes a set by a list of compounds.
+#[tactic(auto, unfolding(crate::specs::CallArguments::move_arguments), using(sel_core::proofs::Fronts::front_itself))]
+pub(crate) fn move_arguments(
+    reader: Reader<'_>,
+    form: Form,
+    none: bool,
+    reached: Reached,
+    state: &State<'_>,
+    atoms: &mut AtomTable,
+    words: &mut Cursor<'_, '_>,
+) -> Result<Done, ScriptFault>
+    ensures gives { Turns done_of (state_of reader.entry state.now atoms.new) words.new result (spec.move_arguments (context_of reader.entry state.now) (form_of form) none (reached_of reached) (state_of reader.entry state.now atoms.old) words.old) }
+    ensures rest { OnOk result (IsRest words.old words.new) }
+    ensures front { IsFront atoms.old atoms.new }
+{
+    let found = compounds_argument(reader, none, atoms, words)?;
+    let reached = with_call(reached, made(form, found))?;
+    Ok(Done {
+        reached,
+        effect: None,
+    })
+}
+
+/// A call that goes back one set.
+pub(crate) fn go_back(reached: Reached) -> Result<Done, ScriptFault>
+    ensures gives { IfOk result (λ d. done_of d ≡ (spec.and_call (reached_of reached) back, None)) }
+    ensures only_memory { IfErr result (λ e. e ≡ Memory) }
+{
+    let reached = with_call(reached, Call::End)?;
+    Ok(Done {
+        reached,
+        effect: None,
+    })
+}
+
+/// The argument of a call that unites sets.
+#[tactic(auto, unfolding(crate::specs::CallArguments::unite_arguments), using(sel_core::proofs::Fronts::front_itself, jq_words::proofs::Rests::is_rest))]
+pub(crate) fn unite_arguments(
+    reader: Reader<'_>,
+    reached: Reached,
+    state: &State<'_>,
+    atoms: &mut AtomTable,
+    words: &mut Cursor<'_, '_>,
+) -> Result<Done, ScriptFault>
+    ensures gives { Turns done_of (state_of reader.entry state.now atoms.new) words.new result (spec.unite_arguments (context_of reader.entry state.now) (reached_of reached) (state_of reader.entry state.now atoms.old) words.old) }
+    ensures rest { OnOk result (IsRest words.old words.new) }
+    ensures front { IsFront atoms.old atoms.new }
+{
+    let at = place(reader.text.len(), words.words());
+    let letters = text_argument(reader.alloc, reader.text.len(), words)?;
+    let found = selectors(reader.alloc, at, &letters, atoms)?;
+    let reached = with_call(reached, Call::Add(Selectors::new(found)))?;
+    Ok(Done {
+        reached,
+        effect: None,
+    })
+}
+
+/// Passes a comma and a list, where a comma stands.
+#[tactic(auto, unfolding(crate::specs::CallArguments::and_list), using(jq_words::proofs::Rests::itself, jq_words::proofs::Rests::passed_behind))]
+fn and_list(
+    reader: Reader<'_>,
+    room: usize,
+    state: &State<'_>,
+    words: &mut Cursor<'_, '_>,
+) -> Result<(), ScriptFault>
+    ensures gives { Leaves words.new result (spec.and_list (context_of reader.entry state.now) room words.old) }
+    ensures rest { OnOk result (IsRest words.old words.new) }
+{
+    if !begins(words.words(), b",") {
+        return Ok(());
+    }
+    words.pass();
+    list_in(reader, room, true, state, words)?;
+    Ok(())
+}
+
+/// What a call does to the elements of a value.
+fn acting(reader: Reader<'_>, reached: Reached, action: Action) -> Result<Done, ScriptFault>
+    ensures reached { IfOk result (λ d. reached_of d.reached ≡ reached_of reached) }
+    ensures effect { IfOk result (λ d. spec.acting (elements_in (reached_of reached)) action ≡ effect_of d.effect) }
+    ensures only_memory { IfErr result (λ e. e ≡ Memory) }
+{
+    match elements(reader.alloc, &reached)? {
+        None => Ok(Done {
+            reached,
+            effect: None,
+        }),
+        Some(chain) => Ok(Done {
+            reached,
+            effect: Some((chain, action)),
+        }),
+    }
+}
+
+/// Classes, and then a list where there is a comma.
+#[tactic(auto, unfolding(crate::specs::CallArguments::class_arguments), using(sel_core::proofs::Fronts::front_itself, jq_words::proofs::Rests::behind_rest, jq_words::proofs::Rests::is_rest, jq_words::proofs::Rests::of_rest))]
+pub(crate) fn class_arguments(
+    reader: Reader<'_>,
+    room: usize,
+    reached: Reached,
+    state: &State<'_>,
+    atoms: &mut AtomTable,
+    words: &mut Cursor<'_, '_>,
+) -> Result<Done, ScriptFault>
+    ensures gives { Turns done_of (state_of reader.entry state.now atoms.new) words.new result (spec.class_arguments (context_of reader.entry state.now) room (reached_of reached) (state_of reader.entry state.now atoms.old) words.old) }
+    ensures rest { OnOk result (IsRest words.old words.new) }
+    ensures front { IsFront atoms.old atoms.new }
+{
+    let at = place(reader.text.len(), words.words());
+    let letters = text_argument(reader.alloc, reader.text.len(), words)?;
+    let classes = class_set(reader.alloc, at, &letters, atoms)?;
+    and_list(reader, room, state, words)?;
+    let done = acting(reader, reached, Action::Classes(classes))?;
+    Ok(done)
+}
+
+/// Lends the words of an argument, of which there has to be something, and passes them.
+#[tactic(auto, unfolding(crate::specs::CallArguments::some_argument), using(jq_words::proofs::ArgumentSteps::none_given, jq_words::proofs::ArgumentSteps::some_given, jq_words::proofs::Rests::itself))]
+fn some_argument<'a>(
+    reader: Reader<'_>,
+    words: &mut Cursor<'_, 'a>,
+) -> Result<Words<'a>, ScriptFault>
+    ensures gives { Finds (λ w. w) words.new result (spec.some_argument (length reader.entry.text.now) words.old) }
+    ensures rest { OnOk result (IsBehind words.old words.new) }
+{
+    let count = argument_len(reader.alloc, true, words.words())?;
+    if count == 0 {
+        return Err(ScriptFault::UnknownForm(place(reader.text.len(), words.words())));
+    }
+    let given = words.words().front(count);
+    words.pass_all(count);
+    Ok(given)
+}
+
+fn added(beside: bool, forest: Forest) -> Action
+    ensures { result ≡ spec.added beside forest.tops }
+{
+    if beside {
+        Action::Beside(forest)
+    } else {
+        Action::Inside(forest)
+    }
+}
+
+/// Markup that is added.
+#[tactic(auto, unfolding(crate::specs::CallArguments::grow_arguments), using(sel_core::proofs::Fronts::front_itself, jq_words::proofs::Rests::is_rest))]
+pub(crate) fn grow_arguments(
+    reader: Reader<'_>,
+    room: usize,
+    beside: bool,
+    reached: Reached,
+    state: &mut State<'_>,
+    atoms: &mut AtomTable,
+    words: &mut Cursor<'_, '_>,
+) -> Result<Done, ScriptFault>
+    ensures gives { Turns done_of (state_of reader.entry state.new atoms.new) words.new result (spec.grow_arguments (context_of reader.entry state.old) room beside (reached_of reached) (state_of reader.entry state.old atoms.old) words.old) }
+    ensures rest { OnOk result (IsRest words.old words.new) }
+    ensures kept { OnOk result (context_of reader.entry state.new ≡ context_of reader.entry state.old) }
+    ensures front { IsFront atoms.old atoms.new }
+{
+    let given = some_argument(reader, words)?;
+    let forest = markup_argument(
+        reader.alloc,
+        reader.text.len(),
+        room,
+        &given,
+        &mut state.nodes,
+        atoms,
+    )?;
+    let done = acting(reader, reached, added(beside, forest))?;
+    Ok(done)
+}
+
+/// The trees of markup that is still to be placed.
+fn trees_in(reader: Reader<'_>, reached: Reached) -> Trees
+    ensures { result ≡ spec.trees_in (reached_of reached) }
+{
+    match reached {
+        Reached::Markup(forest) => forest.tops,
+        _ => Trees::new(Vec::new(reader.alloc)),
+    }
+}
+
+/// Where the root's markup is placed, which ends the chain.
+#[tactic(auto, unfolding(crate::specs::CallArguments::place_arguments), using(sel_core::proofs::Fronts::front_itself, jq_words::proofs::Rests::is_rest))]
+pub(crate) fn place_arguments(
+    reader: Reader<'_>,
+    room: usize,
+    reached: Reached,
+    state: &State<'_>,
+    atoms: &mut AtomTable,
+    words: &mut Cursor<'_, '_>,
+) -> Result<Done, ScriptFault>
+    ensures gives { Turns done_of (state_of reader.entry state.now atoms.new) words.new result (spec.place_arguments (context_of reader.entry state.now) room (reached_of reached) (state_of reader.entry state.now atoms.old) words.old) }
+    ensures rest { OnOk result (IsRest words.old words.new) }
+    ensures front { IsFront atoms.old atoms.new }
+{
+    let given = some_argument(reader, words)?;
+    let chain = target(
+        reader.alloc,
+        reader.text.len(),
+        room,
+        &state.scope,
+        &given,
+        atoms,
+    )?;
+    let forest = Forest {
+        tops: trees_in(reader, reached),
+    };
+    Ok(Done {
+        reached: Reached::Placed,
+        effect: Some((chain, Action::Inside(forest))),
+    })
+}

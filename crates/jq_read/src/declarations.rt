@@ -1,0 +1,143 @@
+//! Declarations, one behind another.
+ghost use Rattle.std.specs.Prelude.{◌≡◌, option_map, OnOk, IfOk, IfErr};
+ghost use Rattle.sel_core.specs.Results.{IsFront};
+ghost use Rattle.jq_words.specs.Results.{Leaves, Turns, IsRest, IsBehind};
+ghost use Rattle.jq_words.specs.declared.faults.ScriptFault.TheVariants.{Memory};
+ghost use Rattle.jq_parts.specs.Scopes.{places_of};
+ghost use Rattle.jq_parts.specs.ScopeViews.{handlers_of};
+ghost use Rattle.jq_parts.specs.Views.{value_of};
+ghost use Rattle.jq_read.specs.Statements as spec;
+ghost use Rattle.jq_read.specs.Readers.{context_of, state_of};
+
+use crate::bodies::function;
+use crate::chains::chain;
+use crate::functions::list_in;
+use crate::states::{Reader, State};
+use jq_parts::{Cursor, Declaration, Handler, Value, is_chain};
+use jq_words::{ScriptFault, begins, begins_name};
+use std::alloc::Global;
+use tp_base::{AtomTable, NoMemory};
+
+/// The places of handlers, outermost first.
+fn places(alloc: Global, handlers: &[Handler]) -> Result<Vec<usize>, NoMemory>
+    ensures { IfOk result (λ v. v.items ≡ places_of (handlers_of handlers.now)) }
+{
+    let mut found = Vec::new(alloc);
+    for handler in handlers {
+        found.push(handler.at)?;
+    }
+    Ok(found)
+}
+
+/// One declaration more, under the handlers round it.
+#[tactic(auto, using(crate::proofs::HandlerSteps::declared))]
+fn declare<'a>(
+    reader: Reader<'_>,
+    name: &'a [u8],
+    value: Option<Value>,
+    state: &mut State<'a>,
+) -> Result<(), ScriptFault>
+    ensures declared { (names : _) → OnOk result (state_of reader.entry state.new names ≡ spec.with_declaration (record { name = name.now; value = option_map value_of value; under = places_of (context_of reader.entry state.old).handlers }) (state_of reader.entry state.old names)) }
+    ensures kept { OnOk result (context_of reader.entry state.new ≡ context_of reader.entry state.old) }
+    ensures only_memory { IfErr result (λ e. e ≡ Memory) }
+{
+    let under = places(reader.alloc, &state.scope.handlers)?;
+    let declaration = Declaration { name, value, under };
+    state.scope.declarations.push(declaration)?;
+    Ok(())
+}
+
+/// The value behind a name that is declared, where there is one: the chain, if it is one.
+#[cycle(grammar)]
+#[tactic(auto, unfolding(crate::specs::Statements::value_behind, crate::specs::Statements::declared_value, crate::specs::Statements::plain_list), using(sel_core::proofs::Fronts::front_itself, jq_words::proofs::Rests::itself, jq_words::proofs::Rests::passed_behind))]
+fn value_behind<'a>(
+    reader: Reader<'_>,
+    room: usize,
+    state: &mut State<'a>,
+    atoms: &mut AtomTable,
+    words: &mut Cursor<'_, 'a>,
+) -> Result<Option<Value>, ScriptFault>
+    ensures gives { Turns (option_map value_of) (state_of reader.entry state.new atoms.new) words.new result (spec.value_behind (spec.block room) room (context_of reader.entry state.old) (state_of reader.entry state.old atoms.old) words.old) }
+    ensures rest { OnOk result (IsRest words.old words.new) }
+    ensures kept { OnOk result (context_of reader.entry state.new ≡ context_of reader.entry state.old) }
+    ensures front { IsFront atoms.old atoms.new }
+{
+    if !begins(words.words(), b"=") {
+        return Ok(None);
+    }
+    words.pass();
+    if begins_name(words.words(), b"function") {
+        function(reader, None, room, state, atoms, words)?;
+        return Ok(None);
+    }
+    if is_chain(reader.alloc, &state.scope.declarations, words)? {
+        let value = chain(reader, room, state, atoms, words)?;
+        return Ok(Some(value));
+    }
+    list_in(reader, room, false, state, words)?;
+    Ok(None)
+}
+
+/// A name, and its value where there is one.
+#[cycle(grammar)]
+#[tactic(auto, unfolding(crate::specs::Statements::one), using(sel_core::proofs::Fronts::front_itself, jq_words::proofs::Rests::behind_rest))]
+fn one<'a>(
+    reader: Reader<'_>,
+    room: usize,
+    state: &mut State<'a>,
+    atoms: &mut AtomTable,
+    words: &mut Cursor<'_, 'a>,
+) -> Result<(), ScriptFault>
+    ensures gives { Leaves (state_of reader.entry state.new atoms.new, words.new) result (spec.one (spec.block room) room (context_of reader.entry state.old) (state_of reader.entry state.old atoms.old) words.old) }
+    ensures rest { OnOk result (IsBehind words.old words.new) }
+    ensures kept { OnOk result (context_of reader.entry state.new ≡ context_of reader.entry state.old) }
+    ensures front { IsFront atoms.old atoms.new }
+{
+    let name = words.want_name(reader.text.len())?;
+    let value = value_behind(reader, room, state, atoms, words)?;
+    declare(reader, name, value, state)?;
+    Ok(())
+}
+
+/// Further ones, each behind a comma.
+#[cycle(grammar)]
+#[tactic(auto, using(sel_core::proofs::Fronts::front_itself, sel_core::proofs::Fronts::front_of_front, crate::proofs::DeclarationSteps::goes_on, crate::proofs::DeclarationSteps::fails, crate::proofs::DeclarationSteps::ends, jq_words::proofs::Rests::itself, jq_words::proofs::Rests::is_rest, jq_words::proofs::Rests::of_rest))]
+fn more_ones<'a>(
+    reader: Reader<'_>,
+    room: usize,
+    state: &mut State<'a>,
+    atoms: &mut AtomTable,
+    words: &mut Cursor<'_, 'a>,
+) -> Result<(), ScriptFault>
+    ensures gives { Leaves (state_of reader.entry state.new atoms.new, words.new) result (spec.more_ones (spec.block room) room (context_of reader.entry state.old) (state_of reader.entry state.old atoms.old) 0 words.old) }
+    ensures rest { OnOk result (IsRest words.old words.new) }
+    ensures kept { OnOk result (context_of reader.entry state.new ≡ context_of reader.entry state.old) }
+    ensures front { IsFront atoms.old atoms.new }
+{
+    'ones: while begins(words.words(), b",") {
+        words.pass();
+        one(reader, room, state, atoms, words)?;
+    }
+    Ok(())
+}
+
+/// Behind `var`, `let` or `const`.
+#[cycle(grammar)]
+#[tactic(auto, unfolding(crate::specs::Statements::declaration), using(sel_core::proofs::Fronts::front_itself, sel_core::proofs::Fronts::front_of_front))]
+pub(crate) fn declaration<'a>(
+    reader: Reader<'_>,
+    room: usize,
+    state: &mut State<'a>,
+    atoms: &mut AtomTable,
+    words: &mut Cursor<'_, 'a>,
+) -> Result<(), ScriptFault>
+    ensures gives { Leaves (state_of reader.entry state.new atoms.new, words.new) result (spec.declaration (spec.block room) room (context_of reader.entry state.old) (state_of reader.entry state.old atoms.old) words.old) }
+    ensures rest { OnOk result (IsBehind words.old words.new) }
+    ensures kept { OnOk result (context_of reader.entry state.new ≡ context_of reader.entry state.old) }
+    ensures front { IsFront atoms.old atoms.new }
+{
+    one(reader, room, state, atoms, words)?;
+    more_ones(reader, room, state, atoms, words)?;
+    words.end(reader.text.len())?;
+    Ok(())
+}

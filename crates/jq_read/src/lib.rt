@@ -1,0 +1,20 @@
+//! Scripts: the statements that a page's jQuery code makes.
+#![tactic(auto)]
+
+mod arguments;
+mod bodies;
+mod calls;
+mod chains;
+mod declarations;
+mod forms;
+mod functions;
+mod lists;
+mod openings;
+mod script;
+mod sequences;
+mod statements;
+mod states;
+mod values;
+
+pub use jq_words::{MOST_CALLS, MOST_FOREST_NODES, MOST_OPEN, MOST_STATEMENTS, ScriptFault};
+pub use script::read_script;

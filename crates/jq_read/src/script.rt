@@ -1,0 +1,112 @@
+//! A script file: its statements, or why it isn't read.
+ghost use Rattle.std.specs.Prelude.{◌≡◌, ◌≢◌, ◌≤◌, length, IfOk, IfErr};
+ghost use Rattle.tp_base.specs.declared.places.TheConstants.{MOST_BYTES};
+ghost use Rattle.jq_sem.specs.Views.{statements_of};
+ghost use Rattle.js_scan.specs.Tokens.{InOrder, script_tokens};
+ghost use Rattle.js_scan.specs.declared.token.ScanFault.TheVariants as scan;
+ghost use Rattle.sel_core.specs.Results.{IsFront};
+ghost use Rattle.jq_words.specs.Results.{Gives, Finds};
+ghost use Rattle.jq_words.specs.declared.faults.ScriptFault.TheVariants.{Memory, Scan};
+ghost use Rattle.jq_read.specs.Script as spec;
+ghost use Rattle.jq_read.specs.Limits.{AreWithin};
+
+use crate::sequences::sequence;
+use crate::states::{Reader, State};
+use jq_parts::{Cursor, Declarations, Lists, Scope, placed};
+use jq_sem::Stmt;
+use jq_words::{MOST_OPEN, ScriptFault, declared_in};
+use js_scan::{ScanFault, Token, scan};
+use std::alloc::Global;
+use tp_base::AtomTable;
+
+/// The tokens of a file.
+fn tokens_of(alloc: Global, text: &[u8]) -> Result<Vec<Token>, ScriptFault>
+    ensures gives { Gives (λ v. v.items) result (spec.from_scan (script_tokens text.now)) }
+    ensures in_order { IfOk result (λ v. InOrder 0 (length text.now) v.items) }
+{
+    match scan(alloc, text) {
+        Ok(tokens) => Ok(tokens),
+        Err(ScanFault::Memory) => Err(ScriptFault::Memory),
+        Err(e) => Err(ScriptFault::Scan(e)),
+    }
+}
+
+/// A fault, in which want of memory has one name.
+fn one_memory(fault: ScriptFault) -> ScriptFault
+    ensures same { result ≢ Memory → result ≡ fault }
+    ensures named { result ≢ Scan scan.Memory }
+{
+    match fault {
+        ScriptFault::Scan(e) => match e {
+            ScanFault::Memory => ScriptFault::Memory,
+            other => ScriptFault::Scan(other),
+        },
+        other => other,
+    }
+}
+
+/// Reads a file whose words are known.
+#[tactic(auto, unfolding(crate::specs::Script::script_of), using(sel_core::proofs::Fronts::front_itself))]
+fn read_words(
+    alloc: Global,
+    text: &[u8],
+    lists: &Lists<'_>,
+    atoms: &mut AtomTable,
+) -> Result<Vec<Stmt>, ScriptFault>
+    requires in_limit { length text.now ≤ MOST_BYTES }
+    ensures reads { Finds (λ v. statements_of v.items) atoms.new result (spec.script_of text.now lists.now atoms.old) }
+    ensures front { IsFront atoms.old atoms.new }
+{
+    let mut words = Cursor::new(lists);
+    let declared = declared_in(alloc, words.words())?;
+    let reader = Reader {
+        alloc,
+        text,
+        declared: &declared,
+    };
+    let mut state = State {
+        scope: Scope {
+            handlers: Vec::new(alloc),
+            has_this: false,
+            declarations: Declarations::new(alloc),
+        },
+        nodes: 0,
+        statements: Vec::new(alloc),
+    };
+    sequence(reader, false, MOST_OPEN, &mut state, atoms, &mut words)?;
+    let statements = placed(alloc, text, state.statements)?;
+    Ok(statements)
+}
+
+/// Reads a file.
+#[tactic(auto, unfolding(crate::specs::Script::script), using(sel_core::proofs::Fronts::front_itself))]
+fn read_file(alloc: Global, text: &[u8], atoms: &mut AtomTable) -> Result<Vec<Stmt>, ScriptFault>
+    requires in_limit { length text.now ≤ MOST_BYTES }
+    ensures reads { Finds (λ v. statements_of v.items) atoms.new result (spec.script text.now atoms.old) }
+    ensures front { IsFront atoms.old atoms.new }
+{
+    let tokens = tokens_of(alloc, text)?;
+    let lists = Lists::new(alloc, text, &tokens)?;
+    let statements = read_words(alloc, text, &lists, atoms)?;
+    Ok(statements)
+}
+
+/// Reads a script file: its statements, in the order of the names of their actions, or its first fault. Linear in the file but for
+/// look-ups of names.
+#[tactic(auto, using(sel_core::proofs::Fronts::front_itself, crate::proofs::LimitLaws::kept_within))]
+pub fn read_script(
+    alloc: Global,
+    text: &[u8],
+    atoms: &mut AtomTable,
+) -> Result<Vec<Stmt>, ScriptFault>
+    requires in_limit { length text.now ≤ MOST_BYTES }
+    ensures reads { Finds (λ v. statements_of v.items) atoms.new result (spec.script text.now atoms.old) }
+    ensures memory { IfErr result (λ e. e ≢ Scan scan.Memory) }
+    ensures front { IsFront atoms.old atoms.new }
+    ensures within { IfOk result (λ v. AreWithin (statements_of v.items)) }
+{
+    match read_file(alloc, text, atoms) {
+        Ok(statements) => Ok(statements),
+        Err(e) => Err(one_memory(e)),
+    }
+}

@@ -1,0 +1,146 @@
+//! Statements, one after another, and in blocks.
+ghost use Rattle.std.specs.Prelude.{◌≡◌, ◌+◌, true, false, [], length, codes, IfOk, IfErr, OnOk};
+ghost use Rattle.jq_words.specs.Words.{begins_name};
+ghost use Rattle.sel_core.specs.Results.{IsFront};
+ghost use Rattle.jq_words.specs.Results.{Leaves, Turns, IsRest, IsBehind};
+ghost use Rattle.jq_words.specs.declared.faults.ScriptFault.TheVariants.{Memory};
+ghost use Rattle.jq_read.specs.Statements as spec;
+ghost use Rattle.jq_read.specs.States.{size};
+ghost use Rattle.jq_read.specs.Readers.{context_of, state_of};
+
+use crate::forms::{Between, StatementForm};
+use crate::lists::condition;
+use crate::openings::form_of;
+use crate::statements::statement;
+use crate::states::{Reader, State};
+use jq_parts::Cursor;
+use jq_words::{ScriptFault, Word, begins_name};
+use tp_base::AtomTable;
+
+#[tactic(auto, unfolding(crate::specs::Statements::is_over))]
+fn is_over(in_block: bool, between: Between, word: &Word<'_>) -> bool
+    ensures { result ≡ spec.is_over in_block between word.now }
+{
+    in_block && !between.wanted && word.is_mark(b"}")
+}
+
+fn is_branch(form: StatementForm) -> bool
+    ensures { result ≡ spec.is_branch form }
+{
+    matches!(form, StatementForm::Branch)
+}
+
+/// Behind a condition a statement is wanted, which may get an `else`.
+fn behind_condition(between: Between) -> Result<Between, ScriptFault>
+    ensures behind { IfOk result (λ b. b ≡ spec.behind_condition between) }
+    ensures only_memory { IfErr result (λ e. e ≡ Memory) }
+{
+    let ifs = between.ifs.checked_add(1).ok_or(ScriptFault::Memory)?;
+    Ok(Between { wanted: true, ifs })
+}
+
+/// What is behind a statement; passes its `else`.
+#[tactic(auto, using(jq_words::proofs::Rests::behind_first, jq_words::proofs::Rests::itself))]
+fn behind_statement(between: Between, words: &mut Cursor<'_, '_>) -> Between
+    ensures between { result ≡ spec.behind_statement between words.old }
+    ensures words { words.new ≡ spec.behind_else between words.old }
+    ensures rest { IsRest words.old words.new }
+{
+    if between.ifs != 0 && begins_name(words.words(), b"else") {
+        words.pass();
+        return Between {
+            wanted: true,
+            ifs: between.ifs - 1,
+        };
+    }
+    Between {
+        wanted: false,
+        ifs: 0,
+    }
+}
+
+#[tactic(auto, unfolding(crate::specs::Statements::at_file_end))]
+fn at_file_end(reader: Reader<'_>, in_block: bool, between: Between) -> Result<(), ScriptFault>
+    ensures gives { (c : _) → (s : _) → size c ≡ length reader.entry.text.now → Leaves (s, []) result (spec.at_file_end in_block between c s) }
+{
+    if in_block || between.wanted {
+        Err(ScriptFault::UnknownForm(reader.text.len()))
+    } else {
+        Ok(())
+    }
+}
+
+/// One turn of a sequence: a statement, or a condition.
+#[cycle(grammar)]
+#[tactic(auto, unfolding(crate::specs::Statements::turn), using(sel_core::proofs::Fronts::front_itself, jq_words::proofs::Rests::behind_rest))]
+fn turn<'a>(
+    reader: Reader<'_>,
+    between: Between,
+    room: usize,
+    state: &mut State<'a>,
+    atoms: &mut AtomTable,
+    words: &mut Cursor<'_, 'a>,
+) -> Result<Between, ScriptFault>
+    ensures gives { Turns (λ b. b) (state_of reader.entry state.new atoms.new) words.new result (spec.turn (spec.block room) room (context_of reader.entry state.old) between (state_of reader.entry state.old atoms.old) words.old) }
+    ensures rest { OnOk result (IsBehind words.old words.new) }
+    ensures kept { OnOk result (context_of reader.entry state.new ≡ context_of reader.entry state.old) }
+    ensures front { IsFront atoms.old atoms.new }
+{
+    let form = form_of(&state.scope.declarations, words.words());
+    if is_branch(form) {
+        condition(reader, room, state, words)?;
+        return behind_condition(between);
+    }
+    statement(reader, form, room, state, atoms, words)?;
+    Ok(behind_statement(between, words))
+}
+
+/// Statements up to the brace of their block, or to the end of the file.
+#[cycle(grammar)]
+#[tactic(auto, using(sel_core::proofs::Fronts::front_itself, sel_core::proofs::Fronts::front_of_front, crate::proofs::SequenceSteps::goes_on, crate::proofs::SequenceSteps::fails, crate::proofs::SequenceSteps::over, crate::proofs::SequenceSteps::ends, jq_words::proofs::Rests::itself, jq_words::proofs::Rests::is_rest, jq_words::proofs::Rests::of_rest, jq_words::proofs::Rests::shorter))]
+pub(crate) fn sequence<'a>(
+    reader: Reader<'_>,
+    in_block: bool,
+    room: usize,
+    state: &mut State<'a>,
+    atoms: &mut AtomTable,
+    words: &mut Cursor<'_, 'a>,
+) -> Result<(), ScriptFault>
+    ensures gives { Leaves (state_of reader.entry state.new atoms.new, words.new) result (spec.sequence in_block (spec.block room) room (context_of reader.entry state.old) spec.begin (state_of reader.entry state.old atoms.old) 0 words.old) }
+    ensures rest { OnOk result (IsRest words.old words.new) }
+    ensures kept { OnOk result (context_of reader.entry state.new ≡ context_of reader.entry state.old) }
+    ensures front { IsFront atoms.old atoms.new }
+{
+    let mut between = Between {
+        wanted: false,
+        ifs: 0,
+    };
+    'statements: while let Some(word) = words.words().first() {
+        if is_over(in_block, between, &word) {
+            return Ok(());
+        }
+        between = turn(reader, between, room, state, atoms, words)?;
+    }
+    at_file_end(reader, in_block, between)
+}
+
+/// Statements in braces, where so many brackets may be opened.
+#[cycle(grammar)]
+#[tactic(auto, using(sel_core::proofs::Fronts::front_itself, crate::proofs::SequenceSteps::block_refused, crate::proofs::SequenceSteps::block_fails, crate::proofs::SequenceSteps::block_reads, jq_words::proofs::Rests::behind_first, jq_words::proofs::Rests::behind_rest))]
+pub(crate) fn block<'a>(
+    reader: Reader<'_>,
+    room: usize,
+    state: &mut State<'a>,
+    atoms: &mut AtomTable,
+    words: &mut Cursor<'_, 'a>,
+) -> Result<(), ScriptFault>
+    ensures gives { Leaves (state_of reader.entry state.new atoms.new, words.new) result (spec.block room 0 (context_of reader.entry state.old) (state_of reader.entry state.old atoms.old) words.old) }
+    ensures rest { OnOk result (IsBehind words.old words.new) }
+    ensures kept { OnOk result (context_of reader.entry state.new ≡ context_of reader.entry state.old) }
+    ensures front { IsFront atoms.old atoms.new }
+{
+    words.want_open(reader.text.len(), room, b"{")?;
+    sequence(reader, true, room - 1, state, atoms, words)?;
+    words.pass();
+    Ok(())
+}

@@ -1,0 +1,11 @@
+//! Worked examples of scripts: their words, the parts of their chains, and whole files.
+#![tactic(auto)]
+
+#[cfg(test)]
+mod examples;
+#[cfg(test)]
+mod parts;
+#[cfg(test)]
+mod scripts;
+#[cfg(test)]
+mod words;

@@ -1,0 +1,411 @@
+//! Scripts: the places of their statements, or why they aren't read.
+use jq_read::{ScriptFault, read_script};
+use js_scan::Letters;
+use std::alloc::{AllocError, Global};
+use std::test::Fail;
+use tp_base::{AtomTable, MOST_BYTES};
+
+fn named(alloc: Global, kind: &str, name: &Letters, at: usize) -> Result<String, AllocError> {
+    let name = str::from_utf8(name.items()).unwrap_or("not utf-8");
+    format!(in alloc; "{kind} {name} {at}")
+}
+
+fn refused(alloc: Global, fault: &ScriptFault) -> Result<String, AllocError> {
+    match fault {
+        ScriptFault::Scan(fault) => format!(in alloc; "Scan {fault:?}"),
+        ScriptFault::UnknownCall(name, at) => named(alloc, "UnknownCall", name, *at),
+        ScriptFault::UnknownForm(at) => format!(in alloc; "UnknownForm {at}"),
+        ScriptFault::ComplexArgument(at) => format!(in alloc; "ComplexArgument {at}"),
+        ScriptFault::DynamicMarkup(at) => format!(in alloc; "DynamicMarkup {at}"),
+        ScriptFault::ThisOutside(at) => format!(in alloc; "ThisOutside {at}"),
+        ScriptFault::UnboundName(name, at) => named(alloc, "UnboundName", name, *at),
+        ScriptFault::TooLong(at) => format!(in alloc; "TooLong {at}"),
+        ScriptFault::TooDeep(at) => format!(in alloc; "TooDeep {at}"),
+        ScriptFault::TooManyStatements(at) => format!(in alloc; "TooManyStatements {at}"),
+        ScriptFault::TooManyForestNodes(at) => format!(in alloc; "TooManyForestNodes {at}"),
+        ScriptFault::TooManyAtoms(at) => format!(in alloc; "TooManyAtoms {at}"),
+        ScriptFault::Memory => format!(in alloc; "Memory"),
+    }
+}
+
+// The places of a script's statements, or the fault.
+fn read(alloc: Global, text: &str) -> Result<String, AllocError> {
+    let bytes = text.as_bytes();
+    if bytes.len() > MOST_BYTES as usize {
+        return format!(in alloc; "too large");
+    }
+    let mut atoms = AtomTable::new(alloc);
+    let stmts = match read_script(alloc, bytes, &mut atoms) {
+        Ok(stmts) => stmts,
+        Err(fault) => return refused(alloc, &fault),
+    };
+    let mut out = String::new(alloc);
+    for stmt in &stmts {
+        let place = format!(in alloc; "{}:{} ", stmt.place.line, stmt.place.column)?;
+        out.push_str(&place)?;
+    }
+    Ok(out)
+}
+
+// Statements that are no chains, and what is no statement.
+static FORMS: [(&str, &str); 40] = [
+    ("var r = /a/;", "Scan Regexp(8)"),
+    ("while (x) {}", "UnknownForm 0"),
+    ("a = typeof (x)", "UnknownCall typeof 4"),
+    ("var s = this;", "ThisOutside 8"),
+    ("x = (1", "UnknownForm 6"),
+    ("var t = setTimeout(f, 1);", "UnknownCall setTimeout 8"),
+    ("$ = 3;", "UnknownForm 2"),
+    ("else = 1;", ""),
+    ("x = this(1);", "UnknownCall this 4"),
+    ("if (a, b) {}", "UnknownForm 5"),
+    ("x ++", ""),
+    ("if (a) else x", "UnknownForm 7"),
+    ("if (a) }", "UnknownForm 7"),
+    ("if (a)", "UnknownForm 6"),
+    ("{ if (a) }", "UnknownForm 9"),
+    ("{ x", "UnknownForm 3"),
+    ("a.b(c)", "UnknownCall b 2"),
+    (
+        "a.find(c).attr('x' + 'y').attr('x', 'y')",
+        "UnknownCall attr 26",
+    ),
+    ("x = { a: 1 }", "UnknownForm 4"),
+    ("x = [{ a: 1 }]", ""),
+    ("a = b\n(c)", "UnknownCall b 4"),
+    ("a = (b)(c)", "UnknownForm 7"),
+    ("a\nb", ""),
+    ("typeof\nx", ""),
+    ("x = a\n++b", "UnknownForm 6"),
+    ("for (;;) {}", "UnknownForm 0"),
+    ("x = void (0)", "UnknownCall void 4"),
+    ("x = a in (b)", "UnknownCall in 6"),
+    ("x = (1; 2)", "UnknownForm 6"),
+    ("x =\n1", ""),
+    ("setTimeout('f', 1)", "UnknownForm 11"),
+    ("$(function(){}, 1)", "UnknownForm 14"),
+    ("setTimeout = 3;", "UnknownForm 11"),
+    ("x = a.delete", "UnknownForm 6"),
+    ("x = a.this", ""),
+    ("this = 3;", ""),
+    ("var this;", ""),
+    ("x\n++", ""),
+    ("x = `a${b}\\1`", "Scan Template(4)"),
+    ("x = `a\\${b}`", ""),
+];
+
+// Chains without functions.
+static CHAINS: [(&str, &str); 59] = [
+    ("$('.a').wrap('<p>');", "UnknownCall wrap 8"),
+    ("$('.a').append('<p>' + x);", "DynamicMarkup 15"),
+    ("$('#' + id).show();", "ComplexArgument 2"),
+    ("$(this).show();", "ThisOutside 2"),
+    ("$(box).show();", "UnboundName box 2"),
+    ("$('.a').end();", "UnknownForm 8"),
+    ("$('html').after('<p></p>');", "1:11 "),
+    ("var n = $('.a').length;", ""),
+    ("var e = $('.a')[0];", "UnknownForm 15"),
+    ("var e = $('.a') + 1;", "UnknownForm 16"),
+    ("var a = $('.a'); var b = a; b.addClass('x');", "1:31 "),
+    ("return\n$('.a').addClass('x');", "2:9 "),
+    ("$('.a', q)", "ComplexArgument 2"),
+    ("$(this}", "ThisOutside 2"),
+    ("$('.a').hide(1,)", "UnknownForm 15"),
+    ("$('.a').on(['click')", "UnknownForm 8"),
+    ("$('.a').on('click', '.b'", "UnknownForm 20"),
+    ("$('.a').length;", "UnknownCall length 8"),
+    ("$('.a').appendTo('.b')", "UnknownForm 8"),
+    ("var m = $('<p></p>');", "UnknownForm 20"),
+    ("$(document).click(f)", "UnknownForm 12"),
+    (
+        "var q = $('<p></p>').appendTo('.a'); q.addClass('b')",
+        "UnknownForm 38",
+    ),
+    (
+        "$('<p class=\"x\"></p><b></b>').prependTo('.b .c > d')",
+        "1:31 ",
+    ),
+    ("$('.a').append($(this))", "UnknownForm 15"),
+    ("$('.a').append($)", "UnknownForm 15"),
+    ("$('.a').append(this)", "DynamicMarkup 15"),
+    ("$('.a').append($('<p>'))", "1:9 "),
+    ("$('.a').click(g)", "UnknownForm 14"),
+    ("$('.a').addClass('')", "1:9 "),
+    ("$('.a').append('')", "1:9 "),
+    ("$('.a').html('text')", "1:9 "),
+    ("$('.a').val().addClass('x')", "1:15 "),
+    (
+        "if (a) if (b) $('.a').addClass('x'); else $('.b').addClass('y'); else { $('.c').addClass('z') }",
+        "1:23 1:51 1:81 ",
+    ),
+    (
+        "var a = $('.a').find('b').children().parent('p').parents().filter('.q').has('i').add('u > v, w').end().end(); a.toggleClass('k l  k', 1); a.prepend('<b>')",
+        "1:113 1:141 ",
+    ),
+    (
+        "var a = $('.a'), b = $('.b'), c = 3; a = b",
+        "UnknownForm 37",
+    ),
+    ("$('<p>').appendTo(d)", "UnboundName d 18"),
+    (
+        "var d = $(window); $('<p>').appendTo($(d))",
+        "ComplexArgument 37",
+    ),
+    (
+        "var d = $('.w'); $('<p>').appendTo($(d)); $('<p>').appendTo(d)",
+        "1:27 1:52 ",
+    ),
+    ("$('.a:hover').addClass('b')", "ComplexArgument 2"),
+    ("$('.a').find('.b .c')", "ComplexArgument 13"),
+    ("$.trim(x)", "UnknownCall trim 2"),
+    ("y = $.trim(x)", ""),
+    (
+        "$('.a').css('x').addClass('y'); var z = $('.a').css('x'); var w = $('.a').css({x: 1}); w.addClass('q'); z.addClass('r')",
+        "UnknownCall addClass 106",
+    ),
+    ("$('.a').text(this)", "ThisOutside 13"),
+    ("$('.a').toggleClass('a', b, c)", "UnknownForm 8"),
+    ("var a = $('.a'); x = a", ""),
+    (
+        "var a = $('.a'); x = a.addClass('b')",
+        "UnknownCall addClass 23",
+    ),
+    ("$()", "UnknownForm 2"),
+    ("$('.a').addClass('b'", "UnknownForm 20"),
+    ("$('.a').addClass(x)", "ComplexArgument 17"),
+    ("$('.a').addClass('b', 'c'", "UnknownForm 8"),
+    ("$('.a').foo", "UnknownCall foo 8"),
+    ("$('.a').hide;", "UnknownForm 12"),
+    (
+        "var q = $('<p></p>').appendTo('.a'); q\n.addClass('b')",
+        "UnknownForm 39",
+    ),
+    ("$('<p>').appendTo(this)", "ComplexArgument 18"),
+    ("$('<p>').appendTo($('.b'))", "ComplexArgument 18"),
+    ("$('<p>').appendTo($(document))", "ComplexArgument 18"),
+    ("$('<p>').appendTo('<p>')", "ComplexArgument 18"),
+    ("$('.a').append($(' <p>'))", "1:9 "),
+];
+
+// Functions, and what `this` and bound names are in them.
+static FUNCTIONS: [(&str, &str); 24] = [
+    (
+        "$('.btn').click(function(){ $('.m').addClass('open'); });",
+        "1:37 ",
+    ),
+    (
+        "$('.list').append('<li class=\"item\"></li>');\n$('.list').on('click', '.item', function(){ $(this).addClass('on'); });",
+        "1:12 2:53 ",
+    ),
+    ("x = function(){};", "UnknownForm 4"),
+    (
+        "var a = $('.a').click(function(){ a.hide(); });",
+        "UnknownCall hide 36",
+    ),
+    ("(function(){})(a, b)", "UnknownForm 16"),
+    ("click(function(){ foo(); }, 1)", "UnknownCall click 0"),
+    ("$('.a').click(function(){ foo(); }, 1)", "UnknownForm 8"),
+    ("function f(){} $('.a').click(f.b)", "UnknownForm 30"),
+    ("$('.a').animate({a: function(){}})", "UnknownForm 20"),
+    (
+        "$('.a').animate({a: 1}, function(){ $(this).addClass('z'); })",
+        "1:45 ",
+    ),
+    (
+        "jQuery(document).ready(function($){ $('.a').each(function(){ var t = $(this); t.find('p').hover(function(){ t.addClass('u') }, function(){ $(this).parent().addClass('w') }) }) })",
+        "ThisOutside 108",
+    ),
+    (
+        "$('.a').each(function(){ var t = $(this); $('.b').each(function(){ t.addClass('u') }) })",
+        "ThisOutside 67",
+    ),
+    (
+        "$('.a').each(function(){ var t = $(this); setTimeout(function(){ t.addClass('u') }, 10); })",
+        "1:68 ",
+    ),
+    (
+        "$('.a').each(function(){ setTimeout(function(){ $(this).addClass('u') }, 10); })",
+        "ThisOutside 50",
+    ),
+    (
+        "function f(a, b) { a.addClass('x') } f(1)",
+        "UnknownCall addClass 21",
+    ),
+    (
+        "var a = $('.a'); function f(a) { a.addClass('x') }",
+        "UnknownCall addClass 35",
+    ),
+    (
+        "$(document).on('click', '.x, .y', function(){ $(this).addClass('z') }).on('k', function(){ $(this).addClass('z') })",
+        "ThisOutside 93",
+    ),
+    (
+        "var d = $(document); d.on('x', function(){ $('.q').addClass('z') })",
+        "1:52 ",
+    ),
+    ("f = function(){ }", "UnknownForm 4"),
+    (
+        "$('.a').hide(function(){ $(this).addClass('b') }, 300, function(){ $('.c').addClass('d') }).addClass('e')",
+        "1:34 1:76 1:93 ",
+    ),
+    ("$('.a').each(function(){ x = this; })", ""),
+    ("$('.a').each(function(){ $(this} })", "UnknownForm 31"),
+    (
+        "$('.a').each(function(){ var t = $(this); function f(){ t.addClass('u') } })",
+        "1:59 ",
+    ),
+    ("var a = $('.a'); function a(){} a.addClass('x')", "1:35 "),
+];
+
+// A whole page's script.
+static SHOP: [(&str, &str); 1] = [(
+    "$(function () {\n  var tabs = $('.menu .tab');\n  tabs.find('a').click(function (e) {\n    e.preventDefault();\n    tabs.removeClass('active');\n    $(this).parent().addClass('active');\n  });\n  $('.login').on('submit', function () {\n    if ($('.field').val() === '') {\n      $(this).append('<div class=\"error\"><b class=\"text\">Empty</b></div>');\n      return false;\n    }\n    $('.modal').addClass('open').find('.body').html('<p class=\"hello\">Hi</p>');\n    $('.modal').fadeIn(200);\n  });\n  $('.login').on('click', '.error', function () {\n    $(this).fadeOut(200, function () { $(this).remove(); });\n  });\n  $('.error').parents('form').addClass('invalid');\n});\n",
+    "6:22 10:15 13:17 13:48 19:31 ",
+)];
+
+// The rows whose script reads otherwise, with what came.
+fn others(alloc: Global, rows: &[(&str, &str)]) -> Result<String, AllocError> {
+    let mut out = String::new(alloc);
+    for (text, expected) in rows {
+        let got = read(alloc, text)?;
+        if got.as_str() != *expected {
+            let other = format!(in alloc; "{text}: {got}\n")?;
+            out.push_str(&other)?;
+        }
+    }
+    Ok(out)
+}
+
+#[test]
+fn forms(rt: HostRuntime) -> Result<(), Fail> {
+    let others = others(rt.alloc(), &FORMS)?;
+    assert!(rt; others.is_empty(), "{others}");
+    Ok(())
+}
+
+#[test]
+fn chains(rt: HostRuntime) -> Result<(), Fail> {
+    let others = others(rt.alloc(), &CHAINS)?;
+    assert!(rt; others.is_empty(), "{others}");
+    Ok(())
+}
+
+#[test]
+fn functions(rt: HostRuntime) -> Result<(), Fail> {
+    let others = others(rt.alloc(), &FUNCTIONS)?;
+    assert!(rt; others.is_empty(), "{others}");
+    Ok(())
+}
+
+#[test]
+fn shop(rt: HostRuntime) -> Result<(), Fail> {
+    let others = others(rt.alloc(), &SHOP)?;
+    assert!(rt; others.is_empty(), "{others}");
+    Ok(())
+}
+
+// A front, a piece so many times, and an end.
+fn repeated(
+    alloc: Global,
+    front: &str,
+    piece: &str,
+    count: u32,
+    end: &str,
+) -> Result<String, AllocError> {
+    let mut text = String::from_str(alloc, front)?;
+    for _ in 0..count {
+        text.push_str(piece)?;
+    }
+    text.push_str(end)?;
+    Ok(text)
+}
+
+// The rows whose script reads otherwise: a front, a piece so many times, an end, and what is expected.
+fn other_sizes(
+    alloc: Global,
+    rows: &[(&str, &str, u32, &str, &str)],
+) -> Result<String, AllocError> {
+    let mut out = String::new(alloc);
+    for (front, piece, count, end, expected) in rows {
+        let text = repeated(alloc, front, piece, *count, end)?;
+        let got = read(alloc, &text)?;
+        if got.as_str() != *expected {
+            let other = format!(in alloc; "{piece} {count}: {got}\n")?;
+            out.push_str(&other)?;
+        }
+    }
+    Ok(out)
+}
+
+// At the limits on brackets and on calls, and past them.
+static DEPTHS: [(&str, &str, u32, &str, &str); 8] = [
+    ("", "{", 512, "", "UnknownForm 512"),
+    ("", "{", 513, "", "TooDeep 512"),
+    ("x = ", "(", 513, "", "TooDeep 516"),
+    ("$('.a')", ".children()", 512, ".addClass('b')", "1:5641 "),
+    (
+        "$('.a')",
+        ".children()",
+        513,
+        ".addClass('b')",
+        "TooLong 5651",
+    ),
+    ("", "{", 511, "$('<p>').appendTo($(this))", "TooDeep 530"),
+    (
+        "var d = $(document); ",
+        "{",
+        511,
+        "$('<p>').appendTo($(d))",
+        "ComplexArgument 550",
+    ),
+    (
+        "$('.a')",
+        ".children()",
+        513,
+        ".addClass('b'",
+        "UnknownForm 5663",
+    ),
+];
+
+// At the limit on nodes and past it, and conditions one in another.
+static COUNTS: [(&str, &str, u32, &str, &str); 3] = [
+    ("$('.a').append('", "<p>", 4096, "')", "1:9 "),
+    (
+        "$('.a').append('",
+        "<p>",
+        4097,
+        "')",
+        "TooManyForestNodes 15",
+    ),
+    ("", "if(a)", 10000, "", "UnknownForm 50000"),
+];
+
+#[test]
+fn depths(rt: HostRuntime) -> Result<(), Fail> {
+    let others = other_sizes(rt.alloc(), &DEPTHS)?;
+    assert!(rt; others.is_empty(), "{others}");
+    Ok(())
+}
+
+#[test]
+fn counts(rt: HostRuntime) -> Result<(), Fail> {
+    let others = other_sizes(rt.alloc(), &COUNTS)?;
+    assert!(rt; others.is_empty(), "{others}");
+    Ok(())
+}
+
+// Past the limit on statements.
+static STATEMENTS: [(&str, &str, u32, &str, &str); 1] = [(
+    "",
+    "$('.a').addClass('b');",
+    10001,
+    "",
+    "TooManyStatements 220008",
+)];
+
+#[test]
+fn statements(rt: HostRuntime) -> Result<(), Fail> {
+    let others = other_sizes(rt.alloc(), &STATEMENTS)?;
+    assert!(rt; others.is_empty(), "{others}");
+    Ok(())
+}
