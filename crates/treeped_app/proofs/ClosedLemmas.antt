@@ -10,7 +10,7 @@ use Rattle.tree_sem.specs.Order.{Before, rest_of}
 use Rattle.tree_sem.proofs.EditLemmas.{node_at-edit_at, edit_at-edit_at, edit_at-same, label_at-add_class_other}
 use Rattle.tree_sem.proofs.RestLemmas.{Before-irreflexive, rest_of-Contains}
 use Rattle.tree_sem.proofs.NodeLemmas.{Contains-paths_of}
-use Rattle.treeped_app.specs.declared.scripts.Rule.{Rule}
+use Rattle.treeped_app.specs.declared.rules.Rule.{Rule}
 use Rattle.treeped_app.specs.Closing.{label_after, IsClosure}
 use Rattle.treeped_app.specs.ClosedPages.{IsGrown, IsClosedPage}
 use Rattle.treeped_app.proofs.ClosingLemmas.{same_test, after_keeps}

@@ -7,7 +7,7 @@ use Rattle.std.proofs.lemmas.Option.{slice_get_within, get_or_from_slice_get}
 use Rattle.tp_base.proofs.NamesLemmas.{slice_get-append_left}
 use Rattle.tp_base.specs.Classes.{has_class, with_class}
 use Rattle.tp_base.proofs.ClassLemmas.{has_class-Contains, Contains-has_class, with_class-there, with_class-keeps, Contains-with_class}
-use Rattle.treeped_app.specs.declared.scripts.Rule.{Rule}
+use Rattle.treeped_app.specs.declared.rules.Rule.{Rule}
 use Rattle.treeped_app.specs.declared.closing.Closing.{Closing}
 use Rattle.treeped_app.specs.Closing.{with_given, label_after, AreFired, IsClosure, open_count, IsFollowed, IsLater}
 

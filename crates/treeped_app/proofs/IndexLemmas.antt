@@ -5,7 +5,7 @@ use Rattle.std.proofs.lemmas.List.{drop_all}
 use Rattle.std.proofs.lemmas.Option.{slice_get_within, slice_get_cases, get_or_from_slice_get}
 use Rattle.std.proofs.Math.Seq.{drop-cons}
 use Rattle.tp_base.proofs.NamesLemmas.{slice_get-append_left, slice_get-push}
-use Rattle.treeped_app.specs.declared.scripts.Rule.{Rule}
+use Rattle.treeped_app.specs.declared.rules.Rule.{Rule}
 use Rattle.treeped_app.specs.Closing.{IsFollowed}
 use Rattle.treeped_app.specs.declared.index.Index.{Index}
 use Rattle.treeped_app.specs.Indexes.{first_in, first_from, behind_of, IsIndex}

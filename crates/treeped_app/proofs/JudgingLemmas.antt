@@ -23,12 +23,12 @@ use Rattle.usage_report.specs.declared.answers.Answer as code_answer
 use Rattle.usage_report.specs.Answers.{Answer}
 use Rattle.usage_report.specs.Views.{answer_of}
 use Rattle.treeped_app.specs.declared.judging.TheConstants.{MOST_LISTED}
-use Rattle.treeped_app.specs.declared.scripts.Rule.{Rule}
+use Rattle.treeped_app.specs.declared.rules.Rule.{Rule}
 use Rattle.treeped_app.specs.declared.tracing.Turn.{Turn}
 use Rattle.treeped_app.specs.Answers.{IsWitness, listing, IsRight, AreRight}
 use Rattle.treeped_app.specs.ClosedPages.{HasAt, IsGrown, IsClosedPage}
 use Rattle.treeped_app.specs.Matching.{wanted_of, wanted_by}
-use Rattle.treeped_app.specs.Scripts.{statement_of}
+use Rattle.treeped_app.specs.Rules.{statement_of}
 use Rattle.treeped_app.specs.Traces.{step_of, steps_of, IsTraceTo}
 use Rattle.treeped_app.proofs.ClosedLemmas.{same_or_other}
 use Rattle.treeped_app.proofs.ClosingLemmas.{given_cases, after_keeps}

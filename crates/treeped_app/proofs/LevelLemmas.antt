@@ -7,9 +7,9 @@ use Rattle.tree_sem.specs.Trees.{LabelTree, label_at}
 use Rattle.tree_sem.specs.declared.actions.Step.{Step}
 use Rattle.jq_sem.specs.Statements.{Statement}
 use Rattle.jq_sem.specs.Reachability.{end_of}
-use Rattle.treeped_app.specs.declared.scripts.Rule.{Rule}
+use Rattle.treeped_app.specs.declared.rules.Rule.{Rule}
 use Rattle.treeped_app.specs.declared.tracing.Turn.{Turn}
-use Rattle.treeped_app.specs.Scripts.{statement_of}
+use Rattle.treeped_app.specs.Rules.{statement_of}
 use Rattle.treeped_app.specs.Closing.{with_given, label_after, Fires, AreFired, IsClosed, IsClosure}
 use Rattle.treeped_app.specs.ClosedPages.{HasAt, IsGrown, IsClosedPage}
 use Rattle.treeped_app.specs.Traces.{needed, step_of, steps_of, IsTraceTo}

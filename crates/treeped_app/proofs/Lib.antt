@@ -6,7 +6,7 @@ pub mod JudgingLemmas
 pub mod LevelLemmas
 pub mod LoadingLemmas
 pub mod MatchLemmas
-pub mod ScriptLoop
+pub mod RuleLemmas
 pub mod StepLemmas
 pub mod StopLemmas
 pub mod TraceLemmas

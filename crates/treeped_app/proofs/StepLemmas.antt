@@ -10,8 +10,8 @@ use Rattle.tree_sem.proofs.EditLemmas.{label_at-add_class, label_at-add_class_ot
 use Rattle.sel_core.specs.Selectors.{Fits}
 use Rattle.jq_sem.specs.Statements.{Statement}
 use Rattle.jq_sem.specs.Reachability.{IsLegal, after_step, end_of, AreLegal, EachChanges}
-use Rattle.treeped_app.specs.declared.scripts.Rule.{Rule}
-use Rattle.treeped_app.specs.Scripts.{statement_of}
+use Rattle.treeped_app.specs.declared.rules.Rule.{Rule}
+use Rattle.treeped_app.specs.Rules.{statement_of}
 use Rattle.treeped_app.specs.Closing.{with_given, label_after, Fires, AreFired}
 use Rattle.treeped_app.proofs.ClosingLemmas.{given_there}
 

@@ -5,7 +5,7 @@ use Rattle.std.proofs.lemmas.Option.{get_or_from_slice_get, slice_get_within}
 use Rattle.std.proofs.Math.Seq.{drop-cons}
 use Rattle.std.proofs.lemmas.List.{reverse-append}
 use Rattle.tp_base.specs.Classes.{has_class, with_class}
-use Rattle.treeped_app.specs.declared.scripts.Rule.{Rule}
+use Rattle.treeped_app.specs.declared.rules.Rule.{Rule}
 use Rattle.treeped_app.specs.Closing.{with_given, label_after, Fires, AreFired}
 use Rattle.treeped_app.specs.Traces.{Need, with_rule, needed}
 use Rattle.treeped_app.proofs.ClosingLemmas.{given_there, given_keeps, given_cases}

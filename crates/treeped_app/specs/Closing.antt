@@ -4,7 +4,7 @@
 --     IsClosure rules label l ns       the label becomes l by these statements, and no statement brings it more
 use Rattle.std.specs.Prelude.{◌≡◌, ℕ, suc, ◌+◌, ◌<◌, ◌≤◌, true, false, List, [], ◌∷◌, ◌++◌, length, if◌then◌else◌, Option, Some, None, IsSomeAnd, slice_get}
 use Rattle.tp_base.specs.Classes.{has_class, with_class}
-use Rattle.treeped_app.specs.declared.scripts.Rule.{Rule}
+use Rattle.treeped_app.specs.declared.rules.Rule.{Rule}
 use Rattle.treeped_app.specs.declared.closing.Closing.{Closing}
 
 -- the label with what a statement gives

@@ -1,5 +1,5 @@
 -- How the definitions see the three files.
-use Rattle.std.specs.Prelude.{◌≡◌, ℕ, List, Result, Ok, Err, Vec}
+use Rattle.std.specs.Prelude.{◌≡◌, ℕ, List, map, Result, Ok, Err, Vec}
 use Rattle.std.specs.declared.alloc.Global.{Global}
 use Rattle.tp_base.specs.Names.{Named}
 use Rattle.css_read.specs.Views.{sheet_of}
@@ -7,16 +7,14 @@ use Rattle.treeped_app.specs.declared.stops.Stop.{Stop}
 use Rattle.treeped_app.specs.declared.stops.Stop.TheVariants.{Unread, NoMemory}
 use Rattle.treeped_app.specs.declared.inputs.Texts.{Texts}
 use Rattle.treeped_app.specs.declared.inputs.Inputs.{Inputs}
-use Rattle.treeped_app.specs.Views.{script_of}
-use Rattle.treeped_app.specs.declared.scripts.Script.{Script}
+use Rattle.treeped_app.specs.Rules.{statement_of}
 use Rattle.treeped_app.specs.Runs as runs
-use Rattle.treeped_app.specs.Scripts as scripts
 
 abbrev pub texts_of : Texts → runs.Texts
 texts_of x = record { page = x.page.items; sheet = x.sheet.items; script = x.script.items }
 
 abbrev pub inputs_of : Inputs → runs.Inputs
-inputs_of i = record { tree = i.page; sheet = sheet_of i.sheet; stmts = (script_of i.script i.atoms).stmts; names = i.atoms }
+inputs_of i = record { tree = i.page; sheet = sheet_of i.sheet; stmts = map statement_of i.rules.items; names = i.atoms }
 
 abbrev pub loaded_text : Result (Vec ℕ Global) Stop → Result (List ℕ) Stop
 loaded_text (Ok v) = Ok v.items
@@ -32,13 +30,6 @@ IsOpened view read (Ok x) names = read ≡ Ok (view x, names)
 IsOpened view read (Err (Unread refusal)) names = read ≡ Err (Unread refusal)
 IsOpened view read (Err NoMemory) names = Unit {0}
 IsOpened view read (Err e) names = ⊥
-
--- the same for a script
-abbrev pub IsScript : Result scripts.Script Stop → Result Script Stop → List Named → Type 0
-IsScript read (Ok s) names = read ≡ Ok (script_of s names)
-IsScript read (Err (Unread refusal)) names = read ≡ Err (Unread refusal)
-IsScript read (Err NoMemory) names = Unit {0}
-IsScript read (Err e) names = ⊥
 
 -- what was read of all three, or why the run stops, unless memory ran out
 abbrev pub IsRead : Result runs.Inputs Stop → Result Inputs Stop → Type 0

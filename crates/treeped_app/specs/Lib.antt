@@ -1,15 +1,13 @@
 pub mod Answers
-pub mod Bytes
 pub mod ClosedPages
 pub mod Closing
 pub mod Commands
-pub mod Forms
 pub mod Indexes
 pub mod Inputs
 pub mod Matching
 pub mod Refusals
+pub mod Rules
 pub mod Runs
-pub mod Scripts
 pub mod Stops
 pub mod Traces
 pub mod Views

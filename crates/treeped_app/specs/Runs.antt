@@ -5,6 +5,7 @@
 use Rattle.std.specs.Prelude.{◌≡◌, ◌⊎◌, ℕ, ◌<◌, ◌≤◌, Bool, true, false, if◌then◌else◌, List, [], ◌∷◌, ◌++◌, length, map, take, Option, Some, None, IfSome, Result, Ok, Err}
 use Rattle.std.specs.List.{list_any}
 use Rattle.tp_base.specs.Names.{Named}
+use Rattle.tp_base.specs.declared.places.Place.{Place}
 use Rattle.tp_io.specs.Files.{Load}
 use Rattle.tp_io.specs.Sinks.{Adds, AddsPrefix, Rose}
 use Rattle.tp_io.specs.declared.files.TheConstants.{MOST_BYTES}
@@ -19,13 +20,13 @@ use Rattle.html_subset.specs.Reading.{read_page}
 use Rattle.css_read.specs.Sheets.{Sheet}
 use Rattle.css_read.specs.Reading.{read_sheet}
 use Rattle.jq_sem.specs.Statements.{Statement}
+use Rattle.jq_words.specs.Words.{Outcome}
+use Rattle.jq_read.specs.Script.{script}
 use Rattle.usage_report.specs.Answers.{Answer, unused}
 use Rattle.usage_report.specs.Report.{report}
 use Rattle.treeped_app.specs.Answers.{AreRight}
-use Rattle.treeped_app.specs.Forms.{Outcome, ◌>>=◌}
 use Rattle.treeped_app.specs.Refusals.{page_stop, sheet_stop, script_stop}
-use Rattle.treeped_app.specs.Scripts as scripts
-use Rattle.treeped_app.specs.Scripts.{read_script}
+use Rattle.treeped_app.specs.Rules.{first_other, not_yet_judged}
 use Rattle.treeped_app.specs.Words.{Names, command}
 
 -- the texts of the three files
@@ -46,17 +47,30 @@ abbrev pub read_as : {A E : Type 0} → (E → Stop) → List Named × Result A 
 read_as stop (names, Ok x) = Ok (x, names)
 read_as stop (names, Err e) = Err (stop e)
 
-abbrev pub read_script_as : Outcome scripts.Script → Result scripts.Script Stop
-read_script_as (Ok x) = Ok x
-read_script_as (Err e) = Err (script_stop e)
+-- a script's statements, which are judged so far, or the first one that isn't
+abbrev pub judged_or : List Named → List Statement → Option Place → Result (List Statement × List Named) Stop
+judged_or names ss None = Ok (ss, names)
+judged_or names ss (Some place) = Err (not_yet_judged place)
+
+abbrev pub all_judged : List Named → List Statement → Result (List Statement × List Named) Stop
+all_judged names ss = judged_or names ss (first_other ss)
+
+abbrev pub read_script_as : List ℕ → Outcome (List Statement × List Named) → Result (List Statement × List Named) Stop
+read_script_as text (Ok (ss, names)) = all_judged names ss
+read_script_as text (Err e) = Err (script_stop text e)
+
+infixl 10 ◌>>=◌
+abbrev pub ◌>>=◌ : {A B E : Type 0} → Result A E → (A → Result B E) → Result B E
+(Ok x) >>= f = f x
+(Err e) >>= f = Err e
 
 -- the page, the sheet and the script are read in this order, with one list of names
 unfoldable pub read_inputs : Texts → Result Inputs Stop
 read_inputs x = do
   p ← read_as (page_stop x.page) (read_page x.page [])
   s ← read_as (sheet_stop x.sheet) (read_sheet x.sheet p.1)
-  j ← read_script_as (read_script x.script s.1)
-  Ok (record { tree = p.0; sheet = s.0; stmts = j.stmts; names = j.names })
+  j ← read_script_as x.script (script x.script s.1)
+  Ok (record { tree = p.0; sheet = s.0; stmts = j.0; names = j.1 })
 
 -- The bytes that each name holds, where they are told.
 abbrev pub Told : Type 0

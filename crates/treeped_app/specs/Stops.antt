@@ -1,5 +1,5 @@
 -- How a run ends without its report, and the line that it says then on standard error.
-use Rattle.std.specs.Prelude.{ℕ, List, ◌++◌, codes}
+use Rattle.std.specs.Prelude.{ℕ, List, [], ◌++◌, codes}
 use Rattle.std.specs.Fmt.{decimal}
 use Rattle.tp_base.specs.declared.places.Place.{Place}
 use Rattle.usage_report.specs.declared.faults.ReportFault.{ReportFault}
@@ -10,7 +10,7 @@ use Rattle.treeped_app.specs.declared.refusals.Part.{Part}
 use Rattle.treeped_app.specs.declared.refusals.Part.TheVariants.{Page, Sheet, Script}
 use Rattle.treeped_app.specs.declared.refusals.Fault.{Fault}
 use Rattle.treeped_app.specs.declared.refusals.Fault.TheVariants as fault
-use Rattle.treeped_app.specs.declared.refusals.Refusal.TheVariants.{At, NotYetRead}
+use Rattle.treeped_app.specs.declared.refusals.Refusal.{Refusal}
 use Rattle.treeped_app.specs.declared.stops.Stop.{Stop}
 use Rattle.treeped_app.specs.declared.stops.Stop.TheVariants.{Words, TooLarge, ReadFault, Unread, WriteFault, NoMemory}
 
@@ -41,28 +41,48 @@ part_text Page = codes "page"
 part_text Sheet = codes "sheet"
 part_text Script = codes "script"
 
+-- what is wrong, up to a name
 abbrev pub fault_text : Fault → List ℕ
 fault_text fault.NotUtf8 = codes "not utf-8"
 fault_text fault.TooDeep = codes "too deep"
 fault_text fault.TooManyNodes = codes "too many nodes"
 fault_text fault.TooManyAtoms = codes "too many atoms"
 fault_text fault.TooManySelectors = codes "too many selectors"
+fault_text fault.BadString = codes "bad string"
+fault_text fault.Regexp = codes "regular expression"
+fault_text fault.Template = codes "template"
+fault_text fault.BadByte = codes "bad byte"
+fault_text fault.UnknownForm = codes "unknown form"
+fault_text fault.ComplexArgument = codes "complex argument"
+fault_text fault.DynamicMarkup = codes "dynamic markup"
+fault_text fault.ThisOutside = codes "this outside a handler"
+fault_text (fault.UnboundName name) = codes "unbound name "
+fault_text (fault.UnknownCall name) = codes "unknown call "
+fault_text fault.TooLong = codes "too long"
+fault_text fault.TooManyStatements = codes "too many statements"
+fault_text fault.TooManyForestNodes = codes "too many forest nodes"
+fault_text fault.NotYetJudged = codes "not yet judged"
 
-abbrev pub fault_line : Part → Fault → Place → List ℕ
-fault_line part f place =
-    codes "treeped: " ++ part_text part ++ codes ": " ++ fault_text f ++ codes " at " ++ decimal place.line ++ codes ":" ++ decimal place.column ++ codes "\n"
+-- the name that it has
+abbrev pub name_in : Fault → List ℕ
+name_in (fault.UnboundName name) = name
+name_in (fault.UnknownCall name) = name
+name_in _ = []
+
+abbrev pub refusal_line : Refusal → List ℕ
+refusal_line r =
+    codes "treeped: " ++ part_text r.part ++ codes ": " ++ fault_text r.fault ++ name_in r.fault ++ codes " at " ++ decimal r.place.line ++ codes ":" ++ decimal r.place.column ++ codes "\n"
 
 -- each line ends with LF
 abbrev pub line_of : Stop → List ℕ
 line_of Words = codes "usage: treeped PAGE SHEET SCRIPT\n"
 line_of (TooLarge part) = codes "treeped: " ++ part_text part ++ codes ": too large\n"
 line_of (ReadFault part) = codes "treeped: " ++ part_text part ++ codes ": read fault\n"
-line_of (Unread (At part f place)) = fault_line part f place
-line_of (Unread NotYetRead) = codes "treeped: script: not yet read\n"
+line_of (Unread refusal) = refusal_line refusal
 line_of WriteFault = codes "treeped: write fault\n"
 line_of NoMemory = codes "treeped: no memory\n"
 
 -- a stop whose line has no place
 abbrev pub IsFixed : Stop → Type 0
-IsFixed (Unread (At part f place)) = ⊥
+IsFixed (Unread refusal) = ⊥
 IsFixed _ = Unit {0}

@@ -8,9 +8,9 @@ use Rattle.tp_base.specs.Classes.{has_class, with_class}
 use Rattle.tree_sem.specs.declared.actions.Step.{Step}
 use Rattle.tree_sem.specs.Trees.{LabelTree, label_at}
 use Rattle.jq_sem.specs.Reachability.{end_of, AreLegal, EachChanges}
-use Rattle.treeped_app.specs.declared.scripts.Rule.{Rule}
+use Rattle.treeped_app.specs.declared.rules.Rule.{Rule}
 use Rattle.treeped_app.specs.ClosedPages.{HasAt}
-use Rattle.treeped_app.specs.Scripts.{statement_of}
+use Rattle.treeped_app.specs.Rules.{statement_of}
 use Rattle.treeped_app.specs.declared.tracing.Turn.{Turn}
 
 pub record Need : Type 0 where

@@ -1,12 +1,13 @@
 //! The page with all that the statements bring to its nodes.
 ghost use Rattle.std.specs.Prelude.{◌≡◌, ◌≢◌, ◌≤◌, ℕ, List, length, IfOk, OnOk, IsSome};
 ghost use Rattle.tree_sem.specs.Trees.{node_at, label_at};
+ghost use Rattle.jq_words.specs.declared.faults.TheConstants.{MOST_STATEMENTS};
 ghost use Rattle.treeped_app.specs.ClosedPages.{IsClosedPage, IsGrown};
 ghost use Rattle.treeped_app.specs.Indexes.{IsIndex};
 
 use crate::closing::close;
 use crate::index::Index;
-use crate::scripts::{MOST_STATEMENTS, Rule};
+use crate::rules::Rule;
 use std::alloc::Global;
 use tp_base::{NoMemory, Path};
 use tree_sem::{Tree, go_on};

@@ -1,11 +1,12 @@
 //! What the statements of a script bring to one node.
 ghost use Rattle.std.specs.Prelude.{◌≡◌, ◌<◌, ◌≤◌, [], true, length, IfOk, OnOk, Some, slice_get, option_map};
 ghost use Rattle.tp_base.specs.Classes.{has_class};
+ghost use Rattle.jq_words.specs.declared.faults.TheConstants.{MOST_STATEMENTS};
 ghost use Rattle.treeped_app.specs.Closing.{IsClosure, IsFollowed, IsLater};
 ghost use Rattle.treeped_app.specs.Indexes.{IsIndex};
 
 use crate::index::Index;
-use crate::scripts::{MOST_STATEMENTS, Rule};
+use crate::rules::Rule;
 use std::alloc::Global;
 use tp_base::{Atom, ClassSet, NoMemory};
 

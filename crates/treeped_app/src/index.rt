@@ -2,9 +2,10 @@
 ghost use Rattle.std.specs.Prelude.{◌≡◌, ◌≤◌, ◌<◌, ◌==◌, ◌++◌, [], ◌∷◌, ℕ, if◌then◌else◌, Some, length, IfOk, OnOk};
 ghost use Rattle.std.specs.Ordering.{nat_cmp};
 ghost use Rattle.std.specs.BTreeMap.{get};
+ghost use Rattle.jq_words.specs.declared.faults.TheConstants.{MOST_STATEMENTS};
 ghost use Rattle.treeped_app.specs.Indexes.{IsIndex, behind_of};
 
-use crate::scripts::{MOST_STATEMENTS, Rule};
+use crate::rules::Rule;
 use std::alloc::Global;
 use std::collections::BTreeMap;
 use tp_base::{Atom, NoMemory};

@@ -1,22 +1,25 @@
 //! The three files: loaded, and read.
-ghost use Rattle.std.specs.Prelude.{◌≡◌, ◌≤◌, length, IfOk, vec_len};
+ghost use Rattle.std.specs.Prelude.{◌≡◌, ◌≤◌, length, map, IfOk, vec_len};
 ghost use Rattle.tp_io.specs.declared.files.TheConstants.{MOST_BYTES};
 ghost use Rattle.treeped_app.specs.Runs as spec;
 ghost use Rattle.treeped_app.specs.Runs.{OneLoaded, Loaded};
 ghost use Rattle.html_subset.specs.Reading as html;
 ghost use Rattle.css_read.specs.Reading as css;
 ghost use Rattle.css_read.specs.Views.{sheet_of};
-ghost use Rattle.treeped_app.specs.Inputs.{IsOpened, IsRead, IsScript, loaded_text, loaded_texts, texts_of};
+ghost use Rattle.jq_words.specs.declared.faults.TheConstants.{MOST_STATEMENTS};
+ghost use Rattle.jq_read.specs.Script.{script};
+ghost use Rattle.treeped_app.specs.Inputs.{IsOpened, IsRead, loaded_text, loaded_texts, texts_of};
 ghost use Rattle.treeped_app.specs.Refusals.{page_stop, sheet_stop};
-ghost use Rattle.treeped_app.specs.Scripts as scripts;
-ghost use Rattle.treeped_app.specs.Views.{names_of, script_of};
+ghost use Rattle.treeped_app.specs.Rules.{statement_of};
+ghost use Rattle.treeped_app.specs.Views.{names_of};
 
 use crate::refusals::Part;
-use crate::scripts::{MOST_STATEMENTS, Script, read_script};
+use crate::rules::{Rule, rules_of};
 use crate::stops::{Stop, page_stop, script_stop, sheet_stop};
 use crate::words::Names;
 use css_read::{Sheet, read_sheet};
 use html_subset::read_page;
+use jq_read::read_script;
 use std::alloc::Global;
 use tp_base::AtomTable;
 use tp_io::{Files, LoadFault};
@@ -35,7 +38,7 @@ pub(crate) struct Texts {
 pub(crate) struct Inputs {
     pub(crate) page: Tree,
     pub(crate) sheet: Sheet,
-    pub(crate) script: Script,
+    pub(crate) rules: Vec<Rule>,
     pub(crate) atoms: AtomTable,
 }
 
@@ -79,16 +82,16 @@ pub(crate) fn read_all(alloc: Global, texts: &Texts) -> Result<Inputs, Stop>
     requires sheet { vec_len texts.now.sheet ≤ MOST_BYTES }
     requires script { vec_len texts.now.script ≤ MOST_BYTES }
     ensures read { IsRead (spec.read_inputs (texts_of texts.now)) result }
-    ensures few { IfOk result (λ i. vec_len i.script.rules ≤ MOST_STATEMENTS) }
+    ensures few { IfOk result (λ i. vec_len i.rules ≤ MOST_STATEMENTS) }
 {
     let mut atoms = AtomTable::new(alloc);
     let page = open_page(alloc, &texts.page, &mut atoms)?;
     let sheet = open_sheet(alloc, &texts.sheet, &mut atoms)?;
-    let script = open_script(alloc, &texts.script, &mut atoms)?;
+    let rules = open_script(alloc, &texts.script, &mut atoms)?;
     Ok(Inputs {
         page,
         sheet,
-        script,
+        rules,
         atoms,
     })
 }
@@ -115,14 +118,15 @@ fn open_sheet(alloc: Global, text: &[u8], atoms: &mut AtomTable) -> Result<Sheet
     }
 }
 
-/// What was read of a script, or why the run stops at it.
-fn open_script(alloc: Global, text: &[u8], atoms: &mut AtomTable) -> Result<Script, Stop>
+/// The rules of a script's statements, or why the run stops at it.
+#[tactic(auto, using(crate::proofs::RuleLemmas::not_opened, crate::proofs::RuleLemmas::few_rules))]
+fn open_script(alloc: Global, text: &[u8], atoms: &mut AtomTable) -> Result<Vec<Rule>, Stop>
     requires { length text.now ≤ MOST_BYTES }
-    ensures opened { IsScript (spec.read_script_as (scripts.read_script text.now atoms.old)) result atoms.new }
-    ensures few { IfOk result (λ s. vec_len s.rules ≤ MOST_STATEMENTS) }
+    ensures opened { IsOpened (λ v. map statement_of v.items) (spec.read_script_as text.now (script text.now atoms.old)) result atoms.new }
+    ensures few { IfOk result (λ v. vec_len v ≤ MOST_STATEMENTS) }
 {
     match read_script(alloc, text, atoms) {
-        Ok(script) => Ok(script),
-        Err(fault) => Err(script_stop(fault)),
+        Ok(statements) => rules_of(alloc, &statements),
+        Err(fault) => Err(script_stop(text, fault)),
     }
 }

@@ -1,16 +1,14 @@
 //! The command `treeped`: from its words and three files to a report.
 #![tactic(auto)]
 
-mod bytes;
 mod closed_page;
 mod closing;
-mod form_fault;
 mod index;
 mod inputs;
 mod judging;
 mod refusals;
+mod rules;
 mod runs;
-mod scripts;
 mod status;
 mod stops;
 mod tracing;

@@ -1,4 +1,5 @@
 //! What in the three files is refused.
+use js_scan::Letters;
 use tp_base::Place;
 
 /// One of the three files.
@@ -10,18 +11,34 @@ pub enum Part {
 }
 
 /// What is wrong at a place of a file.
-#[derive(Clone, Copy, Debug, PartialEq, Eq)]
+#[derive(Debug, Drop)]
 pub enum Fault {
     NotUtf8,
     TooDeep,
     TooManyNodes,
     TooManyAtoms,
     TooManySelectors,
+    BadString,
+    Regexp,
+    Template,
+    BadByte,
+    UnknownForm,
+    ComplexArgument,
+    DynamicMarkup,
+    ThisOutside,
+    UnboundName(Letters),
+    UnknownCall(Letters),
+    TooLong,
+    TooManyStatements,
+    TooManyForestNodes,
+    /// A statement that is read, and not judged so far.
+    NotYetJudged,
 }
 
-/// Why a file is not read: something is wrong at a place; or it is a script that is not of a form that is read yet.
-#[derive(Clone, Copy, Debug, PartialEq, Eq)]
-pub enum Refusal {
-    At(Part, Fault, Place),
-    NotYetRead,
+/// Why a file is refused: which one, what is wrong, and where.
+#[derive(Debug, Drop)]
+pub struct Refusal {
+    pub part: Part,
+    pub fault: Fault,
+    pub place: Place,
 }

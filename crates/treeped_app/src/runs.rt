@@ -2,16 +2,17 @@
 ghost use Rattle.std.specs.Prelude.{◌≡◌, ◌≤◌, map, string_bytes, vec_len, IfOk};
 ghost use Rattle.std.specs.List.{list_any};
 ghost use Rattle.treeped_app.specs.Runs as spec;
-ghost use Rattle.treeped_app.specs.Scripts.{statement_of};
+ghost use Rattle.treeped_app.specs.Rules.{statement_of};
 ghost use Rattle.treeped_app.specs.Runs.{Ends, Written, put_of, run_of};
 ghost use Rattle.treeped_app.specs.Inputs.{inputs_of, texts_of};
 ghost use Rattle.treeped_app.specs.Commands.{Headline, IsEnded, SaysWhy, Causes};
 ghost use Rattle.usage_report.specs.Views.{answer_of};
+ghost use Rattle.jq_words.specs.declared.faults.TheConstants.{MOST_STATEMENTS};
 ghost use Rattle.tp_base.specs.declared.places.TheConstants.{MOST_BYTES};
 
 use crate::inputs::{Inputs, Texts, load_all, read_all};
 use crate::judging::judge;
-use crate::scripts::{MOST_STATEMENTS, Rule};
+use crate::rules::Rule;
 use crate::status::Status;
 use crate::stops::{Stop, tell};
 use crate::words::read_words;
@@ -46,7 +47,7 @@ pub fn treeped<F: Files, O: Sink, E: Sink>(
 {
     match run(alloc, words, files, out) {
         Ok(status) => status,
-        Err(stop) => tell(alloc, stop, err),
+        Err(stop) => tell(alloc, &stop, err),
     }
 }
 
@@ -74,12 +75,12 @@ fn report<O: Sink>(
     out: &mut O,
 ) -> Result<Status, Stop>
     requires in_limit { vec_len texts.now.sheet ≤ MOST_BYTES }
-    requires few { vec_len inputs.now.script.rules ≤ MOST_STATEMENTS }
+    requires few { vec_len inputs.now.rules ≤ MOST_STATEMENTS }
     ensures { Written (texts_of texts.now) (inputs_of inputs.now)
         (put_of (O.written out.old) (O.written out.new) (O.faults out.old) (O.faults out.new)) result }
 {
-    let answers = judge(alloc, &inputs.page, &inputs.sheet, &inputs.script.rules)?;
-    let places = places_of(alloc, &inputs.script.rules)?;
+    let answers = judge(alloc, &inputs.page, &inputs.sheet, &inputs.rules)?;
+    let places = places_of(alloc, &inputs.rules)?;
     write_report(
         alloc,
         &inputs.sheet,

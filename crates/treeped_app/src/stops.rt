@@ -8,18 +8,19 @@ ghost use Rattle.treeped_app.specs.Refusals as refusal;
 ghost use Rattle.treeped_app.specs.Runs.{put_of};
 ghost use Rattle.treeped_app.specs.Stops as spec;
 
-use crate::form_fault::FormFault;
 use crate::refusals::{Fault, Part, Refusal};
 use crate::status::Status;
 use css_read::SheetFault;
 use html_subset::PageFault;
+use jq_read::ScriptFault;
+use js_scan::ScanFault;
 use std::alloc::Global;
-use tp_base::{NoMemory, Place};
+use tp_base::NoMemory;
 use tp_io::{Sink, SinkFault, put_all};
 use usage_report::{Cursor, ReportFault};
 
 /// Why a run ends without its whole report.
-#[derive(Clone, Copy, Debug, PartialEq, Eq)]
+#[derive(Debug, Drop)]
 pub enum Stop {
     Words,
     TooLarge(Part),
@@ -81,13 +82,48 @@ pub(crate) fn sheet_stop(text: &[u8], fault: SheetFault) -> Stop
     }
 }
 
-/// Why a run stops at a script that is not read.
-pub(crate) fn script_stop(fault: FormFault) -> Stop
-    ensures { result ≡ refusal.script_stop fault }
+/// Why a run stops at a script of this text that is not read. Linear in the text.
+pub(crate) fn script_stop(text: &[u8], fault: ScriptFault) -> Stop
+    requires { length text.now ≤ MOST_BYTES }
+    ensures { result ≡ refusal.script_stop text.now fault }
 {
     match fault {
-        FormFault::NotYetRead => Stop::Unread(Refusal::NotYetRead),
-        FormFault::Memory => Stop::NoMemory,
+        ScriptFault::Scan(fault) => scan_stop(text, fault),
+        ScriptFault::UnknownCall(name, at) => {
+            stop_at(Part::Script, Fault::UnknownCall(name), text, at)
+        }
+        ScriptFault::UnknownForm(at) => stop_at(Part::Script, Fault::UnknownForm, text, at),
+        ScriptFault::ComplexArgument(at) => stop_at(Part::Script, Fault::ComplexArgument, text, at),
+        ScriptFault::DynamicMarkup(at) => stop_at(Part::Script, Fault::DynamicMarkup, text, at),
+        ScriptFault::ThisOutside(at) => stop_at(Part::Script, Fault::ThisOutside, text, at),
+        ScriptFault::UnboundName(name, at) => {
+            stop_at(Part::Script, Fault::UnboundName(name), text, at)
+        }
+        ScriptFault::TooLong(at) => stop_at(Part::Script, Fault::TooLong, text, at),
+        ScriptFault::TooDeep(at) => stop_at(Part::Script, Fault::TooDeep, text, at),
+        ScriptFault::TooManyStatements(at) => {
+            stop_at(Part::Script, Fault::TooManyStatements, text, at)
+        }
+        ScriptFault::TooManyForestNodes(at) => {
+            stop_at(Part::Script, Fault::TooManyForestNodes, text, at)
+        }
+        ScriptFault::TooManyAtoms(at) => stop_at(Part::Script, Fault::TooManyAtoms, text, at),
+        ScriptFault::Memory => Stop::NoMemory,
+    }
+}
+
+/// The same where the tokens of the script can't be told.
+fn scan_stop(text: &[u8], fault: ScanFault) -> Stop
+    requires { length text.now ≤ MOST_BYTES }
+    ensures { result ≡ refusal.scan_stop text.now fault }
+{
+    match fault {
+        ScanFault::NotUtf8(at) => stop_at(Part::Script, Fault::NotUtf8, text, at),
+        ScanFault::BadString(at) => stop_at(Part::Script, Fault::BadString, text, at),
+        ScanFault::Regexp(at) => stop_at(Part::Script, Fault::Regexp, text, at),
+        ScanFault::Template(at) => stop_at(Part::Script, Fault::Template, text, at),
+        ScanFault::BadByte(at) => stop_at(Part::Script, Fault::BadByte, text, at),
+        ScanFault::Memory => Stop::NoMemory,
     }
 }
 
@@ -96,12 +132,12 @@ fn stop_at(part: Part, fault: Fault, text: &[u8], at: usize) -> Stop
     ensures { result ≡ refusal.stop_at part fault text.now at }
 {
     let place = Cursor::new().place_at(text, at);
-    Stop::Unread(Refusal::At(part, fault, place))
+    Stop::Unread(Refusal { part, fault, place })
 }
 
 impl Stop {
-    pub(crate) fn status(self) -> Status
-        ensures { result ≡ spec.status_of_stop self }
+    pub(crate) fn status(&self) -> Status
+        ensures { result ≡ spec.status_of_stop self.now }
     {
         match self {
             Stop::Words => Status::Words,
@@ -113,18 +149,18 @@ impl Stop {
     }
 
     /// What is said on standard error.
-    fn line(self, alloc: Global) -> Result<Vec<u8>, NoMemory>
-        ensures { IfOk result (λ line. line.items ≡ spec.line_of self) }
+    fn line(&self, alloc: Global) -> Result<Vec<u8>, NoMemory>
+        ensures { IfOk result (λ line. line.items ≡ spec.line_of self.now) }
     {
         match self {
-            Stop::Unread(Refusal::At(part, fault, place)) => fault_line(alloc, part, fault, place),
+            Stop::Unread(refusal) => refusal_line(alloc, refusal),
             _ => Ok(Vec::from_slice(alloc, self.fixed_line())?),
         }
     }
 
     /// The line of a stop that has no place.
-    fn fixed_line(self) -> &'static [u8]
-        ensures { spec.IsFixed self → result.now ≡ spec.line_of self }
+    fn fixed_line(&self) -> &'static [u8]
+        ensures { spec.IsFixed self.now → result.now ≡ spec.line_of self.now }
     {
         match self {
             Stop::Words => b"usage: treeped PAGE SHEET SCRIPT\n",
@@ -134,7 +170,7 @@ impl Stop {
             Stop::ReadFault(Part::Page) => b"treeped: page: read fault\n",
             Stop::ReadFault(Part::Sheet) => b"treeped: sheet: read fault\n",
             Stop::ReadFault(Part::Script) => b"treeped: script: read fault\n",
-            Stop::Unread(_) => b"treeped: script: not yet read\n",
+            Stop::Unread(_) => b"",
             Stop::WriteFault => b"treeped: write fault\n",
             Stop::NoMemory => b"treeped: no memory\n",
         }
@@ -143,18 +179,19 @@ impl Stop {
 
 /// `treeped: page: too deep at 1:2556`, say.
 #[tactic(auto, using(std::proofs::Common::append_assoc))]
-fn fault_line(alloc: Global, part: Part, fault: Fault, place: Place) -> Result<Vec<u8>, NoMemory>
-    ensures { IfOk result (λ line. line.items ≡ spec.fault_line part fault place) }
+fn refusal_line(alloc: Global, refusal: &Refusal) -> Result<Vec<u8>, NoMemory>
+    ensures { IfOk result (λ line. line.items ≡ spec.refusal_line refusal.now) }
 {
     let mut line = Vec::new(alloc);
     line.extend_from_slice(b"treeped: ")?;
-    line.extend_from_slice(part_text(part))?;
+    line.extend_from_slice(part_text(refusal.part))?;
     line.extend_from_slice(b": ")?;
-    line.extend_from_slice(fault_text(fault))?;
+    line.extend_from_slice(fault_text(&refusal.fault))?;
+    line.extend_from_slice(name_in(&refusal.fault))?;
     line.extend_from_slice(b" at ")?;
-    put_number(&mut line, place.line)?;
+    put_number(&mut line, refusal.place.line)?;
     line.extend_from_slice(b":")?;
-    put_number(&mut line, place.column)?;
+    put_number(&mut line, refusal.place.column)?;
     line.extend_from_slice(b"\n")?;
     Ok(line)
 }
@@ -177,8 +214,9 @@ fn part_text(part: Part) -> &'static [u8]
     }
 }
 
-fn fault_text(fault: Fault) -> &'static [u8]
-    ensures { result.now ≡ spec.fault_text fault }
+/// What is wrong, up to a name.
+fn fault_text(fault: &Fault) -> &'static [u8]
+    ensures { result.now ≡ spec.fault_text fault.now }
 {
     match fault {
         Fault::NotUtf8 => b"not utf-8",
@@ -186,12 +224,37 @@ fn fault_text(fault: Fault) -> &'static [u8]
         Fault::TooManyNodes => b"too many nodes",
         Fault::TooManyAtoms => b"too many atoms",
         Fault::TooManySelectors => b"too many selectors",
+        Fault::BadString => b"bad string",
+        Fault::Regexp => b"regular expression",
+        Fault::Template => b"template",
+        Fault::BadByte => b"bad byte",
+        Fault::UnknownForm => b"unknown form",
+        Fault::ComplexArgument => b"complex argument",
+        Fault::DynamicMarkup => b"dynamic markup",
+        Fault::ThisOutside => b"this outside a handler",
+        Fault::UnboundName(_) => b"unbound name ",
+        Fault::UnknownCall(_) => b"unknown call ",
+        Fault::TooLong => b"too long",
+        Fault::TooManyStatements => b"too many statements",
+        Fault::TooManyForestNodes => b"too many forest nodes",
+        Fault::NotYetJudged => b"not yet judged",
+    }
+}
+
+/// The name that it has.
+fn name_in(fault: &Fault) -> &[u8]
+    ensures { result.now ≡ spec.name_in fault.now }
+{
+    match fault {
+        Fault::UnboundName(name) => name.items(),
+        Fault::UnknownCall(name) => name.items(),
+        _ => b"",
     }
 }
 
 /// Says on standard error why a run ends, and answers its status.
-pub(crate) fn tell<E: Sink>(alloc: Global, stop: Stop, err: &mut E) -> Status
-    ensures tells { Tells stop (put_of (E.written err.old) (E.written err.new) (E.faults err.old) (E.faults err.new)) result }
+pub(crate) fn tell<E: Sink>(alloc: Global, stop: &Stop, err: &mut E) -> Status
+    ensures tells { Tells stop.now (put_of (E.written err.old) (E.written err.new) (E.faults err.old) (E.faults err.new)) result }
     ensures why { SaysWhy E.wants_memory (put_of (E.written err.old) (E.written err.new) (E.faults err.old) (E.faults err.new)) result }
 {
     match stop {
@@ -202,26 +265,26 @@ pub(crate) fn tell<E: Sink>(alloc: Global, stop: Stop, err: &mut E) -> Status
 }
 
 /// Says the line of a stop, or why it can't.
-fn say<E: Sink>(alloc: Global, stop: Stop, err: &mut E) -> Status
-    ensures says { Says stop (put_of (E.written err.old) (E.written err.new) (E.faults err.old) (E.faults err.new)) result }
+fn say<E: Sink>(alloc: Global, stop: &Stop, err: &mut E) -> Status
+    ensures says { Says stop.now (put_of (E.written err.old) (E.written err.new) (E.faults err.old) (E.faults err.new)) result }
     ensures why { SaysWhy E.wants_memory (put_of (E.written err.old) (E.written err.new) (E.faults err.old) (E.faults err.new)) result }
 {
     let Ok(line) = stop.line(alloc) else {
-        return say_last(Stop::NoMemory, err);
+        return say_last(&Stop::NoMemory, err);
     };
     match put_all(err, &line) {
         Ok(()) => stop.status(),
-        Err(SinkFault::Failed) => say_last(Stop::WriteFault, err),
-        Err(SinkFault::Memory) => say_last(Stop::NoMemory, err),
+        Err(SinkFault::Failed) => say_last(&Stop::WriteFault, err),
+        Err(SinkFault::Memory) => say_last(&Stop::NoMemory, err),
     }
 }
 
 /// Says what it can of a line without a place: a fault changes nothing any more.
-fn say_last<E: Sink>(stop: Stop, err: &mut E) -> Status
-    requires { spec.IsFixed stop }
-    ensures status { result ≡ spec.status_of_stop stop }
-    ensures line { AddsPrefix (E.written err.old) (E.written err.new) (spec.line_of stop) }
-    ensures whole { SaysWhole E.wants_memory stop (put_of (E.written err.old) (E.written err.new) (E.faults err.old) (E.faults err.new)) }
+fn say_last<E: Sink>(stop: &Stop, err: &mut E) -> Status
+    requires { spec.IsFixed stop.now }
+    ensures status { result ≡ spec.status_of_stop stop.now }
+    ensures line { AddsPrefix (E.written err.old) (E.written err.new) (spec.line_of stop.now) }
+    ensures whole { SaysWhole E.wants_memory stop.now (put_of (E.written err.old) (E.written err.new) (E.faults err.old) (E.faults err.new)) }
     ensures never_falls { E.faults err.old ≤ E.faults err.new }
 {
     let _ = put_all(err, stop.fixed_line());

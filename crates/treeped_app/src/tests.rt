@@ -49,12 +49,7 @@ const REFUSED: Case = Case {
     ..PLAIN
 };
 
-const NO_SCRIPT: Case = Case {
-    err: "treeped: script: not yet read\n",
-    ..REFUSED
-};
-
-static CASES: [Case; 31] = [
+static CASES: [Case; 28] = [
     PLAIN,
     Case { most: 1, ..PLAIN },
     Case {
@@ -191,8 +186,9 @@ static CASES: [Case; 31] = [
         ..PLAIN
     },
     Case {
-        texts: ["", "a{}a{}\n\u{feff}{", "x"],
-        ..NO_SCRIPT
+        texts: ["", "a{}a{}\n\u{feff}{", "while (x) {}"],
+        err: "treeped: script: unknown form at 1:1\n",
+        ..REFUSED
     },
     Case {
         texts: [
@@ -234,83 +230,171 @@ static CASES: [Case; 31] = [
         ..PLAIN
     },
     Case {
-        texts: ["", "", "x"],
-        ..NO_SCRIPT
+        texts: [
+            "<p class=\"a\"></p>",
+            ".a.b{} .b .a{}",
+            "$('.a').addClass('b')",
+        ],
+        status: 1,
+        out: "treeped 1\n1:1 used 1 .a.b\n  1 at 1:9 on /1/0\n  match /1/0\n1:8 unused .b .a\n",
+        ..PLAIN
     },
     Case {
-        texts: ["", "", "$(\".a\").addClass(\"b\")"],
-        ..NO_SCRIPT
-    },
-    Case {
-        texts: ["", "", "$('.a').addClass('b');"],
-        ..NO_SCRIPT
-    },
-    Case {
-        texts: ["", "", "$(\".1\").addClass(\"b\");"],
-        ..NO_SCRIPT
-    },
-    Case {
-        texts: ["", "", "$(\".a \").addClass(\"b\");"],
-        ..NO_SCRIPT
+        texts: [
+            "<p id=\"i\"></p>",
+            ".x.y{} .z{}",
+            "var p = jQuery('p');\nif (p.is('.z')) { p.addClass('x') } else { $('#i').show().addClass('y') }",
+        ],
+        status: 1,
+        out: "treeped 1\n1:1 used 2 .x.y\n  1 at 2:21 on /1/0\n  2 at 2:59 on /1/0\n  match /1/0\n1:8 unused .z\n",
+        ..PLAIN
     },
 ];
 
-/// Pieces of a page and of a sheet, each so many times, and what is said of them.
+/// Scripts that are refused, beside the page with its own class, and what is said of them.
+static SCRIPTS: [(&str, &str); 14] = [
+    (
+        "$('.a').wrap('<p>');",
+        "treeped: script: unknown call wrap at 1:9\n",
+    ),
+    (
+        "$('.a').append('<p>' + x);",
+        "treeped: script: dynamic markup at 1:16\n",
+    ),
+    (
+        "$('#' + id).show();",
+        "treeped: script: complex argument at 1:3\n",
+    ),
+    (
+        "$(this).show();",
+        "treeped: script: this outside a handler at 1:3\n",
+    ),
+    (
+        "$(box).show();",
+        "treeped: script: unbound name box at 1:3\n",
+    ),
+    (
+        "var r = /a/;",
+        "treeped: script: regular expression at 1:9\n",
+    ),
+    ("$('.a').end();", "treeped: script: unknown form at 1:9\n"),
+    ("x = 'a", "treeped: script: bad string at 1:5\n"),
+    ("x = `${y}`", "treeped: script: template at 1:5\n"),
+    ("x\n @", "treeped: script: bad byte at 2:2\n"),
+    (
+        "$('.btn').click(function(){ $('.m').addClass('open'); });",
+        "treeped: script: not yet judged at 1:37\n",
+    ),
+    (
+        "$('.a').addClass('b').html('<p>')",
+        "treeped: script: not yet judged at 1:23\n",
+    ),
+    (
+        "$('.a > .b').addClass('c')",
+        "treeped: script: not yet judged at 1:14\n",
+    ),
+    (
+        "$('.a').children().addClass('c')",
+        "treeped: script: not yet judged at 1:20\n",
+    ),
+];
+
+/// Pieces of a page, a sheet and a script, each so many times, and what is said of them.
 struct Limit {
     page: (&'static [u8], usize),
     sheet: (&'static [u8], usize),
+    script: (&'static [u8], usize),
     status: u8,
     err: &'static str,
 }
 
-static LIMITS: [Limit; 8] = [
+/// No text.
+const NONE: (&[u8], usize) = (b"", 0);
+
+static LIMITS: [Limit; 12] = [
     Limit {
         page: (b"\xff", 1),
-        sheet: (b"", 0),
+        sheet: NONE,
+        script: NONE,
         status: 3,
         err: "treeped: page: not utf-8 at 1:1\n",
     },
     Limit {
         page: (b"<div>", 511),
-        sheet: (b"", 0),
+        sheet: NONE,
+        script: NONE,
         status: 0,
         err: "",
     },
     Limit {
         page: (b"<div>", 512),
-        sheet: (b"", 0),
+        sheet: NONE,
+        script: NONE,
         status: 3,
         err: "treeped: page: too deep at 1:2556\n",
     },
     Limit {
         page: (b"<br>", 99_997),
-        sheet: (b"", 0),
+        sheet: NONE,
+        script: NONE,
         status: 0,
         err: "",
     },
     Limit {
         page: (b"<br>", 99_998),
-        sheet: (b"", 0),
+        sheet: NONE,
+        script: NONE,
         status: 3,
         err: "treeped: page: too many nodes at 1:399989\n",
     },
     Limit {
-        page: (b"", 0),
+        page: NONE,
         sheet: (b"\n\xc3", 2),
+        script: NONE,
         status: 3,
         err: "treeped: sheet: not utf-8 at 2:1\n",
     },
     Limit {
-        page: (b"", 0),
+        page: NONE,
         sheet: (b"a{}", 20_000),
+        script: NONE,
         status: 1,
         err: "",
     },
     Limit {
-        page: (b"", 0),
+        page: NONE,
         sheet: (b"a{}", 20_001),
+        script: NONE,
         status: 3,
         err: "treeped: sheet: too many selectors at 1:60001\n",
+    },
+    Limit {
+        page: NONE,
+        sheet: NONE,
+        script: (b"{", 513),
+        status: 3,
+        err: "treeped: script: too deep at 1:513\n",
+    },
+    Limit {
+        page: NONE,
+        sheet: NONE,
+        script: (b"$('.a').addClass('b');", 10001),
+        status: 3,
+        err: "treeped: script: too many statements at 1:220009\n",
+    },
+    Limit {
+        page: NONE,
+        sheet: NONE,
+        script: (b"$('a').append('<p>');", 4097),
+        status: 3,
+        err: "treeped: script: too many forest nodes at 1:86031\n",
+    },
+    Limit {
+        page: NONE,
+        sheet: NONE,
+        script: (b"\n\xff", 2),
+        status: 3,
+        err: "treeped: script: not utf-8 at 2:1\n",
     },
 ];
 
@@ -358,6 +442,20 @@ fn runs_in_memory(rt: HostRuntime) -> Result<(), Fail> {
     Ok(())
 }
 
+#[test]
+fn refuses_scripts(rt: HostRuntime) -> Result<(), Fail> {
+    let alloc = rt.alloc();
+    for (script, err) in &SCRIPTS {
+        let case = Case {
+            texts: [OWN[0], OWN[1], *script],
+            err: *err,
+            ..REFUSED
+        };
+        run(&rt, alloc, &case)?;
+    }
+    Ok(())
+}
+
 /// A piece so many times.
 fn repeated(alloc: Global, (piece, count): (&[u8], usize)) -> Result<Vec<u8>, AllocError> {
     let mut text = Vec::new(alloc);
@@ -378,7 +476,10 @@ fn run_limit(rt: &impl Abort, alloc: Global, limit: &Limit) -> Result<(), AllocE
         String::from_str(alloc, "sheet")?,
         repeated(alloc, limit.sheet)?,
     ))?;
-    entries.push((String::from_str(alloc, "script")?, Vec::new(alloc)))?;
+    entries.push((
+        String::from_str(alloc, "script")?,
+        repeated(alloc, limit.script)?,
+    ))?;
     let mut files = MemFiles::new(alloc, entries, Vec::new(alloc));
     let mut out = SureSink::new(alloc);
     let mut err = SureSink::new(alloc);

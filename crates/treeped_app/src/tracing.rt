@@ -1,13 +1,14 @@
 //! The steps that lead to a match.
 ghost use Rattle.std.specs.Prelude.{◌≡◌, ◌≤◌, ◌+◌, ℕ, List, [], ◌∷◌, ◌++◌, length, map, take, reverse, IfOk, OnOk, slice_get};
 ghost use Rattle.tree_sem.specs.Trees.{LabelTree};
+ghost use Rattle.jq_words.specs.declared.faults.TheConstants.{MOST_STATEMENTS};
 ghost use Rattle.treeped_app.specs.ClosedPages.{IsClosedPage};
 ghost use Rattle.treeped_app.specs.Indexes.{IsIndex};
 ghost use Rattle.treeped_app.specs.Traces.{needed, with_rule, steps_of, wanted_at, IsTraceTo};
 
 use crate::closing::close;
 use crate::index::Index;
-use crate::scripts::{MOST_STATEMENTS, Rule};
+use crate::rules::Rule;
 use std::alloc::Global;
 use tp_base::{ClassSet, NoMemory, Path};
 use tree_sem::{Step, Tree};

@@ -1,5 +1,5 @@
 use Rattle.std.proofs.Common.{[], ◌∷◌, length, map, ap, arith, length-append}
-use Rattle.treeped_app.specs.Scripts.{statement_of}
+use Rattle.treeped_app.specs.Rules.{statement_of}
 use Rattle.treeped_app.proofs.JudgingLemmas.{judged_more}
 use Rattle.treeped_app.proofs.judging.judge.Goals as goal
 

@@ -2,7 +2,7 @@ use Rattle.std.proofs.Common.{◌≡◌, length, map, take}
 use Rattle.css_read.specs.Views.{item_of}
 use Rattle.usage_report.specs.Views.{answer_of}
 use Rattle.treeped_app.specs.Answers.{AreRight}
-use Rattle.treeped_app.specs.Scripts.{statement_of}
+use Rattle.treeped_app.specs.Rules.{statement_of}
 use Rattle.treeped_app.proofs.judging.judge.Given as goal
 
 abbrev pub invariant-items : goal.invariant-items

@@ -1,5 +1,5 @@
 use Rattle.std.proofs.Common.{◌≡◌, map, take}
-use Rattle.treeped_app.specs.Scripts.{statement_of}
+use Rattle.treeped_app.specs.Rules.{statement_of}
 use Rattle.treeped_app.proofs.runs.places_of.Given as goal
 
 abbrev pub invariant-rules : goal.invariant-rules
