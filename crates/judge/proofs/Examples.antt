@@ -13,7 +13,7 @@ use Rattle.jq_sem.specs.Statements.{matched, Call, parent, parents, Statement}
 use Rattle.jq_sem.specs.Reachability.{AreLegal, end_of}
 use Rattle.guard_simplify.specs.Law.{IsTreeOver}
 use Rattle.proof_check.proofs.CheckLemmas.{valid_decides}
-use Rattle.proof_check.proofs.Rows.{row_7_system, row_7_page, row_7_proof, row_7_steps, beside_system, beside_page, beside_proof, beside_steps}
+use Rattle.proof_check.proofs.Examples.{inner_system, inner_page, inner_proof, inner_steps, beside_system, beside_page, beside_proof, beside_steps}
 use Rattle.judge.specs.Tables.{AreAtoms}
 use Rattle.judge.specs.Losses.{cut_at, Event, step, take_class, cut, IsLegalEvent, end_of_events, AreLegalEvents}
 use Rattle.judge.specs.TheSystem.{the_system, IsOverTable, IsJudgeable}
@@ -60,26 +60,26 @@ inner_statements =
 abbrev inner_selector : Selector
 inner_selector = simple (3 ∷ 7 ∷ [])
 
-inner-system : the_system inner_statements (inner_selector ∷ []) 11 ≡ row_7_system
+inner-system : the_system inner_statements (inner_selector ∷ []) 11 ≡ inner_system
 inner-system = refl
 
-inner-over : IsOverTable inner_statements (inner_selector ∷ []) 11 row_7_page
+inner-over : IsOverTable inner_statements (inner_selector ∷ []) 11 inner_page
 inner-over = record {
   statements = (
     (tt, (((are_atoms 11 (6 ∷ []) refl, tt), tt), tt), (tree_over 11 (record { label = 8 ∷ []; below = node (9 ∷ 10 ∷ []) no_nodes no_nodes }) refl refl, tt)),
     ((tt, (((are_atoms 11 (10 ∷ []) refl, tt), tt), ((are_atoms 11 (3 ∷ []) refl, tt), tt)), are_atoms 11 (7 ∷ []) refl), tt),
   );
   selectors = ((are_atoms 11 (3 ∷ 7 ∷ []) refl, tt), tt);
-  tree = tree_over 11 row_7_page refl refl;
+  tree = tree_over 11 inner_page refl refl;
 }
 
-inner-judgeable : IsJudgeable inner_statements (inner_selector ∷ []) 11 row_7_page
+inner-judgeable : IsJudgeable inner_statements (inner_selector ∷ []) 11 inner_page
 inner-judgeable = record { over = inner-over; few_atoms = omega arith; few_kinds = omega arith }
 
-inner-witness : AreLegal row_7_page inner_statements row_7_steps × Matches (end_of row_7_page inner_statements row_7_steps) (1 ∷ 0 ∷ []) inner_selector
+inner-witness : AreLegal inner_page inner_statements inner_steps × Matches (end_of inner_page inner_statements inner_steps) (1 ∷ 0 ∷ []) inner_selector
 inner-witness =
-    let is = valid_witness inner_statements (inner_selector ∷ []) 11 row_7_page inner-over inner_selector (Contains-here inner_selector inner_selector [] refl) row_7_proof
-    ((valid_decides row_7_system row_7_page row_7_proof 15).0 refl) in
+    let is = valid_witness inner_statements (inner_selector ∷ []) 11 inner_page inner-over inner_selector (Contains-here inner_selector inner_selector [] refl) inner_proof
+    ((valid_decides inner_system inner_page inner_proof 15).0 refl) in
     (is.legal, is.match)
 
 -- trees beside a node, twice by one statement

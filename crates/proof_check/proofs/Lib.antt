@@ -1,4 +1,4 @@
-pub mod Rows
+pub mod Examples
 pub mod FirstLemmas
 pub mod EntryLemmas
 pub mod RightLemmas

@@ -1,5 +1,5 @@
 //! The nodes of items, by numbers.
-ghost use Rattle.std.specs.Prelude.{◌≡◌, length, IfOk};
+ghost use Rattle.std.specs.Prelude.{◌≡◌, IfOk};
 ghost use Rattle.proof_check.specs.Nodes.{number_in, HasAll};
 
 use crate::proofs::PageItem;
@@ -32,13 +32,6 @@ impl Nodes {
             paths.insert(steps_of(alloc, &i.at)?)?;
         }
         Ok(Nodes { paths })
-    }
-
-    /// How many nodes there are.
-    pub fn len(&self) -> usize
-        ensures { result ≡ length self.now }
-    {
-        self.paths.len()
     }
 
     /// The number of the node at the path. Linear in the path's length, on average.

@@ -4,6 +4,7 @@ pub mod WorldLemmas
 pub mod WalkLemmas
 pub mod WorkLemmas
 pub mod PassLemmas
+pub mod NodePassLemmas
 pub mod KeepLemmas
 pub mod SimpleLemmas
 pub mod GrowthLemmas

@@ -1,11 +1,12 @@
 -- The items of a page that were passed, by the numbers of their nodes.
-use Rattle.std.proofs.Common.{◌≡◌, ◌<◌, ◌≤◌, ℕ, suc, drop, slice_get, Bool, true, false, if◌then◌else◌, List, [], ◌∷◌, ◌++◌, length, get_or, set, Option, Some, None, option_map, unwrap_or, refl, sym, ap, subst, ◌∙◌, arith}
-use Rattle.std.proofs.lemmas.List.{map-append, get_or-set_same, get_or-set_other}
+use Rattle.std.proofs.Common.{◌≡◌, ◌≤◌, ℕ, suc, drop, slice_get, true, false, if◌then◌else◌, List, [], ◌∷◌, ◌++◌, length, ◌==◌, Some, None, option_map, option_and_then, unwrap_or, refl, sym, ap, ◌∙◌, arith}
+use Rattle.std.proofs.lemmas.Bool.Decides.{Decides-eqb}
+use Rattle.std.proofs.lemmas.List.{append-nil}
 use Rattle.std.proofs.lemmas.Slice.Eq.{bytes_eq-Decides}
 use Rattle.std.specs.Str.{bytes_eq}
 use Rattle.proof_check.specs.NodePaths.{NodePaths}
 use Rattle.proof_core.specs.declared.page_passes.PageNode.{PageNode}
-use Rattle.proof_core.specs.declared.passes.Pass.{Pass}
+use Rattle.proof_core.specs.declared.node_passes.NodePass.{NodePass}
 use Rattle.proof_check.specs.declared.proofs.Below.TheVariants.{Grown}
 use Rattle.proof_check.specs.declared.proofs.Reason.TheVariants.{Down}
 use Rattle.proof_check.specs.declared.proofs.ProofItem.{ProofItem}
@@ -13,49 +14,58 @@ use Rattle.simple_core.specs.declared.rules.Kind.{Kind}
 use Rattle.proof_check.specs.declared.proofs.Entry.{Entry}
 use Rattle.proof_check.specs.declared.proofs.PageItem.{PageItem}
 use Rattle.proof_check.specs.Nodes.{number_in}
-use Rattle.proof_core.specs.Passes.{passed_of, seen, named_for}
-use Rattle.proof_core.specs.PagePasses.{passes_at, seen_in, item_seen, unfold_at}
+use Rattle.proof_core.specs.NodePasses.{way_on, seen_one, all_seen, passed_to, seen_at, first_at}
+use Rattle.proof_core.specs.PagePasses.{seen_in, item_seen, unfold_at}
 use Rattle.proof_core.specs.Trails.{number_for, with_forest_of}
-use Rattle.proof_check.specs.Unfolding.{Progress, Passed, from_of, spawned, needed_by, down_item, unfold_item, unfold_page, unfold_entry, entry_count, reason_count}
+use Rattle.proof_check.specs.Unfolding.{Progress, Passed, child_for, end_for, from_of, spawned, needed_by, down_item, unfold_page, unfold_entry, entry_count}
 use Rattle.tree_sem.proofs.CountLemmas.{length-node_at}
 use Rattle.tree_sem.specs.declared.tree_fault.TheConstants.{MOST_NODES}
 use Rattle.tree_sem.specs.Trees.{Row, no_nodes, node, LabelTree, length_of, nodes_of, count_of, node_at, children_at}
 use Rattle.simple_core.specs.declared.system.System.{System}
-use Rattle.proof_check.proofs.CountLemmas.{page_steps, reason_steps, entry_steps}
-use Rattle.proof_check.proofs.EntryLemmas.{drop_at, drop_end}
+use Rattle.proof_check.proofs.CountLemmas.{page_steps, entry_steps}
+use Rattle.proof_check.proofs.EntryLemmas.{drop_at, not_same}
 use Rattle.proof_check.proofs.NodeLemmas.{same_node}
+use Rattle.proof_core.proofs.NodePassLemmas.{seen_at-push, end_at}
 use Rattle.proof_core.proofs.WalkLemmas.{grown_is}
 
-pub seen_at_number : (nodes : NodePaths) (here : List (List Pass)) (v : List ℕ) (n : ℕ) → number_in nodes v ≡ Some n → seen_in nodes here v ≡ seen v (get_or here n [])
-seen_at_number nodes here v n at = ap (λ o. seen v (unwrap_or (option_map (λ m. get_or here m []) o) [])) at
+pub seen_at_number : (nodes : NodePaths) (here : List NodePass) (v : List ℕ) (n : ℕ) → number_in nodes v ≡ Some n → seen_in nodes here v ≡ seen_at here n v
+seen_at_number nodes here v n at = ap (λ o. unwrap_or (option_map (λ m. seen_at here m v) o) []) at
 
 -- an item more at the node v, whose number it has
-pub seen_pushed : (nodes : NodePaths) (here : List (List Pass)) (p : Pass) (v : List ℕ) (n : ℕ) → number_in nodes v ≡ Some n → n < length here
-    → (q : List ℕ) → seen_in nodes (set here n (get_or here n [] ++ p ∷ [])) q ≡ (if bytes_eq v q then seen_in nodes here q ++ passed_of v p ∷ [] else seen_in nodes here q)
-seen_pushed nodes here p v n at within q =
+pub seen_pushed : (nodes : NodePaths) (here : List NodePass) (p : NodePass) (v : List ℕ) (n : ℕ) → number_in nodes v ≡ Some n → p.node ≡ n
+    → (q : List ℕ) → seen_in nodes (here ++ p ∷ []) q ≡ (if bytes_eq v q then seen_in nodes here q ++ passed_to v (seen_one (all_seen here) p) ∷ [] else seen_in nodes here q)
+seen_pushed nodes here p v n at number q =
+    let x = seen_one (all_seen here) p in
     elim (number_in nodes q) as (λ o. number_in nodes q ≡ o
-    → seen q (unwrap_or (option_map (λ m. get_or (set here n (get_or here n [] ++ p ∷ [])) m []) o) [])
-    ≡ (if bytes_eq v q then seen q (unwrap_or (option_map (λ m. get_or here m []) o) []) ++ passed_of v p ∷ [] else seen q (unwrap_or (option_map (λ m. get_or here m []) o) []))) [
-      | None ↦ λ none. elim (bytes_eq v q) as (λ b. bytes_eq v q ≡ b → [] ≡ (if b then [] ++ passed_of v p ∷ [] else [])) [
+    → unwrap_or (option_map (λ m. seen_at (here ++ p ∷ []) m q) o) []
+    ≡ (if bytes_eq v q then unwrap_or (option_map (λ m. seen_at here m q) o) [] ++ passed_to v x ∷ [] else unwrap_or (option_map (λ m. seen_at here m q) o) [])) [
+      | None ↦ λ none. elim (bytes_eq v q) as (λ b. bytes_eq v q ≡ b → [] ≡ (if b then [] ++ passed_to v x ∷ [] else [])) [
         | false ↦ λ e. refl
         | true ↦ λ e. let both : None ≡ Some n = sym none ∙ ap (number_in nodes) (sym ((bytes_eq-Decides v q).0 e)) ∙ at in cc
       ] refl
-      | Some m ↦ λ some. elim (bytes_eq v q) as (λ b. bytes_eq v q ≡ b
-          → seen q (get_or (set here n (get_or here n [] ++ p ∷ [])) m []) ≡ (if b then seen q (get_or here m []) ++ passed_of v p ∷ [] else seen q (get_or here m []))) [
-            | true ↦ λ e.
-                let is : v ≡ q = (bytes_eq-Decides v q).0 e in
-                let both : Some n ≡ Some m = sym at ∙ ap (number_in nodes) is ∙ some in
-                let same : n ≡ m = cc in
-                subst (λ z. seen q (get_or (set here n (get_or here n [] ++ p ∷ [])) z []) ≡ seen q (get_or here z []) ++ passed_of v p ∷ []) same
-                (ap (seen q) (get_or-set_same here n (get_or here n [] ++ p ∷ []) [] within) ∙ map-append (passed_of q) (get_or here n []) (p ∷ []) ∙ ap (λ w. seen q (get_or here n []) ++ passed_of w p ∷ []) (sym is))
-            | false ↦ λ e.
-                ap (seen q) (get_or-set_other here n m (get_or here n [] ++ p ∷ []) [] (λ s. let one = same_node nodes v q m (at ∙ ap Some (sym s)) some in let never : true ≡ false = sym ((bytes_eq-Decides v q).1 one) ∙ e in cc))
-          ] refl
+      | Some m ↦ λ some. elim (bytes_eq v q) as (λ b. bytes_eq v q ≡ b → seen_at (here ++ p ∷ []) m q ≡ (if b then seen_at here m q ++ passed_to v x ∷ [] else seen_at here m q)) [
+        | true ↦ λ e.
+            let is : v ≡ q = (bytes_eq-Decides v q).0 e in
+            let both : Some n ≡ Some m = sym at ∙ ap (number_in nodes) is ∙ some in
+            let same : n ≡ m = cc in
+            let this : (p.node == m) ≡ true = (Decides-eqb p.node m).1 (number ∙ same) in
+            seen_at-push here p m q ∙ ap (λ b. seen_at here m q ++ (if b then passed_to q x ∷ [] else [])) this ∙ ap (λ w. seen_at here m q ++ passed_to w x ∷ []) (sym is)
+        | false ↦ λ e.
+            let other : (p.node == m) ≡ false = not_same p.node m (λ s. let one = same_node nodes v q m (at ∙ ap Some (sym number ∙ s)) some in let never : true ≡ false = sym ((bytes_eq-Decides v q).1 one) ∙ e in cc) in
+            seen_at-push here p m q ∙ ap (λ b. seen_at here m q ++ (if b then passed_to q x ∷ [] else [])) other ∙ append-nil (seen_at here m q)
+      ] refl
     ] refl
 
-pub seen_none : (nodes : NodePaths) (here : List (List Pass)) → ((m : ℕ) → get_or here m [] ≡ []) → (q : List ℕ) → [] ≡ seen_in nodes here q
-seen_none nodes here none q =
-    elim (number_in nodes q) as (λ o. [] ≡ seen q (unwrap_or (option_map (λ m. get_or here m []) o) [])) [ None ↦ refl | Some m ↦ ap (seen q) (sym (none m)) ]
+pub seen_none : (nodes : NodePaths) (q : List ℕ) → [] ≡ seen_in nodes [] q
+seen_none nodes q = elim (number_in nodes q) as (λ o. [] ≡ unwrap_or (option_map (λ m. seen_at [] m q) o) []) [ None ↦ refl | Some m ↦ refl ]
+
+-- where the walk goes from the first item with an atom
+pub end_in : (nodes : NodePaths) (here : List NodePass) (v : List ℕ) (a : ℕ) → end_for a (seen_in nodes here v) v ≡ v ++ way_on (all_seen here) (option_and_then (λ n. first_at here n a) (number_in nodes v))
+end_in nodes here v a =
+    elim (number_in nodes v) as (λ o. end_for a (unwrap_or (option_map (λ m. seen_at here m v) o) []) v ≡ v ++ way_on (all_seen here) (option_and_then (λ n. first_at here n a) o)) [
+      | None ↦ sym (append-nil v)
+      | Some n ↦ end_at here n a v
+    ]
 
 module _ (s : System) (es : List Entry) (page : LabelTree) where
   abbrev rest : List PageItem → (List ℕ → List Passed) → Progress → Progress × (List ℕ → List Passed)
@@ -92,7 +102,7 @@ few_children page v few =
 
 -- an item whose child is grown, at a node of the page
 pub page_grown : (s : System) (es : List Entry) (x : ProofItem) (l c e child number : ℕ) (kind : Kind) (spot : PageNode) (before after : Progress) → x.reason ≡ Down l (Grown c e) → spawned s c ≡ Some kind
-    → child ≡ named_for (needed_by s c) (get_or spot.here.now spot.number []) → number ≡ number_for kind spot.base spot.at.now before → after ≡ with_forest_of kind spot.at.now child before
+    → child ≡ child_for (needed_by s c) (seen_at spot.here.now spot.number spot.at.now) → number ≡ number_for kind spot.base spot.at.now before → after ≡ with_forest_of kind spot.at.now child before
     → unfold_at s es x spot before ≡ down_item s x (from_of (slice_get s.down l)) number (spot.at.now ++ number ∷ []) (unfold_entry s es (length es) e (spot.at.now ++ number ∷ []) after)
 page_grown s es x l c e child number kind spot before after reason is_kind is_child is_number is_after =
-    grown_is s es (unfold_entry s es (length es)) x l c e child number spot.base kind spot.at.now (get_or spot.here.now spot.number []) (λ k. seen_in spot.nodes.now spot.here.now (spot.at.now ++ k ∷ [])) before after reason is_kind is_child is_number is_after
+    grown_is s es (unfold_entry s es (length es)) x l c e child number spot.base kind spot.at.now (seen_at spot.here.now spot.number spot.at.now) (λ k. seen_in spot.nodes.now spot.here.now (spot.at.now ++ k ∷ [])) before after reason is_kind is_child is_number is_after

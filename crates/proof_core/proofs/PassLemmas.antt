@@ -1,5 +1,5 @@
 -- The first items with an atom among those that were passed at a node.
-use Rattle.std.proofs.Common.{◌≡◌, ℕ, zero, suc, Bool, true, false, cond, is_some, if◌then◌else◌, ◌==◌, List, [], ◌∷◌, ◌++◌, length, map, find, reverse, Option, Some, None, option_map, option_and_then, unwrap_or, slice_get, Bor, refl, sym, ap, subst, ◌∙◌, append_assoc, arith}
+use Rattle.std.proofs.Common.{◌≡◌, ◌≤◌, ℕ, zero, suc, Bool, true, false, cond, is_some, if◌then◌else◌, ◌==◌, List, [], ◌∷◌, ◌++◌, length, find, reverse, Option, Some, None, option_map, option_and_then, unwrap_or, slice_get, Bor, refl, sym, ap, subst, ◌∙◌, append_assoc, arith}
 use Rattle.std.proofs.lemmas.Bool.Decides.{Decides-eqb}
 use Rattle.std.proofs.lemmas.List.{append-nil, reverse-append}
 use Rattle.std.specs.Option.{option_copied}
@@ -8,6 +8,11 @@ use Rattle.proof_core.specs.declared.passes.Pass.{Pass}
 use Rattle.proof_core.specs.Passes.{first_place, passed_of, seen, way_for, named_for}
 use Rattle.proof_check.specs.Unfolding.{Passed, child_for, end_for}
 use Rattle.proof_core.specs.Worlds.{or_first}
+
+pub past : {X : Type 0} (xs : List X) (i : ℕ) → slice_get xs i ≡ None → length xs ≤ i
+past [] i at = omega arith
+past (x ∷ xs) zero at = cc
+past (x ∷ xs) (suc i) at = omega (arith, past xs i at)
 
 pub find_place : {X : Type 0} (test : X → Bool) (xs : List X) → find test xs ≡ option_and_then (slice_get xs) (first_place test xs)
 find_place test [] = refl
@@ -79,35 +84,43 @@ left : {X : Type 0} (o : Option X) → o ≡ or_first o None
 left None = refl
 left (Some x) = refl
 
--- a table of first places, with an item more whose atom is new
+module _ {K X : Type 0} (test : K → X → Bool) where
+  -- a table of first places, with an element more whose key is new
+  pub first_new : (old new : K → Option ℕ) (xs : List X) (x : X) → ((k : K) → old k ≡ first_place (test k) xs) → ((k : K) → test k x ≡ true → old k ≡ None)
+      → ((k : K) → new k ≡ (if test k x then Some (length xs) else old k)) → (k : K) → new k ≡ first_place (test k) (xs ++ x ∷ [])
+  first_new old new xs x is none step k =
+      step k
+      ∙ elim (test k x) as (λ b. test k x ≡ b → (if b then Some (length xs) else old k) ≡ or_first (first_place (test k) xs) (if b then Some (length xs) else None)) [
+        | true ↦ λ e. ap (λ o. or_first o (Some (length xs))) (sym (sym (is k) ∙ none k e))
+        | false ↦ λ e. is k ∙ left (first_place (test k) xs)
+      ] refl
+      ∙ sym (place_push (test k) xs x)
+
+  -- and with one whose key is known
+  pub first_known : (old : K → Option ℕ) (xs : List X) (x : X) → ((k : K) → old k ≡ first_place (test k) xs) → ((k : K) → test k x ≡ true → is_some (old k) ≡ true)
+      → (k : K) → old k ≡ first_place (test k) (xs ++ x ∷ [])
+  first_known old xs x is known k =
+      is k
+      ∙ elim (test k x) as (λ b. test k x ≡ b → first_place (test k) xs ≡ or_first (first_place (test k) xs) (if b then Some (length xs) else None)) [
+        | true ↦ λ e. stays (first_place (test k) xs) (ap is_some (sym (is k)) ∙ known k e)
+        | false ↦ λ e. left (first_place (test k) xs)
+      ] refl
+      ∙ sym (place_push (test k) xs x)
+    where
+      stays : (o : Option ℕ) → is_some o ≡ true → o ≡ or_first o (Some (length xs))
+      stays None e = cc
+      stays (Some n) e = refl
+
+abbrev pub with_atom : ℕ → Pass → Bool
+with_atom a p = p.atom == a
+
 pub places_new : (old new : ℕ → Option ℕ) (items : List Pass) (p : Pass) → ((a : ℕ) → old a ≡ first_place (λ q. q.atom == a) items) → old p.atom ≡ None
     → ((a : ℕ) → new a ≡ (if p.atom == a then Some (length items) else old a)) → (a : ℕ) → new a ≡ first_place (λ q. q.atom == a) (items ++ p ∷ [])
-places_new old new items p is none step a =
-    step a
-    ∙ elim (p.atom == a) as (λ b. (p.atom == a) ≡ b → (if b then Some (length items) else old a) ≡ or_first (first_place (λ q. q.atom == a) items) (if b then Some (length items) else None)) [
-      | true ↦ λ e.
-          let no : first_place (λ (q : Pass). q.atom == a) items ≡ None = sym (is a) ∙ ap old (sym ((Decides-eqb p.atom a).0 e)) ∙ none in
-          ap (λ o. or_first o (Some (length items))) (sym no)
-      | false ↦ λ e. is a ∙ left (first_place (λ (q : Pass). q.atom == a) items)
-    ] refl
-    ∙ sym (place_push (λ (q : Pass). q.atom == a) items p)
+places_new old new items p is none step = first_new with_atom old new items p is (λ a e. ap old (sym ((Decides-eqb p.atom a).0 e)) ∙ none) step
 
--- and with one whose atom is known
 pub places_known : (old : ℕ → Option ℕ) (items : List Pass) (p : Pass) → ((a : ℕ) → old a ≡ first_place (λ q. q.atom == a) items) → is_some (old p.atom) ≡ true
     → (a : ℕ) → old a ≡ first_place (λ q. q.atom == a) (items ++ p ∷ [])
-places_known old items p is known a =
-    is a
-    ∙ elim (p.atom == a) as (λ b. (p.atom == a) ≡ b → first_place (λ q. q.atom == a) items ≡ or_first (first_place (λ q. q.atom == a) items) (if b then Some (length items) else None)) [
-      | true ↦ λ e.
-          let some : is_some (first_place (λ (q : Pass). q.atom == a) items) ≡ true = ap is_some (sym (is a)) ∙ ap (λ z. is_some (old z)) (sym ((Decides-eqb p.atom a).0 e)) ∙ known in
-          stays (first_place (λ (q : Pass). q.atom == a) items) some
-      | false ↦ λ e. left (first_place (λ (q : Pass). q.atom == a) items)
-    ] refl
-    ∙ sym (place_push (λ (q : Pass). q.atom == a) items p)
-  where
-    stays : (o : Option ℕ) → is_some o ≡ true → o ≡ or_first o (Some (length items))
-    stays None e = cc
-    stays (Some n) e = refl
+places_known old items p is known = first_known with_atom old items p is (λ a e. ap (λ z. is_some (old z)) (sym ((Decides-eqb p.atom a).0 e)) ∙ known)
 
 -- as the unfolding sees them
 find-seen : (v : List ℕ) (a : ℕ) (here : List Pass) → find (λ p. p.atom == a) (seen v here) ≡ option_map (passed_of v) (find (λ p. p.atom == a) here)

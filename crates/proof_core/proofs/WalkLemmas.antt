@@ -1,12 +1,12 @@
 -- A walk goes on as the unfolding of its entries does.
-use Rattle.std.proofs.Common.{◌≡◌, ◌≤◌, ℕ, zero, suc, ◌+◌, ◌-◌, List, [], ◌∷◌, ◌++◌, length, map, drop, take, Option, Some, None, option_map, option_and_then, unwrap_or, slice_get, refl, sym, ap, subst, ◌∙◌, append_assoc, arith, length-append}
+use Rattle.std.proofs.Common.{◌≡◌, ◌≤◌, ℕ, zero, suc, ◌-◌, List, [], ◌∷◌, ◌++◌, length, map, drop, take, Some, None, option_map, unwrap_or, slice_get, refl, sym, ap, subst, ◌∙◌, append_assoc, arith, length-append}
 use Rattle.std.proofs.lemmas.List.{append-nil, map-append}
 use Rattle.simple_core.specs.declared.rules.Kind.{Kind}
 use Rattle.simple_core.specs.declared.system.System.{System}
 use Rattle.proof_core.specs.declared.passes.Pass.{Pass}
-use Rattle.proof_check.specs.declared.proofs.Below.TheVariants.{Real, Grown}
+use Rattle.proof_check.specs.declared.proofs.Below.TheVariants.{Grown}
 use Rattle.proof_check.specs.declared.proofs.Reason.{Reason}
-use Rattle.proof_check.specs.declared.proofs.Reason.TheVariants.{Start, Local, Up, Down}
+use Rattle.proof_check.specs.declared.proofs.Reason.TheVariants.{Down}
 use Rattle.proof_check.specs.declared.proofs.ProofItem.{ProofItem}
 use Rattle.proof_check.specs.declared.proofs.Entry.{Entry}
 use Rattle.proof_core.specs.declared.walks.Frame.{Frame}
@@ -14,11 +14,11 @@ use Rattle.proof_core.specs.declared.walks.Level.{Level}
 use Rattle.proof_core.specs.declared.walks.Walk.{Walk}
 use Rattle.proof_core.specs.Passes.{passed_of, seen, way_for, named_for}
 use Rattle.proof_core.specs.Trails.{number_for, with_forest_of}
-use Rattle.proof_check.specs.Unfolding.{Progress, Passed, child_for, from_of, spawned, needed_by, forest_children, number_at, after_spawn, down_item, grown_item, unfold_reason, unfold_item, unfold_items, unfold_entry, entry_count, end_for}
+use Rattle.proof_check.specs.Unfolding.{Progress, Passed, child_for, from_of, spawned, needed_by, forest_children, number_at, down_item, grown_item, unfold_reason, unfold_item, unfold_items, unfold_entry, entry_count}
 use Rattle.proof_core.specs.Walks.{Outcome, level_items, level_base, on_from, level_rest, frame_pass, frame_rest, frames_rest, rest_of, node_of, GoesOn}
 use Rattle.proof_check.proofs.CountLemmas.{items_steps, entry_steps}
 use Rattle.proof_check.proofs.EntryLemmas.{drop_at, drop_end}
-use Rattle.proof_core.proofs.PassLemmas.{child-seen, passed_down}
+use Rattle.proof_core.proofs.PassLemmas.{past, child-seen, passed_down}
 
 drop_none : {X : Type 0} (xs : List X) → drop 0 xs ≡ xs
 drop_none [] = refl
@@ -67,11 +67,6 @@ module _ (s : System) (es : List Entry) where
       ∙ ap (λ xs. unfold_items s (unfold_entry s es (level.depth - 1)) xs (level_base s es level.entry) v [] done) (drop_none (level_items es level.depth level.entry))
       ∙ level_begins level.depth level.entry v done
 
-  past : {X : Type 0} (xs : List X) (i : ℕ) → slice_get xs i ≡ None → length xs ≤ i
-  past [] i at = omega arith
-  past (x ∷ xs) zero at = cc
-  past (x ∷ xs) (suc i) at = omega (arith, past xs i at)
-
   pub level_ends : (level : Level) (v : List ℕ) (done : Progress) → slice_get (level_items es level.depth level.entry) (length level.here) ≡ None
       → level_rest s es level v done ≡ (done, seen v level.here)
   level_ends level v done none =
@@ -104,19 +99,19 @@ module _ (s : System) (es : List Entry) where
       ∙ sym (level_one level x v before at)
 
   -- an item whose child is grown
-  pub grown_is : (u : ℕ → List ℕ → Progress → Outcome) (x : ProofItem) (l c e child number base : ℕ) (kind : Kind) (v : List ℕ) (here : List Pass) (real : ℕ → List Passed) (before after : Progress)
-      → x.reason ≡ Down l (Grown c e) → spawned s c ≡ Some kind → child ≡ named_for (needed_by s c) here → number ≡ number_for kind base v before → after ≡ with_forest_of kind v child before
-      → unfold_item s u x base v (seen v here) real before ≡ down_item s x (from_of (slice_get s.down l)) number (v ++ number ∷ []) (u e (v ++ number ∷ []) after)
+  pub grown_is : (u : ℕ → List ℕ → Progress → Outcome) (x : ProofItem) (l c e child number base : ℕ) (kind : Kind) (v : List ℕ) (here : List Passed) (real : ℕ → List Passed) (before after : Progress)
+      → x.reason ≡ Down l (Grown c e) → spawned s c ≡ Some kind → child ≡ child_for (needed_by s c) here → number ≡ number_for kind base v before → after ≡ with_forest_of kind v child before
+      → unfold_item s u x base v here real before ≡ down_item s x (from_of (slice_get s.down l)) number (v ++ number ∷ []) (u e (v ++ number ∷ []) after)
   grown_is u x l c e child number base kind v here real before after reason is_kind is_child is_number is_after =
       let from = from_of (slice_get s.down l) in
       let k = number_at s kind base v before in
-      let reasoned : unfold_item s u x base v (seen v here) real before ≡ grown_item s u (spawned s c) x from (needed_by s c) e base v (seen v here) before
-      = ap (λ r. unfold_reason s u r x base v (seen v here) real before) reason in
-      let by_kind : grown_item s u (spawned s c) x from (needed_by s c) e base v (seen v here) before
-      ≡ down_item s x from k (v ++ k ∷ []) (u e (v ++ k ∷ []) (with_forest_of kind v (child_for (needed_by s c) (seen v here)) before))
-      = ap (λ o. grown_item s u o x from (needed_by s c) e base v (seen v here) before) is_kind in
-      let same_child : child_for (needed_by s c) (seen v here) ≡ child = child-seen v (needed_by s c) here ∙ sym is_child in
-      let same_after : with_forest_of kind v (child_for (needed_by s c) (seen v here)) before ≡ after = ap (λ z. with_forest_of kind v z before) same_child ∙ sym is_after in
+      let reasoned : unfold_item s u x base v here real before ≡ grown_item s u (spawned s c) x from (needed_by s c) e base v here before
+      = ap (λ r. unfold_reason s u r x base v here real before) reason in
+      let by_kind : grown_item s u (spawned s c) x from (needed_by s c) e base v here before
+      ≡ down_item s x from k (v ++ k ∷ []) (u e (v ++ k ∷ []) (with_forest_of kind v (child_for (needed_by s c) here) before))
+      = ap (λ o. grown_item s u o x from (needed_by s c) e base v here before) is_kind in
+      let same_child : child_for (needed_by s c) here ≡ child = sym is_child in
+      let same_after : with_forest_of kind v (child_for (needed_by s c) here) before ≡ after = ap (λ z. with_forest_of kind v z before) same_child ∙ sym is_after in
       reasoned ∙ by_kind ∙ (λ j. down_item s x from (sym is_number j) (v ++ sym is_number j ∷ []) (u e (v ++ sym is_number j ∷ []) (same_after j)))
 
   pub none_is : (u : ℕ → List ℕ → Progress → Outcome) (x : ProofItem) (l c e base : ℕ) (v : List ℕ) (here : List Passed) (real : ℕ → List Passed) (before : Progress) → x.reason ≡ Down l (Grown c e) → spawned s c ≡ None
@@ -134,7 +129,7 @@ module _ (s : System) (es : List Entry) where
       let rest : Progress × Passed → Outcome = λ r. on_from s es level (suc (length level.here)) v (seen v level.here ++ r.1 ∷ []) r.0 in
       let frame : Frame = record { level = level; atom = x.atom; from = from_of (slice_get s.down l); child = number } in
       let whole : level_rest s es level v before ≡ frame_rest s es frame v (u e (v ++ number ∷ []) after)
-      = level_one level x v before at ∙ ap rest (grown_is u x l c e child number (level_base s es level.entry) kind v level.here (λ k. []) before after reason is_kind is_child is_number is_after) in
+      = level_one level x v before at ∙ ap rest (grown_is u x l c e child number (level_base s es level.entry) kind v (seen v level.here) (λ k. []) before after reason is_kind (is_child ∙ sym (child-seen v (needed_by s c) level.here)) is_number is_after) in
       whole ∙ ap (λ (g : Frame). frame_rest s es g v (u e (v ++ g.child ∷ []) after)) (sym is)
 
   -- the turns of a walk

@@ -3,6 +3,7 @@ pub use Rattle.proof_check.specs.Unfolding
 pub mod Readings
 pub mod Trails
 pub mod Passes
+pub mod NodePasses
 pub mod PagePasses
 pub mod Walks
 pub mod Worlds

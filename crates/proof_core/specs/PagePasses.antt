@@ -1,23 +1,20 @@
 -- The items of a page that were passed, by the numbers of their nodes.
 --     seen_in nodes here v    those at the node of the path v
-use Rattle.std.specs.Prelude.{ℕ, List, [], ◌∷◌, ◌++◌, length, get_or, option_map, unwrap_or}
+use Rattle.std.specs.Prelude.{ℕ, List, [], ◌∷◌, ◌++◌, length, option_map, unwrap_or}
 use Rattle.simple_core.specs.declared.system.System.{System}
 use Rattle.tree_sem.specs.Trees.{LabelTree, children_at}
 use Rattle.proof_check.specs.NodePaths.{NodePaths}
-use Rattle.proof_core.specs.declared.passes.Pass.{Pass}
+use Rattle.proof_core.specs.declared.node_passes.NodePass.{NodePass}
 use Rattle.proof_core.specs.declared.page_passes.PageNode.{PageNode}
 use Rattle.proof_check.specs.declared.proofs.Entry.{Entry}
 use Rattle.proof_check.specs.declared.proofs.PageItem.{PageItem}
 use Rattle.proof_check.specs.declared.proofs.ProofItem.{ProofItem}
 use Rattle.proof_check.specs.Nodes.{number_in}
-use Rattle.proof_core.specs.Passes.{seen}
+use Rattle.proof_core.specs.NodePasses.{seen_at}
 use Rattle.proof_check.specs.Unfolding.{Progress, Passed, unfold_item, unfold_entry}
 
-abbrev pub passes_at : NodePaths → List (List Pass) → List ℕ → List Pass
-passes_at nodes here v = unwrap_or (option_map (λ n. get_or here n []) (number_in nodes v)) []
-
-abbrev pub seen_in : NodePaths → List (List Pass) → List ℕ → List Passed
-seen_in nodes here v = seen v (passes_at nodes here v)
+abbrev pub seen_in : NodePaths → List NodePass → List ℕ → List Passed
+seen_in nodes here v = unwrap_or (option_map (λ n. seen_at here n v) (number_in nodes v)) []
 
 -- what an item of the page does, where `passed` is seen at the nodes
 abbrev pub item_seen : System → List Entry → LabelTree → PageItem → (List ℕ → List Passed) → Progress → Progress × Passed
@@ -27,4 +24,4 @@ item_seen s es page i passed done =
 -- what an item does at a node
 abbrev pub unfold_at : System → List Entry → ProofItem → PageNode → Progress → Progress × Passed
 unfold_at s es item node done =
-    unfold_item s (unfold_entry s es (length es)) item node.base node.at.now (seen node.at.now (get_or node.here.now node.number [])) (λ k. seen_in node.nodes.now node.here.now (node.at.now ++ k ∷ [])) done
+    unfold_item s (unfold_entry s es (length es)) item node.base node.at.now (seen_at node.here.now node.number node.at.now) (λ k. seen_in node.nodes.now node.here.now (node.at.now ++ k ∷ [])) done

@@ -2,6 +2,7 @@
 #![tactic(auto)]
 
 mod laws;
+mod node_passes;
 mod page_passes;
 mod passes;
 mod trails;

@@ -1,16 +1,17 @@
 //! The steps that the items of a page say.
-ghost use Rattle.std.specs.Prelude.{◌≡◌, ◌∷◌, ◌++◌, ◌≤◌, ℕ, List, [], Some, true, is_some, length, get_or, unwrap_or, if◌then◌else◌, bytes_eq, IfOk, OnOk};
+ghost use Rattle.std.specs.Prelude.{◌≡◌, ◌∷◌, ◌++◌, ◌≤◌, ℕ, List, [], Some, true, is_some, length, unwrap_or, if◌then◌else◌, bytes_eq, IfOk, OnOk};
 ghost use Rattle.tree_sem.specs.Trees.{children_at};
 ghost use Rattle.tree_sem.specs.declared.tree_fault.TheConstants.{MOST_NODES};
 ghost use Rattle.proof_check.specs.Nodes.{number_in, HasAll};
-ghost use Rattle.proof_core.specs.Passes.{passed_of, named_for, way_for};
-ghost use Rattle.proof_core.specs.PagePasses.{passes_at, seen_in, item_seen, unfold_at};
+ghost use Rattle.proof_core.specs.NodePasses.{all_seen, seen_one, passed_to, way_on};
+ghost use Rattle.proof_core.specs.PagePasses.{seen_in, item_seen, unfold_at};
 ghost use Rattle.proof_core.specs.Trails.{progress_of};
-ghost use Rattle.proof_check.specs.Unfolding.{unfold_entry, unfold_page};
+ghost use Rattle.proof_check.specs.Unfolding.{end_for, unfold_entry, unfold_page};
 ghost use Rattle.proof_core.specs.Walks.{IsFew};
 ghost use Rattle.proof_core.specs.Worlds.{HasFewSiblings, KnowsForests};
 
-use crate::passes::{Pass, Passes, down, plain};
+use crate::node_passes::{NodePass, NodePasses, alone, stays};
+use crate::passes::down;
 use crate::trails::Trail;
 use crate::walks::entry_passed;
 use crate::worlds::{World, after_local, from_of, needed_by, spawned};
@@ -19,47 +20,35 @@ use std::alloc::Global;
 use tp_base::{Atom, NoMemory, Path};
 use tree_sem::Tree;
 
-/// A node of the page, with its number and how many children it has, and what was passed at each node.
+/// A node of the page, with its number and how many children it has, and what was passed before.
 #[derive(Clone, Copy)]
 pub struct PageNode<'a> {
     pub at: &'a Path,
     pub number: usize,
     pub base: u32,
     pub nodes: &'a Nodes,
-    pub here: &'a [Passes],
+    pub here: &'a NodePasses,
 }
 
-/// The items of the page, one after another: what was passed at each node, by the nodes' numbers.
+/// Passes the items of the page, one after another.
 pub fn page_passed(
     items: &[PageItem],
     page: &Tree,
     nodes: &Nodes,
     world: &World<'_>,
     trail: &mut Trail,
-) -> Result<Vec<Passes>, NoMemory>
+) -> Result<NodePasses, NoMemory>
     requires siblings { HasFewSiblings world.now.system.now.kinds }
     requires forests { KnowsForests world.now.forests.now world.now.system.now.kinds }
     requires all { HasAll nodes.now items.now }
     requires few { IsFew (progress_of trail.old) }
     requires short { length (unfold_page world.now.system.now (unfold_entry world.now.system.now world.now.entries.now (length world.now.entries.now)) page.now items.now (λ q. []) (progress_of trail.old)).0.steps ≤ 1000000 }
     ensures trail { OnOk result (progress_of trail.new ≡ (unfold_page world.now.system.now (unfold_entry world.now.system.now world.now.entries.now (length world.now.entries.now)) page.now items.now (λ q. []) (progress_of trail.old)).0) }
-    ensures here { IfOk result (λ here. seen_in nodes.now here.items ≡ (unfold_page world.now.system.now (unfold_entry world.now.system.now world.now.entries.now (length world.now.entries.now)) page.now items.now (λ q. []) (progress_of trail.old)).1) }
+    ensures here { IfOk result (λ here. seen_in nodes.now here ≡ (unfold_page world.now.system.now (unfold_entry world.now.system.now world.now.entries.now (length world.now.entries.now)) page.now items.now (λ q. []) (progress_of trail.old)).1) }
 {
-    let mut here = no_passes(trail.allocator(), nodes.len())?;
+    let mut here = NodePasses::new(trail.allocator());
     for i in items {
         item_passed_at(i, page, nodes, &mut here, world, trail)?;
-    }
-    Ok(here)
-}
-
-// No items at any of n nodes.
-fn no_passes(alloc: Global, n: usize) -> Result<Vec<Passes>, NoMemory>
-    ensures size { IfOk result (λ here. length here.items ≡ n) }
-    ensures none { IfOk result (λ here. (m : ℕ) → get_or here.items m [] ≡ []) }
-{
-    let mut here = Vec::new(alloc);
-    'nodes: while here.len() < n {
-        here.push(Passes::new(alloc))?;
     }
     Ok(here)
 }
@@ -69,21 +58,19 @@ fn item_passed_at(
     item: &PageItem,
     page: &Tree,
     nodes: &Nodes,
-    here: &mut Vec<Passes>,
+    here: &mut NodePasses,
     world: &World<'_>,
     trail: &mut Trail,
 ) -> Result<(), NoMemory>
     requires siblings { HasFewSiblings world.now.system.now.kinds }
     requires forests { KnowsForests world.now.forests.now world.now.system.now.kinds }
     requires numbered { is_some (number_in nodes.now item.now.at) ≡ true }
-    requires size { length here.old.items ≡ length nodes.now }
     requires few { IsFew (progress_of trail.old) }
-    requires short { length (item_seen world.now.system.now world.now.entries.now page.now item.now (seen_in nodes.now here.old.items) (progress_of trail.old)).0.steps ≤ 1000000 }
-    ensures trail { OnOk result (progress_of trail.new ≡ (item_seen world.now.system.now world.now.entries.now page.now item.now (seen_in nodes.now here.old.items) (progress_of trail.old)).0) }
-    ensures here { OnOk result ((q : List ℕ) → seen_in nodes.now here.new.items q ≡ (if bytes_eq item.now.at q
-        then seen_in nodes.now here.old.items q ++ (item_seen world.now.system.now world.now.entries.now page.now item.now (seen_in nodes.now here.old.items) (progress_of trail.old)).1 ∷ []
-        else seen_in nodes.now here.old.items q)) }
-    ensures size { OnOk result (length here.new.items ≡ length nodes.now) }
+    requires short { length (item_seen world.now.system.now world.now.entries.now page.now item.now (seen_in nodes.now here.old) (progress_of trail.old)).0.steps ≤ 1000000 }
+    ensures trail { OnOk result (progress_of trail.new ≡ (item_seen world.now.system.now world.now.entries.now page.now item.now (seen_in nodes.now here.old) (progress_of trail.old)).0) }
+    ensures here { OnOk result ((q : List ℕ) → seen_in nodes.now here.new q ≡ (if bytes_eq item.now.at q
+        then seen_in nodes.now here.old q ++ (item_seen world.now.system.now world.now.entries.now page.now item.now (seen_in nodes.now here.old) (progress_of trail.old)).1 ∷ []
+        else seen_in nodes.now here.old q)) }
     ensures few { OnOk result (IsFew (progress_of trail.new)) }
 {
     let path = steps_of(trail.allocator(), &item.at)?;
@@ -94,10 +81,10 @@ fn item_passed_at(
         number,
         base,
         nodes,
-        here: here.as_slice(),
+        here,
     };
     let pass = item_passed(&item.item, &node, world, trail)?;
-    here[number].push(pass)?;
+    here.push(pass)?;
     Ok(())
 }
 
@@ -125,24 +112,24 @@ fn item_passed(
     node: &PageNode<'_>,
     world: &World<'_>,
     trail: &mut Trail,
-) -> Result<Pass, NoMemory>
+) -> Result<NodePass, NoMemory>
     requires siblings { HasFewSiblings world.now.system.now.kinds }
     requires forests { KnowsForests world.now.forests.now world.now.system.now.kinds }
-    requires number { number_in node.now.nodes.now node.now.at.now ≡ Some node.now.number }
     requires base { node.now.base ≤ MOST_NODES }
     requires few { IsFew (progress_of trail.old) }
     requires short { length (unfold_at world.now.system.now world.now.entries.now item.now node.now (progress_of trail.old)).0.steps ≤ 1000000 }
     ensures trail { OnOk result (progress_of trail.new ≡ (unfold_at world.now.system.now world.now.entries.now item.now node.now (progress_of trail.old)).0) }
-    ensures pass { IfOk result (λ p. passed_of node.now.at.now p ≡ (unfold_at world.now.system.now world.now.entries.now item.now node.now (progress_of trail.old)).1) }
+    ensures pass { IfOk result (λ p. passed_to node.now.at.now (seen_one (all_seen node.now.here.now) p) ≡ (unfold_at world.now.system.now world.now.entries.now item.now node.now (progress_of trail.old)).1) }
+    ensures node { IfOk result (λ p. p.node ≡ node.now.number) }
     ensures few { OnOk result (IsFew (progress_of trail.new)) }
 {
     let alloc = trail.allocator();
     match item.reason {
-        Reason::Start => Ok(plain(alloc, item.atom)),
-        Reason::Up(_) => Ok(plain(alloc, item.atom)),
+        Reason::Start => Ok(stays(node.number, item.atom, alloc)),
+        Reason::Up(_) => Ok(stays(node.number, item.atom, alloc)),
         Reason::Local(l) => {
             after_local(world.system, l, node.at, trail)?;
-            Ok(plain(alloc, item.atom))
+            Ok(stays(node.number, item.atom, alloc))
         }
         Reason::Down(link, below) => below_passed(item, link, below, node, world, trail),
     }
@@ -155,7 +142,7 @@ fn below_passed(
     node: &PageNode<'_>,
     world: &World<'_>,
     trail: &mut Trail,
-) -> Result<Pass, NoMemory>
+) -> Result<NodePass, NoMemory>
     requires siblings { HasFewSiblings world.now.system.now.kinds }
     requires forests { KnowsForests world.now.forests.now world.now.system.now.kinds }
     requires base { node.now.base ≤ MOST_NODES }
@@ -163,17 +150,46 @@ fn below_passed(
     requires short { length (unfold_at world.now.system.now world.now.entries.now item.now node.now (progress_of trail.old)).0.steps ≤ 1000000 }
     requires reason { item.now.reason ≡ Reason.Down link below }
     ensures trail { OnOk result (progress_of trail.new ≡ (unfold_at world.now.system.now world.now.entries.now item.now node.now (progress_of trail.old)).0) }
-    ensures pass { IfOk result (λ p. passed_of node.now.at.now p ≡ (unfold_at world.now.system.now world.now.entries.now item.now node.now (progress_of trail.old)).1) }
+    ensures pass { IfOk result (λ p. passed_to node.now.at.now (seen_one (all_seen node.now.here.now) p) ≡ (unfold_at world.now.system.now world.now.entries.now item.now node.now (progress_of trail.old)).1) }
+    ensures node { IfOk result (λ p. p.node ≡ node.now.number) }
     ensures few { OnOk result (IsFew (progress_of trail.new)) }
 {
     match below {
         Below::Real(k) => {
-            let way = way_below(node, k, from_of(world.system, link), trail.allocator())?;
-            let pass = down(item.atom, k, way)?;
+            let pass = child_passed(
+                item.atom,
+                k,
+                from_of(world.system, link),
+                node,
+                trail.allocator(),
+            )?;
             Ok(pass)
         }
         Below::Grown(spawn, entry) => grown_passed(item, link, spawn, entry, node, world, trail),
     }
+}
+
+// An item for this atom by a link from the atom `from` at the page's child k.
+fn child_passed(
+    atom: Atom,
+    k: u32,
+    from: Atom,
+    node: &PageNode<'_>,
+    alloc: Global,
+) -> Result<NodePass, NoMemory>
+    ensures pass { IfOk result (λ p. passed_to node.now.at.now (seen_one (all_seen node.now.here.now) p)
+        ≡ record { atom = atom; child = Some k; end = end_for from (seen_in node.now.nodes.now node.now.here.now (node.now.at.now ++ k ∷ [])) (node.now.at.now ++ k ∷ []) }) }
+    ensures node { IfOk result (λ p. p.node ≡ node.now.number) }
+{
+    let mut child = steps_of(alloc, node.at)?;
+    child.push(k)?;
+    let on = place_at(node.nodes, node.here, &child, from);
+    let pass = down(atom, k, Vec::new(alloc))?;
+    Ok(NodePass {
+        node: node.number,
+        pass,
+        on,
+    })
 }
 
 fn grown_passed(
@@ -184,7 +200,7 @@ fn grown_passed(
     node: &PageNode<'_>,
     world: &World<'_>,
     trail: &mut Trail,
-) -> Result<Pass, NoMemory>
+) -> Result<NodePass, NoMemory>
     requires siblings { HasFewSiblings world.now.system.now.kinds }
     requires forests { KnowsForests world.now.forests.now world.now.system.now.kinds }
     requires base { node.now.base ≤ MOST_NODES }
@@ -192,18 +208,21 @@ fn grown_passed(
     requires short { length (unfold_at world.now.system.now world.now.entries.now item.now node.now (progress_of trail.old)).0.steps ≤ 1000000 }
     requires reason { item.now.reason ≡ Reason.Down link (Below.Grown spawn entry) }
     ensures trail { OnOk result (progress_of trail.new ≡ (unfold_at world.now.system.now world.now.entries.now item.now node.now (progress_of trail.old)).0) }
-    ensures pass { IfOk result (λ p. passed_of node.now.at.now p ≡ (unfold_at world.now.system.now world.now.entries.now item.now node.now (progress_of trail.old)).1) }
+    ensures pass { IfOk result (λ p. passed_to node.now.at.now (seen_one (all_seen node.now.here.now) p) ≡ (unfold_at world.now.system.now world.now.entries.now item.now node.now (progress_of trail.old)).1) }
+    ensures node { IfOk result (λ p. p.node ≡ node.now.number) }
     ensures few { OnOk result (IsFew (progress_of trail.new)) }
 {
     let Some(kind) = spawned(world.system, spawn) else {
-        return Ok(plain(trail.allocator(), item.atom));
+        return Ok(stays(node.number, item.atom, trail.allocator()));
     };
-    let child = named_at(node.here, node.number, needed_by(world.system, spawn));
+    let child = node
+        .here
+        .child_for(node.number, needed_by(world.system, spawn));
     let k = trail.bring(kind, node.base, node.at, child)?;
     let at = child_at(node.at, k)?;
     let here = entry_passed(entry, at, world, trail)?;
     let pass = down(item.atom, k, here.into_way(from_of(world.system, link)))?;
-    Ok(pass)
+    Ok(alone(node.number, pass))
 }
 
 fn child_at(at: &Path, k: u32) -> Result<Path, NoMemory>
@@ -214,45 +233,12 @@ fn child_at(at: &Path, k: u32) -> Result<Path, NoMemory>
     Ok(child)
 }
 
-// The way of the first item with the atom at the child k.
-fn way_below(node: &PageNode<'_>, k: u32, atom: Atom, alloc: Global) -> Result<Vec<u32>, NoMemory>
-    ensures { IfOk result (λ way. way.items ≡ way_for atom (passes_at node.now.nodes.now node.now.here.now (node.now.at.now ++ k ∷ []))) }
-{
-    let mut child = steps_of(alloc, node.at)?;
-    child.push(k)?;
-    way_at(node.nodes, node.here, &child, atom, alloc)
-}
-
-/// The way of the first item with the atom at the node of a path. Linear in the lengths of the path and the way, on average.
-pub fn way_at(
-    nodes: &Nodes,
-    here: &[Passes],
-    path: &[u32],
-    atom: Atom,
-    alloc: Global,
-) -> Result<Vec<u32>, NoMemory>
-    ensures { IfOk result (λ way. way.items ≡ way_for atom (passes_at nodes.now here.now path.now)) }
+/// The place of the first item with the atom at the node of a path. Linear in the path's length, on average.
+pub fn place_at(nodes: &Nodes, here: &NodePasses, path: &[u32], atom: Atom) -> Option<usize>
+    ensures { end_for atom (seen_in nodes.now here.now path.now) path.now ≡ path.now ++ way_on (all_seen here.now) result }
 {
     match nodes.get(path) {
-        Some(n) => way_in(here, n, atom, alloc),
-        None => Ok(Vec::new(alloc)),
-    }
-}
-
-fn way_in(here: &[Passes], number: usize, atom: Atom, alloc: Global) -> Result<Vec<u32>, NoMemory>
-    ensures { IfOk result (λ way. way.items ≡ way_for atom (get_or here.now number [])) }
-{
-    match here.get(number) {
-        Some(passes) => passes.way(atom),
-        None => Ok(Vec::new(alloc)),
-    }
-}
-
-fn named_at(here: &[Passes], number: usize, atom: Atom) -> u32
-    ensures { result ≡ named_for atom (get_or here.now number []) }
-{
-    match here.get(number) {
-        Some(passes) => passes.child_for(atom),
-        None => 0,
+        Some(n) => here.first(n, atom),
+        None => None,
     }
 }

@@ -82,17 +82,6 @@ impl Passes {
         }
     }
 
-    /// The way of the first item with the atom, or the one that stays where it is. Linear in its length.
-    pub fn way(&self, atom: Atom) -> Result<Vec<u32>, NoMemory>
-        ensures { IfOk result (λ way. way.items ≡ way_for atom self.now) }
-    {
-        let alloc = *self.items.allocator();
-        match self.first(atom) {
-            Some(p) => Ok(Vec::from_slice(alloc, &p.way)?),
-            None => Ok(Vec::new(alloc)),
-        }
-    }
-
     /// Adds an item. Constant on average.
     pub fn push(&mut self, pass: Pass) -> Result<(), NoMemory>
         ensures { OnOk result (self.new ≡ self.old ++ pass ∷ []) }
@@ -110,7 +99,7 @@ impl Passes {
         Ok(())
     }
 
-    /// The same, which lets the items go.
+    /// The way of the first item with the atom, or the one that stays where it is. It lets the items go.
     pub fn into_way(self, atom: Atom) -> Vec<u32>
         ensures { result.items ≡ way_for atom self }
     {

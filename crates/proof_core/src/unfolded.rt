@@ -1,12 +1,12 @@
 //! The steps of a proof, and the node that they lead to.
-ghost use Rattle.std.specs.Prelude.{◌≡◌, ◌↔◌, ◌≤◌, ◌<◌, [], length, min, reverse, IsTrue, IfOk, IsErrOf};
+ghost use Rattle.std.specs.Prelude.{◌≡◌, ◌↔◌, ◌≤◌, ◌<◌, [], length, min, IsTrue, IfOk, IsErrOf};
 ghost use Rattle.proof_core.specs.PagePasses.{seen_in};
 ghost use Rattle.proof_check.specs.Unfolding.{end_for, unfolded};
 ghost use Rattle.proof_check.specs.Validity.{MOST_STEPS, IsValid};
 ghost use Rattle.proof_core.specs.Worlds.{HasFewSiblings};
 
-use crate::page_passes::{page_passed, way_at};
-use crate::passes::Passes;
+use crate::node_passes::NodePasses;
+use crate::page_passes::{page_passed, place_at};
 use crate::trails::Trail;
 use crate::worlds::{Forests, World};
 use proof_check::{Nodes, Proof, steps};
@@ -74,7 +74,7 @@ impl From<NoMemory> for UnfoldFault {
 
 /// The steps that a valid proof says, where they are no more than the limit, and the node of the match. The condition on siblings is
 /// one of those that a sound system meets. Linear in the items that are passed, each as often as it is named, and in the lengths of
-/// the steps' paths, on average; an item of the page whose child is one of the page costs the length of the way from there to the match.
+/// the paths of the steps and of the page's items, on average.
 pub fn unfold(
     proof: &Proof,
     system: &System,
@@ -143,30 +143,11 @@ fn unfold_all(
 }
 
 // Where the walk for the target ends that begins at the root.
-fn match_of(
-    nodes: &Nodes,
-    here: &Vec<Passes>,
-    target: Atom,
-    alloc: Global,
-) -> Result<Path, NoMemory>
-    ensures { IfOk result (λ p. p ≡ end_for target (seen_in nodes.now here.now.items []) []) }
+fn match_of(nodes: &Nodes, here: &NodePasses, target: Atom, alloc: Global) -> Result<Path, NoMemory>
+    ensures { IfOk result (λ p. p ≡ end_for target (seen_in nodes.now here.now []) []) }
 {
     let root = Vec::new(alloc);
-    let passes = here.as_slice();
-    let at = root.as_slice();
-    let way = way_at(nodes, passes, at, target, alloc)?;
-    let path = path_of(alloc, way)?;
-    Ok(path)
-}
-
-// The path from the root whose last step is the way's first.
-fn path_of(alloc: Global, way: Vec<u32>) -> Result<Path, NoMemory>
-    ensures { IfOk result (λ p. p ≡ reverse way.items) }
-{
-    let mut path = Path::root(alloc);
-    let mut rest = way;
-    'steps: while let Some(k) = rest.pop() {
-        path.push(k)?;
-    }
+    let from = place_at(nodes, here, root.as_slice(), target);
+    let path = here.walk(from, alloc)?;
     Ok(path)
 }

@@ -1,15 +1,12 @@
-use Rattle.std.proofs.Common.{◌≡◌, ◌≤◌, ℕ, List, [], ◌∷◌, ◌++◌, Some, None, length, get_or, slice_get, refl, sym, ap, subst, ◌∙◌, arith}
+use Rattle.std.proofs.Common.{◌≡◌, ◌≤◌, List, [], ◌∷◌, ◌++◌, Some, None, length, slice_get, sym, ap, subst, ◌∙◌, arith}
 use Rattle.std.specs.Option.{option_copied}
-use Rattle.proof_check.specs.declared.proofs.Below.TheVariants.{Real, Grown}
-use Rattle.proof_check.specs.declared.proofs.Reason.TheVariants.{Start, Local, Up, Down}
-use Rattle.proof_core.specs.Passes.{passed_of, seen, way_for, named_for}
-use Rattle.proof_core.specs.PagePasses.{passes_at, seen_in, unfold_at}
-use Rattle.proof_core.specs.Trails.{progress_of, number_for, with_forest_of}
-use Rattle.proof_check.specs.Unfolding.{Progress, Passed, from_of, spawned, end_for, unfold_reason, unfold_entry, entry_count}
-use Rattle.proof_core.specs.Walks.{IsFew}
+use Rattle.proof_core.specs.Passes.{seen, way_for}
+use Rattle.proof_core.specs.NodePasses.{all_seen, seen_at}
+use Rattle.proof_core.specs.PagePasses.{seen_in}
+use Rattle.proof_core.specs.Trails.{progress_of}
+use Rattle.proof_check.specs.Unfolding.{Progress, Passed, child_for, from_of, spawned, end_for, unfold_entry, entry_count}
 use Rattle.proof_check.proofs.CountLemmas.{reason_steps, entry_steps}
-use Rattle.proof_core.proofs.PassLemmas.{passed_plain, passed_down}
-use Rattle.proof_core.proofs.TrailLemmas.{few_local}
+use Rattle.proof_core.proofs.PassLemmas.{passed_down}
 use Rattle.proof_core.proofs.WalkLemmas.{none_is}
 use Rattle.proof_core.proofs.WorldLemmas.{few_spawned}
 use Rattle.proof_core.proofs.PagePassLemmas.{page_grown}
@@ -28,7 +25,7 @@ bring-requires-clause-short c =
     let node = c.args.node.now in
     let x = c.args.item.now in
     let n = length es in
-    let steps = reason_steps s (unfold_entry s es n) (entry_count s es n) (entry_steps s es n) x.reason x node.base node.at.now (seen node.at.now (get_or node.here.now node.number []))
+    let steps = reason_steps s (unfold_entry s es n) (entry_count s es n) (entry_steps s es n) x.reason x node.base node.at.now (seen_at node.here.now node.number node.at.now)
     (λ k. seen_in node.nodes.now node.here.now (node.at.now ++ k ∷ [])) (progress_of c.args.trail.now) in
     omega (arith, steps, c.requires.short)
 
@@ -37,8 +34,8 @@ entry_passed-requires-clause-short c =
     let s = c.args.world.now.system.now in
     let es = c.args.world.now.entries.now in
     let after = progress_of c.bring.new.self in
-    let whole = page_grown s es c.args.item.now c.args.link c.args.spawn c.args.entry c.named_at-child.result c.in_ok-k.k c.in-Some.kind.now c.args.node.now (progress_of c.args.trail.now) after c.requires.reason (sym c.spawned.ensures ∙ ap option_copied c.in-Some.is)
-    (c.named_at-child.ensures ∙ ap (λ a. named_for a (get_or c.args.node.now.here.now c.args.node.now.number [])) c.needed_by.ensures) c.in_ok-k.ensures.number c.in_ok-k.ensures.trail in
+    let whole = page_grown s es c.args.item.now c.args.link c.args.spawn c.args.entry c.child_for-child.result c.in_ok-k.k c.in-Some.kind.now c.args.node.now (progress_of c.args.trail.now) after c.requires.reason (sym c.spawned.ensures ∙ ap option_copied c.in-Some.is)
+    (c.child_for-child.ensures c.args.node.now.at.now ∙ ap (λ a. child_for a (seen_at c.args.node.now.here.now c.args.node.now.number c.args.node.now.at.now)) c.needed_by.ensures) c.in_ok-k.ensures.number c.in_ok-k.ensures.trail in
     subst (λ w. length (unfold_entry s es (length es) c.args.entry w after).0.steps ≤ 1000000) (sym c.in_ok-at.ensures)
     (subst (λ (r : Progress × Passed). length r.0.steps ≤ 1000000) whole c.requires.short)
 
@@ -47,8 +44,8 @@ returns-clause-trail c =
     let s = c.args.world.now.system.now in
     let es = c.args.world.now.entries.now in
     let after = progress_of c.bring.new.self in
-    let whole = page_grown s es c.args.item.now c.args.link c.args.spawn c.args.entry c.named_at-child.result c.in_ok-k.k c.in-Some.kind.now c.args.node.now (progress_of c.args.trail.now) after c.requires.reason (sym c.spawned.ensures ∙ ap option_copied c.in-Some.is)
-    (c.named_at-child.ensures ∙ ap (λ a. named_for a (get_or c.args.node.now.here.now c.args.node.now.number [])) c.needed_by.ensures) c.in_ok-k.ensures.number c.in_ok-k.ensures.trail in
+    let whole = page_grown s es c.args.item.now c.args.link c.args.spawn c.args.entry c.child_for-child.result c.in_ok-k.k c.in-Some.kind.now c.args.node.now (progress_of c.args.trail.now) after c.requires.reason (sym c.spawned.ensures ∙ ap option_copied c.in-Some.is)
+    (c.child_for-child.ensures c.args.node.now.at.now ∙ ap (λ a. child_for a (seen_at c.args.node.now.here.now c.args.node.now.number c.args.node.now.at.now)) c.needed_by.ensures) c.in_ok-k.ensures.number c.in_ok-k.ensures.trail in
     c.in_ok-here.ensures.trail ∙ ap (λ w. (unfold_entry s es (length es) c.args.entry w after).0) c.in_ok-at.ensures ∙ sym (ap (λ (r : Progress × Passed). r.0) whole)
 
 pub returns-clause-pass : goal.returns-clause-pass
@@ -60,15 +57,16 @@ returns-clause-pass c =
     let p = c.in_ok-pass.pass in
     let from = from_of (slice_get s.down c.args.link) in
     let after = progress_of c.bring.new.self in
-    let whole = page_grown s es c.args.item.now c.args.link c.args.spawn c.args.entry c.named_at-child.result c.in_ok-k.k c.in-Some.kind.now c.args.node.now (progress_of c.args.trail.now) after c.requires.reason (sym c.spawned.ensures ∙ ap option_copied c.in-Some.is)
-    (c.named_at-child.ensures ∙ ap (λ a. named_for a (get_or c.args.node.now.here.now c.args.node.now.number [])) c.needed_by.ensures) c.in_ok-k.ensures.number c.in_ok-k.ensures.trail in
+    let whole = page_grown s es c.args.item.now c.args.link c.args.spawn c.args.entry c.child_for-child.result c.in_ok-k.k c.in-Some.kind.now c.args.node.now (progress_of c.args.trail.now) after c.requires.reason (sym c.spawned.ensures ∙ ap option_copied c.in-Some.is)
+    (c.child_for-child.ensures c.args.node.now.at.now ∙ ap (λ a. child_for a (seen_at c.args.node.now.here.now c.args.node.now.number c.args.node.now.at.now)) c.needed_by.ensures) c.in_ok-k.ensures.number c.in_ok-k.ensures.trail in
     let inside = c.in_ok-here.here in
     let child = node.at.now ++ k ∷ [] in
     let is : seen child inside ≡ (unfold_entry s es (length es) c.args.entry child after).1
     = subst (λ w. seen w inside ≡ (unfold_entry s es (length es) c.args.entry w after).1) c.in_ok-at.ensures c.in_ok-here.ensures.here in
     let way = c.in_ok-pass.ensures.way ∙ ap (λ w. w ++ k ∷ []) (c.into_way.ensures ∙ ap (λ a. way_for a inside) c.from_of.ensures) in
     let made : List Passed → Passed = λ h. record { atom = c.args.item.now.atom; child = Some k; end = end_for from h child } in
-    passed_down node.at.now p c.args.item.now.atom k from inside c.in_ok-pass.ensures.atom c.in_ok-pass.ensures.child way ∙ ap made is ∙ sym (ap (λ (r : Progress × Passed). r.1) whole)
+    c.alone.ensures.pass (all_seen node.here.now) node.at.now
+    ∙ passed_down node.at.now p c.args.item.now.atom k from inside c.in_ok-pass.ensures.atom c.in_ok-pass.ensures.child way ∙ ap made is ∙ sym (ap (λ (r : Progress × Passed). r.1) whole)
 
 pub returns-in_default-clause-trail : goal.returns-in_default-clause-trail
 returns-in_default-clause-trail c =
@@ -76,7 +74,7 @@ returns-in_default-clause-trail c =
     let es = c.args.world.now.entries.now in
     let node = c.args.node.now in
     let none : spawned s c.args.spawn ≡ None = sym c.spawned.ensures ∙ ap option_copied c.in_default.is in
-    sym (ap (λ (r : Progress × Passed). r.0) (none_is s es (unfold_entry s es (length es)) c.args.item.now c.args.link c.args.spawn c.args.entry node.base node.at.now (seen node.at.now (get_or node.here.now node.number []))
+    sym (ap (λ (r : Progress × Passed). r.0) (none_is s es (unfold_entry s es (length es)) c.args.item.now c.args.link c.args.spawn c.args.entry node.base node.at.now (seen_at node.here.now node.number node.at.now)
     (λ k. seen_in node.nodes.now node.here.now (node.at.now ++ k ∷ [])) (progress_of c.args.trail.now) c.requires.reason none))
 
 pub returns-in_default-clause-pass : goal.returns-in_default-clause-pass
@@ -85,6 +83,6 @@ returns-in_default-clause-pass c =
     let es = c.args.world.now.entries.now in
     let node = c.args.node.now in
     let none : spawned s c.args.spawn ≡ None = sym c.spawned.ensures ∙ ap option_copied c.in_default.is in
-    passed_plain node.at.now c.plain.result c.args.item.now.atom c.plain.ensures.atom c.plain.ensures.child c.plain.ensures.way
-    ∙ sym (ap (λ (r : Progress × Passed). r.1) (none_is s es (unfold_entry s es (length es)) c.args.item.now c.args.link c.args.spawn c.args.entry node.base node.at.now (seen node.at.now (get_or node.here.now node.number []))
+    c.stays.ensures.pass (all_seen node.here.now) node.at.now
+    ∙ sym (ap (λ (r : Progress × Passed). r.1) (none_is s es (unfold_entry s es (length es)) c.args.item.now c.args.link c.args.spawn c.args.entry node.base node.at.now (seen_at node.here.now node.number node.at.now)
     (λ k. seen_in node.nodes.now node.here.now (node.at.now ++ k ∷ [])) (progress_of c.args.trail.now) c.requires.reason none))

@@ -1,4 +1,4 @@
-use Rattle.std.proofs.Common.{◌≡◌, ◌≤◌, ℕ, List, [], suc, length, drop, slice_get, refl, sym, ap, subst, ◌∙◌, arith}
+use Rattle.std.proofs.Common.{◌≡◌, ◌≤◌, ℕ, List, [], suc, length, drop, refl, subst, ◌∙◌, arith}
 use Rattle.std.proofs.lemmas.Option.{slice_get_read}
 use Rattle.proof_core.specs.PagePasses.{seen_in}
 use Rattle.proof_core.specs.Trails.{progress_of}
@@ -14,7 +14,7 @@ item_passed_at-requires-clause-short c =
     let i = c.loop-i.i-index in
     let x = c.i-item.result in
     let at = slice_get_read items (length items) i x refl c.loop-i-test.true c.i-item.is in
-    page_short s es c.args.page.now items i x (seen_in c.args.nodes.now c.loop-i.here.items) (progress_of c.loop-i.trail) 1000000 at
+    page_short s es c.args.page.now items i x (seen_in c.args.nodes.now c.loop-i.here) (progress_of c.loop-i.trail) 1000000 at
     (subst (λ (r : Progress × (List ℕ → List Passed)). length r.0.steps ≤ 1000000) c.loop-i.invariant.whole c.requires.short)
 
 pub loop-i-preserved : goal.loop-i-preserved
@@ -26,15 +26,14 @@ loop-i-preserved c =
     let nodes = c.args.nodes.now in
     let i = c.loop-i.i-index in
     let x = c.i-item.result in
-    let new = seen_in nodes c.item_passed_at.new.here.items in
+    let new = seen_in nodes c.item_passed_at.new.here in
     let after = progress_of c.item_passed_at.new.trail in
     let at = slice_get_read items (length items) i x refl c.loop-i-test.true c.i-item.is in
     let start = unfold_page s u c.args.page.now items (λ q. []) (progress_of c.args.trail.now) in
     let next : start ≡ unfold_page s u c.args.page.now (drop (suc i) items) new after
     = c.loop-i.invariant.whole
-    ∙ page_one s es c.args.page.now items i x (seen_in nodes c.loop-i.here.items) new (progress_of c.loop-i.trail) after at c.in_ok-item_passed_at.ensures.trail c.in_ok-item_passed_at.ensures.here in
+    ∙ page_one s es c.args.page.now items i x (seen_in nodes c.loop-i.here) new (progress_of c.loop-i.trail) after at c.in_ok-item_passed_at.ensures.trail c.in_ok-item_passed_at.ensures.here in
     record {
       whole = subst (λ n. start ≡ unfold_page s u c.args.page.now (drop n items) new after) {x = suc i} (omega arith) next;
-      size = c.in_ok-item_passed_at.ensures.size;
       few = c.in_ok-item_passed_at.ensures.few;
     }

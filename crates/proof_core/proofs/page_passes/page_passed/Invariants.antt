@@ -8,7 +8,6 @@ use Rattle.proof_core.proofs.page_passes.page_passed.Given as goal
 abbrev pub invariant-loop-i : goal.invariant-loop-i
 invariant-loop-i l = record {
   whole : unfold_page l.world.system.now (unfold_entry l.world.system.now l.world.entries.now (length l.world.entries.now)) l.page l.items (λ q. []) (progress_of l.fn.trail)
-      ≡ unfold_page l.world.system.now (unfold_entry l.world.system.now l.world.entries.now (length l.world.entries.now)) l.page (drop l.i-index l.items) (seen_in l.nodes l.here.items) (progress_of l.trail);
-  size : length l.here.items ≡ length l.nodes;
+      ≡ unfold_page l.world.system.now (unfold_entry l.world.system.now l.world.entries.now (length l.world.entries.now)) l.page (drop l.i-index l.items) (seen_in l.nodes l.here) (progress_of l.trail);
   few : IsFew (progress_of l.trail);
 }

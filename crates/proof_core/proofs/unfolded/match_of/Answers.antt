@@ -1,14 +1,12 @@
-use Rattle.std.proofs.Common.{◌≡◌, ◌++◌, [], reverse, sym, ap, ◌∙◌}
-use Rattle.proof_core.specs.Passes.{way_for}
-use Rattle.proof_core.specs.PagePasses.{passes_at}
-use Rattle.proof_core.proofs.PassLemmas.{end-seen}
+use Rattle.std.proofs.Common.{◌≡◌, ◌++◌, [], sym, subst, ◌∙◌}
+use Rattle.proof_core.specs.NodePasses.{way_on, all_seen}
+use Rattle.proof_core.specs.PagePasses.{seen_in}
+use Rattle.proof_check.specs.Unfolding.{end_for}
 use Rattle.proof_core.proofs.unfolded.match_of.Goals as goal
 
 pub returns : goal.returns
 returns c =
-    let nodes = c.args.nodes.now in
-    let here = c.args.here.now.items in
-    let root = c.as_slice-at.ensures.value ∙ c.new-root.ensures.items in
+    let here = c.args.here.now in
+    let root : c.as_slice.result.now ≡ [] = c.as_slice.ensures.value ∙ c.new-root.ensures.items in
     c.in_ok-path.ensures
-    ∙ ap reverse (c.in_ok-way.ensures ∙ (λ j. way_for c.args.target (passes_at nodes (c.as_slice-passes.ensures.value j) (root j))))
-    ∙ sym (end-seen [] c.args.target (passes_at nodes here []))
+    ∙ sym (subst (λ w. end_for c.args.target (seen_in c.args.nodes.now here w) w ≡ w ++ way_on (all_seen here) c.place_at-from.result) root c.place_at-from.ensures)

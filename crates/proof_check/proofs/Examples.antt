@@ -1,4 +1,4 @@
--- Worked rows: a reference program's systems, pages and proofs, with its steps and ends.
+-- Worked examples: systems, pages and proofs, with the steps that they unfold to and the nodes where these end.
 use Rattle.std.proofs.Common.{◌≡◌, List, [], ◌∷◌, true, false, Some, None, refl, length}
 use Rattle.tree_sem.specs.declared.actions.Step.{Step}
 use Rattle.tree_sem.specs.Trees.{no_nodes, node, LabelTree}
@@ -9,8 +9,8 @@ use Rattle.proof_check.specs.declared.proofs.Proof.{Proof}
 use Rattle.proof_check.specs.Unfolding.{unfolded, proof_steps}
 use Rattle.proof_check.specs.Checks.{is_valid}
 
-abbrev pub row_5_system : System
-row_5_system = record {
+abbrev pub nested_system : System
+nested_system = record {
   local = (record { needs = (4 ∷ 5 ∷ []); gives = 6; stmt = None } ∷ record { needs = (4 ∷ 7 ∷ []); gives = 8; stmt = None } ∷ record { needs = (8 ∷ []); gives = 9; stmt = None } ∷ []);
   up = (record { from = 4; to = 5 } ∷ record { from = 5; to = 5 } ∷ record { from = 6; to = 7 } ∷ record { from = 7; to = 7 } ∷ []);
   down = (record { from = 9; to = 9 } ∷ []);
@@ -19,29 +19,29 @@ row_5_system = record {
   visible = (4 ∷ 5 ∷ 6 ∷ 7 ∷ []);
 }
 
-abbrev pub row_5_page : LabelTree
-row_5_page = record { label = (0 ∷ []); below = (node (1 ∷ []) no_nodes (node (2 ∷ []) (node (3 ∷ 4 ∷ []) no_nodes no_nodes) no_nodes)) }
+abbrev pub nested_page : LabelTree
+nested_page = record { label = (0 ∷ []); below = (node (1 ∷ []) no_nodes (node (2 ∷ []) (node (3 ∷ 4 ∷ []) no_nodes no_nodes) no_nodes)) }
 
-abbrev pub row_5_proof : Proof
-row_5_proof = record {
+abbrev pub nested_proof : Proof
+nested_proof = record {
   entries = (record { kind = 0; parent = (6 ∷ []); items = (record { atom = 4; reason = Start } ∷ record { atom = 7; reason = Up 2 } ∷ record { atom = 8; reason = Local 1 } ∷ record { atom = 9; reason = Local 2 } ∷ []); steps = 0 } ∷ record { kind = 0; parent = (4 ∷ []); items = (record { atom = 4; reason = Start } ∷ record { atom = 5; reason = Up 0 } ∷ record { atom = 6; reason = Local 0 } ∷ record { atom = 9; reason = Down 0 (Grown 0 0) } ∷ []); steps = 1 } ∷ []);
   page = (record { at = (1 ∷ 0 ∷ []); item = record { atom = 4; reason = Start } } ∷ record { at = (1 ∷ 0 ∷ []); item = record { atom = 9; reason = Down 0 (Grown 0 1) } } ∷ record { at = (1 ∷ []); item = record { atom = 9; reason = Down 0 (Real 0) } } ∷ record { at = []; item = record { atom = 9; reason = Down 0 (Real 1) } } ∷ []);
 }
 
-abbrev pub row_5_steps : List Step
-row_5_steps = (record { stmt = 0; at = (1 ∷ 0 ∷ []) } ∷ record { stmt = 0; at = (1 ∷ 0 ∷ 0 ∷ []) } ∷ [])
+abbrev pub nested_steps : List Step
+nested_steps = (record { stmt = 0; at = (1 ∷ 0 ∷ []) } ∷ record { stmt = 0; at = (1 ∷ 0 ∷ 0 ∷ []) } ∷ [])
 
-row_5-unfolded : unfolded row_5_system row_5_proof row_5_page 9 ≡ (row_5_steps, (1 ∷ 0 ∷ 0 ∷ 0 ∷ []))
-row_5-unfolded = refl
+nested-unfolded : unfolded nested_system nested_proof nested_page 9 ≡ (nested_steps, (1 ∷ 0 ∷ 0 ∷ 0 ∷ []))
+nested-unfolded = refl
 
-row_5-valid : is_valid row_5_system row_5_page row_5_proof 9 ≡ true
-row_5-valid = refl
+nested-valid : is_valid nested_system nested_page nested_proof 9 ≡ true
+nested-valid = refl
 
-row_5-count : proof_steps row_5_system row_5_proof ≡ length row_5_steps
-row_5-count = refl
+nested-count : proof_steps nested_system nested_proof ≡ length nested_steps
+nested-count = refl
 
-abbrev pub row_7_system : System
-row_7_system = record {
+abbrev pub inner_system : System
+inner_system = record {
   local = (record { needs = (3 ∷ 11 ∷ []); gives = 12; stmt = None } ∷ record { needs = (3 ∷ 7 ∷ []); gives = 13; stmt = None } ∷ record { needs = (12 ∷ []); gives = 7; stmt = (Some 1) } ∷ record { needs = (13 ∷ []); gives = 15; stmt = None } ∷ []);
   up = [];
   down = (record { from = 10; to = 11 } ∷ record { from = 11; to = 11 } ∷ record { from = 15; to = 15 } ∷ []);
@@ -50,26 +50,26 @@ row_7_system = record {
   visible = [];
 }
 
-abbrev pub row_7_page : LabelTree
-row_7_page = record { label = (0 ∷ []); below = (node (1 ∷ []) no_nodes (node (2 ∷ []) (node (3 ∷ 4 ∷ []) (node (5 ∷ 6 ∷ []) no_nodes no_nodes) no_nodes) no_nodes)) }
+abbrev pub inner_page : LabelTree
+inner_page = record { label = (0 ∷ []); below = (node (1 ∷ []) no_nodes (node (2 ∷ []) (node (3 ∷ 4 ∷ []) (node (5 ∷ 6 ∷ []) no_nodes no_nodes) no_nodes) no_nodes)) }
 
-abbrev pub row_7_proof : Proof
-row_7_proof = record {
+abbrev pub inner_proof : Proof
+inner_proof = record {
   entries = (record { kind = 1; parent = []; items = (record { atom = 10; reason = Start } ∷ []); steps = 0 } ∷ record { kind = 0; parent = []; items = (record { atom = 14; reason = Start } ∷ record { atom = 11; reason = Down 0 (Grown 1 0) } ∷ []); steps = 0 } ∷ []);
   page = (record { at = (1 ∷ 0 ∷ []); item = record { atom = 3; reason = Start } } ∷ record { at = (1 ∷ 0 ∷ 0 ∷ []); item = record { atom = 6; reason = Start } } ∷ record { at = (1 ∷ 0 ∷ 0 ∷ []); item = record { atom = 11; reason = Down 1 (Grown 0 1) } } ∷ record { at = (1 ∷ 0 ∷ []); item = record { atom = 11; reason = Down 1 (Real 0) } } ∷ record { at = (1 ∷ 0 ∷ []); item = record { atom = 12; reason = Local 0 } } ∷ record { at = (1 ∷ 0 ∷ []); item = record { atom = 7; reason = Local 2 } } ∷ record { at = (1 ∷ 0 ∷ []); item = record { atom = 13; reason = Local 1 } } ∷ record { at = (1 ∷ 0 ∷ []); item = record { atom = 15; reason = Local 3 } } ∷ record { at = (1 ∷ []); item = record { atom = 15; reason = Down 2 (Real 0) } } ∷ record { at = []; item = record { atom = 15; reason = Down 2 (Real 1) } } ∷ []);
 }
 
-abbrev pub row_7_steps : List Step
-row_7_steps = (record { stmt = 0; at = (1 ∷ 0 ∷ 0 ∷ []) } ∷ record { stmt = 1; at = (1 ∷ 0 ∷ []) } ∷ [])
+abbrev pub inner_steps : List Step
+inner_steps = (record { stmt = 0; at = (1 ∷ 0 ∷ 0 ∷ []) } ∷ record { stmt = 1; at = (1 ∷ 0 ∷ []) } ∷ [])
 
-row_7-unfolded : unfolded row_7_system row_7_proof row_7_page 15 ≡ (row_7_steps, (1 ∷ 0 ∷ []))
-row_7-unfolded = refl
+inner-unfolded : unfolded inner_system inner_proof inner_page 15 ≡ (inner_steps, (1 ∷ 0 ∷ []))
+inner-unfolded = refl
 
-row_7-valid : is_valid row_7_system row_7_page row_7_proof 15 ≡ true
-row_7-valid = refl
+inner-valid : is_valid inner_system inner_page inner_proof 15 ≡ true
+inner-valid = refl
 
-row_7-count : proof_steps row_7_system row_7_proof ≡ length row_7_steps
-row_7-count = refl
+inner-count : proof_steps inner_system inner_proof ≡ length inner_steps
+inner-count = refl
 
 abbrev pub shared_inner_system : System
 shared_inner_system = record {
@@ -134,10 +134,10 @@ beside-count : proof_steps beside_system beside_proof ≡ length beside_steps
 beside-count = refl
 
 -- the first item of the page with a rule whose needs aren't met
-abbrev pub row_5_broken : Proof
-row_5_broken = record row_5_proof {
+abbrev pub nested_broken : Proof
+nested_broken = record nested_proof {
   page = (record { at = (1 ∷ 0 ∷ []); item = record { atom = 4; reason = Local 1 } } ∷ record { at = (1 ∷ 0 ∷ []); item = record { atom = 9; reason = Down 0 (Grown 0 1) } } ∷ record { at = (1 ∷ []); item = record { atom = 9; reason = Down 0 (Real 0) } } ∷ record { at = ([]); item = record { atom = 9; reason = Down 0 (Real 1) } } ∷ []);
 }
 
-row_5-broken : is_valid row_5_system row_5_page row_5_broken 9 ≡ false
-row_5-broken = refl
+nested-broken : is_valid nested_system nested_page nested_broken 9 ≡ false
+nested-broken = refl

@@ -1,9 +1,9 @@
 use Rattle.std.proofs.Common.{◌≡◌, ◌++◌, length, reverse}
-use Rattle.proof_core.proofs.unfolded.path_of.Given as goal
+use Rattle.proof_core.proofs.node_passes.go_down.Given as goal
 
 abbrev pub invariant-steps : goal.invariant-steps
 invariant-steps l = record {
-  whole : l.path ++ reverse l.rest.items ≡ reverse l.fn.way.items;
+  whole : l.path ++ reverse l.rest.items ≡ l.fn.path ++ reverse l.way;
 }
 
 abbrev pub decreases-steps : goal.decreases-steps
