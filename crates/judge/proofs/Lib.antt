@@ -7,4 +7,9 @@ pub mod Statements
 pub mod KindTrees
 pub mod SystemReading
 pub mod JudgedSelectors
+mod GuardLemmas
+mod SheetSystem
+mod TableNeeds
+mod AnswerLemmas
+mod OutcomeLemmas
 mod Examples

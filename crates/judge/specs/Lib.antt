@@ -1,4 +1,8 @@
+pub mod Answers
+pub mod BySeen
+pub mod Faults
 pub mod Losses
+pub mod Outcomes
 pub mod Tables
 pub mod TheSystem
 pub mod Witnesses

@@ -1,6 +1,13 @@
-//! What a script's statements can do to a page, and what proofs say of it.
+//! What a script's statements can do to a page, and what is said of the selectors of a sheet.
 #![tactic(auto)]
 
+mod answering;
+mod closing;
+mod judging;
 mod laws;
+mod limits;
+mod simplifying;
 
+pub use judging::judge;
 pub use laws::{losses_reach_nothing_more, proof_shows, reached_at_root};
+pub use limits::{JudgeFault, Limits};

@@ -1,0 +1,19 @@
+use Rattle.std.proofs.Common.{◌≡◌, Err, map, ap, ◌∙◌, inl, inr, rules}
+use Rattle.css_read.specs.Views.{item_of}
+use Rattle.simple_core.specs.declared.summaries.GainFault.TheVariants.{Spent}
+use Rattle.judge.specs.BySeen.{answers_by}
+use Rattle.judge.proofs.judging.answers_of.Goals as goal
+
+pub returns-in_ok-answers-in-Ok-clause-answers : goal.returns-in_ok-answers-in-Ok-clause-answers
+returns-in_ok-answers-in-Ok-clause-answers c =
+    inl (
+      c.in-Ok.closed,
+      c.in-Ok.ensures.closed,
+      c.in_ok-answers-in-Ok.ensures ∙ ap (answers_by c.in-Ok.closed.labels.label (map item_of c.args.items.now)) c.items.ensures,
+      c.in-Ok.ensures.few,
+    )
+
+pub returns-in_ok-answers-in-Err-Spent-clause-answers : goal.returns-in_ok-answers-in-Err-Spent-clause-answers
+returns-in_ok-answers-in-Err-Spent-clause-answers c =
+    let is : c.close_within.result ≡ Err Spent = search rules in
+    inr (c.in_ok-answers-in-Err-Spent.ensures, c.close_within.ensures.spent is)
