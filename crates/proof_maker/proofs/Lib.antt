@@ -1,0 +1,5 @@
+pub mod ChoiceLemmas
+pub mod ValidLemmas
+pub mod UsedLemmas
+pub mod OneLemmas
+mod Example
