@@ -1,6 +1,5 @@
 -- Cells that are of an arena.
-use Rattle.std.proofs.Common.{◌≡◌, ℕ, Bool, true, false, ◌==◌, ◌&&◌, if◌then◌else◌, List, sym, subst, inl, inr}
-use Rattle.std.proofs.lemmas.Bool.{cases_Bool}
+use Rattle.std.proofs.Common.{◌≡◌, ℕ, Bool, true, false, ◌==◌, ◌&&◌, if◌then◌else◌, List, sym, subst}
 use Rattle.class_diagrams.specs.References.{Reference, leaf_reference}
 use Rattle.class_diagrams.specs.Trees.{Tree}
 use Rattle.class_diagrams.specs.Arena.{IsIn}

@@ -7,8 +7,9 @@ use Rattle.tree_sem.specs.Trees.{LabelTree}
 use Rattle.guard_sem.specs.Guards.{Guard}
 use Rattle.guard_sem.specs.declared.rules.Rule.{Rule}
 use Rattle.guard_simplify.specs.Simplified.{atom_for}
-use Rattle.guard_simplify.specs.Law.{IsOver, IsTreeOver, IsRuleOver, GoesBack}
+use Rattle.guard_simplify.specs.Law.{IsOver, IsRuleOver, GoesBack}
 use Rattle.guard_simplify.proofs.GoingBack.{slice_get-Contains, steps_back, no_step_back}
+use Rattle.tree_sem.specs.Nodes.{IsTreeOver}
 
 module _ (rules : List Rule) (guards : List Guard) (n : ℕ) (over : (g : Guard) → Contains (map (λ (r : Rule). r.guard) rules ++ guards) g → IsOver n g)
     (rules_over : (i : ℕ) (r : Rule) → slice_get rules i ≡ Some r → IsRuleOver n r) where

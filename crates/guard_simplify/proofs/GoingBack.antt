@@ -32,13 +32,13 @@ use Rattle.guard_sem.proofs.SameGuards.{same_guard-sound, same_guard-itself}
 use Rattle.guard_simplify.specs.Firsts.{different}
 use Rattle.guard_simplify.specs.Auxiliaries.{formulas, forest_of, nodes_of, children_in, by_rule}
 use Rattle.guard_simplify.specs.Simplified.{atom_for, atom_of, classes_of, formula_locals, formula_ups, formula_downs, action_locals, action_spawns, seen_local, seen_down, label_in, system}
-use Rattle.guard_simplify.specs.Law.{IsAdded, IsFor, IsTrueOf, IsOver, IsRuleOver, IsTreeOver}
+use Rattle.guard_simplify.specs.Law.{IsAdded, IsFor, IsTrueOf, IsOver, IsRuleOver}
 use Rattle.guard_simplify.proofs.NumberLemmas.{different-Contains, flat_map-Contains}
 use Rattle.guard_simplify.proofs.Meanings.{Known, said, local_said, up_said, down_said}
 use Rattle.guard_simplify.proofs.FormulaLemmas.{seen_is, known, inside_listed, none_below, one_meaning, formula_known}
 use Rattle.guard_simplify.proofs.ForestLemmas.{owner_is, by_rule-Contains, node_is, label_of_kind, spawn_cases}
 use Rattle.guard_simplify.proofs.RuleRuns.{rule_end-append, rule_legal-append, after_grows, added_more, added_node, added_last, added_child}
-use Rattle.tree_sem.specs.Nodes.{IsNode, HasAtom}
+use Rattle.tree_sem.specs.Nodes.{IsNode, HasAtom, IsTreeOver}
 use Rattle.tree_sem.specs.Growth.{Grows}
 use Rattle.tree_sem.proofs.GrowthLemmas.{IsNode-grows, HasAtom-grows}
 use Rattle.guard_sem.proofs.HoldingLemmas.{Holds-grows}

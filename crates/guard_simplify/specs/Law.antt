@@ -12,7 +12,7 @@ use Rattle.guard_sem.specs.declared.rules.Rule.{Rule}
 use Rattle.guard_sem.specs.Rules.{RuleStep, after_step, end_of, AreLegal}
 use Rattle.guard_simplify.specs.Auxiliaries.{forest_of, Place, Auxiliary, formula, owner, seen, auxiliaries, formulas}
 use Rattle.guard_simplify.specs.Simplified.{atom_for, atom_of, classes_of, system}
-use Rattle.tree_sem.specs.Nodes.{IsNode, HasAtom}
+use Rattle.tree_sem.specs.Nodes.{IsNode, HasAtom, IsTreeOver}
 
 -- the step adds the node at w, as the one of this place
 abbrev pub IsNew : LabelTree → List Rule → RuleStep → Place → List ℕ → Type 0
@@ -66,10 +66,6 @@ abbrev mutual
   pub AreOver : ℕ → Guards → Type 0
   AreOver n no_guards = Unit {0}
   AreOver n (guard g gs) = IsOver n g × AreOver n gs
-
--- the atoms of a tree are
-abbrev pub IsTreeOver : ℕ → LabelTree → Type 0
-IsTreeOver n t = (v : List ℕ) (a : ℕ) → HasAtom t v a → a < n
 
 pub record IsRuleOver (n : ℕ) (r : Rule) : Type 0 where
   pub guard : IsOver n r.guard

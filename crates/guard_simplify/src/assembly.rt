@@ -5,6 +5,7 @@ ghost use Rattle.tp_base.specs.declared.atoms.TheConstants.{MOST_ATOMS};
 ghost use Rattle.simple_core.specs.declared.system.TheConstants.{MOST_KINDS};
 ghost use Rattle.guard_simplify.specs.Outcome.{Gives};
 ghost use Rattle.guard_simplify.specs.Counted.{AreWithin, first_seen, counted_locals, counted_ups, counted_downs, left_sides_of, counted_system, counted_seen, counted_visibly, counted_outcome};
+ghost use Rattle.guard_simplify.specs.declared.simplified.TheConstants.{MOST_RULES};
 
 use crate::class_rules::add_all_classes;
 use crate::counting::Counted;
@@ -45,7 +46,7 @@ fn all_locals(
     rules: &[Rule],
     counted: &Counted,
 ) -> Result<Vec<Local>, NoMemory>
-    requires few_rules { length rules.now ≤ 10000 }
+    requires few_rules { length rules.now ≤ MOST_RULES }
     requires within { AreWithin counted.now }
     requires each { length counted.now.rules.items ≡ length rules.now }
     requires formulas { first + length counted.now.formulas.keys ≤ MOST_ATOMS }
@@ -82,7 +83,7 @@ fn put_together(
     up: Vec<Link>,
     visible: ClassSet,
 ) -> Result<Simplified, NoMemory>
-    requires few_rules { length rules.now ≤ 10000 }
+    requires few_rules { length rules.now ≤ MOST_RULES }
     requires within { AreWithin counted.now }
     requires each { length counted.now.rules.items ≡ length rules.now }
     requires formulas { first + length counted.now.formulas.keys ≤ MOST_ATOMS }
@@ -115,7 +116,7 @@ fn assembled(
     rules: &[Rule],
     counted: &Counted,
 ) -> Result<Option<Simplified>, NoMemory>
-    requires few_rules { length rules.now ≤ 10000 }
+    requires few_rules { length rules.now ≤ MOST_RULES }
     requires within { AreWithin counted.now }
     requires each { length counted.now.rules.items ≡ length rules.now }
     requires formulas { first + length counted.now.formulas.keys ≤ MOST_ATOMS }
@@ -149,7 +150,7 @@ pub(crate) fn within_limits(
     rules: &[Rule],
     counted: &Counted,
 ) -> Result<Simplified, SimplifyFault>
-    requires few_rules { length rules.now ≤ 10000 }
+    requires few_rules { length rules.now ≤ MOST_RULES }
     requires few_nodes { length counted.now.nodes.nodes.keys ≤ MOST_KINDS }
     requires each { length counted.now.rules.items ≡ length rules.now }
     requires formulas { counted.now.nodes.first_owner ≡ first + length counted.now.formulas.keys }

@@ -3,6 +3,7 @@ ghost use Rattle.std.specs.Prelude.{◌≡◌, ◌≤◌, ◌++◌, length, IfOk
 ghost use Rattle.guard_simplify.specs.Auxiliaries.{by_rule};
 ghost use Rattle.guard_simplify.specs.Simplified.{classes_of};
 ghost use Rattle.guard_simplify.specs.SeenRules.{class_locals, class_rules};
+ghost use Rattle.guard_simplify.specs.declared.simplified.TheConstants.{MOST_RULES};
 
 use crate::formula_rules::{atom_of, set_of_one};
 use guard_sem::Rule;
@@ -56,7 +57,7 @@ pub(crate) fn add_all_classes(
     guards: &[usize],
     locals: &mut Vec<Local>,
 ) -> Result<(), NoMemory>
-    requires few_rules { length rules.now ≤ 10000 }
+    requires few_rules { length rules.now ≤ MOST_RULES }
     requires each { length guards.now ≡ length rules.now }
     ensures { OnOk result (locals.new.items ≡ locals.old.items ++ by_rule (class_rules guards.now) 0 rules.now) }
 {

@@ -6,6 +6,7 @@ ghost use Rattle.guard_simplify.specs.Auxiliaries.{places};
 ghost use Rattle.guard_simplify.specs.Law.{IsOver, IsRuleOver};
 ghost use Rattle.guard_simplify.specs.Numbered.{AreNumbered};
 ghost use Rattle.guard_simplify.specs.Counted.{IsCounted, first_seen};
+ghost use Rattle.guard_simplify.specs.declared.simplified.TheConstants.{MOST_RULES};
 
 use crate::forest_nodes::{all_nodes, all_owners};
 use crate::formula_numbers::{number, numbers};
@@ -67,7 +68,7 @@ pub(crate) fn count_all(
 ) -> Result<Counted, NoMemory>
     requires rules_over { All (IsRuleOver first) rules.now }
     requires guards_over { All (IsOver first) guards.now }
-    requires few_rules { length rules.now ≤ 10000 }
+    requires few_rules { length rules.now ≤ MOST_RULES }
     ensures counted { IfOk result (λ c. IsCounted rules.now guards.now first c) }
     ensures each { IfOk result (λ c. length c.rules.items ≡ length rules.now) }
     ensures nodes { IfOk result (λ c. length c.nodes.nodes.keys ≡ length (places rules.now)) }

@@ -4,6 +4,7 @@ ghost use Rattle.tree_sem.specs.Order.{paths_from};
 ghost use Rattle.guard_simplify.specs.Firsts.{with_new, different};
 ghost use Rattle.guard_simplify.specs.Auxiliaries.{forest_of, nodes_of, children_in, same_place, places, owners};
 ghost use Rattle.guard_simplify.specs.ForestRules.{placed, rooted, child_count};
+ghost use Rattle.guard_simplify.specs.declared.simplified.TheConstants.{MOST_RULES};
 
 use guard_sem::Rule;
 use indexmap::IndexSet;
@@ -135,7 +136,7 @@ fn add_owners(
 
 /// The nodes of all forests, each once, in the order of the rules and of the documents. Linear in the forests.
 pub(crate) fn all_nodes(alloc: Global, rules: &[Rule]) -> Result<IndexSet<ForestNode>, NoMemory>
-    requires { length rules.now ≤ 10000 }
+    requires { length rules.now ≤ MOST_RULES }
     ensures { IfOk result (λ s. map placed s.keys ≡ different same_place (places rules.now)) }
 {
     let mut nodes = IndexSet::new(alloc);
@@ -152,7 +153,7 @@ pub(crate) fn all_nodes(alloc: Global, rules: &[Rule]) -> Result<IndexSet<Forest
 
 /// Those of the nodes of all forests that have children. Linear in the forests.
 pub(crate) fn all_owners(alloc: Global, rules: &[Rule]) -> Result<IndexSet<ForestNode>, NoMemory>
-    requires { length rules.now ≤ 10000 }
+    requires { length rules.now ≤ MOST_RULES }
     ensures { IfOk result (λ s. map placed s.keys ≡ different same_place (owners rules.now)) }
 {
     let mut owners = IndexSet::new(alloc);

@@ -4,6 +4,7 @@ ghost use Rattle.tree_sem.specs.Paths.{parent_of, last_number};
 ghost use Rattle.guard_simplify.specs.Auxiliaries.{by_rule};
 ghost use Rattle.guard_simplify.specs.Simplified.{is_beside};
 ghost use Rattle.guard_simplify.specs.ForestRules.{child_count, above_among, made_label, made_kind, rule_kinds, AreFew, nodes_in, owners_in};
+ghost use Rattle.guard_simplify.specs.declared.simplified.TheConstants.{MOST_RULES};
 
 use crate::forest_nodes::{node_of, rule_forest};
 use crate::node_numbers::NodeNumbers;
@@ -134,7 +135,7 @@ pub(crate) fn all_kinds(
     rules: &[Rule],
     numbers: &NodeNumbers,
 ) -> Result<Vec<Kind>, NoMemory>
-    requires few_rules { length rules.now ≤ 10000 }
+    requires few_rules { length rules.now ≤ MOST_RULES }
     requires few_nodes { AreFew numbers.now }
     ensures { IfOk result (λ v. v.items ≡ by_rule (rule_kinds (nodes_in numbers.now) (owners_in numbers.now) numbers.now.first_owner) 0 rules.now) }
 {

@@ -16,4 +16,4 @@ mod simplified;
 mod spawns;
 
 pub use simplification::{simplify, steps_agree};
-pub use simplified::{MOST_VISIBLE, Simplified, SimplifyFault};
+pub use simplified::{MOST_RULES, MOST_VISIBLE, Simplified, SimplifyFault};

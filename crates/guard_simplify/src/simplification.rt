@@ -3,8 +3,10 @@ ghost use Rattle.std.specs.Prelude.{◌≡◌, ◌≤◌, length, IfOk, All};
 ghost use Rattle.simple_core.specs.declared.system.TheConstants.{MOST_KINDS};
 ghost use Rattle.simple_core.specs.Systems.{IsSound};
 ghost use Rattle.guard_simplify.specs.Auxiliaries.{places};
-ghost use Rattle.guard_simplify.specs.Law.{IsOver, IsRuleOver, IsTreeOver, Follows, GoesBack};
+ghost use Rattle.guard_simplify.specs.Law.{IsOver, IsRuleOver, Follows, GoesBack};
 ghost use Rattle.guard_simplify.specs.Outcome.{simplified, Gives};
+ghost use Rattle.tree_sem.specs.Nodes.{IsTreeOver};
+ghost use Rattle.guard_simplify.specs.declared.simplified.TheConstants.{MOST_RULES};
 
 use crate::assembly::within_limits;
 use crate::counting::count_all;
@@ -24,7 +26,7 @@ pub fn simplify(
 ) -> Result<Simplified, SimplifyFault>
     requires rules_over { All (IsRuleOver (length atoms.now)) rules.now }
     requires guards_over { All (IsOver (length atoms.now)) guards.now }
-    requires few_rules { length rules.now ≤ 10000 }
+    requires few_rules { length rules.now ≤ MOST_RULES }
     requires few_nodes { length (places rules.now) ≤ MOST_KINDS }
     ensures system { Gives result (simplified rules.now guards.now (length atoms.now)) }
     ensures sound { IfOk result (λ s. IsSound s.system) }

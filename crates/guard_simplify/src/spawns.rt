@@ -3,6 +3,7 @@ ghost use Rattle.std.specs.Prelude.{◌≡◌, ◌≤◌, ◌++◌, length, IfOk
 ghost use Rattle.std.specs.List.{flat_map};
 ghost use Rattle.guard_simplify.specs.Auxiliaries.{by_rule, forest_of};
 ghost use Rattle.guard_simplify.specs.ForestRules.{children_spawned, node_spawns, made_spawns, rule_spawns, AreFew, nodes_in, owners_in};
+ghost use Rattle.guard_simplify.specs.declared.simplified.TheConstants.{MOST_RULES};
 
 use crate::forest_nodes::{RuleForest, node_of, rule_forest};
 use crate::formula_rules::atom_of;
@@ -107,7 +108,7 @@ pub(crate) fn all_spawns(
     guards: &[usize],
     numbers: &NodeNumbers,
 ) -> Result<Vec<Spawn>, NoMemory>
-    requires few_rules { length rules.now ≤ 10000 }
+    requires few_rules { length rules.now ≤ MOST_RULES }
     requires few_nodes { AreFew numbers.now }
     requires each { length guards.now ≡ length rules.now }
     ensures { IfOk result (λ v. v.items ≡ by_rule (rule_spawns (nodes_in numbers.now) (owners_in numbers.now) numbers.now.first_owner guards.now) 0 rules.now) }

@@ -9,7 +9,7 @@ use Rattle.html_subset.specs.declared.builder.Given.{Given}
 use Rattle.html_subset.specs.Elements.{Element, element}
 use Rattle.html_subset.specs.Growth.{Growth, nothing, more, names_of, add, size, row_of}
 use Rattle.html_subset.specs.Building as building
-use Rattle.html_subset.specs.Building.{Root, Roots, Document, forest, page, State, is_forest, level, others, open_elements}
+use Rattle.html_subset.specs.Building.{Root, Roots, Document, forest, page, State, is_forest, others}
 use Rattle.html_subset.specs.Pages.{page_tree}
 use Rattle.html_subset.specs.Machine as machine
 use Rattle.html_subset.specs.Machine.{Machine}

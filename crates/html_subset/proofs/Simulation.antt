@@ -18,9 +18,9 @@ use Rattle.html_subset.specs.TreeTable.{Place, place, opens, behind, has_kind, c
 use Rattle.html_subset.specs.Growth.{Growth, nothing, add, size, row_of}
 use Rattle.html_subset.specs.Labels.{Outcome, ◌>>=◌, given_names, labelled}
 use Rattle.html_subset.specs.Building as building
-use Rattle.html_subset.specs.Building.{Root, Roots, Document, forest, page, State, is_forest, level, others, open_elements, node_names, bare, unless_given}
+use Rattle.html_subset.specs.Building.{Roots, Document, forest, page, State, is_forest, level, open_elements, node_names, bare, unless_given}
 use Rattle.html_subset.specs.Pages as pages
-use Rattle.html_subset.specs.Pages.{Ending, ending, page_tree, root_label}
+use Rattle.html_subset.specs.Pages.{ending, page_tree, root_label}
 use Rattle.html_subset.specs.Machine as machine
 use Rattle.html_subset.specs.Machine.{Machine, trees_of}
 use Rattle.html_subset.specs.Views.{counted}

@@ -1,7 +1,7 @@
 -- A list of selectors that is read has its atoms in the table of names then, and the table only grows.
 --     list_over                         a list
 --     IsStatementOver-more and others   what is over a table is over a longer one
-use Rattle.std.proofs.Common.{◌≡◌, ℕ, zero, suc, ◌+◌, ◌-◌, ◌<◌, ◌≤◌, ◌==◌, Bool, true, false, nat_eq, nat_lt, if◌then◌else◌, List, [], ◌∷◌, ◌++◌, length, take, drop, map, codes, Option, Some, None, Ok, Err, IfOk, All, Contains, refl, sym, ap, ◌∙◌, inl, inr, arith}
+use Rattle.std.proofs.Common.{◌≡◌, ℕ, zero, suc, ◌+◌, ◌-◌, ◌<◌, ◌≤◌, ◌==◌, Bool, true, false, nat_lt, if◌then◌else◌, List, [], ◌∷◌, ◌++◌, length, take, Option, Some, None, Ok, Err, IfOk, refl, ap, ◌∙◌, inl, inr, arith}
 use Rattle.std.specs.Option.{ok_or}
 use Rattle.std.proofs.lemmas.List.Elements.{All-weaker, All-cons, All-nil}
 use Rattle.std.proofs.lemmas.Option.{slice_get_within}
@@ -14,7 +14,7 @@ use Rattle.tree_sem.specs.declared.actions.Action.TheVariants.{Classes, Inside, 
 use Rattle.sel_core.specs.declared.faults.SelFault.TheVariants.{Skipped}
 use Rattle.sel_core.specs.declared.faults.Skip.TheVariants.{Long}
 use Rattle.sel_core.specs.declared.faults.TheConstants.{MOST_PARTS}
-use Rattle.sel_core.specs.Bytes.{behind_close, behind_gap}
+use Rattle.sel_core.specs.Bytes.{behind_gap}
 use Rattle.sel_core.specs.Grammar.{Outcome, ◌>>=◌, Begun, Word, any_part, first_part, left_at, part_of, join_at}
 use Rattle.sel_core.specs.Lists.{from_comma, read_one, ListEnding, then_list, more, read_strict_list}
 use Rattle.sel_core.specs.Readable.{IsMarked, AreMarked, IsCompound, AreCompounds, IsReadable}
@@ -23,7 +23,7 @@ use Rattle.sel_core.specs.Selectors.{Outer, Selector}
 use Rattle.sel_core.specs.declared.selectors.Join.{Join}
 use Rattle.sel_core.proofs.Sound.{piece_readable}
 use Rattle.jq_sem.specs.Statements.{Root, matched, this, Call, find, children, parent, parents, filter, has, add, back, Chain, Statement}
-use Rattle.jq_parts.specs.Tables.{AreAtoms, AreCompoundsOver, AreOutersOver, IsSelectorOver, AreSelectorsOver, IsRootOver, IsCallOver, AreCallsOver, IsChainOver, AreChainsOver, IsTreeOver, AreTreesOver, IsActionOver, IsStatementOver, AreStatementsOver}
+use Rattle.jq_sem.specs.Tables.{AreAtoms, AreCompoundsOver, AreOutersOver, IsSelectorOver, AreSelectorsOver, IsRootOver, IsCallOver, AreCallsOver, IsChainOver, AreChainsOver, AreTreesOver, IsActionOver, IsStatementOver, AreStatementsOver}
 
 -- ---- in a longer table
 

@@ -15,7 +15,7 @@ use Rattle.jq_words.specs.declared.faults.ScriptFault.TheVariants.{ComplexArgume
 use Rattle.jq_words.specs.Words.{Outcome, ◌>>=◌}
 use Rattle.jq_words.specs.Brackets.{is_empty}
 use Rattle.jq_parts.specs.Selections.{with_selectors, selectors, compounds, and_class, with_classes, class_set}
-use Rattle.jq_parts.specs.Tables.{AreAtoms, AreCompoundsOver, AreSelectorsOver}
+use Rattle.jq_sem.specs.Tables.{AreAtoms, AreCompoundsOver, AreSelectorsOver}
 use Rattle.jq_parts.proofs.SelectorLaws.{IsListOver, list_over, AreAtoms-more}
 
 -- ---- letters of an argument

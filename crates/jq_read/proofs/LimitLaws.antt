@@ -1,5 +1,5 @@
 -- What the statements of a script stay within, rule by rule. Nodes of markup that was read and is in no statement yet are counted too.
-use Rattle.std.proofs.Common.{◌≡◌, ℕ, zero, suc, ◌+◌, ◌-◌, ◌<◌, ◌≤◌, ◌==◌, Bool, true, false, not, ◌&&◌, ◌||◌, if◌then◌else◌, List, [], ◌∷◌, ◌++◌, length, take, drop, Option, Some, None, refl, sym, ap, ◌∙◌, codes, arith, length-append}
+use Rattle.std.proofs.Common.{◌≡◌, ℕ, zero, suc, ◌+◌, ◌-◌, ◌<◌, ◌≤◌, ◌==◌, Bool, true, false, not, ◌&&◌, ◌||◌, if◌then◌else◌, List, [], ◌∷◌, ◌++◌, length, take, drop, Option, Some, None, refl, ap, ◌∙◌, codes, arith, length-append}
 use Rattle.std.specs.Prelude.{Result, Ok, Err, IfOk, IfSome, nat_le, nat_lt, bytes_eq, option_and_then}
 use Rattle.std.specs.List.{AllByRecursion}
 use Rattle.std.proofs.lemmas.Bool.{leb-false, ltb-false}
@@ -8,21 +8,20 @@ use Rattle.std.proofs.lemmas.List.Sums.{sum_by_push}
 use Rattle.tp_base.specs.Names.{Named}
 use Rattle.tree_sem.specs.Trees.{LabelTree}
 use Rattle.tree_sem.specs.declared.actions.Action.{Action}
-use Rattle.tree_sem.specs.declared.actions.Action.TheVariants.{Classes, Inside, Beside}
+use Rattle.tree_sem.specs.declared.actions.Action.TheVariants.{Classes}
 use Rattle.html_subset.specs.declared.faults.PageFault.{PageFault}
 use Rattle.html_subset.specs.Reading.{read_forest}
 use Rattle.js_scan.specs.Tokens.{script_tokens}
-use Rattle.jq_sem.specs.Statements.{Chain, Statement, Call, find, add, back}
-use Rattle.jq_words.specs.declared.faults.ScriptFault.{ScriptFault}
+use Rattle.jq_sem.specs.Statements.{Chain, Statement, Call, add, back}
 use Rattle.jq_words.specs.declared.faults.ScriptFault.TheVariants.{TooManyForestNodes, TooManyStatements, TooLong, ThisOutside}
 use Rattle.jq_words.specs.declared.faults.TheConstants.{MOST_STATEMENTS, MOST_CALLS, MOST_FOREST_NODES, MOST_OPEN}
 use Rattle.jq_words.specs.Words.{Word, words, Outcome, ◌>>=◌, is_mark, is_name, is_any_name, is_name_among, fits, first_is, is_form, spelled, begins, begins_name, place, unexpected, want, want_name, want_open, end}
 use Rattle.jq_words.specs.Brackets.{is_empty, arguments, behind_arguments}
 use Rattle.jq_words.specs.Texts.{texts, is_markup}
-use Rattle.jq_words.specs.Calls.{Form, moves, unites, goes_back, classes, grows, places, handles, listens, passes, Row}
+use Rattle.jq_words.specs.Calls.{Form, moves, unites, goes_back, classes, grows, places, handles, listens, passes}
 use Rattle.jq_parts.specs.Keywords.{jquery, pages}
-use Rattle.jq_parts.specs.Bindings.{Value, elements, everywhere, markup, placed, Declaration, bound, latest, or_else, if_chain}
-use Rattle.jq_parts.specs.Scopes.{Handler, Scope, used, if_bound, is_this, places_of, this_at, matched_chain}
+use Rattle.jq_parts.specs.Bindings.{Value, elements, everywhere, markup, placed, Declaration, bound, latest, if_chain}
+use Rattle.jq_parts.specs.Scopes.{Handler, Scope, used, if_bound, is_this, places_of, this_at}
 use Rattle.jq_parts.specs.Selections.{selectors, compounds, class_set}
 use Rattle.jq_parts.specs.Markup.{Grown, grown, forest, with_forest, nodes_in}
 use Rattle.jq_parts.specs.Arguments.{text_argument, markup_argument, forest_or, wrapped, wrapped_forest, target}
@@ -36,7 +35,7 @@ use Rattle.jq_read.specs.declared.forms.Between.{Between}
 use Rattle.jq_read.specs.States.{Context, State, size, with_names, scope_in}
 use Rattle.jq_read.specs.Functions.{Block, function_body, behind_name, want_function, function, elements_in, handler_at, in_handler, handed_other, handed}
 use Rattle.jq_read.specs.CallArguments.{made, and_call, compounds_argument, move_arguments, unite_arguments, acting, and_list, class_arguments, added, some_argument, grow_arguments, trees_in, place_arguments}
-use Rattle.jq_read.specs.Chains.{behind_one, several, below, listened, listening, listen_arguments, unchanged, at_least, arguments_of, dot_name, admitted, and_stated, call, ended, all_read, calls, chain}
+use Rattle.jq_read.specs.Chains.{behind_one, several, listened, listening, listen_arguments, unchanged, at_least, arguments_of, dot_name, admitted, and_stated, call, ended, all_read, calls, chain}
 use Rattle.jq_read.specs.Openings.{form_of}
 use Rattle.jq_read.specs.Statements.{Blocks, plain_list, and_end, condition, bracketed, start, behind_document, ready, called_with, once, delay, timer, named_function, declared_value, value_behind, one, more_ones, declaration, chain_statement, with_state, statement_as, is_branch, begin, is_over, turn, at_file_end, sequence, no_block, braces, block}
 use Rattle.jq_read.specs.Script.{from_scan, at_top, nothing_read, script_of, script}

@@ -5,11 +5,11 @@
 --     call          one call
 --     calls         all of them
 --     chain         a root and its calls
-use Rattle.std.specs.Prelude.{ℕ, zero, suc, ◌-◌, ◌==◌, ◌&&◌, ◌||◌, not, nat_le, Bool, true, false, if◌then◌else◌, List, [], ◌∷◌, length, map, drop, codes, Option, Some, None, Ok, Err}
+use Rattle.std.specs.Prelude.{ℕ, zero, suc, ◌-◌, ◌==◌, ◌&&◌, ◌||◌, not, Bool, true, false, if◌then◌else◌, List, [], ◌∷◌, length, map, drop, codes, Option, Some, None, Ok, Err}
 use Rattle.sel_core.specs.Selectors.{simple}
 use Rattle.jq_sem.specs.Statements.{Chain, find, back, standing}
 use Rattle.jq_words.specs.declared.faults.ScriptFault.TheVariants.{UnknownCall, UnknownForm}
-use Rattle.jq_words.specs.Words.{Word, is_mark, is_any_name, begins, place, Outcome, ◌>>=◌, unexpected, want, want_open}
+use Rattle.jq_words.specs.Words.{Word, is_mark, is_any_name, begins, Outcome, ◌>>=◌, unexpected, want, want_open}
 use Rattle.jq_words.specs.Brackets.{is_empty}
 use Rattle.jq_words.specs.Calls.{Form, moves, unites, goes_back, classes, grows, places, handles, listens, passes, Row, row_of}
 use Rattle.jq_parts.specs.Bindings.{Value, elements, everywhere, markup, placed}

@@ -1,5 +1,5 @@
 -- What a statement is, by its first words.
-use Rattle.std.specs.Prelude.{ℕ, ◌&&◌, ◌||◌, not, Bool, true, false, if◌then◌else◌, List, [], ◌∷◌, codes, is_some}
+use Rattle.std.specs.Prelude.{ℕ, ◌&&◌, ◌||◌, not, Bool, if◌then◌else◌, List, [], ◌∷◌, codes, is_some}
 use Rattle.jq_words.specs.Words.{Word, is_mark, is_name, is_any_name, is_mark_among, is_name_among, fits, first_is, begins, begins_name, spelled}
 use Rattle.jq_parts.specs.Bindings.{Declaration, bound}
 use Rattle.jq_parts.specs.Keywords.{jquery}

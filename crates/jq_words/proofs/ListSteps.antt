@@ -1,8 +1,8 @@
 -- A free list, word by word.
-use Rattle.std.proofs.Common.{◌≡◌, ℕ, true, false, List, [], ◌∷◌, length, Ok, Err, Some, None, Option, drop, IsTrue, is_some, refl, sym, ap, ◌∙◌}
+use Rattle.std.proofs.Common.{◌≡◌, ℕ, true, false, List, [], ◌∷◌, Err, Some, None, Option, drop, IsTrue, is_some, refl, sym, ap, ◌∙◌}
 use Rattle.jq_words.specs.declared.brackets.Bracket.{Bracket}
 use Rattle.jq_words.specs.declared.faults.ScriptFault.{ScriptFault}
-use Rattle.jq_words.specs.Words.{Word, Outcome}
+use Rattle.jq_words.specs.Words.{Word}
 use Rattle.jq_words.specs.Brackets.{brackets_behind}
 use Rattle.jq_words.specs.Results.{IsBehind, Began}
 use Rattle.jq_words.proofs.Rests.{behind_first, behind_rest, passed}

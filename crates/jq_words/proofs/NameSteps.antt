@@ -2,7 +2,7 @@
 use Rattle.std.proofs.Common.{◌≡◌, ℕ, Bool, true, false, ◌&&◌, if◌then◌else◌, List, [], ◌∷◌, ◌++◌, drop, map, refl, sym, ap, ◌∙◌, codes, append_assoc, rules}
 use Rattle.std.proofs.lemmas.List.{map-append}
 use denote.Bor.{Bor}
-use Rattle.jq_words.specs.Words.{Word, is_mark, is_name, is_any_name, begins, begins_name, first_is, fits}
+use Rattle.jq_words.specs.Words.{Word, is_mark, is_any_name, begins, begins_name, first_is, fits}
 use Rattle.jq_words.specs.Functions.{behind_function, before_function, declared_in}
 
 pub no_function : (ws : List Word) → begins_name (codes "function") ws ≡ false → behind_function ws ≡ []

@@ -1,11 +1,11 @@
 -- Free lists: words that are read for their calls and for `this` alone.
 --     cause_at      why a word may not stand in a list
 --     free          a list, and the words behind it
-use Rattle.std.specs.Prelude.{ℕ, ◌&&◌, ◌||◌, not, nat_le, Bool, true, false, if◌then◌else◌, List, [], ◌∷◌, length, drop, codes, bytes_eq, Option, Some, None, is_some, Ok, Err}
+use Rattle.std.specs.Prelude.{ℕ, ◌&&◌, ◌||◌, not, nat_le, Bool, false, if◌then◌else◌, List, [], ◌∷◌, length, drop, codes, Option, Some, None, is_some, Ok, Err}
 use Rattle.jq_words.specs.declared.brackets.Bracket.{Bracket}
 use Rattle.jq_words.specs.declared.faults.ScriptFault.{ScriptFault}
 use Rattle.jq_words.specs.declared.faults.ScriptFault.TheVariants.{UnknownCall, UnknownForm, ThisOutside, TooDeep}
-use Rattle.jq_words.specs.Words.{Word, is_mark, is_name, is_any_name, is_number, is_text, is_among, is_mark_among, is_name_among, fits, first_is, begins, Outcome}
+use Rattle.jq_words.specs.Words.{Word, is_mark, is_name, is_any_name, is_number, is_text, is_among, is_mark_among, is_name_among, begins, Outcome}
 use Rattle.jq_words.specs.Brackets.{opened_by, closes_outer, brackets_behind, is_empty}
 use Rattle.jq_words.specs.Texts.{holds_texts}
 

@@ -1,6 +1,6 @@
 -- The functions that a script declares, anywhere in it.
 use Rattle.std.specs.Prelude.{ℕ, ◌&&◌, if◌then◌else◌, List, [], ◌∷◌, ◌++◌, codes}
-use Rattle.jq_words.specs.Words.{Word, is_mark, is_name, is_any_name, fits, first_is, begins}
+use Rattle.jq_words.specs.Words.{Word, is_mark, is_name, is_any_name, fits}
 
 -- the name that stands behind `function`, where the words begin so
 unfoldable pub behind_function : List Word → List (List ℕ)

@@ -11,13 +11,13 @@ use Rattle.tree_sem.specs.declared.actions.Action.TheVariants.{Classes, Inside, 
 use Rattle.sel_core.specs.Selectors.{inside, Selector, Matches, simple}
 use Rattle.jq_sem.specs.Statements.{matched, Call, parent, parents, Statement}
 use Rattle.jq_sem.specs.Reachability.{AreLegal, end_of}
-use Rattle.guard_simplify.specs.Law.{IsTreeOver}
 use Rattle.proof_check.proofs.CheckLemmas.{valid_decides}
 use Rattle.proof_check.proofs.Examples.{inner_system, inner_page, inner_proof, inner_steps, beside_system, beside_page, beside_proof, beside_steps}
-use Rattle.judge.specs.Tables.{AreAtoms}
+use Rattle.jq_sem.specs.Tables.{AreAtoms}
 use Rattle.judge.specs.Losses.{cut_at, Event, step, take_class, cut, IsLegalEvent, end_of_events, AreLegalEvents}
 use Rattle.judge.specs.TheSystem.{the_system, IsOverTable, IsJudgeable}
 use Rattle.judge.proofs.JudgedSelectors.{valid_witness}
+use Rattle.tree_sem.specs.Nodes.{IsTreeOver}
 
 -- the atoms of a list and of a tree are of the table, by evaluation
 are_atoms : (n : ℕ) (xs : List ℕ) → list_all (λ a. nat_lt a n) xs ≡ true → AreAtoms n xs

@@ -1,7 +1,7 @@
 -- A selector is reached by the statements exactly where its seen atom comes to the root by steps of the simple system.
 use Rattle.std.proofs.Common.{◌≡◌, ℕ, List, [], ◌++◌, map, Some, Contains}
 use Rattle.std.specs.Prelude.{slice_get}
-use Rattle.tree_sem.specs.Nodes.{HasAtom}
+use Rattle.tree_sem.specs.Nodes.{HasAtom, IsTreeOver}
 use Rattle.tree_sem.specs.Trees.{LabelTree}
 use Rattle.tree_sem.proofs.NodeLemmas.{Contains-map}
 use Rattle.sel_core.specs.Selectors.{Selector}
@@ -18,7 +18,7 @@ use Rattle.rule_translate.specs.Translation.{rules_of}
 use Rattle.rule_translate.proofs.StepLemmas.{statements_as_rules, rules_as_statements}
 use Rattle.guard_simplify.specs.Auxiliaries.{seen, auxiliaries}
 use Rattle.guard_simplify.specs.Simplified.{atom_for, system}
-use Rattle.guard_simplify.specs.Law.{IsOver, IsRuleOver, IsTreeOver}
+use Rattle.guard_simplify.specs.Law.{IsOver, IsRuleOver}
 use Rattle.guard_simplify.proofs.FollowLaw.{follows}
 use Rattle.guard_simplify.proofs.BackLaw.{goes_back}
 use Rattle.guard_simplify.proofs.FormulaLemmas.{seen_is}

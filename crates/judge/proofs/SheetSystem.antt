@@ -22,13 +22,13 @@ use Rattle.rule_translate.specs.Translation.{rule_of, rules_of}
 use Rattle.guard_simplify.specs.declared.simplified.Simplified.{Simplified}
 use Rattle.guard_simplify.specs.declared.simplified.SimplifyFault.{SimplifyFault}
 use Rattle.guard_simplify.specs.declared.simplified.SimplifyFault.TheVariants.{TooManyAtoms, TooManyVisible, Memory}
-use Rattle.guard_simplify.specs.declared.simplified.TheConstants.{MOST_VISIBLE}
+use Rattle.guard_simplify.specs.declared.simplified.TheConstants.{MOST_VISIBLE, MOST_RULES}
 use Rattle.guard_simplify.specs.Auxiliaries.{tops_of, nodes_of, Place, by_rule, places, seen}
 use Rattle.guard_simplify.specs.Simplified.{atom_for, seen_atoms}
 use Rattle.guard_simplify.specs.Law.{IsOver, IsRuleOver}
 use Rattle.guard_simplify.specs.Outcome.{simplified, Gives}
 use Rattle.guard_simplify.proofs.Placing.{there_at}
-use Rattle.judge.specs.Tables.{AreStatementsOver, AreSelectorsOver}
+use Rattle.jq_sem.specs.Tables.{AreStatementsOver, AreSelectorsOver}
 use Rattle.judge.specs.TheSystem.{the_system, seen_atom, IsJudgeable}
 use Rattle.judge.specs.Answers.{judged_in}
 use Rattle.judge.specs.declared.limits.JudgeFault.{JudgeFault}
@@ -63,8 +63,8 @@ places_counted i (s ∷ stmts) =
 pub few_places : (stmts : List Statement) → forest_nodes stmts ≤ MOST_KINDS → length (places (rules_of stmts)) ≤ MOST_KINDS
 few_places stmts few = subst (λ z. z ≤ MOST_KINDS) (sym (places_counted 0 stmts)) few
 
-pub few_rules : (stmts : List Statement) → length stmts ≤ 10000 → length (rules_of stmts) ≤ 10000
-few_rules stmts few = subst (λ z. z ≤ 10000) (sym (length-map {B = Rule} stmts rule_of)) few
+pub few_rules : (stmts : List Statement) → length stmts ≤ MOST_RULES → length (rules_of stmts) ≤ MOST_RULES
+few_rules stmts few = subst (λ z. z ≤ MOST_RULES) (sym (length-map {B = Rule} stmts rule_of)) few
 
 -- one seen atom for each selector
 pub seen_are : (stmts : List Statement) (sheet : List Selector) (n : ℕ) → seen_atoms (rules_of stmts) (map of_selector sheet) n ≡ map (seen_atom stmts sheet n) sheet

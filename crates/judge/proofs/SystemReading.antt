@@ -8,7 +8,7 @@ use Rattle.tp_base.specs.Classes.{with_class}
 use Rattle.tp_base.proofs.ClassLemmas.{Contains-with_class, union_of-keeps_right}
 use Rattle.tp_base.proofs.Rising.{Contains-here, Contains-none}
 use Rattle.tree_sem.specs.Trees.{LabelTree, tree_of, node_at, label_at, edit_at}
-use Rattle.tree_sem.specs.Nodes.{IsNode, HasAtom}
+use Rattle.tree_sem.specs.Nodes.{IsNode, HasAtom, IsTreeOver}
 use Rattle.tree_sem.specs.Growth.{Grows}
 use Rattle.tree_sem.proofs.GrowthLemmas.{IsNode-grows, HasAtom-grows}
 use Rattle.tree_sem.specs.Actions.{add_classes, add_trees}
@@ -38,7 +38,7 @@ use Rattle.rule_translate.proofs.TranslationLemmas.{guard_selects_is}
 use Rattle.guard_simplify.specs.Firsts.{different}
 use Rattle.guard_simplify.specs.Auxiliaries.{formulas_of, formulas, forest_of, nodes_of, children_in, tops_of, Place, by_rule, Auxiliary, formula, owner, seen}
 use Rattle.guard_simplify.specs.Simplified.{atom_for, atom_of, kind_at, classes_of, is_beside, formula_locals, formula_ups, formula_downs, action_locals, action_spawns, seen_local, seen_down, label_in, kind_of, system}
-use Rattle.guard_simplify.specs.Law.{IsFor, IsOver, IsRuleOver, IsTreeOver}
+use Rattle.guard_simplify.specs.Law.{IsFor, IsOver, IsRuleOver}
 use Rattle.guard_simplify.proofs.NumberLemmas.{different-Contains, flat_map-Contains}
 use Rattle.guard_simplify.proofs.Meanings.{Known, said, local_said, up_said, down_said}
 use Rattle.guard_simplify.proofs.FormulaLemmas.{known, inside_listed, formula_known, seen_is, one_meaning, none_below}

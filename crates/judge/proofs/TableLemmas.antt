@@ -15,11 +15,12 @@ use Rattle.guard_sem.specs.declared.rules.Rule.{Rule}
 use Rattle.rule_translate.specs.Translation.{of_compounds, of_selectors, narrowed, of_call, of_root, of_calls, is_matched, has_add, under, of_chain, of_chains, guard_of, taker, rule_of, rules_of}
 use Rattle.guard_simplify.specs.Auxiliaries.{tops_of}
 use Rattle.guard_simplify.specs.Simplified.{classes_of}
-use Rattle.guard_simplify.specs.Law.{IsOver, AreOver, IsRuleOver, IsTreeOver}
+use Rattle.guard_simplify.specs.Law.{IsOver, AreOver, IsRuleOver}
 use Rattle.guard_simplify.proofs.Order.{get_map}
 use Rattle.guard_simplify.proofs.Placing.{there_at}
-use Rattle.judge.specs.Tables.{AreAtoms, AreCompoundsOver, AreOutersOver, IsSelectorOver, AreSelectorsOver, IsRootOver, IsCallOver, AreCallsOver, IsChainOver, AreChainsOver, AreTreesOver, IsActionOver, IsStatementOver, AreStatementsOver}
+use Rattle.jq_sem.specs.Tables.{AreAtoms, AreCompoundsOver, AreOutersOver, IsSelectorOver, AreSelectorsOver, IsRootOver, IsCallOver, AreCallsOver, IsChainOver, AreChainsOver, AreTreesOver, IsActionOver, IsStatementOver, AreStatementsOver}
 use Rattle.judge.proofs.ForestTrees.{row_get}
+use Rattle.tree_sem.specs.Nodes.{IsTreeOver}
 
 module _ (n : ℕ) where
   atoms_over : (c : List ℕ) → ((a : ℕ) → Contains c a → a < n) → AreOver n (guards_of (map atom c))

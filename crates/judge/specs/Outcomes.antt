@@ -15,7 +15,7 @@ use Rattle.simple_core.specs.declared.system.TheConstants.{MOST_KINDS}
 use Rattle.simple_core.specs.Pairs.{Asked, Needed, HasMore}
 use Rattle.guard_sem.specs.OfSelectors.{of_selector}
 use Rattle.rule_translate.specs.Translation.{rules_of}
-use Rattle.guard_simplify.specs.declared.simplified.TheConstants.{MOST_VISIBLE}
+use Rattle.guard_simplify.specs.declared.simplified.TheConstants.{MOST_VISIBLE, MOST_RULES}
 use Rattle.guard_simplify.specs.Auxiliaries.{tops_of, auxiliaries}
 use Rattle.judge.specs.declared.limits.Limits.{Limits}
 use Rattle.judge.specs.declared.limits.JudgeFault.{JudgeFault}
@@ -29,7 +29,7 @@ forest_nodes stmts = sum_by (λ s. sum_by count_of (tops_of s.action)) stmts
 
 pub record AreGiven (stmts : List Statement) (items : List Item) (n : ℕ) (page : LabelTree) : Type 0 where
   pub over : IsOverTable stmts (judged_in items) n page
-  pub few_statements : length stmts ≤ 10000
+  pub few_statements : length stmts ≤ MOST_RULES
   pub few_nodes : forest_nodes stmts ≤ MOST_KINDS
 
 module _ (stmts : List Statement) (items : List Item) (n : ℕ) where

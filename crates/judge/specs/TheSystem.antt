@@ -16,8 +16,8 @@ use Rattle.guard_sem.specs.OfSelectors.{of_selector}
 use Rattle.rule_translate.specs.Translation.{rules_of}
 use Rattle.guard_simplify.specs.Auxiliaries.{places, auxiliaries, seen}
 use Rattle.guard_simplify.specs.Simplified.{atom_for, system}
-use Rattle.guard_simplify.specs.Law.{IsTreeOver}
-use Rattle.judge.specs.Tables.{AreStatementsOver, AreSelectorsOver}
+use Rattle.jq_sem.specs.Tables.{AreStatementsOver, AreSelectorsOver}
+use Rattle.tree_sem.specs.Nodes.{IsTreeOver}
 
 module _ (stmts : List Statement) (sheet : List Selector) (n : ℕ) where
   abbrev pub the_system : System

@@ -9,8 +9,9 @@ ghost use Rattle.css_read.specs.Views.{outcome_of, item_of};
 ghost use Rattle.judge.specs.Answers.{judged_of, judged_in};
 ghost use Rattle.judge.specs.Faults.{with_own_fault};
 ghost use Rattle.judge.specs.Outcomes.{forest_nodes, IsFault, IsWithin};
-ghost use Rattle.judge.specs.Tables.{AreStatementsOver, AreSelectorsOver};
+ghost use Rattle.jq_sem.specs.Tables.{AreStatementsOver, AreSelectorsOver};
 ghost use Rattle.judge.specs.TheSystem.{the_system, seen_atom};
+ghost use Rattle.guard_simplify.specs.declared.simplified.TheConstants.{MOST_RULES};
 
 use crate::limits::JudgeFault;
 use css_read::{Outcome, SheetItem};
@@ -80,7 +81,7 @@ pub(crate) fn simplify_all(
 ) -> Result<Simplified, JudgeFault>
     requires statements { AreStatementsOver (length atoms.now) (statements_of stmts.now) }
     requires selectors { AreSelectorsOver (length atoms.now) (judged_in (map item_of items.now)) }
-    requires few_statements { length stmts.now ≤ 10000 }
+    requires few_statements { length stmts.now ≤ MOST_RULES }
     requires few_nodes { forest_nodes (statements_of stmts.now) ≤ MOST_KINDS }
     ensures system { IfOk result (λ s. s.system ≡ the_system (statements_of stmts.now) (judged_in (map item_of items.now)) (length atoms.now)) }
     ensures seen { IfOk result (λ s. s.seen ≡ map (seen_atom (statements_of stmts.now) (judged_in (map item_of items.now)) (length atoms.now)) (judged_in (map item_of items.now))) }

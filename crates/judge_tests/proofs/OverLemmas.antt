@@ -16,7 +16,7 @@ use Rattle.css_read.specs.declared.sheets.SheetItem.{SheetItem}
 use Rattle.css_read.specs.Sheets.{Outcome, judged, skipped}
 use Rattle.css_read.specs.Views.{outcome_of, item_of}
 use Rattle.judge.specs.Answers.{judged_of, judged_in}
-use Rattle.judge.specs.Tables.{AreAtoms, AreCompoundsOver, IsSelectorOver, AreSelectorsOver}
+use Rattle.jq_sem.specs.Tables.{AreAtoms, AreCompoundsOver, IsSelectorOver, AreSelectorsOver}
 
 pub atoms_more : (n : ℕ) (xs : List ℕ) (i a : ℕ) → i < length xs → slice_get xs i ≡ Some a → a < n → AreAtoms n (take i xs) → AreAtoms n (take (i + 1) xs)
 atoms_more n xs i a within is here so_far = All-more (λ a. a < n) xs i a within so_far (subst (λ a. a < n) (sym (read_at xs i a a is)) here)

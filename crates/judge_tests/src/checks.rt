@@ -1,17 +1,16 @@
 //! Whether `judge` may be called: the atoms are of the table, and the statements are few enough.
 ghost use Rattle.std.specs.Prelude.{◌≡◌, ◌<◌, ◌+◌, ◌≤◌, ◌↔◌, ℕ, length, map, IsTrue, IfOk, IfSome};
 ghost use Rattle.std.specs.List.{sum_by};
-ghost use Rattle.tree_sem.specs.Nodes.{HasAtom};
+ghost use Rattle.tree_sem.specs.Nodes.{HasAtom, IsTreeOver};
 ghost use Rattle.tree_sem.specs.Trees.{count_of};
 ghost use Rattle.sel_core.specs.Views.{selector_of};
 ghost use Rattle.jq_sem.specs.Views.{atoms_of, root_of, call_of, chain_of, statement_of, statements_of};
 ghost use Rattle.css_read.specs.Views.{outcome_of, item_of};
 ghost use Rattle.simple_core.specs.declared.system.TheConstants.{MOST_KINDS};
 ghost use Rattle.guard_simplify.specs.Auxiliaries.{tops_of};
-ghost use Rattle.guard_simplify.specs.Law.{IsTreeOver};
 ghost use Rattle.judge.specs.Answers.{judged_of, judged_in};
 ghost use Rattle.judge.specs.Outcomes.{AreGiven, forest_nodes};
-ghost use Rattle.judge.specs.Tables.{AreAtoms, AreCompoundsOver, IsSelectorOver, AreSelectorsOver, IsRootOver, IsCallOver, AreCallsOver, IsChainOver, AreChainsOver, AreTreesOver, IsActionOver, IsStatementOver, AreStatementsOver};
+ghost use Rattle.jq_sem.specs.Tables.{AreAtoms, AreCompoundsOver, IsSelectorOver, AreSelectorsOver, IsRootOver, IsCallOver, AreCallsOver, IsChainOver, AreChainsOver, AreTreesOver, IsActionOver, IsStatementOver, AreStatementsOver};
 
 use css_read::{Outcome, Sheet, SheetItem};
 use jq_sem::{Call, Chain, Root, Stmt};

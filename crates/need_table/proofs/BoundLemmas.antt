@@ -1,9 +1,9 @@
 -- How many rounds there can be: each round before the last brings an atom that an entry didn't have.
-use Rattle.std.proofs.Common.{◌≡◌, ◌≢◌, ◌⊎◌, ◌↔◌, ℕ, zero, suc, ◌+◌, ◌*◌, ◌<◌, ◌≤◌, List, [], ◌∷◌, ◌++◌, map, length, Option, Some, None, slice_get, get_or, take, Bool, true, false, nat_le, option_map, unwrap_or, All, Contains, refl, sym, ap, ◌∙◌, inl, inr, arith, subst, length-append}
+use Rattle.std.proofs.Common.{◌≡◌, ◌≢◌, ◌⊎◌, ◌↔◌, ℕ, zero, suc, ◌+◌, ◌*◌, ◌<◌, ◌≤◌, List, [], ◌∷◌, ◌++◌, map, length, Option, Some, None, slice_get, Bool, true, false, nat_le, option_map, unwrap_or, All, Contains, refl, sym, ap, ◌∙◌, inl, inr, arith, subst, length-append}
 use Rattle.std.proofs.Math.Nat.{suc-mul}
 use Rattle.std.specs.List.{list_any}
 use Rattle.std.proofs.lemmas.Bool.{cases_lt, cases_order, le-leb, leb-true, both_ways}
-use Rattle.std.proofs.lemmas.List.Folds.{Any-from_list_any, list_any_at}
+use Rattle.std.proofs.lemmas.List.Folds.{list_any_at}
 use Rattle.std.proofs.lemmas.List.Elements.{All-contains, All-head, Contains-append_left, Contains-append_right}
 use Rattle.std.proofs.lemmas.List.{length-map}
 use Rattle.tp_base.specs.declared.atoms.TheConstants.{MOST_ATOMS}
@@ -18,15 +18,15 @@ use Rattle.simple_core.specs.Systems.{kind_label, IsAtom, IsSound}
 use Rattle.simple_core.specs.Labels.{labels_below}
 use Rattle.simple_core.specs.Rounds.{grown, IsFirst}
 use Rattle.simple_core.specs.Pairs.{Pair, Asks, AreDifferent}
-use Rattle.simple_core.proofs.Members.{Among, among_all}
-use Rattle.simple_core.proofs.LabelLemmas.{Gives, before, local, up, down, next_label-gives}
+use Rattle.simple_core.proofs.Members.{among_all}
+use Rattle.simple_core.proofs.LabelLemmas.{before, local, up, down, next_label-gives}
 use Rattle.simple_core.proofs.RoundLemmas.{set_of-is, grown-rises, grown-one_more, grown-later}
 use Rattle.simple_core.proofs.RestLemmas.{AtRest, at_rest, first_is, first_one}
 use Rattle.simple_core.proofs.PairLemmas.{not_more}
 use Rattle.need_table.specs.declared.entries.First.{First}
 use Rattle.need_table.specs.declared.entries.Entry.{Entry}
-use Rattle.need_table.specs.Tables.{pair_of, labels, IsDone, IsUpTo, IsTable, AllDone, AllRest, has_later, rested, IsMore, IsKept}
-use Rattle.need_table.proofs.TableLemmas.{Contains-at, at-Contains, at-within}
+use Rattle.need_table.specs.Tables.{pair_of, labels, IsDone, IsUpTo, IsTable, AllDone, AllRest, has_later, rested}
+use Rattle.need_table.proofs.TableLemmas.{Contains-at, at-within}
 
 -- the atoms of labels are atoms of the system
 pub grown-atoms : (s : System) → IsSound s → (k i : ℕ) (p : List ℕ) (a : ℕ) → Contains (grown s k i p) a → IsAtom a

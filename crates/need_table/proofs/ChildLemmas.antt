@@ -1,8 +1,7 @@
 -- What a child gives, and what is left to look at.
-use Rattle.std.proofs.Common.{◌≡◌, ◌≢◌, ◌⊎◌, ℕ, zero, suc, ◌+◌, ◌<◌, ◌≤◌, Bool, true, false, List, [], ◌∷◌, ◌++◌, map, length, fold, get_or, Option, Some, None, slice_get, IsSomeAnd, All, Contains, if◌then◌else◌, refl, sym, ap, ◌∙◌, inl, inr, arith, subst}
+use Rattle.std.proofs.Common.{◌≡◌, ◌≢◌, ◌⊎◌, ℕ, zero, suc, ◌+◌, ◌<◌, ◌≤◌, true, false, List, [], ◌∷◌, ◌++◌, map, length, fold, get_or, Option, Some, None, slice_get, IsSomeAnd, Contains, if◌then◌else◌, refl, sym, ap, ◌∙◌, inl, inr, arith, subst}
 use Rattle.std.specs.List.{filter, flat_map, IsFirstAndRest}
 use Rattle.std.proofs.lemmas.List.Sums.{fold-append}
-use Rattle.std.proofs.lemmas.List.Elements.{All-contains}
 use Rattle.tp_base.specs.Classes.{has_class, with_class, union_of}
 use Rattle.tp_base.proofs.ClassLemmas.{Contains-has_class}
 use Rattle.tp_base.proofs.Rising.{Contains-here, Contains-behind, Contains-cons, Contains-none}
@@ -11,13 +10,13 @@ use Rattle.simple_core.specs.declared.system.System.{System}
 use Rattle.simple_core.specs.declared.rules.Spawn.{Spawn}
 use Rattle.simple_core.specs.declared.rules.Link.{Link}
 use Rattle.simple_core.specs.declared.rules.Local.{Local}
-use Rattle.simple_core.specs.Labels.{set_of, given_by_rules, given_by_links, kinds_at, visible_in, labels_below, next_label}
+use Rattle.simple_core.specs.Labels.{set_of, given_by_rules, given_by_links, visible_in, labels_below, next_label}
 use Rattle.simple_core.specs.Rounds.{grown}
-use Rattle.simple_core.specs.Pairs.{Pair, Asks, Needed, wanted, further}
-use Rattle.simple_core.proofs.LabelLemmas.{IsBySpawn, is-kinds_at}
+use Rattle.simple_core.specs.Pairs.{Pair, Asks, Needed, further}
+use Rattle.simple_core.proofs.LabelLemmas.{is-kinds_at}
 use Rattle.need_table.specs.declared.entries.First.{First}
 use Rattle.need_table.specs.declared.entries.Entry.{Entry}
-use Rattle.need_table.specs.Tables.{pair_of, atoms_by, fresh_of, IsNoted, IsUntouched, labels, IsDone, IsUpTo, AreUpTo, AllDone, IsTable, IsKept, IsMore, AreNeeded, kinds_from, given_from}
+use Rattle.need_table.specs.Tables.{pair_of, atoms_by, fresh_of, IsNoted, IsUntouched, labels, IsDone, AreUpTo, AllDone, IsTable, IsMore, AreNeeded, kinds_from, given_from}
 use Rattle.need_table.proofs.TableLemmas.{Contains-at, at-within}
 use Rattle.need_table.proofs.FillLemmas.{label_is, later_at, read_at, more_itself, more_twice, pairs_more, IsStep, noted_step, untouched_step}
 

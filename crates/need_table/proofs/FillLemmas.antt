@@ -1,16 +1,15 @@
 -- What the table says, and what it says after one step of filling it.
-use Rattle.std.proofs.Common.{◌≡◌, ◌≢◌, ◌⊎◌, ◌↔◌, ℕ, zero, suc, ◌+◌, ◌<◌, ◌≤◌, Bool, true, false, not, nat_le, List, [], ◌∷◌, ◌++◌, map, length, set, take, get_or, Option, Some, None, slice_get, IsSomeAnd, IsTrue, Result, Ok, Err, OnOk, OnErr, All, Contains, refl, sym, ap, ◌∙◌, inl, inr, arith, subst, length-append}
+use Rattle.std.proofs.Common.{◌≡◌, ◌≢◌, ◌⊎◌, ◌↔◌, ℕ, zero, suc, ◌+◌, ◌<◌, ◌≤◌, true, false, not, nat_le, List, [], ◌∷◌, ◌++◌, map, length, set, get_or, Option, Some, None, slice_get, IsSomeAnd, Result, Ok, Err, OnOk, OnErr, Contains, refl, sym, ap, ◌∙◌, inl, inr, arith, subst, length-append}
 use Rattle.std.specs.List.{filter}
-use Rattle.std.specs.List.Sorted.{IsStrictlyIncreasing}
 use Rattle.std.proofs.lemmas.Bool.{cases_Bool, cases_lt, cases_order, both_ways, le-leb, leb-true}
 use Rattle.std.proofs.lemmas.List.{map-append, length-map}
-use Rattle.std.proofs.lemmas.List.Elements.{All-contains, Contains-append_left, Contains-append_right, Contains-append_cases}
+use Rattle.std.proofs.lemmas.List.Elements.{Contains-append_left, Contains-append_right, Contains-append_cases}
 use Rattle.tp_base.specs.Classes.{has_class}
 use Rattle.tp_base.proofs.ClassLemmas.{same_members, has_class-Contains, Contains-has_class}
 use Rattle.tp_base.proofs.Rising.{All-from_Contains, Contains-here, Contains-behind, Contains-cons, Contains-none}
 use Rattle.tree_sem.proofs.NodeLemmas.{Contains-map, map-Contains}
 use Rattle.simple_core.specs.declared.system.System.{System}
-use Rattle.simple_core.specs.Systems.{kind_label, IsSound}
+use Rattle.simple_core.specs.Systems.{kind_label}
 use Rattle.simple_core.specs.Labels.{set_of}
 use Rattle.simple_core.specs.Rounds.{grown, IsFirst}
 use Rattle.simple_core.specs.Pairs.{Pair, Asks, Needed, AreDifferent, HasMore}
@@ -20,8 +19,8 @@ use Rattle.simple_core.proofs.RestLemmas.{first_is}
 use Rattle.simple_core.proofs.PairLemmas.{different_push, one_more}
 use Rattle.need_table.specs.declared.entries.First.{First}
 use Rattle.need_table.specs.declared.entries.Entry.{Entry}
-use Rattle.need_table.specs.Tables.{pair_of, atoms_by, fresh_of, labels, IsDone, IsUpTo, IsTable, IsKept, IsMore, NotedAt, IsNoted, IsUntouched, AreNeeded}
-use Rattle.need_table.proofs.TableLemmas.{Contains-at, at-Contains, at-within}
+use Rattle.need_table.specs.Tables.{pair_of, atoms_by, fresh_of, labels, IsDone, IsUpTo, IsTable, IsKept, IsMore, NotedAt, IsUntouched, AreNeeded}
+use Rattle.need_table.proofs.TableLemmas.{Contains-at, at-Contains}
 
 le_test : (m n : ℕ) → m ≤ n → nat_le m n ≡ true
 le_test m n le = le-leb m n le

@@ -11,12 +11,12 @@ use Rattle.simple_core.proofs.Members.{among_all}
 use Rattle.simple_core.proofs.RoundLemmas.{set_of-is, is-set_of, set_of-rises, grown-rises, grown-later}
 use Rattle.tp_base.specs.declared.atoms.TheConstants.{MOST_ATOMS}
 use Rattle.simple_core.specs.declared.system.System.{System}
-use Rattle.simple_core.specs.Pairs.{Pair, Needed}
+use Rattle.simple_core.specs.Pairs.{Pair}
 use Rattle.need_table.specs.declared.entries.First.{First}
 use Rattle.need_table.specs.declared.entries.Entry.{Entry}
-use Rattle.need_table.specs.Tables.{pair_of, labels, round_in, IsDone, IsUpTo, IsTable, IsMore, IsKept, AreNeeded, AllDone, AreDoneBelow, AllRest, has_later, rested}
+use Rattle.need_table.specs.Tables.{pair_of, labels, round_in, IsDone, IsUpTo, IsTable, IsMore, IsKept, AllDone, AreDoneBelow, AllRest, has_later, rested}
 use Rattle.need_table.proofs.TableLemmas.{Contains-at, at-Contains, at-within}
-use Rattle.need_table.proofs.FillLemmas.{later_at, pairs_more, read_at}
+use Rattle.need_table.proofs.FillLemmas.{later_at, read_at}
 use Rattle.need_table.proofs.ChildLemmas.{at_of, and_at, some_at}
 use Rattle.need_table.proofs.BoundLemmas.{done_before, later_is, later_none, quiet_rest, rounds_few, table_rested}
 

@@ -1,5 +1,5 @@
 -- The table of pairs, while it is filled.
-use Rattle.std.specs.Prelude.{◌≡◌, ◌≢◌, ◌⊎◌, ◌++◌, set, ◌≤◌, ◌<◌, ℕ, suc, List, [], ◌∷◌, map, length, not, nat_le, Bool, Option, Some, None, All, Contains, IsSomeAnd, slice_get, ◌==◌, if◌then◌else◌, option_map, option_and_then, unwrap_or, ◌-◌}
+use Rattle.std.specs.Prelude.{◌≡◌, ◌≢◌, ◌⊎◌, ◌++◌, set, ◌≤◌, ◌<◌, ℕ, suc, List, [], ◌∷◌, map, length, not, nat_le, Bool, Option, Some, None, Contains, IsSomeAnd, slice_get, ◌==◌, if◌then◌else◌, ◌-◌}
 use Rattle.std.specs.List.{filter, flat_map, list_any}
 use Rattle.tp_base.specs.Classes.{has_class}
 use Rattle.simple_core.specs.declared.system.System.{System}

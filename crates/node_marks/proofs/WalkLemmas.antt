@@ -4,7 +4,7 @@ use Rattle.std.proofs.lemmas.Bool.{cases_lt}
 use Rattle.std.proofs.lemmas.List.{get_or_append_left, get_or-take, length-take-le, take-append-le, take_all}
 use Rattle.std.proofs.Math.Seq.{get_or-append_seam}
 use Rattle.tree_sem.specs.Trees.{Row, no_nodes, node, LabelTree, tree_of, count_of, node_at, label_at}
-use Rattle.tree_sem.specs.Order.{paths_from, paths_of, trees_after, rest_of}
+use Rattle.tree_sem.specs.Order.{paths_from, trees_after, rest_of}
 use Rattle.tree_sem.proofs.NodeLemmas.{length-paths_of}
 use Rattle.tree_sem.proofs.PathLemmas.{take_take}
 use Rattle.tree_sem.proofs.RowLemmas.{there}

@@ -1,5 +1,5 @@
 -- What tables of known atoms say of lists of items.
-use Rattle.std.proofs.Common.{◌≡◌, ℕ, zero, suc, ◌<◌, Bool, true, false, not, is_some, ◌==◌, ◌&&◌, ◌||◌, nat_lt, List, [], ◌∷◌, ◌++◌, if◌then◌else◌, take, drop, find, Option, Some, None, option_map, slice_get, refl, sym, ap, subst, ◌∙◌, arith}
+use Rattle.std.proofs.Common.{◌≡◌, ℕ, zero, suc, ◌<◌, Bool, true, false, not, is_some, ◌==◌, ◌&&◌, ◌||◌, nat_lt, List, [], ◌∷◌, ◌++◌, if◌then◌else◌, take, find, Option, Some, None, option_map, slice_get, refl, ap, ◌∙◌}
 use Rattle.std.proofs.lemmas.Bool.{ltb-true, and_parts}
 use Rattle.tp_base.specs.Classes.{has_class, all_among}
 use Rattle.simple_core.specs.declared.rules.Kind.{Kind}
@@ -13,7 +13,7 @@ use Rattle.proof_check.specs.declared.proofs.Reason.TheVariants.{Start, Local, U
 use Rattle.proof_check.specs.declared.proofs.ProofItem.{ProofItem}
 use Rattle.proof_check.specs.declared.proofs.Entry.{Entry}
 use Rattle.proof_check.specs.Checks.{is_some_and, is_down, has_atom, is_inside, is_below, spawn_holds, is_sound}
-use Rattle.proof_check.specs.Firsts.{first_down, all_known, Near, named_by, below_by, spawn_by, local_by, grown_by, sound_by}
+use Rattle.proof_check.specs.Firsts.{first_down, all_known, Near, named_by, below_by, spawn_by, sound_by}
 use Rattle.proof_check.specs.Validity.{atoms_of, Place}
 
 pub first_has : (items : List ProofItem) (a : ℕ) → is_some (first_down items a) ≡ has_class a (atoms_of items)

@@ -17,8 +17,8 @@ use Rattle.proof_check.specs.declared.proofs.ProofItem.{ProofItem}
 use Rattle.proof_check.specs.declared.proofs.PageItem.{PageItem}
 use Rattle.proof_check.specs.declared.proofs.Entry.{Entry}
 use Rattle.proof_check.specs.Checks.{is_down, is_sound, are_placed}
-use Rattle.proof_check.specs.Firsts.{first_down, first_in, KnowsOf, KnowsBelow, KeepsBut, sound_by}
-use Rattle.proof_check.specs.Nodes.{number_in, HasAll, page_gives, KnowsPage, above_gives, near_at_page}
+use Rattle.proof_check.specs.Firsts.{first_down, first_in, KnowsOf, KnowsBelow, sound_by}
+use Rattle.proof_check.specs.Nodes.{number_in, HasAll, page_gives, KnowsPage, near_at_page}
 use Rattle.proof_check.specs.Validity.{atoms_of, items_at, at_page}
 use Rattle.proof_check.proofs.EntryLemmas.{drop_at, take_at, not_same, knows_pushed, keeps_pushed}
 use Rattle.proof_check.proofs.FirstLemmas.{first_has, IsNear, sound_same}

@@ -4,7 +4,6 @@ use Rattle.std.proofs.lemmas.Bool.{and_parts, cases_order}
 use Rattle.std.proofs.lemmas.Bool.Decides.{Decides-eqb}
 use Rattle.simple_core.specs.declared.system.System.{System}
 use Rattle.proof_check.specs.declared.firsts.Firsts.{Firsts}
-use Rattle.proof_check.specs.declared.proofs.ProofItem.{ProofItem}
 use Rattle.proof_check.specs.declared.proofs.Entry.{Entry}
 use Rattle.proof_check.specs.Checks.{are_sound, entries_hold}
 use Rattle.proof_check.specs.Firsts.{KnowsOf, KnowsBelow, KeepsBut}

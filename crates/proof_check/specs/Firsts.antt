@@ -1,6 +1,6 @@
 -- What is known of the atoms of nodes, as truth values: each node has its atoms, each with whether its first item has a `down` link.
 --     first_down items a         of the first item that gives a
-use Rattle.std.specs.Prelude.{◌≡◌, ℕ, ◌<◌, Bool, true, false, not, is_some, ◌==◌, ◌&&◌, ◌||◌, nat_lt, List, [], find, Option, Some, None, option_map, slice_get}
+use Rattle.std.specs.Prelude.{◌≡◌, ℕ, ◌<◌, Bool, false, not, is_some, ◌==◌, ◌&&◌, ◌||◌, nat_lt, List, [], find, Option, Some, option_map, slice_get}
 use Rattle.std.specs.List.{list_all}
 use Rattle.indexmap.specs.IndexMap.{get_by}
 use Rattle.tp_base.specs.Classes.{has_class}

@@ -1,7 +1,7 @@
 -- The nodes of items, by numbers.
 --     number_in nodes v          the number of the node at v
 --     page_gives nodes table v a whether a is known of the node at v
-use Rattle.std.specs.Prelude.{◌≡◌, ℕ, Bool, true, false, is_some, List, [], ◌∷◌, ◌++◌, length, Option, Some, None, option_map, option_and_then, unwrap_or, position, slice_get, bytes_eq}
+use Rattle.std.specs.Prelude.{◌≡◌, ℕ, Bool, true, false, is_some, List, [], ◌∷◌, ◌++◌, Option, Some, None, option_map, option_and_then, unwrap_or, position, slice_get, bytes_eq}
 use Rattle.tree_sem.specs.Trees.{LabelTree, label_at}
 use Rattle.tree_sem.specs.Paths.{parent_of}
 use Rattle.proof_check.specs.declared.firsts.Firsts.{Firsts}

@@ -11,7 +11,7 @@ mod premises;
 mod proofs;
 
 pub use checking::check;
-pub use counting::steps;
+pub use counting::{items_steps, steps};
 pub use nodes::{Nodes, steps_of};
 pub use proofs::{
     Below, Entries, Entry, PageItem, PageItems, Proof, ProofItem, ProofItems, Reason,

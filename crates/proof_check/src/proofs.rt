@@ -1,9 +1,9 @@
 //! Proofs that the root of a page gets an atom.
-ghost use Rattle.std.specs.Prelude.{◌≡◌};
+ghost use Rattle.std.specs.Prelude.{◌≡◌, ◌++◌, ◌∷◌, [], OnOk};
 
 use std::alloc::Global;
 use std::marker::Model;
-use tp_base::{Atom, ClassSet, Path};
+use tp_base::{Atom, ClassSet, NoMemory, Path};
 
 /// The child of a `down` link: a child of the page by its number, or the child that a spawn rule adds, with its entry.
 #[derive(Clone, Copy, Debug, PartialEq, Eq)]
@@ -86,6 +86,14 @@ impl Entries {
         ensures { result ≡ items.items }
     {
         Entries { items }
+    }
+
+    /// Adds an entry at the end.
+    pub fn push(&mut self, entry: Entry) -> Result<(), NoMemory>
+        ensures { OnOk result (self.new ≡ self.old ++ entry ∷ []) }
+    {
+        self.items.push(entry)?;
+        Ok(())
     }
 
     pub fn allocator(&self) -> Global {

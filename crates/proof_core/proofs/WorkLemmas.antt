@@ -1,5 +1,5 @@
 -- Each turn of a walk leaves less work.
-use Rattle.std.proofs.Common.{◌≡◌, ◌<◌, ◌≤◌, ℕ, zero, suc, ◌+◌, ◌-◌, List, [], ◌∷◌, ◌++◌, length, drop, Some, slice_get, refl, sym, ap, subst, ◌∙◌, arith, length-append}
+use Rattle.std.proofs.Common.{◌≡◌, ◌<◌, ◌≤◌, ℕ, zero, suc, ◌+◌, ◌-◌, List, [], ◌∷◌, ◌++◌, length, drop, Some, slice_get, refl, ap, ◌∙◌, arith, length-append}
 use Rattle.proof_core.specs.declared.passes.Pass.{Pass}
 use Rattle.proof_check.specs.declared.proofs.Below.TheVariants.{Real, Grown}
 use Rattle.proof_check.specs.declared.proofs.Reason.{Reason}

@@ -1,7 +1,7 @@
 -- Walks through the entries of a proof, where the levels above wait on a stack.
 --     rest_of s es v walk done    what is left of a walk that began at the node v, and what it has made in the end
 --     walk_work s es walk         how many turns it takes at most
-use Rattle.std.specs.Prelude.{◌≡◌, ℕ, zero, suc, ◌+◌, ◌-◌, ◌*◌, ◌≤◌, ◌==◌, List, [], ◌∷◌, ◌++◌, length, map, drop, find, sum_by, reverse, Option, Some, None, option_map, option_and_then, unwrap_or, slice_get}
+use Rattle.std.specs.Prelude.{◌≡◌, ℕ, zero, suc, ◌+◌, ◌-◌, ◌*◌, ◌≤◌, ◌==◌, List, [], ◌∷◌, ◌++◌, length, map, drop, Some, option_map, unwrap_or, slice_get}
 use Rattle.simple_core.specs.declared.system.System.{System}
 use Rattle.simple_core.specs.declared.system.TheConstants.{MOST_KINDS}
 use Rattle.proof_core.specs.Passes.{seen}

@@ -1,17 +1,17 @@
 -- The terms of links.
-use Rattle.std.proofs.Common.{◌≡◌, eqb, ℕ, zero, suc, ◌+◌, ◌<◌, Bool, true, false, List, [], ◌∷◌, ◌++◌, map, take, length, slice_get, Some, if◌then◌else◌, ◌==◌, Result, Ok, Err, IsErrAnd, All, arith, refl, sym, ap, subst, ◌∙◌, inl, inr, append_assoc, append-nil}
+use Rattle.std.proofs.Common.{◌≡◌, eqb, ℕ, zero, suc, ◌+◌, ◌<◌, Bool, true, false, List, [], ◌∷◌, ◌++◌, map, take, slice_get, Some, if◌then◌else◌, ◌==◌, Result, Ok, Err, IsErrAnd, All, arith, refl, sym, ap, subst, ◌∙◌, inl, inr, append-nil}
 use Rattle.std.specs.List.{filter, flat_map}
 use Rattle.std.specs.List.Sorted.{IsStrictlyIncreasing}
 use Rattle.std.proofs.lemmas.Bool.{cases_Bool}
 use Rattle.std.proofs.lemmas.List.{take_more}
 use Rattle.std.proofs.lemmas.Option.{slice_get_within, get_or_from_slice_get}
-use Rattle.class_diagrams.specs.References.{Reference, leaf_reference}
+use Rattle.class_diagrams.specs.References.{Reference}
 use Rattle.class_diagrams.specs.declared.faults.DiagramFault.{DiagramFault}
 use Rattle.class_diagrams.specs.Trees.{Tree, leaf, branch, tand, tor, variable, IsBranchOf}
 use Rattle.class_diagrams.specs.Arena.{tree_at, IsIn, Arena, IsArena}
 use Rattle.class_diagrams.proofs.ArenaLemmas.{tree_at-further}
-use Rattle.diagram_ops.specs.Steps.{Brings, Calculates}
-use Rattle.diagram_ops.specs.Compositions.{tcompose, inner_results, atoms_of}
+use Rattle.diagram_ops.specs.Steps.{Calculates}
+use Rattle.diagram_ops.specs.Compositions.{tcompose, atoms_of}
 use Rattle.diagram_ops.proofs.HeldLemmas.{AreCovered}
 use Rattle.diagram_ops.proofs.StepLemmas.{brings_itself, brings_part, calculates_last, calculates_failed, calculates_same_error}
 use Rattle.simple_core.specs.declared.rules.Local.{Local}
@@ -19,10 +19,10 @@ use Rattle.simple_core.specs.declared.rules.Link.{Link}
 use Rattle.simple_core.specs.declared.rules.Spawn.{Spawn}
 use Rattle.simple_core.specs.declared.system.System.{System}
 use Rattle.pushdown_sym.specs.CellMap.{Entries, place_in, trees_in}
-use Rattle.pushdown_sym.specs.Terms.{CellTrees, Term, terms, local_term, local_terms, up_term, up_terms, down_term, down_terms, disjunction, disjunctions, next_tree, partial_results}
+use Rattle.pushdown_sym.specs.Terms.{CellTrees, Term, terms, local_term, up_term, down_term, disjunction, disjunctions, next_tree, partial_results}
 use Rattle.pushdown_sym.specs.Adding.{AreIn, Adds, of_local, of_up, of_down, paired, child_term}
 use Rattle.pushdown_sym.proofs.SeenLemmas.{child_is}
-use Rattle.pushdown_sym.proofs.AddLemmas.{IsAdding, add_more, add_failed, disjunctions_first, cells_same}
+use Rattle.pushdown_sym.proofs.AddLemmas.{IsAdding, add_more, disjunctions_first, cells_same}
 
 -- ### a link to the parent
 

@@ -1,5 +1,5 @@
 -- Edits at each of some paths.
-use Rattle.std.proofs.Common.{◌≡◌, ℕ, zero, suc, ◌+◌, ◌*◌, ◌<◌, ◌≤◌, List, [], ◌∷◌, length, take, get_or, fold, All, Some, IsSome, refl, sym, ap, ◌∙◌, arith}
+use Rattle.std.proofs.Common.{◌≡◌, ℕ, suc, ◌+◌, ◌*◌, ◌<◌, ◌≤◌, List, [], ◌∷◌, length, take, get_or, All, sym, ap, ◌∙◌, arith}
 use Rattle.std.specs.List.{sum_by}
 use Rattle.std.proofs.Math.Nat.{suc-mul, mul-le-mul_right}
 use Rattle.std.proofs.lemmas.List.Sums.{fold_more}
@@ -7,7 +7,6 @@ use Rattle.std.proofs.lemmas.List.Elements.{All-head, All-tail}
 use Rattle.tree_sem.specs.Trees.{LabelTree, node_at, edit_at, edit_each, push_tree, count_of}
 use Rattle.tree_sem.specs.Nodes.{IsNode}
 use Rattle.tree_sem.specs.Actions.{add_trees}
-use Rattle.tree_sem.specs.Growth.{Grows}
 use Rattle.tree_sem.proofs.RowLemmas.{there}
 use Rattle.tree_sem.proofs.EditLemmas.{edit_at-edit_at}
 use Rattle.tree_sem.proofs.CountLemmas.{count_of-add_trees}

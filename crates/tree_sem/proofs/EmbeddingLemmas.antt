@@ -1,7 +1,7 @@
 -- The map that takes each node of a tree to an image.
 use Rattle.std.proofs.Common.{◌≡◌, ℕ, zero, suc, ◌≤◌, List, [], ◌∷◌, ◌++◌, length, take, Option, Some, None, option_and_then, IsSome, refl, ap, subst, arith}
 use Rattle.tree_sem.specs.Trees.{LabelTree, tree_of, node_at}
-use Rattle.tree_sem.specs.Nodes.{IsNode, HasAtom}
+use Rattle.tree_sem.specs.Nodes.{IsNode}
 use Rattle.tree_sem.specs.Embedding.{IsWithin, IsImage, IsEmbedding}
 use Rattle.tree_sem.proofs.NodeLemmas.{HasAtom-node}
 use Rattle.tree_sem.proofs.WithinLemmas.{within_at}

@@ -1,5 +1,5 @@
 -- Trees that grow where they stand: each node stays at its path, and is within what is there later.
-use Rattle.std.proofs.Common.{◌≡◌, ℕ, suc, List, [], ◌∷◌, ◌++◌, take, Option, Some, None, option_map, option_and_then, unwrap_or, fold, All, Contains, refl, sym, ap, ◌∙◌, subst, inl, inr, arith}
+use Rattle.std.proofs.Common.{◌≡◌, ℕ, suc, List, [], ◌∷◌, ◌++◌, take, Option, Some, None, option_map, option_and_then, unwrap_or, fold, Contains, refl, sym, ◌∙◌, subst, inl, inr, arith}
 use Rattle.std.proofs.lemmas.Bool.{cases_order}
 use Rattle.std.proofs.lemmas.List.Elements.{All-contains}
 use Rattle.tp_base.proofs.Rising.{All-from_Contains}
@@ -12,10 +12,9 @@ use Rattle.tree_sem.specs.Actions.{add_classes, add_trees, act}
 use Rattle.tree_sem.specs.Embedding.{AreWithin, IsWithin, IsImage}
 use Rattle.tree_sem.specs.Growth.{Grows}
 use Rattle.tree_sem.proofs.RowLemmas.{there, tree_of-number, node_at-append}
-use Rattle.tree_sem.proofs.PathLemmas.{IsSome-take}
 use Rattle.tree_sem.proofs.EditLemmas.{tree_of-edit_tree, tree_of-edit_tree_other, tree_of-push_tree_other}
 use Rattle.tree_sem.proofs.NodeLemmas.{HasAtom-node}
-use Rattle.tree_sem.proofs.WithinLemmas.{within_itself, within_both, edit_within, add_class_within, add_classes_within, add_child_within, add_trees_within}
+use Rattle.tree_sem.proofs.WithinLemmas.{add_class_within, add_classes_within, add_child_within, add_trees_within}
 
 pub grows_itself : (t : LabelTree) → Grows t t
 grows_itself t v s at = (s, at, λ a has. has)

@@ -1,14 +1,12 @@
 -- Images of nodes in larger trees.
-use Rattle.std.proofs.Common.{◌≡◌, ℕ, zero, suc, ◌≤◌, List, [], ◌∷◌, ◌++◌, length, take, Option, Some, None, option_map, option_and_then, IsSome, Contains, refl, sym, ap, ◌∙◌, subst, inl, inr, arith}
+use Rattle.std.proofs.Common.{◌≡◌, ℕ, zero, suc, ◌≤◌, List, [], ◌∷◌, ◌++◌, take, Option, Some, None, option_map, option_and_then, Contains, refl, sym, ◌∙◌, subst, inl, inr, arith}
 use Rattle.std.proofs.lemmas.Bool.{cases_order}
 use Rattle.std.proofs.lemmas.List.Elements.{All-contains}
 use Rattle.tree_sem.specs.Trees.{LabelTree, tree_of, edit_tree, node_at, edit_at}
 use Rattle.tree_sem.specs.Nodes.{IsNode, HasAtom}
-use Rattle.tree_sem.specs.Embedding.{IsWithin, IsImage, IsEmbedding}
+use Rattle.tree_sem.specs.Embedding.{IsWithin, IsImage}
 use Rattle.tree_sem.specs.Growth.{Grows}
 use Rattle.tree_sem.proofs.RowLemmas.{there}
-use Rattle.tree_sem.proofs.PathLemmas.{IsSome-take}
-use Rattle.tree_sem.proofs.NodeLemmas.{HasAtom-node}
 use Rattle.tree_sem.proofs.EditLemmas.{tree_of-edit_tree, tree_of-edit_tree_other}
 use Rattle.tree_sem.proofs.WithinLemmas.{within_itself, within_both, within_at, are_within_each, image_node}
 use Rattle.tree_sem.proofs.GrowthLemmas.{grows_at}

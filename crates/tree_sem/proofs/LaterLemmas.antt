@@ -1,15 +1,12 @@
 -- A table with later nodes, and what is left when they are taken away.
-use Rattle.std.proofs.Common.{◌≡◌, ℕ, zero, suc, ◌+◌, ◌<◌, ◌≤◌, nat_lt, Bool, true, false, List, [], ◌∷◌, ◌++◌, length, take, All, Option, Some, None, option_map, option_and_then, unwrap_or, slice_get, get_or, refl, sym, ap, ◌∙◌, inl, inr, append-nil, append_assoc, arith, length-append}
+use Rattle.std.proofs.Common.{◌≡◌, ℕ, zero, suc, ◌+◌, ◌<◌, ◌≤◌, nat_lt, List, [], ◌∷◌, ◌++◌, length, take, All, Some, None, option_map, option_and_then, unwrap_or, slice_get, refl, sym, ap, ◌∙◌, inl, inr, append-nil, append_assoc, arith}
 use Rattle.std.specs.List.{prefix_len}
 use Rattle.std.proofs.lemmas.Bool.{cases_lt, cases_order, lt-ltb, le-ltb}
-use Rattle.std.proofs.lemmas.List.{take-append-le}
-use Rattle.std.proofs.lemmas.List.Sums.{prefix_len_is}
-use Rattle.std.proofs.lemmas.Option.{slice_get_past, slice_get_within, get_or_from_slice_get}
-use Rattle.std.proofs.Math.Seq.{take-append_seam}
+use Rattle.std.proofs.lemmas.Option.{slice_get_past, slice_get_within}
 use Rattle.tp_base.proofs.NamesLemmas.{slice_get-append_left}
 use Rattle.tree_sem.specs.declared.slots.Slot.{Slot}
 use Rattle.tree_sem.specs.Arena.{place_from, IsArena}
-use Rattle.tree_sem.specs.Table.{kids_in, label_in, IsSame, IsGrafted, IsLater, IsCutBack}
+use Rattle.tree_sem.specs.Table.{kids_in, IsSame, IsGrafted, IsLater, IsCutBack}
 
 pub later_itself : (slots : List Slot) → IsLater slots slots
 later_itself slots = record { longer = omega arith; labels = λ i within. refl; children = λ i within. ([], sym (append-nil (kids_in slots i)), λ k d lt. absurd (omega arith)) }

@@ -1,10 +1,10 @@
 -- Trees whose labels rise go on being such.
-use Rattle.std.proofs.Common.{◌≡◌, ℕ, ◌<◌, List, [], ◌∷◌, length, get_or, Option, Some, None, option_map, option_and_then, slice_get, fold, All, refl, sym, ap, ◌∙◌, subst, inl, inr, arith}
+use Rattle.std.proofs.Common.{◌≡◌, ℕ, ◌<◌, List, [], ◌∷◌, length, get_or, Some, None, option_map, option_and_then, All, refl, sym, ◌∙◌, subst, inl, inr, arith}
 use Rattle.std.specs.List.Sorted.{IsStrictlyIncreasing}
 use Rattle.std.proofs.lemmas.Bool.{cases_order}
 use Rattle.std.proofs.lemmas.Option.{get_or_from_slice_get, slice_get_within}
 use Rattle.tp_base.proofs.ClassLemmas.{IsStrictlyIncreasing-with_class, IsStrictlyIncreasing-union_of}
-use Rattle.tree_sem.specs.Trees.{LabelTree, leaf, tree_of, push_tree, node_at, label_at, edit_at, add_class, add_child}
+use Rattle.tree_sem.specs.Trees.{LabelTree, leaf, tree_of, node_at, edit_at, add_class, add_child}
 use Rattle.tree_sem.specs.Nodes.{AllRise}
 use Rattle.tree_sem.specs.Actions.{add_classes, add_trees}
 use Rattle.tree_sem.proofs.EditLemmas.{tree_of-edit_tree, tree_of-edit_tree_other}

@@ -1,10 +1,10 @@
 -- What writes to the list of slots do where another table's nodes are put after the others.
-use Rattle.std.proofs.Common.{◌≡◌, ◌≢◌, ℕ, zero, suc, ◌+◌, ◌<◌, ◌≤◌, nat_lt, List, [], ◌∷◌, ◌++◌, length, map, set, take, get_or, All, Option, Some, None, option_map, unwrap_or, slice_get, Result, Ok, Err, OnErr, refl, sym, ap, ◌∙◌, inl, inr, append-nil, append_assoc, arith, length-append}
+use Rattle.std.proofs.Common.{◌≡◌, ◌≢◌, ℕ, suc, ◌+◌, ◌<◌, ◌≤◌, nat_lt, List, [], ◌∷◌, ◌++◌, length, map, set, take, get_or, All, Some, None, option_map, unwrap_or, slice_get, Result, Ok, Err, OnErr, refl, sym, ap, ◌∙◌, inl, inr, append-nil, append_assoc, arith, length-append}
 use Rattle.std.specs.List.{prefix_len}
 use Rattle.std.proofs.Math.ListN.{length-set}
-use Rattle.std.proofs.lemmas.Bool.{cases_lt, cases_order}
+use Rattle.std.proofs.lemmas.Bool.{cases_order}
 use Rattle.std.proofs.lemmas.List.{length-map, length-take, map-append, take_more, get_or_default}
-use Rattle.std.proofs.lemmas.Option.{slice_get-map, slice_get_past, slice_get_read}
+use Rattle.std.proofs.lemmas.Option.{slice_get-map, slice_get_read}
 use Rattle.tp_base.proofs.NamesLemmas.{slice_get-append_left}
 use Rattle.tree_sem.specs.declared.slots.Slot.{Slot}
 use Rattle.tree_sem.specs.Arena.{IsArena}

@@ -1,5 +1,5 @@
 -- Classes that are added to labels one after another, of which some may have them already.
-use Rattle.std.proofs.Common.{◌≡◌, ◌≢◌, ◌⊎◌, ℕ, zero, suc, ◌<◌, ◌≤◌, List, [], ◌∷◌, length, map, drop, get_or, All, Contains, Option, Some, None, unwrap_or, option_map, refl, sym, ap, ◌∙◌, subst, inl, inr, arith, length-drop}
+use Rattle.std.proofs.Common.{◌≡◌, ◌≢◌, ◌⊎◌, ℕ, zero, suc, ◌<◌, ◌≤◌, List, [], ◌∷◌, length, map, drop, get_or, Contains, Option, Some, None, unwrap_or, refl, sym, ap, ◌∙◌, subst, inl, inr, arith, length-drop}
 use Rattle.std.proofs.lemmas.Bool.{cases_order}
 use Rattle.std.proofs.lemmas.List.{length-map}
 use Rattle.std.specs.List.Sorted.{IsStrictlyIncreasing}
@@ -9,7 +9,7 @@ use Rattle.tp_base.proofs.ClassLemmas.{IsStrictlyIncreasing-union_of, union_of-k
 use Rattle.tree_sem.specs.declared.slots.Slot.{Slot}
 use Rattle.tree_sem.specs.Table.{kids_in, label_in, tree_in, united, IsTable, IsRelabelled}
 use Rattle.tree_sem.specs.Arena.{place_from, IsArena}
-use Rattle.tree_sem.specs.Trees.{label_at, edit_at}
+use Rattle.tree_sem.specs.Trees.{edit_at}
 use Rattle.tree_sem.specs.Nodes.{IsNode}
 use Rattle.tree_sem.specs.Actions.{add_classes}
 use Rattle.tree_sem.proofs.ArenaLemmas.{place_within}

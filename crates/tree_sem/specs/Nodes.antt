@@ -2,7 +2,8 @@
 --     IsNode t v      there is a node at v
 --     HasAtom t v a   there is one, and its label has the atom a
 --     AllRise t       each label is a set of atoms, as a list that rises
-use Rattle.std.specs.Prelude.{◌≡◌, ℕ, List, Some, IsSome, IsSomeAnd, Contains}
+--     IsTreeOver n t  its atoms are of a table of n
+use Rattle.std.specs.Prelude.{◌≡◌, ℕ, ◌<◌, List, Some, IsSome, IsSomeAnd, Contains}
 use Rattle.std.specs.List.Sorted.{IsStrictlyIncreasing}
 use Rattle.tree_sem.specs.Trees.{LabelTree, node_at, label_at}
 
@@ -14,3 +15,6 @@ HasAtom t v a = IsSomeAnd (label_at v t) (λ label. Contains label a)
 
 abbrev pub AllRise : LabelTree → Type 0
 AllRise t = (v label : List ℕ) → label_at v t ≡ Some label → IsStrictlyIncreasing label
+
+abbrev pub IsTreeOver : ℕ → LabelTree → Type 0
+IsTreeOver n t = (v : List ℕ) (a : ℕ) → HasAtom t v a → a < n

@@ -1,5 +1,5 @@
 -- Loading one file after another.
-use Rattle.std.proofs.Common.{◌≡◌, ℕ, ◌≤◌, List, [], ◌∷◌, ◌++◌, Option, Some, None, IfSome, Result, Ok, Err, refl, sym, ap, ◌∙◌, subst, append_assoc}
+use Rattle.std.proofs.Common.{◌≡◌, ℕ, ◌≤◌, List, [], ◌∷◌, ◌++◌, Some, None, IfSome, Ok, Err, ◌∙◌, subst, append_assoc}
 use Rattle.tp_io.specs.Files.{Load}
 use Rattle.tp_io.specs.declared.files.TheConstants.{MOST_BYTES}
 use Rattle.treeped_app.specs.declared.refusals.Part.TheVariants.{Page, Sheet, Script}

@@ -1,5 +1,5 @@
 -- Statements that are judged so far, one after another.
-use Rattle.std.proofs.Common.{◌≡◌, ◌≢◌, ℕ, ◌+◌, ◌<◌, ◌≤◌, ◌&&◌, Bool, slice_get, true, false, List, [], ◌∷◌, ◌++◌, length, map, get_or, Option, Some, None, Result, Ok, Err, refl, sym, ap, ◌∙◌, arith}
+use Rattle.std.proofs.Common.{◌≡◌, ◌≢◌, ℕ, ◌+◌, ◌<◌, ◌≤◌, ◌&&◌, Bool, slice_get, true, false, List, [], ◌∷◌, ◌++◌, length, map, get_or, Option, Some, None, Ok, Err, refl, sym, ap, ◌∙◌, arith}
 use Rattle.std.proofs.lemmas.List.{map-append, append_assoc, append-nil, length-map}
 use Rattle.tp_base.specs.Names.{Named}
 use Rattle.tp_base.specs.declared.places.Place.{Place}
@@ -17,7 +17,6 @@ use Rattle.jq_words.specs.declared.faults.ScriptFault.{ScriptFault}
 use Rattle.jq_words.specs.declared.faults.ScriptFault.TheVariants as script
 use Rattle.jq_words.specs.Words.{Outcome}
 use Rattle.treeped_app.specs.declared.rules.Rule.{Rule}
-use Rattle.treeped_app.specs.declared.stops.Stop.{Stop}
 use Rattle.treeped_app.specs.Inputs.{IsOpened}
 use Rattle.treeped_app.specs.Refusals.{script_stop}
 use Rattle.treeped_app.specs.Rules.{statement_of, is_rule, is_none, is_alone, is_one_atom, is_one_class, first_other, not_yet_judged}

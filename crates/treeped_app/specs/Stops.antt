@@ -1,7 +1,6 @@
 -- How a run ends without its report, and the line that it says then on standard error.
 use Rattle.std.specs.Prelude.{ℕ, List, [], ◌++◌, codes}
 use Rattle.std.specs.Fmt.{decimal}
-use Rattle.tp_base.specs.declared.places.Place.{Place}
 use Rattle.usage_report.specs.declared.faults.ReportFault.{ReportFault}
 use Rattle.usage_report.specs.declared.faults.ReportFault.TheVariants as report
 use Rattle.treeped_app.specs.declared.status.Status.{Status}

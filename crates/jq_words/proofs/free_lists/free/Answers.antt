@@ -1,8 +1,6 @@
-use Rattle.std.proofs.Common.{◌≡◌, ℕ, drop, Some, sym, ◌∙◌, arith}
+use Rattle.std.proofs.Common.{◌≡◌, ℕ, ◌∙◌, arith}
 use Rattle.std.proofs.lemmas.Grind.{common_steps}
 use Rattle.std.proofs.lemmas.Result.{err_from_is_err_and}
-use Rattle.jq_words.specs.FreeLists.{cause_at}
-use Rattle.jq_words.specs.Views.{rules_of}
 use Rattle.jq_words.proofs.ListSteps.{fails}
 use Rattle.jq_words.proofs.free_lists.free.Goals as goal
 

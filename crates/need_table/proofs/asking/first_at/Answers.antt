@@ -1,5 +1,4 @@
-use Rattle.std.proofs.Common.{sym, ap, ◌∙◌}
-use Rattle.need_table.specs.declared.entries.Entry.{Entry}
+use Rattle.std.proofs.Common.{◌∙◌}
 use Rattle.need_table.proofs.SettleLemmas.{first_known}
 use Rattle.need_table.proofs.asking.first_at.Goals as goal
 

@@ -1,6 +1,6 @@
-use Rattle.std.proofs.Common.{◌≡◌, ◌∷◌, map, Contains, sym, ◌∙◌, rules}
+use Rattle.std.proofs.Common.{◌≡◌, ◌∷◌, sym, ◌∙◌}
 use Rattle.tp_base.specs.Classes.{union_of}
-use Rattle.need_table.specs.Tables.{pair_of, given_from}
+use Rattle.need_table.specs.Tables.{given_from}
 use Rattle.need_table.proofs.ChildLemmas.{first_rest, spawn_asks, listed_next, listed_others, given_next, given_past, given_all}
 use Rattle.need_table.proofs.filling.add_children.Goals as goal
 

@@ -1,4 +1,4 @@
-use Rattle.std.proofs.Common.{◌≡◌, ◌<◌, List, ◌∷◌, length, Err, Contains, sym, ◌∙◌, rules}
+use Rattle.std.proofs.Common.{◌≡◌, ◌<◌, ◌∷◌, length, Err, sym, ◌∙◌, rules}
 use Rattle.std.proofs.lemmas.List.Elements.{All-contains}
 use Rattle.simple_core.specs.declared.summaries.GainFault.TheVariants.{Spent}
 use Rattle.simple_core.specs.declared.rules.Spawn.{Spawn}

@@ -1,4 +1,4 @@
-use Rattle.std.proofs.Common.{◌≡◌, ◌<◌, ℕ, map, length, Some, slice_get, IsSomeAnd, Contains, refl, sym, subst, ◌∙◌, arith}
+use Rattle.std.proofs.Common.{◌≡◌, ◌<◌, ℕ, map, length, slice_get, IsSomeAnd, Contains, refl, subst, ◌∙◌, arith}
 use Rattle.simple_core.specs.Pairs.{Pair}
 use Rattle.need_table.specs.Tables.{pair_of}
 use Rattle.need_table.proofs.FillLemmas.{IsPushed, pushed, full}

@@ -1,10 +1,10 @@
-use Rattle.std.proofs.Common.{◌≡◌, ◌+◌, ◌*◌, ◌≤◌, ℕ, suc, List, map, Contains, sym, ap, ◌∙◌, subst, arith}
+use Rattle.std.proofs.Common.{◌≡◌, ◌+◌, ◌*◌, ◌≤◌, ℕ, suc, List, Contains, sym, ap, ◌∙◌, subst, arith}
 use Rattle.tp_base.specs.declared.atoms.TheConstants.{MOST_ATOMS}
-use Rattle.simple_core.specs.Pairs.{Pair, Needed}
-use Rattle.need_table.specs.Tables.{pair_of, AreNeeded, has_later}
+use Rattle.simple_core.specs.Pairs.{Pair}
+use Rattle.need_table.specs.Tables.{has_later}
 use Rattle.need_table.proofs.FillLemmas.{more_itself, more_twice, pairs_more}
 use Rattle.need_table.proofs.ChildLemmas.{child_there, still_at, needed_same}
-use Rattle.need_table.proofs.SettleLemmas.{IsSettled, settled, next_few, next_done, start_done, below_kept, rest_below}
+use Rattle.need_table.proofs.SettleLemmas.{settled, next_few, next_done, start_done, below_kept, rest_below}
 use Rattle.need_table.proofs.settling.fill.Goals as goal
 
 pub returns-in_err-work_all-clause-more : goal.returns-in_err-work_all-clause-more

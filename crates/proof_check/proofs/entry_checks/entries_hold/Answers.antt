@@ -1,7 +1,7 @@
-use Rattle.std.proofs.Common.{◌≡◌, ◌<◌, ◌≤◌, length, sym, ap, ◌∙◌, suc, refl, subst, true, drop, ◌&&◌, get_or, slice_get, Some, arith}
+use Rattle.std.proofs.Common.{◌≡◌, ◌<◌, ◌≤◌, length, sym, ap, ◌∙◌, suc, refl, subst, true, drop, ◌&&◌, get_or, arith}
 use Rattle.std.proofs.lemmas.Option.{slice_get_read}
 use Rattle.proof_check.specs.Checks.{entries_hold}
-use Rattle.proof_check.specs.Firsts.{KnowsOf, KnowsBelow}
+use Rattle.proof_check.specs.Firsts.{KnowsBelow}
 use Rattle.proof_check.proofs.EntryLemmas.{AreRight, drop_end}
 use Rattle.proof_check.proofs.RightLemmas.{below_one, empty_one, hold_one, right_one}
 use Rattle.proof_check.proofs.entry_checks.entries_hold.Goals as goal

@@ -1,4 +1,4 @@
-use Rattle.std.proofs.Common.{◌≡◌, ℕ, ◌<◌, ◌≤◌, drop, slice_get, Some, []}
+use Rattle.std.proofs.Common.{◌≡◌, ℕ, ◌<◌, ◌≤◌, drop, []}
 use Rattle.proof_check.specs.Checks.{entries_hold}
 use Rattle.proof_check.specs.Firsts.{KnowsOf, KnowsBelow}
 use Rattle.proof_check.proofs.EntryLemmas.{AreRight}

@@ -1,7 +1,7 @@
-use Rattle.std.proofs.Common.{◌≡◌, ◌≤◌, suc, length, take, drop, unwrap_or, Some, false, ◌&&◌, ◌∙◌, refl, sym, ap, subst, true, arith, get_or, slice_get}
+use Rattle.std.proofs.Common.{◌≡◌, ◌≤◌, suc, length, take, drop, unwrap_or, Some, false, ◌&&◌, ◌∙◌, refl, sym, ap, subst, true, arith}
 use Rattle.std.proofs.lemmas.List.{take_all}
 use Rattle.std.proofs.lemmas.Option.{slice_get_read}
-use Rattle.proof_check.specs.Checks.{is_sound, are_sound}
+use Rattle.proof_check.specs.Checks.{are_sound}
 use Rattle.proof_check.specs.Firsts.{KnowsOf, first_in}
 use Rattle.proof_check.specs.Validity.{in_entry}
 use Rattle.proof_check.proofs.EntryLemmas.{after_items, item_sound, sound_one, kept_below, knows_pushed, keeps_pushed, keeps_both, take_at, drop_end}

@@ -1,6 +1,6 @@
 use Rattle.std.proofs.Common.{◌≡◌, false, option_map, unwrap_or, sym, ap, ◌∙◌, arith}
 use Rattle.tree_sem.proofs.PathLemmas.{parent_of-take}
-use Rattle.proof_check.specs.Nodes.{page_gives, above_gives}
+use Rattle.proof_check.specs.Nodes.{page_gives}
 use Rattle.proof_check.proofs.page_checks.parent_gives.Goals as goal
 
 pub returns-in-len1-up : goal.returns-in-len1-up

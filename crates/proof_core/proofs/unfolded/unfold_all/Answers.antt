@@ -1,4 +1,4 @@
-use Rattle.std.proofs.Common.{◌≡◌, ◌≤◌, ℕ, List, [], length, sym, ap, subst, ◌∙◌, arith}
+use Rattle.std.proofs.Common.{◌≡◌, ◌≤◌, ℕ, List, [], length, sym, ap, subst, ◌∙◌}
 use Rattle.proof_check.specs.declared.proofs.PageItem.{PageItem}
 use Rattle.proof_core.specs.Trails.{progress_of, no_progress}
 use Rattle.proof_check.specs.Unfolding.{Progress, Passed, end_for, unfold_page, unfold_entry}

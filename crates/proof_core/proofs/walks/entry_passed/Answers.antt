@@ -1,4 +1,4 @@
-use Rattle.std.proofs.Common.{◌≡◌, ◌≤◌, List, length, sym, ap, ◌∙◌, arith}
+use Rattle.std.proofs.Common.{◌≡◌, ◌≤◌, List, length, ap, ◌∙◌, arith}
 use Rattle.proof_core.specs.Trails.{progress_of}
 use Rattle.proof_check.specs.Unfolding.{Progress, Passed}
 use Rattle.proof_core.proofs.WalkLemmas.{rest_longer}

@@ -1,4 +1,4 @@
-use Rattle.std.proofs.Common.{ℕ, false, List, [], ◌∷◌, map, All, refl, sym, subst, ◌∙◌}
+use Rattle.std.proofs.Common.{ℕ, List, [], ◌∷◌, map, All, refl, sym, subst, ◌∙◌}
 use Rattle.std.specs.List.Sorted.{IsStrictlyIncreasing}
 use Rattle.class_diagrams.specs.References.{Reference}
 use Rattle.class_diagrams.specs.Arena.{tree_at, IsIn}

@@ -1,10 +1,9 @@
-use Rattle.std.proofs.Common.{ℕ, List, [], ◌∷◌, Ok, arith}
+use Rattle.std.proofs.Common.{ℕ, [], ◌∷◌, Ok, arith}
 use Rattle.std.specs.List.{flat_map}
 use Rattle.class_diagrams.specs.Arena.{tree_at}
 use Rattle.simple_core.specs.declared.rules.Spawn.{Spawn}
 use Rattle.pushdown_sym.specs.CellMap.{trees_in}
 use Rattle.pushdown_sym.specs.Terms.{CellTrees, disjunction, down_term}
-use Rattle.pushdown_sym.specs.Adding.{of_up, of_down}
 use Rattle.pushdown_sym.proofs.AddLemmas.{loop_start, loop_more, loop_failed, loop_end, cells_in}
 use Rattle.pushdown_sym.proofs.children.add_spawns.Goals as goal
 

@@ -1,7 +1,5 @@
-use Rattle.std.proofs.Common.{ℕ, List, [], ◌∷◌, ◌++◌, ◌∙◌, sym, ap}
-use Rattle.class_diagrams.specs.References.{Reference}
+use Rattle.std.proofs.Common.{ℕ, [], ◌∷◌, ◌++◌, ◌∙◌, sym}
 use Rattle.pushdown_sym.specs.CellMap.{place_in}
-use Rattle.pushdown_sym.specs.Adding.{paired}
 use Rattle.pushdown_sym.proofs.LinkLemmas.{paired_more}
 use Rattle.pushdown_sym.proofs.children.with_diagrams.Goals as goal
 

@@ -5,7 +5,7 @@ use Rattle.class_diagrams.specs.Arena.{tree_at}
 use Rattle.pushdown_sym.specs.Terms.{CellTrees, disjunction}
 use Rattle.pushdown_sym.specs.Adding.{of_up}
 use Rattle.pushdown_sym.specs.Givers.{of_place}
-use Rattle.pushdown_sym.proofs.AddLemmas.{loop_start, loop_more, loop_failed, loop_end, cells_in}
+use Rattle.pushdown_sym.proofs.AddLemmas.{loop_start, loop_more, loop_failed, loop_end}
 use Rattle.pushdown_sym.proofs.links.add_ups.Goals as goal
 
 pub loop-i-init : goal.loop-i-init

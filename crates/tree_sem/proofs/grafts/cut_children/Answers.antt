@@ -1,4 +1,4 @@
-use Rattle.std.proofs.Common.{◌∙◌, ap, take}
+use Rattle.std.proofs.Common.{◌∙◌}
 use Rattle.tree_sem.proofs.grafts.cut_children.Goals as goal
 
 pub returns : goal.returns

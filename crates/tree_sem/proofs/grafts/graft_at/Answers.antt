@@ -1,9 +1,7 @@
-use Rattle.std.proofs.Common.{◌≡◌, ◌+◌, ◌<◌, ◌≤◌, [], length, take, get_or, Some, None, refl, sym, ap, ◌∙◌, subst, arith}
-use Rattle.std.specs.List.{sum_by}
+use Rattle.std.proofs.Common.{◌≡◌, ◌+◌, ◌<◌, ◌≤◌, [], length, get_or, Some, None, refl, sym, ap, ◌∙◌, arith}
 use Rattle.std.proofs.lemmas.List.Sums.{sum_by_more, sum_by_more_le}
 use Rattle.tree_sem.specs.declared.tree_fault.TheConstants.{MOST_NODES}
 use Rattle.tree_sem.specs.Trees.{LabelTree, count_of, edit_at, push_tree}
-use Rattle.tree_sem.specs.Nodes.{IsNode}
 use Rattle.tree_sem.specs.Actions.{add_trees}
 use Rattle.tree_sem.specs.Table.{tree_in}
 use Rattle.tree_sem.proofs.ChangeLemmas.{tree_with_graft, table_with_graft}
@@ -11,7 +9,6 @@ use Rattle.tree_sem.proofs.EachLemmas.{add_trees-more}
 use Rattle.tree_sem.proofs.EditLemmas.{edit_at-same}
 use Rattle.tree_sem.proofs.LaterLemmas.{later_itself, later_both, later_graft, place_later}
 use Rattle.tree_sem.proofs.TableLemmas.{no_node, not_there, walked}
-use Rattle.tree_sem.proofs.SpliceLemmas.{on_err}
 use Rattle.tree_sem.proofs.grafts.graft_at.Goals as goal
 
 pub unreachable-requires : goal.unreachable-requires

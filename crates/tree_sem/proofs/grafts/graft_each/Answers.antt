@@ -1,4 +1,4 @@
-use Rattle.std.proofs.Common.{◌≡◌, ◌+◌, ◌*◌, length, take, get_or, sym, ap, ◌∙◌, subst, arith}
+use Rattle.std.proofs.Common.{◌≡◌, ◌+◌, ◌*◌, length, take, sym, ap, ◌∙◌, subst, arith}
 use Rattle.std.specs.List.{sum_by}
 use Rattle.tree_sem.specs.Trees.{count_of, edit_at, edit_each}
 use Rattle.tree_sem.specs.Nodes.{IsNode}
@@ -6,7 +6,7 @@ use Rattle.tree_sem.specs.Actions.{add_trees}
 use Rattle.tree_sem.specs.Table.{tree_in}
 use Rattle.tree_sem.proofs.EachLemmas.{edit_each-more, one_more, one_more_fits}
 use Rattle.tree_sem.proofs.GrowthLemmas.{IsNode-grows, edit_each_grows, trees_grow}
-use Rattle.tree_sem.proofs.LaterLemmas.{later_itself, later_both}
+use Rattle.tree_sem.proofs.LaterLemmas.{later_both}
 use Rattle.tree_sem.proofs.SpliceLemmas.{on_err}
 use Rattle.tree_sem.proofs.grafts.graft_each.Goals as goal
 

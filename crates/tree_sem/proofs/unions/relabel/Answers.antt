@@ -1,6 +1,6 @@
-use Rattle.std.proofs.Common.{◌≡◌, ℕ, length, set, Some, None, refl, sym, ◌∙◌, ap, subst}
+use Rattle.std.proofs.Common.{◌≡◌, ℕ, set, Some, None, refl, sym, ◌∙◌, ap, subst}
 use Rattle.tree_sem.specs.declared.slots.Slot.{Slot}
-use Rattle.tree_sem.specs.Table.{IsRelabelled, kids_in}
+use Rattle.tree_sem.specs.Table.{IsRelabelled}
 use Rattle.tree_sem.proofs.TableLemmas.{no_node, not_there, walked, kids_in-read}
 use Rattle.tree_sem.proofs.WriteLemmas.{relabelled_by_write}
 use Rattle.tree_sem.proofs.unions.relabel.Goals as goal

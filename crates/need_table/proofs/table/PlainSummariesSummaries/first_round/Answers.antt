@@ -1,6 +1,4 @@
-use Rattle.std.proofs.Common.{◌≡◌, List, sym, subst}
-use Rattle.need_table.specs.declared.entries.Entry.{Entry}
-use Rattle.need_table.specs.Tables.{AllRest}
+use Rattle.std.proofs.Common.{◌≡◌}
 use Rattle.need_table.proofs.PlainLemmas.{rest_asks_all}
 use Rattle.need_table.proofs.table.PlainSummariesSummaries.first_round.Goals as goal
 

@@ -1,4 +1,4 @@
-use Rattle.std.proofs.Common.{◌≡◌, ◌⊎◌, List, map, Contains, rules, Err, refl, sym, ap, subst}
+use Rattle.std.proofs.Common.{◌≡◌, ◌⊎◌, map, Contains, rules, Err, sym, ap, subst}
 use Rattle.simple_core.specs.Pairs.{Pair, Needed, HasMore}
 use Rattle.simple_core.specs.declared.summaries.GainFault.TheVariants.{Spent}
 use Rattle.need_table.specs.Tables.{pair_of}

@@ -1,5 +1,5 @@
 use Rattle.std.proofs.Common.{map}
-use Rattle.node_marks.proofs.WalkLemmas.{not_walked, walked_next, walked_whole}
+use Rattle.node_marks.proofs.WalkLemmas.{walked_next, walked_whole}
 use Rattle.node_marks.proofs.numbered_tree.NumberedTree.new.Goals as goal
 
 pub invariant_of-result : goal.invariant_of-result

@@ -1,6 +1,5 @@
 use Rattle.std.proofs.Common.{◌≡◌, ℕ}
 use Rattle.proof_check.specs.declared.firsts.Spot.{Spot}
-use Rattle.proof_check.specs.Firsts.{first_in}
 use Rattle.proof_check.proofs.firsts.Firsts.add.Goals as goal
 
 abbrev spot : ℕ → ℕ → Spot

@@ -1,4 +1,4 @@
-use Rattle.std.proofs.Common.{◌≡◌, ◌==◌, find, option_and_then, slice_get, sym, ap, ◌∙◌}
+use Rattle.std.proofs.Common.{◌≡◌, ◌==◌, option_and_then, slice_get, sym, ap, ◌∙◌}
 use Rattle.proof_core.specs.declared.passes.Pass.{Pass}
 use Rattle.proof_core.proofs.PassLemmas.{find_place}
 use Rattle.proof_core.proofs.passes.Passes.first.Goals as goal

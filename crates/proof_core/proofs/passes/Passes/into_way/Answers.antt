@@ -1,4 +1,4 @@
-use Rattle.std.proofs.Common.{◌≡◌, ◌<◌, ◌==◌, [], length, slice_get, Some, None, option_map, unwrap_or, sym, ap, subst, ◌∙◌}
+use Rattle.std.proofs.Common.{◌≡◌, ◌<◌, ◌==◌, [], length, slice_get, option_map, unwrap_or, sym, ap, subst, ◌∙◌}
 use Rattle.std.proofs.lemmas.Option.{slice_get_within}
 use Rattle.proof_core.specs.declared.passes.Pass.{Pass}
 use Rattle.proof_core.proofs.PassLemmas.{first_there, way_found, none_found}

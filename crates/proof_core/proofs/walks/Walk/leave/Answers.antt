@@ -1,5 +1,4 @@
-use Rattle.std.proofs.Common.{◌≡◌, ℕ, List, [], ◌∷◌, ◌++◌, length, refl, sym, ap, ◌∙◌, arith}
-use Rattle.proof_core.specs.declared.walks.Frame.{Frame}
+use Rattle.std.proofs.Common.{◌≡◌, ℕ, List, [], ◌∷◌, ◌++◌, length, refl, ap, ◌∙◌, arith}
 use Rattle.proof_core.specs.declared.walks.Level.{Level}
 use Rattle.proof_core.specs.declared.walks.Walk.{Walk}
 use Rattle.proof_core.specs.Passes.{way_for}

@@ -1,14 +1,11 @@
-use Rattle.std.proofs.Common.{◌≡◌, Some, None, ◌++◌, ◌∷◌, [], slice_get, refl, sym, ap, subst, ◌∙◌}
+use Rattle.std.proofs.Common.{◌≡◌, ◌++◌, ◌∷◌, [], refl, ap, ◌∙◌}
 use Rattle.std.proofs.lemmas.Result.{on_ok_weaker}
-use Rattle.proof_check.specs.declared.proofs.Below.TheVariants.{Real, Grown}
-use Rattle.proof_check.specs.declared.proofs.Reason.TheVariants.{Start, Local, Up, Down}
+use Rattle.proof_check.specs.declared.proofs.Below.TheVariants.{Real}
+use Rattle.proof_check.specs.declared.proofs.Reason.TheVariants.{Down}
 use Rattle.proof_core.specs.Trails.{progress_of}
-use Rattle.proof_core.specs.Walks.{IsFew}
-use Rattle.proof_core.proofs.PassLemmas.{passed_plain, passed_alone}
-use Rattle.proof_core.proofs.TrailLemmas.{few_local}
-use Rattle.proof_core.proofs.WalkLemmas.{goes_by, goes_none, goes_down}
-use Rattle.proof_core.proofs.WorkLemmas.{less_stay, less_down}
-use Rattle.proof_core.proofs.WorldLemmas.{on_both, few_spawned}
+use Rattle.proof_core.proofs.PassLemmas.{passed_alone}
+use Rattle.proof_core.proofs.WalkLemmas.{goes_by}
+use Rattle.proof_core.proofs.WorkLemmas.{less_stay}
 use Rattle.proof_core.proofs.walks.Walk.pass_below.Goals as goal
 
 pub returns-in_ok-pass-in-Real-clause-on : goal.returns-in_ok-pass-in-Real-clause-on

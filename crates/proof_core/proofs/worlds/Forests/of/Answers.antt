@@ -1,4 +1,4 @@
-use Rattle.std.proofs.Common.{◌≡◌, ℕ, suc, length, drop, find, Option, None, option_map, unwrap_or, refl, sym, ap, subst, ◌∙◌, ◌≤◌, arith}
+use Rattle.std.proofs.Common.{◌≡◌, ℕ, suc, length, drop, find, option_map, refl, sym, ap, subst, ◌∙◌, ◌≤◌, arith}
 use Rattle.std.proofs.lemmas.Option.{slice_get_read}
 use Rattle.simple_core.specs.declared.rules.Kind.{Kind}
 use Rattle.proof_core.specs.Worlds.{known_in, or_first, is_under}

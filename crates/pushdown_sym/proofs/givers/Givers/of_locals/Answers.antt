@@ -1,7 +1,5 @@
-use Rattle.std.proofs.Common.{◌∙◌, subst, List}
-use Rattle.std.proofs.lemmas.List.{take_all}
+use Rattle.std.proofs.Common.{◌∙◌}
 use Rattle.simple_core.specs.declared.rules.Local.{Local}
-use Rattle.pushdown_sym.specs.Givers.{AreGivers}
 use Rattle.pushdown_sym.proofs.GiverLemmas.{givers_more}
 use Rattle.pushdown_sym.proofs.givers.Givers.of_locals.Goals as goal
 

@@ -1,12 +1,11 @@
-use Rattle.std.proofs.Common.{◌≡◌, ◌+◌, ◌*◌, ◌<◌, ◌≤◌, length, All, refl, ◌∙◌, ap, subst, arith}
+use Rattle.std.proofs.Common.{◌≡◌, ◌+◌, ◌*◌, ◌<◌, ◌≤◌, length, All, refl, ◌∙◌, subst, arith}
 use Rattle.std.specs.List.{sum_by}
-use Rattle.tree_sem.specs.declared.slots.Slot.{Slot}
 use Rattle.tree_sem.specs.declared.tree_fault.TreeFault.TheVariants.{TooManyNodes, Memory}
 use Rattle.tree_sem.specs.declared.tree_fault.TheConstants.{MOST_NODES}
 use Rattle.tree_sem.specs.Trees.{count_of, edit_each}
 use Rattle.tree_sem.specs.Nodes.{IsNode}
 use Rattle.tree_sem.specs.Actions.{add_trees}
-use Rattle.tree_sem.specs.Table.{IsSame, IsCutBack}
+use Rattle.tree_sem.specs.Table.{IsCutBack}
 use Rattle.tree_sem.proofs.EachLemmas.{count_of-edit_each}
 use Rattle.tree_sem.proofs.FaultLemmas.{not_so, past}
 use Rattle.tree_sem.proofs.LaterLemmas.{same_cut_back}
