@@ -14,5 +14,6 @@ pub mod Shown
 pub mod Simulation
 pub mod ReadingSteps
 pub mod EndingLemmas
+pub mod AtomLemmas
 mod TokenRows
 mod Rows

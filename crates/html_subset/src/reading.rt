@@ -1,5 +1,6 @@
 //! Reading a page, or markup: its tokens are taken one after the other.
-ghost use Rattle.std.specs.Prelude.{◌≡◌, ◌≤◌, length, option_map, OnOk, IfOk};
+ghost use Rattle.std.specs.Prelude.{◌≡◌, ◌≤◌, length, option_map, All, OnOk, IfOk};
+ghost use Rattle.tree_sem.specs.Nodes.{IsTreeOver};
 ghost use Rattle.html_subset.specs.Builders.{machine_of, Stands};
 ghost use Rattle.html_subset.specs.Machine as machine;
 ghost use Rattle.html_subset.specs.Pages.{page_of, forest_of};
@@ -94,6 +95,7 @@ fn forest(alloc: Global, text: &[u8], atoms: &mut AtomTable) -> Result<Forest, P
 #[tactic(auto, unfolding(crate::specs::Reading::read_page), using(crate::proofs::ReadingSteps::valid_len, crate::proofs::Fronts::front_itself))]
 pub fn read_page(alloc: Global, text: &[u8], atoms: &mut AtomTable) -> Result<Tree, PageFault>
     ensures reads { Reads (λ t. t) result atoms.new (spec.read_page text.now atoms.old) }
+    ensures over { IfOk result (λ t. IsTreeOver (length atoms.new) t) }
     ensures front { IsFront atoms.old atoms.new }
 {
     match text.to_str() {
@@ -107,6 +109,7 @@ pub fn read_page(alloc: Global, text: &[u8], atoms: &mut AtomTable) -> Result<Tr
 #[tactic(auto, unfolding(crate::specs::Reading::read_forest), using(crate::proofs::ReadingSteps::valid_len, crate::proofs::Fronts::front_itself))]
 pub fn read_forest(alloc: Global, text: &[u8], atoms: &mut AtomTable) -> Result<Forest, PageFault>
     ensures reads { Reads (λ f. f.tops) result atoms.new (spec.read_forest text.now atoms.old) }
+    ensures over { IfOk result (λ f. All (IsTreeOver (length atoms.new)) f.tops) }
     ensures front { IsFront atoms.old atoms.new }
 {
     match text.to_str() {
