@@ -2,6 +2,7 @@ pub mod Drafts
 pub mod Fronts
 pub mod Pieces
 pub mod Places
+pub mod Readable
 pub mod Reading
 pub mod Results
 pub mod Rules

@@ -6,6 +6,7 @@ ghost use Rattle.css_read.specs.Drafts.{draft_of};
 ghost use Rattle.css_read.specs.Fronts.{list_len};
 ghost use Rattle.css_read.specs.Pieces.{pieces};
 ghost use Rattle.css_read.specs.Places.{IsPlaced, ArePlaced};
+ghost use Rattle.css_read.specs.Readable.{IsReadableOutcome, AllReadable};
 ghost use Rattle.css_read.specs.Reading as spec;
 ghost use Rattle.css_read.specs.Results.{Reads};
 ghost use Rattle.css_read.specs.Rules as rules;
@@ -32,6 +33,7 @@ fn read_item(
     requires from { piece.from ≤ piece.to }
     requires to { piece.to ≤ length text.now }
     ensures reads { Reads item_of result atoms.new (spec.read_item text.now rule atoms.old piece) }
+    ensures readable { IfOk result (λ i. IsReadableOutcome atoms.new (item_of i).outcome) }
     ensures placed { IfOk result (λ i. IsPlaced (length text.now) (item_of i)) }
     ensures front { IsFront atoms.old atoms.new }
 {
@@ -63,10 +65,12 @@ fn add_item(
     requires from { piece.from ≤ piece.to }
     requires to { piece.to ≤ length text.now }
     requires placed { ArePlaced (length text.now) items.old.items }
+    requires readable { AllReadable atoms.old (map item_of items.old.items) }
     ensures reads { Reads (λ _. map item_of items.new.items) result atoms.new (spec.add_item text.now rule (map item_of items.old.items) atoms.old piece) }
     ensures more { OnOk result (length items.new.items ≡ length items.old.items + 1) }
     ensures few { OnOk result (length items.new.items ≤ MOST_SELECTORS) }
     ensures placed { OnOk result (ArePlaced (length text.now) items.new.items) }
+    ensures readable { OnOk result (AllReadable atoms.new (map item_of items.new.items)) }
     ensures front { IsFront atoms.old atoms.new }
 {
     if items.len() >= MOST_SELECTORS {
@@ -90,11 +94,13 @@ fn add_items(
     requires from { list.from ≤ list.to }
     requires to { list.to ≤ length text.now }
     requires placed { ArePlaced (length text.now) items.old.items }
+    requires readable { AllReadable atoms.old (map item_of items.old.items) }
     ensures reads { Reads (λ _. map item_of items.new.items) result atoms.new
         (spec.add_items text.now rule (map item_of items.old.items) atoms.old (pieces list.to (slice_range text.now list.from list.to))) }
     ensures more { OnOk result (length items.old.items < length items.new.items) }
     ensures few { OnOk result (length items.new.items ≤ MOST_SELECTORS) }
     ensures placed { OnOk result (ArePlaced (length text.now) items.new.items) }
+    ensures readable { OnOk result (AllReadable atoms.new (map item_of items.new.items)) }
     ensures front { IsFront atoms.old atoms.new }
 {
     let (piece, mut rest) = first_piece(alloc, list.to, &text[list.from..list.to])?;
@@ -129,10 +135,12 @@ impl Draft {
         requires numbered { length self.old.rules.items ≤ length self.old.items.items }
         requires few { length self.old.items.items ≤ MOST_SELECTORS }
         requires placed { ArePlaced (length text.now) self.old.items.items }
+        requires readable { AllReadable atoms.old (map item_of self.old.items.items) }
         ensures reads { Reads (λ _. draft_of self.new) result atoms.new (spec.add_rules text.now (draft_of self.old) atoms.old (rules.rules_at front place.from place.to)) }
         ensures numbered { OnOk result (length self.new.rules.items ≤ length self.new.items.items) }
         ensures few { OnOk result (length self.new.items.items ≤ MOST_SELECTORS) }
         ensures placed { OnOk result (ArePlaced (length text.now) self.new.items.items) }
+        ensures readable { OnOk result (AllReadable atoms.new (map item_of self.new.items.items)) }
         ensures front { IsFront atoms.old atoms.new }
     {
         let Front::Styles(len) = front else {
@@ -155,6 +163,7 @@ fn add_rules(alloc: Global, text: &[u8], atoms: &mut AtomTable) -> Result<Draft,
     ensures reads { Reads draft_of result atoms.new (spec.add_rules text.now spec.empty_sheet atoms.old (rules.rules_of text.now)) }
     ensures few { IfOk result (λ d. length d.items.items ≤ MOST_SELECTORS) }
     ensures placed { IfOk result (λ d. ArePlaced (length text.now) d.items.items) }
+    ensures readable { IfOk result (λ d. AllReadable atoms.new (map item_of d.items.items)) }
     ensures front { IsFront atoms.old atoms.new }
 {
     let mut draft = Draft {
@@ -183,6 +192,7 @@ pub fn read_sheet(alloc: Global, text: &[u8], atoms: &mut AtomTable) -> Result<S
     ensures reads { Reads sheet_of result atoms.new (spec.read_sheet text.now atoms.old) }
     ensures count { IfOk result (λ s. length s.items ≤ MOST_SELECTORS) }
     ensures placed { IfOk result (λ s. ArePlaced (length text.now) s.items) }
+    ensures readable { IfOk result (λ s. AllReadable atoms.new (sheet_of s).items) }
     ensures front { IsFront atoms.old atoms.new }
 {
     if let Err(e) = text.to_str() {

@@ -1,0 +1,12 @@
+-- The selectors of a sheet that are judged: their atoms are names, each of a kind that has a place in a selector.
+use Rattle.std.specs.Prelude.{List, All}
+use Rattle.tp_base.specs.Names.{Named}
+use Rattle.sel_core.specs.Readable.{IsReadable}
+use Rattle.css_read.specs.Sheets.{Outcome, judged, skipped, Item}
+
+abbrev pub IsReadableOutcome : List Named → Outcome → Type 0
+IsReadableOutcome names (judged s) = IsReadable names s
+IsReadableOutcome names (skipped cause at) = Unit {0}
+
+abbrev pub AllReadable : List Named → List Item → Type 0
+AllReadable names items = All (λ i. IsReadableOutcome names i.outcome) items
