@@ -1,14 +1,13 @@
 -- The atoms of what is read are numbers of names in the table.
 --     IsBelow n label         each atom of the label is below n
 --     AreForestOver n trees   so is each atom of the trees
-use Rattle.std.proofs.Common.{◌≡◌, ℕ, zero, suc, ◌+◌, ◌<◌, ◌≤◌, not, nat_le, nat_lt, Bool, true, false, ◌&&◌, ◌||◌, if◌then◌else◌, List, [], ◌∷◌, ◌++◌, length, codes, Option, Some, None, option_map, Result, Ok, Err, Contains, IsSomeAnd, IfOk, All, refl, ap, subst, arith, inl, inr}
+use Rattle.std.proofs.Common.{◌≡◌, ℕ, zero, suc, ◌+◌, ◌<◌, ◌≤◌, not, nat_le, nat_lt, Bool, true, false, ◌&&◌, ◌||◌, if◌then◌else◌, List, [], ◌∷◌, length, codes, Option, Some, None, option_map, Result, Ok, Err, Contains, IsSomeAnd, IfOk, All, refl, ap, subst, arith, inl, inr}
 use Rattle.std.proofs.lemmas.List.Elements.{All-cons, All-nil}
 use Rattle.std.specs.Prelude.{option_and_then}
 use Rattle.tp_base.specs.Names.{Named, with_name}
-use Rattle.tp_base.specs.Classes.{with_class, union_of}
 use Rattle.tp_base.proofs.ClassLemmas.{Contains-with_class, Contains-union_of}
 use Rattle.tp_base.proofs.NamesLemmas.{with_name-below, with_name-longer}
-use Rattle.tp_base.proofs.Rising.{Contains-none, Contains-cons}
+use Rattle.tp_base.proofs.Rising.{Contains-none}
 use Rattle.tree_sem.specs.Trees.{Row, no_nodes, node, LabelTree, tree_of, node_at, trees}
 use Rattle.tree_sem.specs.Nodes.{IsTreeOver}
 use Rattle.tree_sem.specs.declared.forests.Forest.{Forest}
@@ -21,12 +20,12 @@ use Rattle.html_subset.specs.declared.faults.TheConstants.{MOST_DEPTH, MOST_PAGE
 use Rattle.html_subset.specs.Tokens.{Token, text, start, stop, StartTag, tokens}
 use Rattle.html_subset.specs.Elements as of_element
 use Rattle.html_subset.specs.Elements.{kind_of, is_root, is_in_head, is_void, Element, element}
-use Rattle.html_subset.specs.TreeTable.{behind, has_kind, Place, place, opens, closed_at_end}
+use Rattle.html_subset.specs.TreeTable.{behind, has_kind, Place, place, opens}
 use Rattle.html_subset.specs.Growth.{Growth, nothing, more, add, size, row_before, row_of}
 use Rattle.html_subset.specs.Labels.{Outcome, ◌>>=◌, given_names, and_one, labelled}
 use Rattle.html_subset.specs.Building.{Root, Roots, Document, forest, page, State, is_forest, level, others, open_elements, node_names, bare, with_node, opened, with_implied, with_element, put, start_tag, unless_given, with_given, root_tag, head_tag, any_start, paragraph_end, end_tag, token, run}
-use Rattle.html_subset.specs.Pages.{bare_roots, root_label, bare_page, no_trees, page_tree, Ending, ending, page_of, forest_of}
-use Rattle.html_subset.specs.Reading.{behind_order_mark, if_utf8, read_page, read_forest}
+use Rattle.html_subset.specs.Pages.{root_label, bare_page, no_trees, page_tree, Ending, ending, page_of, forest_of}
+use Rattle.html_subset.specs.Reading.{behind_order_mark, read_page, read_forest}
 use Rattle.html_subset.specs.Results.{Reads}
 
 abbrev pub IsBelow : ℕ → List ℕ → Type 0
