@@ -17,4 +17,3 @@ pub mod Values
 pub mod Views
 pub mod ScopeViews
 pub mod ListViews
-pub mod Tables

@@ -3,5 +3,6 @@ pub mod Reachability
 pub mod Runs
 pub mod Standing
 pub mod Statements
+pub mod Tables
 pub mod Together
 pub mod Views

@@ -3,6 +3,5 @@ pub mod BySeen
 pub mod Faults
 pub mod Losses
 pub mod Outcomes
-pub mod Tables
 pub mod TheSystem
 pub mod Witnesses
