@@ -21,7 +21,7 @@ enum Start {
 }
 
 /// `f` with the diagram of each atom in its place. An atom that `by` does not name is never in the set. Two
-/// operations a branch of `f` while the memo has room, and a recursion no deeper than the number of its atoms.
+/// operations for each different branch of `f`, and a recursion no deeper than the number of its atoms.
 pub fn compose(
     alloc: Global,
     d: &mut Diagrams,
@@ -42,7 +42,7 @@ pub fn compose(
     ensures arena { IsArena d.new }
 {
     let _ = d.held();
-    let mut memo = Memo::new(alloc)?;
+    let mut memo = Memo::new(alloc);
     composed(d, &mut memo, f, by)
 }
 
@@ -67,7 +67,7 @@ fn composed(
             let high = composed(d, memo, high, by)?;
             let put = diagram_of(by, atom);
             let whole = joined(d, put, low, high)?;
-            memo.note(f, whole);
+            memo.note(f, whole)?;
             Ok(whole)
         }
     }
@@ -76,10 +76,9 @@ fn composed(
 // The composition where it is known, or the parts of the diagram. Kept apart from the recursion, whose frames
 // are to be small.
 #[inline(never)]
-fn begin(d: &Diagrams, memo: &mut Memo, f: Ref) -> Start
+fn begin(d: &Diagrams, memo: &Memo, f: Ref) -> Start
     requires { IsIn d.now.branches f }
-    ensures start { (by : ℕ → Tree) → AreRight d.now.branches by memo.old → IsStart d.now.branches by f result }
-    ensures fewer { (entry : Reference × Reference) → Contains memo.new entry → Contains memo.old entry }
+    ensures { (by : ℕ → Tree) → AreRight d.now.branches by memo.now → IsStart d.now.branches by f result }
 {
     match d.branch(f) {
         None => Start::Known(f),
