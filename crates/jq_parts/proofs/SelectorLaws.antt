@@ -1,12 +1,10 @@
 -- A list of selectors that is read has its atoms in the table of names then, and the table only grows.
 --     list_over                         a list
 --     IsStatementOver-more and others   what is over a table is over a longer one
-use Rattle.std.proofs.Common.{◌≡◌, ℕ, zero, suc, ◌+◌, ◌-◌, ◌<◌, ◌≤◌, ◌==◌, Bool, true, false, nat_lt, if◌then◌else◌, List, [], ◌∷◌, ◌++◌, length, take, Option, Some, None, Ok, Err, IfOk, refl, ap, ◌∙◌, inl, inr, arith}
+use Rattle.std.proofs.Common.{◌≡◌, ℕ, zero, suc, ◌+◌, ◌-◌, ◌<◌, ◌≤◌, Bool, true, false, nat_lt, if◌then◌else◌, List, [], ◌∷◌, ◌++◌, length, take, Option, Some, None, Ok, Err, IfOk, refl, ap, arith}
 use Rattle.std.specs.Option.{ok_or}
-use Rattle.std.proofs.lemmas.List.Elements.{All-weaker, All-cons, All-nil}
-use Rattle.std.proofs.lemmas.Option.{slice_get_within}
+use Rattle.std.proofs.lemmas.List.Elements.{All-weaker}
 use Rattle.tp_base.specs.Names.{Named, with_name}
-use Rattle.tp_base.specs.declared.atoms.AtomKind.TheVariants as kind
 use Rattle.tp_base.proofs.NamesLemmas.{with_name-longer}
 use Rattle.tree_sem.specs.Trees.{LabelTree}
 use Rattle.tree_sem.specs.declared.actions.Action.{Action}
@@ -17,11 +15,11 @@ use Rattle.sel_core.specs.declared.faults.TheConstants.{MOST_PARTS}
 use Rattle.sel_core.specs.Bytes.{behind_gap}
 use Rattle.sel_core.specs.Grammar.{Outcome, ◌>>=◌, Begun, Word, any_part, first_part, left_at, part_of, join_at}
 use Rattle.sel_core.specs.Lists.{from_comma, read_one, ListEnding, then_list, more, read_strict_list}
-use Rattle.sel_core.specs.Readable.{IsMarked, AreMarked, IsCompound, AreCompounds, IsReadable}
 use Rattle.sel_core.specs.Reading.{Draft, empty_draft, spelled, entered, with_word, with_join, with_part, first_step, later_step, behind_part, step, run, then_read, Ending, read_piece}
 use Rattle.sel_core.specs.Selectors.{Outer, Selector}
 use Rattle.sel_core.specs.declared.selectors.Join.{Join}
 use Rattle.sel_core.proofs.Sound.{piece_readable}
+use Rattle.jq_sem.proofs.ReadableLemmas.{readable_within}
 use Rattle.jq_sem.specs.Statements.{Root, matched, this, Call, find, children, parent, parents, filter, has, add, back, Chain, Statement}
 use Rattle.jq_sem.specs.Tables.{AreAtoms, AreCompoundsOver, AreOutersOver, IsSelectorOver, AreSelectorsOver, IsRootOver, IsCallOver, AreCallsOver, IsChainOver, AreChainsOver, AreTreesOver, IsActionOver, IsStatementOver, AreStatementsOver}
 
@@ -83,28 +81,6 @@ module _ (n m : ℕ) (longer : n ≤ m) where
   pub AreStatementsOver-more : (ss : List Statement) → AreStatementsOver n ss → AreStatementsOver m ss
   AreStatementsOver-more [] over = tt
   AreStatementsOver-more (s ∷ ss) over = (IsStatementOver-more s over.0, AreStatementsOver-more ss over.1)
-
--- ---- a selector that is readable
-
-marked_within : (names : List Named) (a : ℕ) → IsMarked names a → a < length names
-marked_within names a is = slice_get_within names a (is.sort, is.name) is.at
-
-all_marked_within : (names : List Named) (atoms : List ℕ) → AreMarked names atoms → AreAtoms (length names) atoms
-all_marked_within names [] are = All-nil (λ a. a < length names)
-all_marked_within names (a ∷ atoms) are = All-cons (λ a. a < length names) a atoms (marked_within names a are.0) (all_marked_within names atoms are.1)
-
-compound_within : (names : List Named) (atoms : List ℕ) → IsCompound names atoms → AreAtoms (length names) atoms
-compound_within names [] are = All-nil (λ a. a < length names)
-compound_within names (a ∷ atoms) are =
-    let first : a < length names = elim are.0 [ inl is ↦ slice_get_within names a (kind.Element, is.name) is.at | inr is ↦ marked_within names a is ] in
-    All-cons (λ a. a < length names) a atoms first (all_marked_within names atoms are.1)
-
-outers_within : (names : List Named) (outer : List Outer) → AreCompounds names outer → AreOutersOver (length names) outer
-outers_within names [] are = tt
-outers_within names (o ∷ outer) are = (compound_within names o.atoms are.0, outers_within names outer are.1)
-
-readable_within : (names : List Named) (s : Selector) → IsReadable names s → IsSelectorOver (length names) s
-readable_within names s is = (compound_within names s.subject is.subject, outers_within names s.outer is.outer)
 
 -- ---- the table grows where a selector is read
 

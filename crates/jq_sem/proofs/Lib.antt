@@ -1,6 +1,7 @@
 mod CallLemmas
 pub mod KeptLemmas
 mod MarkLemmas
+pub mod ReadableLemmas
 mod RunLemmas
 pub mod SelectionLemmas
 mod SetLemmas
