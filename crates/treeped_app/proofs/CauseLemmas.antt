@@ -1,20 +1,24 @@
 -- From the end of a run to the causes of its answers.
-use Rattle.std.proofs.Common.{◌≡◌, ◌⊎◌, ℕ, ◌≤◌, ◌<◌, Bool, true, false, cond, List, [], ◌∷◌, ◌++◌, length, Option, Some, None, IfSome, Result, Ok, Err, refl, sym, ap, ◌∙◌, inl, inr, subst, append_assoc, append-nil, arith}
+use Rattle.std.proofs.Common.{◌≡◌, ◌⊎◌, ℕ, ◌≤◌, ◌<◌, Bool, true, false, if◌then◌else◌, List, [], ◌∷◌, ◌++◌, length, Option, Some, None, IfSome, Result, Ok, Err, refl, sym, ap, ◌∙◌, inl, inr, subst, append_assoc, append-nil, arith}
 use Rattle.std.specs.List.{list_any}
 use Rattle.std.proofs.lemmas.Bool.{true≢false}
 use Rattle.std.proofs.lemmas.List.{append_cancel_left}
+use Rattle.usage_report.specs.Answers.{Answer}
 use Rattle.tp_io.specs.Files.{Load}
 use Rattle.tp_io.specs.Sinks.{Adds, Rose}
 use Rattle.tp_io.specs.declared.files.TheConstants.{MOST_BYTES}
 use Rattle.treeped_app.specs.declared.status.Status.{Status}
 use Rattle.treeped_app.specs.declared.status.Status.TheVariants as status
+use Rattle.treeped_app.specs.declared.refusals.JudgeRefusal.{JudgeRefusal}
+use Rattle.treeped_app.specs.declared.refusals.JudgeRefusal.TheVariants.{TooManyAtoms, TooManyVisible}
 use Rattle.treeped_app.specs.declared.refusals.Part.{Part}
 use Rattle.treeped_app.specs.declared.refusals.Part.TheVariants.{Page, Sheet, Script}
 use Rattle.treeped_app.specs.declared.stops.Stop.{Stop}
-use Rattle.treeped_app.specs.declared.stops.Stop.TheVariants.{Words, TooLarge, ReadFault, Unread, WriteFault, NoMemory}
+use Rattle.treeped_app.specs.declared.stops.Stop.TheVariants.{Words, TooLarge, ReadFault, Unread, Judging, WriteFault, NoMemory}
+use Rattle.treeped_app.specs.Rules.{are_rules}
 use Rattle.treeped_app.specs.Words.{Names, command}
 use Rattle.treeped_app.specs.Stops.{line_of, status_of_stop}
-use Rattle.treeped_app.specs.Runs.{Put, Run, Ends, Texts, Inputs, AreTexts, IsAccepted, Exceeds, read_inputs, loads_before, all_loads, name_of, succeeded, failed, is_unused}
+use Rattle.treeped_app.specs.Runs.{Put, Run, Ends, Texts, Inputs, AreTexts, IsAccepted, Exceeds, read_inputs, loads_before, all_loads, name_of, succeeded, failed, is_unused, is_open, AreRightBy, AreRightOf, IsRefusedBy, IsJudgeable}
 use Rattle.treeped_app.specs.Commands.{Reports, Says, IsTold, IsEnded, Fails, IsRefusal, FailedAt, AreTold, Fit, Causes}
 
 -- the stops whose line is said whole or not at all
@@ -23,6 +27,7 @@ IsLined Words = Unit {0}
 IsLined (TooLarge part) = Unit {0}
 IsLined (ReadFault part) = Unit {0}
 IsLined (Unread refusal) = Unit {0}
+IsLined (Judging refusal) = Unit {0}
 IsLined WriteFault = ⊥
 IsLined NoMemory = ⊥
 
@@ -35,9 +40,10 @@ module _ (r : Run) (err : Put) (s : Status) where
     unwritten : Ends r (Err WriteFault) → s ≡ status.WriteFault → IsOne
     spent : s ≡ status.NoMemory → IsOne
 
-  status_reports : (b : Bool) → s ≡ cond b status.Unused status.Complete → Reports s
-  status_reports true is = inr is
-  status_reports false is = inl is
+  status_reports : (a b : Bool) → s ≡ (if a then status.Budget else if b then status.Unused else status.Complete) → Reports s
+  status_reports true b is = inr (inr is)
+  status_reports false true is = inr (inl is)
+  status_reports false false is = inl is
 
   lined : (stop : Stop) → IsLined stop → Ends r (Err stop) → Says stop err s → IsOne
   lined stop is ends (inl whole) = said stop is ends whole.0 whole.1
@@ -45,11 +51,12 @@ module _ (r : Run) (err : Put) (s : Status) where
   lined stop is ends (inr (inr short)) = cut stop ends (inr short.2.0)
 
   one_end : (end : Result Status Stop) → Ends r end → IsTold end err s → IsOne
-  one_end (Ok e) ends told = reported (status_reports (list_any is_unused ends.3.0) (told.0 ∙ ends.3.4)) (subst (λ (t : Status). Ends r (Ok t)) (sym told.0) ends)
+  one_end (Ok e) ends told = reported (status_reports (list_any is_open ends.3.0) (list_any is_unused ends.3.0) (told.0 ∙ ends.3.4)) (subst (λ (t : Status). Ends r (Ok t)) (sym told.0) ends)
   one_end (Err Words) ends told = lined Words tt ends told
   one_end (Err (TooLarge part)) ends told = lined (TooLarge part) tt ends told
   one_end (Err (ReadFault part)) ends told = lined (ReadFault part) tt ends told
   one_end (Err (Unread refusal)) ends told = lined (Unread refusal) tt ends told
+  one_end (Err (Judging refusal)) ends told = lined (Judging refusal) tt ends told
   one_end (Err WriteFault) ends told = unwritten ends told.0
   one_end (Err NoMemory) ends told = spent told.0
 
@@ -57,19 +64,23 @@ module _ (r : Run) (err : Put) (s : Status) where
 module _ (err : Put) (s : Status) where
   no_report_of_words : Reports s → s ≡ status.Words → ⊥
   no_report_of_words (inl a) b = cc
-  no_report_of_words (inr a) b = cc
+  no_report_of_words (inr (inl a)) b = cc
+  no_report_of_words (inr (inr a)) b = cc
 
   no_report_of_refused : Reports s → s ≡ status.Refused → ⊥
   no_report_of_refused (inl a) b = cc
-  no_report_of_refused (inr a) b = cc
+  no_report_of_refused (inr (inl a)) b = cc
+  no_report_of_refused (inr (inr a)) b = cc
 
   no_report_of_read_fault : Reports s → s ≡ status.ReadFault → ⊥
   no_report_of_read_fault (inl a) b = cc
-  no_report_of_read_fault (inr a) b = cc
+  no_report_of_read_fault (inr (inl a)) b = cc
+  no_report_of_read_fault (inr (inr a)) b = cc
 
   no_report_of_write_fault : Reports s → s ≡ status.WriteFault → ⊥
   no_report_of_write_fault (inl a) b = cc
-  no_report_of_write_fault (inr a) b = cc
+  no_report_of_write_fault (inr (inl a)) b = cc
+  no_report_of_write_fault (inr (inr a)) b = cc
 
   no_failure_of_words : Fails err s → s ≡ status.Words → ⊥
   no_failure_of_words (inl a) b = let a' = a.0 in cc
@@ -149,6 +160,28 @@ module _ (r : Run) (n : Names) (x : Texts) (told : AreTold r n x) where
   accepted_reads : (x' : Texts) (i : Inputs) → IsAccepted r x' i → read_inputs x ≡ Ok i
   accepted_reads x' i accepted = subst (λ (t : Texts). read_inputs t ≡ Ok i) (same_texts accepted.names x' accepted.are_names accepted.texts) accepted.read
 
+-- ---- judging
+
+judged_where : (b : Bool) (i : Inputs) (answers : List Answer) → are_rules i.stmts ≡ b → AreRightBy b i answers → IsJudgeable i
+judged_where true i answers is right = inl is
+judged_where false i answers is right = inr right.0
+
+-- what has answers isn't refused
+refused_and_judged : (i : Inputs) (f : JudgeRefusal) → IsRefusedBy i f → IsJudgeable i → ⊥
+refused_and_judged i f (other, fault) (inl rules) = true≢false (sym rules ∙ other)
+refused_and_judged i TooManyAtoms (other, many) (inr within) = let few = within.0 in omega (arith, many, few)
+refused_and_judged i TooManyVisible (other, many) (inr within) = let few = within.1 in let more = many.1 in omega (arith, more, few)
+
+module _ (r : Run) (n : Names) (x : Texts) (i : Inputs) where
+  one_reading : AreTold r n x → read_inputs x ≡ Ok i → (x' : Texts) (i' : Inputs) → IsAccepted r x' i' → i' ≡ i
+  one_reading told reads x' i' accepted = let same : Ok i' ≡ Ok i = sym (accepted_reads r n x told x' i' accepted) ∙ reads in cc
+
+  not_answered : (f : JudgeRefusal) → AreTold r n x → read_inputs x ≡ Ok i → IsRefusedBy i f → (x' : Texts) (i' : Inputs) → IsAccepted r x' i' → (answers : List Answer) → AreRightOf i' answers → ⊥
+  not_answered f told reads refused x' i' accepted answers right =
+      let same = one_reading told reads x' i' accepted in
+      let right' : AreRightOf i answers = subst (λ (j : Inputs). AreRightOf j answers) same right in
+      refused_and_judged i f refused (judged_where (are_rules i.stmts) i answers refl right')
+
 -- the causes, from the ways in which a run ends
 module _ (r : Run) (err : Put) (s : Status) where
   words_of : IsOne r err s → s ≡ status.Words → command r.words ≡ None
@@ -157,6 +190,7 @@ module _ (r : Run) (err : Put) (s : Status) where
   words_of (said (TooLarge part) lined ends status_is line) is = cc
   words_of (said (ReadFault part) lined ends status_is line) is = cc
   words_of (said (Unread refusal) lined ends status_is line) is = cc
+  words_of (said (Judging refusal) lined ends status_is line) is = cc
   words_of (said WriteFault lined ends status_is line) is = cc
   words_of (said NoMemory lined ends status_is line) is = cc
   words_of (cut stop ends fails) is = absurd (no_failure_of_words err s fails is)
@@ -169,6 +203,7 @@ module _ (r : Run) (err : Put) (s : Status) where
   no_names_of (said (TooLarge part) lined ends status_is line) none = let some = ends.1 in cc
   no_names_of (said (ReadFault part) lined ends status_is line) none = let some = ends.1 in cc
   no_names_of (said (Unread refusal) lined ends status_is line) none = let some = ends.1 in cc
+  no_names_of (said (Judging refusal) lined ends status_is line) none = let some = ends.2.are_names in cc
   no_names_of (said WriteFault lined ends status_is line) none = elim lined [ ]
   no_names_of (said NoMemory lined ends status_is line) none = elim lined [ ]
   no_names_of (cut stop ends fails) none = inr fails
@@ -188,6 +223,7 @@ module _ (r : Run) (err : Put) (s : Status) where
   not_read_of n x stop (said (TooLarge p) lined ends status_is line) told fits unread = inl status_is
   not_read_of n x stop (said (ReadFault p) lined ends status_is line) told fits unread = inr (inl status_is)
   not_read_of n x stop (said (Unread refusal) lined ends status_is line) told fits unread = inl status_is
+  not_read_of n x stop (said (Judging refusal) lined ends status_is line) told fits unread = inl status_is
   not_read_of n x stop (said WriteFault lined ends status_is line) told fits unread = elim lined [ ]
   not_read_of n x stop (said NoMemory lined ends status_is line) told fits unread = elim lined [ ]
   not_read_of n x stop (cut end ends fails) told fits unread = inr (inr fails)
@@ -200,6 +236,7 @@ module _ (r : Run) (err : Put) (s : Status) where
   too_large_of n x (said (TooLarge p) lined ends status_is line) told over = inl status_is
   too_large_of n x (said (ReadFault p) lined ends status_is line) told over = inr (inl status_is)
   too_large_of n x (said (Unread refusal) lined ends status_is line) told over = inl status_is
+  too_large_of n x (said (Judging refusal) lined ends status_is line) told over = inl status_is
   too_large_of n x (said WriteFault lined ends status_is line) told over = elim lined [ ]
   too_large_of n x (said NoMemory lined ends status_is line) told over = elim lined [ ]
   too_large_of n x (cut stop ends fails) told over = inr (inr fails)
@@ -212,6 +249,7 @@ module _ (r : Run) (err : Put) (s : Status) where
   read_fault_of (said (TooLarge part) lined ends status_is line) is = cc
   read_fault_of (said (ReadFault part) lined ends status_is line) is = (ends.0, part, ends.1, ends.2.0, line)
   read_fault_of (said (Unread refusal) lined ends status_is line) is = cc
+  read_fault_of (said (Judging refusal) lined ends status_is line) is = cc
   read_fault_of (said WriteFault lined ends status_is line) is = elim lined [ ]
   read_fault_of (said NoMemory lined ends status_is line) is = elim lined [ ]
   read_fault_of (cut stop ends fails) is = absurd (no_failure_of_read_fault err s fails is)
@@ -225,6 +263,7 @@ module _ (r : Run) (err : Put) (s : Status) where
       absurd (not_failed_at r n part (loads_before p ends.0 ++ succeeded (name_of p ends.0) ∷ []) (ends.2.0 ∙ append_assoc r.loads (loads_before p ends.0) (succeeded (name_of p ends.0) ∷ [])) (succeeded_before p ends.0) at)
   failed_load_of n part (said (ReadFault p) lined ends status_is line) at = inl status_is
   failed_load_of n part (said (Unread refusal) lined ends status_is line) at = absurd (not_failed_at r n part (all_loads ends.0) ends.3.0 (all_succeeded ends.0) at)
+  failed_load_of n part (said (Judging refusal) lined ends status_is line) at = absurd (not_failed_at r n part (all_loads ends.2.names) ends.2.loaded (all_succeeded ends.2.names) at)
   failed_load_of n part (said WriteFault lined ends status_is line) at = elim lined [ ]
   failed_load_of n part (said NoMemory lined ends status_is line) at = elim lined [ ]
   failed_load_of n part (cut stop ends fails) at = inr fails
@@ -237,6 +276,7 @@ module _ (r : Run) (err : Put) (s : Status) where
   write_fault_of (said (TooLarge part) lined ends status_is line) is = cc
   write_fault_of (said (ReadFault part) lined ends status_is line) is = cc
   write_fault_of (said (Unread refusal) lined ends status_is line) is = cc
+  write_fault_of (said (Judging refusal) lined ends status_is line) is = cc
   write_fault_of (said WriteFault lined ends status_is line) is = elim lined [ ]
   write_fault_of (said NoMemory lined ends status_is line) is = elim lined [ ]
   write_fault_of (cut stop ends (inl fault)) is = inr fault.1
@@ -244,35 +284,36 @@ module _ (r : Run) (err : Put) (s : Status) where
   write_fault_of (unwritten ends status_is) is = inl ends.3.4
   write_fault_of (spent status_is) is = cc
 
-  no_budget_of : IsOne r err s → s ≡ status.Budget → ⊥
-  no_budget_of (reported (inl a) ends) is = cc
-  no_budget_of (reported (inr a) ends) is = cc
-  no_budget_of (said Words lined ends status_is line) is = cc
-  no_budget_of (said (TooLarge part) lined ends status_is line) is = cc
-  no_budget_of (said (ReadFault part) lined ends status_is line) is = cc
-  no_budget_of (said (Unread refusal) lined ends status_is line) is = cc
-  no_budget_of (said WriteFault lined ends status_is line) is = elim lined [ ]
-  no_budget_of (said NoMemory lined ends status_is line) is = elim lined [ ]
-  no_budget_of (cut stop ends (inl fault)) is = let a = fault.0 in cc
-  no_budget_of (cut stop ends (inr spent_)) is = cc
-  no_budget_of (unwritten ends status_is) is = cc
-  no_budget_of (spent status_is) is = cc
+  not_judged_of : (n : Names) (x : Texts) (i : Inputs) (f : JudgeRefusal) → IsOne r err s → AreTold r n x → Fit x → read_inputs x ≡ Ok i → IsRefusedBy i f → (s ≡ status.Refused) ⊎ (s ≡ status.ReadFault) ⊎ Fails err s
+  not_judged_of n x i f (reported report ends) told fits reads refused = absurd (not_answered r n x i f told reads refused ends.0 ends.1 ends.2 ends.3.0 ends.3.2.right)
+  not_judged_of n x i f (said Words lined ends status_is line) told fits reads refused = let none = ends.0 in let some = told.are_names in cc
+  not_judged_of n x i f (said (TooLarge p) lined ends status_is line) told fits reads refused = inl status_is
+  not_judged_of n x i f (said (ReadFault p) lined ends status_is line) told fits reads refused = inr (inl status_is)
+  not_judged_of n x i f (said (Unread refusal) lined ends status_is line) told fits reads refused = inl status_is
+  not_judged_of n x i f (said (Judging refusal) lined ends status_is line) told fits reads refused = inl status_is
+  not_judged_of n x i f (said WriteFault lined ends status_is line) told fits reads refused = elim lined [ ]
+  not_judged_of n x i f (said NoMemory lined ends status_is line) told fits reads refused = elim lined [ ]
+  not_judged_of n x i f (cut stop ends fails) told fits reads refused = inr (inr fails)
+  not_judged_of n x i f (unwritten ends status_is) told fits reads refused = absurd (not_answered r n x i f told reads refused ends.0 ends.1 ends.2 ends.3.0 ends.3.2.right)
+  not_judged_of n x i f (spent status_is) told fits reads refused = inr (inr (inr status_is))
 
-  completes_of : (n : Names) (x : Texts) (i : Inputs) → IsOne r err s → AreTold r n x → Fit x → read_inputs x ≡ Ok i → ((part : Part) → FailedAt r n part → ⊥)
+  completes_of : (n : Names) (x : Texts) (i : Inputs) → IsOne r err s → AreTold r n x → Fit x → read_inputs x ≡ Ok i → IsJudgeable i → ((part : Part) → FailedAt r n part → ⊥)
       → (Rose r.out.faults r.out.faults' → ⊥) → (Rose err.faults err.faults' → ⊥) → Reports s ⊎ (s ≡ status.NoMemory)
-  completes_of n x i (reported report ends) told fits reads loads out errors = inl report
-  completes_of n x i (said Words lined ends status_is line) told fits reads loads out errors = let none = ends.0 in let some = told.are_names in cc
-  completes_of n x i (said (TooLarge p) lined ends status_is line) told fits reads loads out errors = absurd (none_exceeds r n x told fits ends.0 p ends.1 ends.2.2)
-  completes_of n x i (said (ReadFault p) lined ends status_is line) told fits reads loads out errors =
+  completes_of n x i (reported report ends) told fits reads can loads out errors = inl report
+  completes_of n x i (said Words lined ends status_is line) told fits reads can loads out errors = let none = ends.0 in let some = told.are_names in cc
+  completes_of n x i (said (TooLarge p) lined ends status_is line) told fits reads can loads out errors = absurd (none_exceeds r n x told fits ends.0 p ends.1 ends.2.2)
+  completes_of n x i (said (ReadFault p) lined ends status_is line) told fits reads can loads out errors =
       absurd (loads p (subst (λ (m : Names). FailedAt r m p) (one_name r n ends.0 told.are_names ends.1) ends.2.0))
-  completes_of n x i (said (Unread refusal) lined ends status_is line) told fits reads loads out errors =
+  completes_of n x i (said (Unread refusal) lined ends status_is line) told fits reads can loads out errors =
       let unread : read_inputs x ≡ Err (Unread refusal) = subst (λ (t : Texts). read_inputs t ≡ Err (Unread refusal)) (same_texts r n x told ends.0 ends.2 ends.1 ends.3.1) ends.4 in cc
-  completes_of n x i (said WriteFault lined ends status_is line) told fits reads loads out errors = elim lined [ ]
-  completes_of n x i (said NoMemory lined ends status_is line) told fits reads loads out errors = elim lined [ ]
-  completes_of n x i (cut stop ends (inl fault)) told fits reads loads out errors = absurd (errors fault.1)
-  completes_of n x i (cut stop ends (inr spent_)) told fits reads loads out errors = inr spent_
-  completes_of n x i (unwritten ends status_is) told fits reads loads out errors = absurd (out ends.3.4)
-  completes_of n x i (spent status_is) told fits reads loads out errors = inr status_is
+  completes_of n x i (said (Judging f) lined ends status_is line) told fits reads can loads out errors =
+      absurd (refused_and_judged i f (subst (λ (j : Inputs). IsRefusedBy j f) (one_reading r n x i told reads ends.0 ends.1 ends.2) ends.3.0) can)
+  completes_of n x i (said WriteFault lined ends status_is line) told fits reads can loads out errors = elim lined [ ]
+  completes_of n x i (said NoMemory lined ends status_is line) told fits reads can loads out errors = elim lined [ ]
+  completes_of n x i (cut stop ends (inl fault)) told fits reads can loads out errors = absurd (errors fault.1)
+  completes_of n x i (cut stop ends (inr spent_)) told fits reads can loads out errors = inr spent_
+  completes_of n x i (unwritten ends status_is) told fits reads can loads out errors = absurd (out ends.3.4)
+  completes_of n x i (spent status_is) told fits reads can loads out errors = inr status_is
 
   -- all of them
   pub causes_of : IsEnded r err s → Causes r err s
@@ -283,10 +324,10 @@ module _ (r : Run) (err : Put) (s : Status) where
         no_names = no_names_of one;
         refused = refused_of one;
         not_read = λ n x stop. not_read_of n x stop one;
+        not_judged = λ n x i f. not_judged_of n x i f one;
         too_large = λ n x. too_large_of n x one;
         read_fault = read_fault_of one;
         failed_load = λ n part. failed_load_of n part one;
         write_fault = write_fault_of one;
-        no_budget = no_budget_of one;
         completes = λ n x i. completes_of n x i one;
       }

@@ -4,7 +4,7 @@ use Rattle.tp_io.specs.Files.{Load}
 use Rattle.tp_io.specs.declared.files.TheConstants.{MOST_BYTES}
 use Rattle.treeped_app.specs.declared.refusals.Part.TheVariants.{Page, Sheet, Script}
 use Rattle.treeped_app.specs.declared.stops.Stop.{Stop}
-use Rattle.treeped_app.specs.declared.stops.Stop.TheVariants.{Words, TooLarge, ReadFault, Unread, WriteFault, NoMemory}
+use Rattle.treeped_app.specs.declared.stops.Stop.TheVariants.{Words, TooLarge, ReadFault, Unread, Judging, WriteFault, NoMemory}
 use Rattle.treeped_app.specs.Words.{Names}
 use Rattle.treeped_app.specs.Runs.{Told, Holds, Fits, succeeded, failed, loads_before, OneLoaded, Loaded}
 
@@ -24,6 +24,7 @@ module _ (told : Told) (n : Names) (before one two three : List Load) (page shee
   script_stops (TooLarge p) is = rw is.0 (both_before (succeeded n.script) is.1, (fits told n.page page first.1 first.2, fits told n.sheet sheet second.1 second.2), is.2)
   script_stops (ReadFault p) is = rw is.0 (both_before (failed n.script) is.1, (fits told n.page page first.1 first.2, fits told n.sheet sheet second.1 second.2))
   script_stops (Unread refusal) is = elim is [ ]
+  script_stops (Judging refusal) is = elim is [ ]
   script_stops WriteFault is = elim is [ ]
   script_stops NoMemory is = (2, rw (is, second.0, first.0) (simp append_assoc))
 

@@ -1,26 +1,17 @@
--- Statements that are judged so far, one after another.
-use Rattle.std.proofs.Common.{◌≡◌, ◌≢◌, ℕ, ◌+◌, ◌<◌, ◌≤◌, ◌&&◌, Bool, slice_get, true, false, List, [], ◌∷◌, ◌++◌, length, map, get_or, Option, Some, None, Ok, Err, refl, sym, ap, ◌∙◌, arith}
+-- Statements that are rules, one after another.
+use Rattle.std.proofs.Common.{◌≡◌, ℕ, ◌+◌, ◌<◌, ◌≤◌, ◌&&◌, Bool, slice_get, true, false, List, [], ◌∷◌, ◌++◌, length, map, get_or, Some, refl, sym, ap, ◌∙◌, arith}
 use Rattle.std.proofs.lemmas.List.{map-append, append_assoc, append-nil, length-map}
-use Rattle.tp_base.specs.Names.{Named}
-use Rattle.tp_base.specs.declared.places.Place.{Place}
 use Rattle.tree_sem.specs.declared.actions.Action.{Action}
 use Rattle.tree_sem.specs.declared.actions.Action.TheVariants as acts
 use Rattle.sel_core.specs.declared.selectors.Compound.{Compound}
 use Rattle.sel_core.specs.declared.selectors.Join.{Join}
 use Rattle.sel_core.specs.Parts.{and_then, with_parts, selector_from}
 use Rattle.sel_core.specs.Selectors.{Selector, simple}
-use Rattle.js_scan.specs.declared.token.ScanFault.TheVariants as scan
 use Rattle.jq_sem.specs.declared.stmts.Stmt.{Stmt}
 use Rattle.jq_sem.specs.Statements.{Statement, matched}
 use Rattle.jq_sem.specs.Views as sem
-use Rattle.jq_words.specs.declared.faults.ScriptFault.{ScriptFault}
-use Rattle.jq_words.specs.declared.faults.ScriptFault.TheVariants as script
-use Rattle.jq_words.specs.Words.{Outcome}
 use Rattle.treeped_app.specs.declared.rules.Rule.{Rule}
-use Rattle.treeped_app.specs.Inputs.{IsOpened}
-use Rattle.treeped_app.specs.Refusals.{script_stop}
-use Rattle.treeped_app.specs.Rules.{statement_of, is_rule, is_none, is_alone, is_one_atom, is_one_class, first_other, not_yet_judged}
-use Rattle.treeped_app.specs.Runs.{all_judged, judged_or, read_script_as}
+use Rattle.treeped_app.specs.Rules.{statement_of, is_rule, is_none, is_alone, is_one_atom, is_one_class, are_rules}
 
 -- ---- one statement after another
 
@@ -29,45 +20,20 @@ pub one_rule_more : (rules : List Rule) (r : Rule) (s : Stmt) (left : List Stmt)
 one_rule_more rules r s left all is before =
     rw (map-append statement_of rules (r ∷ []), is) (append_assoc (map statement_of rules) (sem.statement_of s ∷ []) (sem.statements_of left) ∙ before)
 
-pub rule_goes_on : (s : Stmt) (left : List Stmt) (other : Option Place) → is_rule (sem.statement_of s) ≡ true → first_other (sem.statements_of (s ∷ left)) ≡ other → first_other (sem.statements_of left) ≡ other
-rule_goes_on s left other is before = sym (rw is refl) ∙ before
+pub rule_goes_on : (s : Stmt) (left : List Stmt) (b : Bool) → is_rule (sem.statement_of s) ≡ true → are_rules (sem.statements_of (s ∷ left)) ≡ b → are_rules (sem.statements_of left) ≡ b
+rule_goes_on s left b is before = sym (rw is refl) ∙ before
 
-pub first_is_other : (names : List Named) (s : Stmt) (left : List Stmt) (all : List Statement) →
-    is_rule (sem.statement_of s) ≡ false → first_other (sem.statements_of (s ∷ left)) ≡ first_other all → all_judged names all ≡ Err (not_yet_judged s.place)
-first_is_other names s left all is before =
-    let other : first_other (sem.statements_of (s ∷ left)) ≡ Some s.place = rw is refl in
-    ap (judged_or names all) (sym before ∙ other)
+pub other_there : (s : Stmt) (left : List Stmt) (all : List Statement) → is_rule (sem.statement_of s) ≡ false → are_rules (sem.statements_of (s ∷ left)) ≡ are_rules all → are_rules all ≡ false
+other_there s left all is before =
+    let other : are_rules (sem.statements_of (s ∷ left)) ≡ false = rw is refl in
+    sym before ∙ other
 
-pub all_are_rules : (names : List Named) (rules : List Rule) (all : List Statement) →
-    map statement_of rules ++ [] ≡ all → None ≡ first_other all → all_judged names all ≡ Ok (map statement_of rules, names)
-all_are_rules names rules all is none = ap (judged_or names all) (sym none) ∙ ap (λ ss. Ok (ss, names)) (sym is ∙ append-nil (map statement_of rules))
+pub all_are_rules : (rules : List Rule) (all : List Statement) → map statement_of rules ++ [] ≡ all → true ≡ are_rules all → (are_rules all ≡ true) × (map statement_of rules ≡ all)
+all_are_rules rules all is none = (sym none, sym (append-nil (map statement_of rules)) ∙ is)
 
 -- there are no more rules than statements
 pub few_rules : (most count : ℕ) (statements : List Stmt) → count ≤ length statements → length (sem.statements_of statements) ≤ most → count ≤ most
 few_rules most count statements fewer few = omega (arith, fewer, few, length-map statements sem.statement_of)
-
--- ---- a script that is not read
-
-pub not_opened : {X : Type 0} (view : X → List Statement) (names : List Named) (text : List ℕ) (read : Outcome (List Statement × List Named)) (e : ScriptFault) →
-    (e ≢ script.Memory → read ≡ Err e) → IsOpened view (read_script_as text read) (Err (script_stop text e)) names
-not_opened view names text read (script.Scan (scan.NotUtf8 at)) is = ap (read_script_as text) (is (λ same. cc))
-not_opened view names text read (script.Scan (scan.BadString at)) is = ap (read_script_as text) (is (λ same. cc))
-not_opened view names text read (script.Scan (scan.Regexp at)) is = ap (read_script_as text) (is (λ same. cc))
-not_opened view names text read (script.Scan (scan.Template at)) is = ap (read_script_as text) (is (λ same. cc))
-not_opened view names text read (script.Scan (scan.BadByte at)) is = ap (read_script_as text) (is (λ same. cc))
-not_opened view names text read (script.Scan scan.Memory) is = tt
-not_opened view names text read (script.UnknownCall name at) is = ap (read_script_as text) (is (λ same. cc))
-not_opened view names text read (script.UnknownForm at) is = ap (read_script_as text) (is (λ same. cc))
-not_opened view names text read (script.ComplexArgument at) is = ap (read_script_as text) (is (λ same. cc))
-not_opened view names text read (script.DynamicMarkup at) is = ap (read_script_as text) (is (λ same. cc))
-not_opened view names text read (script.ThisOutside at) is = ap (read_script_as text) (is (λ same. cc))
-not_opened view names text read (script.UnboundName name at) is = ap (read_script_as text) (is (λ same. cc))
-not_opened view names text read (script.TooLong at) is = ap (read_script_as text) (is (λ same. cc))
-not_opened view names text read (script.TooDeep at) is = ap (read_script_as text) (is (λ same. cc))
-not_opened view names text read (script.TooManyStatements at) is = ap (read_script_as text) (is (λ same. cc))
-not_opened view names text read (script.TooManyForestNodes at) is = ap (read_script_as text) (is (λ same. cc))
-not_opened view names text read (script.TooManyAtoms at) is = ap (read_script_as text) (is (λ same. cc))
-not_opened view names text read script.Memory is = tt
 
 -- ---- a selector of one compound
 

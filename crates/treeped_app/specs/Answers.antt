@@ -2,7 +2,8 @@
 --     IsWitness t stmts s u      the steps are legal, each changes the tree, and the selector matches the node at their end
 --     IsRight t stmts o a        the answer is right for an item, of what the statements make of the page
 --     AreRight t stmts items as  there is a right answer for each item
-use Rattle.std.specs.Prelude.{◌≡◌, nat_le, if◌then◌else◌, List, [], ◌∷◌, length, Option, Some, None}
+--     AreUnreached t stmts items as   no legal steps reach a selector that is said to be unused
+use Rattle.std.specs.Prelude.{◌≡◌, ℕ, nat_le, if◌then◌else◌, List, [], ◌∷◌, length, Option, Some, None, slice_get}
 use Rattle.tree_sem.specs.Trees.{LabelTree}
 use Rattle.sel_core.specs.Selectors.{Selector, Matches}
 use Rattle.css_read.specs.Sheets as sheets
@@ -36,3 +37,6 @@ AreRight t stmts [] [] = Unit {0}
 AreRight t stmts (i ∷ items) (a ∷ answers) = IsRight t stmts i.outcome a × AreRight t stmts items answers
 AreRight t stmts [] (a ∷ answers) = ⊥
 AreRight t stmts (i ∷ items) [] = ⊥
+
+pub record AreUnreached (t : LabelTree) (stmts : List Statement) (items : List sheets.Item) (answers : List Answer) : Type 0 where
+  pub none : (k : ℕ) (i : sheets.Item) (s : Selector) → slice_get items k ≡ Some i → i.outcome ≡ sheets.judged s → slice_get answers k ≡ Some unused → Reaches t stmts s → ⊥

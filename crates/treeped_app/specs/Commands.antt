@@ -2,21 +2,22 @@
 --     Headline run s             a report is whole and right
 --     SaysWhy wants err s        the last line of a run without its report is whole
 --     Causes run s               each answer comes where its cause stands, and only there
-use Rattle.std.specs.Prelude.{◌≡◌, ◌≢◌, ◌≤◌, ◌⊎◌, ℕ, List, [], ◌∷◌, ◌++◌, length, Option, Some, None, Result, Ok, Err}
+use Rattle.std.specs.Prelude.{◌≡◌, ◌≤◌, ◌⊎◌, ℕ, List, [], ◌∷◌, ◌++◌, length, Option, Some, None, Result, Ok, Err}
 use Rattle.tp_io.specs.Sinks.{Adds, AddsPrefix, Rose}
 use Rattle.treeped_app.specs.declared.status.Status.{Status}
 use Rattle.treeped_app.specs.declared.status.Status.TheVariants as status
 use Rattle.tp_io.specs.declared.files.TheConstants.{MOST_BYTES}
+use Rattle.treeped_app.specs.declared.refusals.JudgeRefusal.{JudgeRefusal}
 use Rattle.treeped_app.specs.declared.refusals.Part.{Part}
 use Rattle.treeped_app.specs.declared.stops.Stop.{Stop}
-use Rattle.treeped_app.specs.declared.stops.Stop.TheVariants.{Words, TooLarge, ReadFault, Unread, WriteFault, NoMemory}
+use Rattle.treeped_app.specs.declared.stops.Stop.TheVariants.{Words, TooLarge, ReadFault, Unread, Judging, WriteFault, NoMemory}
 use Rattle.treeped_app.specs.Stops.{line_of, status_of_stop}
 use Rattle.treeped_app.specs.Words.{Names, command}
-use Rattle.treeped_app.specs.Runs.{Put, Run, Ends, Texts, Inputs, read_inputs, loads_before, name_of, failed}
+use Rattle.treeped_app.specs.Runs.{Put, Run, Ends, Texts, Inputs, IsRefusedBy, IsJudgeable, read_inputs, loads_before, name_of, failed}
 
 -- a status that comes with a report
 abbrev pub Reports : Status → Type 0
-Reports s = (s ≡ status.Complete) ⊎ (s ≡ status.Unused)
+Reports s = (s ≡ status.Complete) ⊎ (s ≡ status.Unused) ⊎ (s ≡ status.Budget)
 
 -- The words are three names, all three files are read, and the report is whole: it has one right answer for each item of the
 -- sheet, in their order, and the status that these answers give.
@@ -44,6 +45,7 @@ Tells Words err s = Says Words err s
 Tells (TooLarge part) err s = Says (TooLarge part) err s
 Tells (ReadFault part) err s = Says (ReadFault part) err s
 Tells (Unread refusal) err s = Says (Unread refusal) err s
+Tells (Judging refusal) err s = Says (Judging refusal) err s
 Tells WriteFault err s = SaysLast WriteFault err.held err.held' s
 Tells NoMemory err s = SaysLast NoMemory err.held err.held' s
 
@@ -96,10 +98,10 @@ pub record Causes (r : Run) (err : Put) (s : Status) : Type 0 where
   pub no_names : command r.words ≡ None → (s ≡ status.Words) ⊎ Fails err s
   pub refused : s ≡ status.Refused → (stop : Stop) × IsRefusal stop × Ends r (Err stop) × Adds err.held err.held' (line_of stop)
   pub not_read : (n : Names) (x : Texts) (stop : Stop) → AreTold r n x → Fit x → read_inputs x ≡ Err stop → (s ≡ status.Refused) ⊎ (s ≡ status.ReadFault) ⊎ Fails err s
+  pub not_judged : (n : Names) (x : Texts) (i : Inputs) (f : JudgeRefusal) → AreTold r n x → Fit x → read_inputs x ≡ Ok i → IsRefusedBy i f → (s ≡ status.Refused) ⊎ (s ≡ status.ReadFault) ⊎ Fails err s
   pub too_large : (n : Names) (x : Texts) → AreTold r n x → (Fit x → ⊥) → (s ≡ status.Refused) ⊎ (s ≡ status.ReadFault) ⊎ Fails err s
   pub read_fault : s ≡ status.ReadFault → (n : Names) × (part : Part) × (command r.words ≡ Some n) × FailedAt r n part × Adds err.held err.held' (line_of (ReadFault part))
   pub failed_load : (n : Names) (part : Part) → FailedAt r n part → (s ≡ status.ReadFault) ⊎ Fails err s
   pub write_fault : s ≡ status.WriteFault → Rose r.out.faults r.out.faults' ⊎ Rose err.faults err.faults'
-  pub no_budget : s ≢ status.Budget
-  pub completes : (n : Names) (x : Texts) (i : Inputs) → AreTold r n x → Fit x → read_inputs x ≡ Ok i → ((part : Part) → FailedAt r n part → ⊥) → (Rose r.out.faults r.out.faults' → ⊥) → (Rose err.faults err.faults' → ⊥)
+  pub completes : (n : Names) (x : Texts) (i : Inputs) → AreTold r n x → Fit x → read_inputs x ≡ Ok i → IsJudgeable i → ((part : Part) → FailedAt r n part → ⊥) → (Rose r.out.faults r.out.faults' → ⊥) → (Rose err.faults err.faults' → ⊥)
       → Reports s ⊎ (s ≡ status.NoMemory)

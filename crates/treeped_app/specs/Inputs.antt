@@ -1,20 +1,21 @@
 -- How the definitions see the three files.
-use Rattle.std.specs.Prelude.{◌≡◌, ℕ, List, map, Result, Ok, Err, Vec}
+use Rattle.std.specs.Prelude.{◌≡◌, ℕ, List, length, Result, Ok, Err, Vec}
 use Rattle.std.specs.declared.alloc.Global.{Global}
 use Rattle.tp_base.specs.Names.{Named}
 use Rattle.css_read.specs.Views.{sheet_of}
+use Rattle.jq_sem.specs.Views.{statements_of}
+use Rattle.judge.specs.Outcomes.{AreGiven}
 use Rattle.treeped_app.specs.declared.stops.Stop.{Stop}
-use Rattle.treeped_app.specs.declared.stops.Stop.TheVariants.{Unread, NoMemory}
+use Rattle.treeped_app.specs.declared.stops.Stop.TheVariants.{Unread, Judging, NoMemory}
 use Rattle.treeped_app.specs.declared.inputs.Texts.{Texts}
 use Rattle.treeped_app.specs.declared.inputs.Inputs.{Inputs}
-use Rattle.treeped_app.specs.Rules.{statement_of}
 use Rattle.treeped_app.specs.Runs as runs
 
 abbrev pub texts_of : Texts → runs.Texts
 texts_of x = record { page = x.page.items; sheet = x.sheet.items; script = x.script.items }
 
 abbrev pub inputs_of : Inputs → runs.Inputs
-inputs_of i = record { tree = i.page; sheet = sheet_of i.sheet; stmts = map statement_of i.rules.items; names = i.atoms }
+inputs_of i = record { tree = i.page; sheet = sheet_of i.sheet; stmts = statements_of i.stmts.items; names = i.atoms }
 
 abbrev pub loaded_text : Result (Vec ℕ Global) Stop → Result (List ℕ) Stop
 loaded_text (Ok v) = Ok v.items
@@ -37,3 +38,13 @@ IsRead read (Ok i) = read ≡ Ok (inputs_of i)
 IsRead read (Err (Unread refusal)) = read ≡ Err (Unread refusal)
 IsRead read (Err NoMemory) = Unit {0}
 IsRead read (Err e) = ⊥
+
+-- what was read may be judged: its atoms are of the table, and its statements are few enough
+abbrev pub AreInputs : runs.Inputs → Type 0
+AreInputs i = AreGiven i.stmts i.sheet.items (length i.names) i.tree
+
+-- why there are no answers; memory may want at any time
+abbrev pub IsUnanswered : runs.Inputs → Stop → Type 0
+IsUnanswered i (Judging f) = runs.IsRefusedBy i f
+IsUnanswered i NoMemory = Unit {0}
+IsUnanswered i e = ⊥

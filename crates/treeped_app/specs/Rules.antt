@@ -1,15 +1,11 @@
--- Statements that are judged so far: each adds one class to the nodes that have one atom.
-use Rattle.std.specs.Prelude.{ℕ, ◌&&◌, Bool, true, false, if◌then◌else◌, List, [], ◌∷◌, Option, Some, None}
+-- Statements each of which adds one class to the nodes that have one atom: what they do is found without a system.
+use Rattle.std.specs.Prelude.{ℕ, ◌&&◌, Bool, true, false, List, [], ◌∷◌}
 use Rattle.tp_base.specs.declared.places.Place.{Place}
 use Rattle.tree_sem.specs.declared.actions.Action.{Action}
 use Rattle.tree_sem.specs.declared.actions.Action.TheVariants.{Classes, Inside, Beside}
 use Rattle.sel_core.specs.Selectors.{Selector, simple}
 use Rattle.jq_sem.specs.Statements.{Root, Statement, matched, this}
-use Rattle.treeped_app.specs.declared.refusals.Part.TheVariants.{Script}
-use Rattle.treeped_app.specs.declared.refusals.Fault.TheVariants.{NotYetJudged}
 use Rattle.treeped_app.specs.declared.rules.Rule.{Rule}
-use Rattle.treeped_app.specs.declared.stops.Stop.{Stop}
-use Rattle.treeped_app.specs.declared.stops.Stop.TheVariants.{Unread}
 
 -- adds the class y at each node that has the atom x
 abbrev pub adding : Place → ℕ → ℕ → Statement
@@ -54,11 +50,6 @@ is_one_class (Beside forest) = false
 unfoldable pub is_rule : Statement → Bool
 is_rule s = is_none s.handlers && is_none s.chain.calls && is_one_atom s.chain.root && is_one_class s.action
 
--- the place of the first statement that isn't judged so far
-abbrev pub first_other : List Statement → Option Place
-first_other [] = None
-first_other (s ∷ ss) = if is_rule s then first_other ss else Some s.place
-
--- a run stops at it
-abbrev pub not_yet_judged : Place → Stop
-not_yet_judged place = Unread (record { part = Script; fault = NotYetJudged; place = place })
+abbrev pub are_rules : List Statement → Bool
+are_rules [] = true
+are_rules (s ∷ ss) = is_rule s && are_rules ss

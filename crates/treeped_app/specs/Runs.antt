@@ -14,19 +14,26 @@ use Rattle.treeped_app.specs.declared.status.Status.{Status}
 use Rattle.treeped_app.specs.declared.status.Status.TheVariants as status
 use Rattle.treeped_app.specs.declared.refusals.Part.{Part}
 use Rattle.treeped_app.specs.declared.refusals.Part.TheVariants as part
+use Rattle.treeped_app.specs.declared.refusals.JudgeRefusal.{JudgeRefusal}
+use Rattle.treeped_app.specs.declared.refusals.JudgeRefusal.TheVariants as refused
 use Rattle.treeped_app.specs.declared.stops.Stop.{Stop}
-use Rattle.treeped_app.specs.declared.stops.Stop.TheVariants.{Words, TooLarge, ReadFault, Unread, WriteFault, NoMemory}
+use Rattle.treeped_app.specs.declared.stops.Stop.TheVariants.{Words, TooLarge, ReadFault, Unread, Judging, WriteFault, NoMemory}
 use Rattle.html_subset.specs.Reading.{read_page}
 use Rattle.css_read.specs.Sheets.{Sheet}
 use Rattle.css_read.specs.Reading.{read_sheet}
 use Rattle.jq_sem.specs.Statements.{Statement}
 use Rattle.jq_words.specs.Words.{Outcome}
 use Rattle.jq_read.specs.Script.{script}
-use Rattle.usage_report.specs.Answers.{Answer, unused}
+use Rattle.usage_report.specs.Answers.{Answer, used_unshown, unused, spent}
 use Rattle.usage_report.specs.Report.{report}
-use Rattle.treeped_app.specs.Answers.{AreRight}
+use Rattle.judge.specs.declared.limits.Limits.{Limits}
+use Rattle.judge.specs.declared.limits.JudgeFault.{JudgeFault}
+use Rattle.judge.specs.declared.limits.JudgeFault.TheVariants as fault
+use Rattle.judge.specs.Outcomes.{IsFault, IsWithin}
+use Rattle.judge.specs.Outcomes as judge
+use Rattle.treeped_app.specs.Answers.{AreRight, AreUnreached}
 use Rattle.treeped_app.specs.Refusals.{page_stop, sheet_stop, script_stop}
-use Rattle.treeped_app.specs.Rules.{first_other, not_yet_judged}
+use Rattle.treeped_app.specs.Rules.{are_rules}
 use Rattle.treeped_app.specs.Words.{Names, command}
 
 -- the texts of the three files
@@ -47,16 +54,8 @@ abbrev pub read_as : {A E : Type 0} → (E → Stop) → List Named × Result A 
 read_as stop (names, Ok x) = Ok (x, names)
 read_as stop (names, Err e) = Err (stop e)
 
--- a script's statements, which are judged so far, or the first one that isn't
-abbrev pub judged_or : List Named → List Statement → Option Place → Result (List Statement × List Named) Stop
-judged_or names ss None = Ok (ss, names)
-judged_or names ss (Some place) = Err (not_yet_judged place)
-
-abbrev pub all_judged : List Named → List Statement → Result (List Statement × List Named) Stop
-all_judged names ss = judged_or names ss (first_other ss)
-
 abbrev pub read_script_as : List ℕ → Outcome (List Statement × List Named) → Result (List Statement × List Named) Stop
-read_script_as text (Ok (ss, names)) = all_judged names ss
+read_script_as text (Ok r) = Ok r
 read_script_as text (Err e) = Err (script_stop text e)
 
 infixl 10 ◌>>=◌
@@ -138,16 +137,51 @@ Loaded told n before after (Err (ReadFault p)) = (after ≡ before ++ loads_befo
 Loaded told n before after (Err NoMemory) = (count : ℕ) × (after ≡ before ++ take count (all_loads n))
 Loaded told n before after (Err e) = ⊥
 
+-- ---- judging
+
+-- how much may be worked out, and how much is listed
+abbrev pub default_limits : Limits
+default_limits = record { plain = false; pairs = 50000; nodes = 4194304; entries = 100000; list = 1000 }
+
+-- by whether each statement is a rule
+abbrev pub AreRightBy : Bool → Inputs → List Answer → Type 0
+AreRightBy true i answers = AreRight i.tree i.stmts i.sheet.items answers
+AreRightBy false i answers = IsWithin i.stmts i.sheet.items (length i.names) × judge.IsJudged i.stmts i.sheet.items (length i.names) i.tree default_limits answers
+
+-- Where each statement is a rule, a right answer for each item with its steps. Else right answers without steps; or each selector that
+-- is judged is spent, where too many pairs are needed.
+abbrev pub AreRightOf : Inputs → List Answer → Type 0
+AreRightOf i answers = AreRightBy (are_rules i.stmts) i answers
+
+abbrev pub fault_of : JudgeRefusal → JudgeFault
+fault_of refused.TooManyAtoms = fault.TooManyAtoms
+fault_of refused.TooManyVisible = fault.TooManyVisible
+
+-- why there are no answers: not each statement is a rule, and the system is past one of its limits
+abbrev pub IsRefusedBy : Inputs → JudgeRefusal → Type 0
+IsRefusedBy i f = (are_rules i.stmts ≡ false) × IsFault i.stmts i.sheet.items (length i.names) (fault_of f)
+
+-- there are answers
+abbrev pub IsJudgeable : Inputs → Type 0
+IsJudgeable i = (are_rules i.stmts ≡ true) ⊎ IsWithin i.stmts i.sheet.items (length i.names)
+
 abbrev pub is_unused : Answer → Bool
 is_unused unused = true
 is_unused _ = false
 
-abbrev pub status_of : List Answer → Status
-status_of answers = if list_any is_unused answers then status.Unused else status.Complete
+-- a limit was passed
+abbrev pub is_open : Answer → Bool
+is_open used_unshown = true
+is_open spent = true
+is_open _ = false
 
--- a right answer for each item, and the report on them
+abbrev pub status_of : List Answer → Status
+status_of answers = if list_any is_open answers then status.Budget else if list_any is_unused answers then status.Unused else status.Complete
+
+-- Right answers, and the report on them. Whatever the statements are, no legal steps reach a selector that is said to be unused.
 pub record IsJudged (x : Texts) (i : Inputs) (answers : List Answer) (text : List ℕ) : Type 0 where
-  pub right : AreRight i.tree i.stmts i.sheet.items answers
+  pub right : AreRightOf i answers
+  pub unused : AreUnreached i.tree i.stmts i.sheet.items answers
   pub text_is : text ≡ report x.sheet i.names (map (λ s. s.place) i.stmts) i.sheet answers
 
 -- what a sink held, and the count of its faults, before and after
@@ -164,6 +198,7 @@ put_of held held' faults faults' = record { held = held; held' = held'; faults =
 abbrev pub Written : Texts → Inputs → Put → Result Status Stop → Type 0
 Written x i out (Ok s) = (answers : List Answer) × (text : List ℕ) × IsJudged x i answers text × Adds out.held out.held' text × (s ≡ status_of answers)
 Written x i out (Err WriteFault) = (answers : List Answer) × (text : List ℕ) × IsJudged x i answers text × AddsPrefix out.held out.held' text × Rose out.faults out.faults'
+Written x i out (Err (Judging f)) = IsRefusedBy i f × (out.held' ≡ out.held)
 Written x i out (Err NoMemory) = (out.held' ≡ out.held) ⊎ ((answers : List Answer) × (text : List ℕ) × IsJudged x i answers text × AddsPrefix out.held out.held' text)
 Written x i out (Err e) = ⊥
 
@@ -194,6 +229,7 @@ Ends r (Err Words) = (command r.words ≡ None) × (r.loads' ≡ r.loads) × (r.
 Ends r (Err (TooLarge p)) = (n : Names) × (command r.words ≡ Some n) × Loaded r.told n r.loads r.loads' (Err (TooLarge p)) × (r.out.held' ≡ r.out.held)
 Ends r (Err (ReadFault p)) = (n : Names) × (command r.words ≡ Some n) × Loaded r.told n r.loads r.loads' (Err (ReadFault p)) × (r.out.held' ≡ r.out.held)
 Ends r (Err (Unread refusal)) = (n : Names) × (command r.words ≡ Some n) × (x : Texts) × Loaded r.told n r.loads r.loads' (Ok x) × (read_inputs x ≡ Err (Unread refusal)) × (r.out.held' ≡ r.out.held)
+Ends r (Err (Judging f)) = (x : Texts) × (i : Inputs) × IsAccepted r x i × Written x i r.out (Err (Judging f))
 Ends r (Err WriteFault) = (x : Texts) × (i : Inputs) × IsAccepted r x i × Written x i r.out (Err WriteFault)
 Ends r (Err NoMemory) =
     ((n : Names) × (command r.words ≡ Some n) × Loaded r.told n r.loads r.loads' (Err NoMemory) × (r.out.held' ≡ r.out.held))

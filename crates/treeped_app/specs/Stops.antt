@@ -3,6 +3,8 @@ use Rattle.std.specs.Prelude.{ℕ, List, [], ◌++◌, codes}
 use Rattle.std.specs.Fmt.{decimal}
 use Rattle.usage_report.specs.declared.faults.ReportFault.{ReportFault}
 use Rattle.usage_report.specs.declared.faults.ReportFault.TheVariants as report
+use Rattle.judge.specs.declared.limits.JudgeFault.{JudgeFault}
+use Rattle.judge.specs.declared.limits.JudgeFault.TheVariants as judge
 use Rattle.treeped_app.specs.declared.status.Status.{Status}
 use Rattle.treeped_app.specs.declared.status.Status.TheVariants as status
 use Rattle.treeped_app.specs.declared.refusals.Part.{Part}
@@ -10,8 +12,10 @@ use Rattle.treeped_app.specs.declared.refusals.Part.TheVariants.{Page, Sheet, Sc
 use Rattle.treeped_app.specs.declared.refusals.Fault.{Fault}
 use Rattle.treeped_app.specs.declared.refusals.Fault.TheVariants as fault
 use Rattle.treeped_app.specs.declared.refusals.Refusal.{Refusal}
+use Rattle.treeped_app.specs.declared.refusals.JudgeRefusal.{JudgeRefusal}
+use Rattle.treeped_app.specs.declared.refusals.JudgeRefusal.TheVariants as refused
 use Rattle.treeped_app.specs.declared.stops.Stop.{Stop}
-use Rattle.treeped_app.specs.declared.stops.Stop.TheVariants.{Words, TooLarge, ReadFault, Unread, WriteFault, NoMemory}
+use Rattle.treeped_app.specs.declared.stops.Stop.TheVariants.{Words, TooLarge, ReadFault, Unread, Judging, WriteFault, NoMemory}
 
 abbrev pub code_of : Status → ℕ
 code_of status.Complete = 0
@@ -28,12 +32,18 @@ status_of_stop Words = status.Words
 status_of_stop (TooLarge part) = status.Refused
 status_of_stop (ReadFault part) = status.ReadFault
 status_of_stop (Unread refusal) = status.Refused
+status_of_stop (Judging refusal) = status.Refused
 status_of_stop WriteFault = status.WriteFault
 status_of_stop NoMemory = status.NoMemory
 
 abbrev pub stop_of : ReportFault → Stop
 stop_of report.Write = WriteFault
 stop_of report.Memory = NoMemory
+
+abbrev pub judging_stop : JudgeFault → Stop
+judging_stop judge.TooManyAtoms = Judging refused.TooManyAtoms
+judging_stop judge.TooManyVisible = Judging refused.TooManyVisible
+judging_stop judge.Memory = NoMemory
 
 abbrev pub part_text : Part → List ℕ
 part_text Page = codes "page"
@@ -60,7 +70,6 @@ fault_text (fault.UnknownCall name) = codes "unknown call "
 fault_text fault.TooLong = codes "too long"
 fault_text fault.TooManyStatements = codes "too many statements"
 fault_text fault.TooManyForestNodes = codes "too many forest nodes"
-fault_text fault.NotYetJudged = codes "not yet judged"
 
 -- the name that it has
 abbrev pub name_in : Fault → List ℕ
@@ -72,12 +81,17 @@ abbrev pub refusal_line : Refusal → List ℕ
 refusal_line r =
     codes "treeped: " ++ part_text r.part ++ codes ": " ++ fault_text r.fault ++ name_in r.fault ++ codes " at " ++ decimal r.place.line ++ codes ":" ++ decimal r.place.column ++ codes "\n"
 
+abbrev pub judging_text : JudgeRefusal → List ℕ
+judging_text refused.TooManyAtoms = codes "too many atoms"
+judging_text refused.TooManyVisible = codes "too many visible atoms"
+
 -- each line ends with LF
 abbrev pub line_of : Stop → List ℕ
 line_of Words = codes "usage: treeped PAGE SHEET SCRIPT\n"
 line_of (TooLarge part) = codes "treeped: " ++ part_text part ++ codes ": too large\n"
 line_of (ReadFault part) = codes "treeped: " ++ part_text part ++ codes ": read fault\n"
 line_of (Unread refusal) = refusal_line refusal
+line_of (Judging refusal) = codes "treeped: judge: " ++ judging_text refusal ++ codes "\n"
 line_of WriteFault = codes "treeped: write fault\n"
 line_of NoMemory = codes "treeped: no memory\n"
 

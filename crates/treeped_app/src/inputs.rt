@@ -1,25 +1,29 @@
 //! The three files: loaded, and read.
-ghost use Rattle.std.specs.Prelude.{◌≡◌, ◌≤◌, length, map, IfOk, vec_len};
+ghost use Rattle.std.specs.Prelude.{◌≡◌, ◌≤◌, length, IfOk, vec_len};
 ghost use Rattle.tp_io.specs.declared.files.TheConstants.{MOST_BYTES};
 ghost use Rattle.treeped_app.specs.Runs as spec;
 ghost use Rattle.treeped_app.specs.Runs.{OneLoaded, Loaded};
+ghost use Rattle.tree_sem.specs.Nodes.{IsTreeOver};
+ghost use Rattle.sel_core.specs.Results.{IsFront};
 ghost use Rattle.html_subset.specs.Reading as html;
 ghost use Rattle.css_read.specs.Reading as css;
+ghost use Rattle.css_read.specs.Readable.{AllReadable};
 ghost use Rattle.css_read.specs.Views.{sheet_of};
-ghost use Rattle.jq_words.specs.declared.faults.TheConstants.{MOST_STATEMENTS};
+ghost use Rattle.jq_sem.specs.Tables.{AreStatementsOver};
+ghost use Rattle.jq_sem.specs.Views.{statements_of};
+ghost use Rattle.jq_read.specs.Limits.{AreWithin};
 ghost use Rattle.jq_read.specs.Script.{script};
-ghost use Rattle.treeped_app.specs.Inputs.{IsOpened, IsRead, loaded_text, loaded_texts, texts_of};
+ghost use Rattle.treeped_app.specs.Inputs.{AreInputs, IsOpened, IsRead, inputs_of, loaded_text, loaded_texts, texts_of};
 ghost use Rattle.treeped_app.specs.Refusals.{page_stop, sheet_stop};
-ghost use Rattle.treeped_app.specs.Rules.{statement_of};
 ghost use Rattle.treeped_app.specs.Views.{names_of};
 
 use crate::refusals::Part;
-use crate::rules::{Rule, rules_of};
 use crate::stops::{Stop, page_stop, script_stop, sheet_stop};
 use crate::words::Names;
 use css_read::{Sheet, read_sheet};
 use html_subset::read_page;
 use jq_read::read_script;
+use jq_sem::Stmt;
 use std::alloc::Global;
 use tp_base::AtomTable;
 use tp_io::{Files, LoadFault};
@@ -38,7 +42,7 @@ pub(crate) struct Texts {
 pub(crate) struct Inputs {
     pub(crate) page: Tree,
     pub(crate) sheet: Sheet,
-    pub(crate) rules: Vec<Rule>,
+    pub(crate) stmts: Vec<Stmt>,
     pub(crate) atoms: AtomTable,
 }
 
@@ -82,16 +86,16 @@ pub(crate) fn read_all(alloc: Global, texts: &Texts) -> Result<Inputs, Stop>
     requires sheet { vec_len texts.now.sheet ≤ MOST_BYTES }
     requires script { vec_len texts.now.script ≤ MOST_BYTES }
     ensures read { IsRead (spec.read_inputs (texts_of texts.now)) result }
-    ensures few { IfOk result (λ i. vec_len i.rules ≤ MOST_STATEMENTS) }
+    ensures given { IfOk result (λ i. AreInputs (inputs_of i)) }
 {
     let mut atoms = AtomTable::new(alloc);
     let page = open_page(alloc, &texts.page, &mut atoms)?;
     let sheet = open_sheet(alloc, &texts.sheet, &mut atoms)?;
-    let rules = open_script(alloc, &texts.script, &mut atoms)?;
+    let stmts = open_script(alloc, &texts.script, &mut atoms)?;
     Ok(Inputs {
         page,
         sheet,
-        rules,
+        stmts,
         atoms,
     })
 }
@@ -99,7 +103,8 @@ pub(crate) fn read_all(alloc: Global, texts: &Texts) -> Result<Inputs, Stop>
 /// What was read of a page, or why the run stops at it.
 fn open_page(alloc: Global, text: &[u8], atoms: &mut AtomTable) -> Result<Tree, Stop>
     requires { length text.now ≤ MOST_BYTES }
-    ensures { IsOpened (λ t. t) (spec.read_as (page_stop text.now) (html.read_page text.now atoms.old)) result atoms.new }
+    ensures opened { IsOpened (λ t. t) (spec.read_as (page_stop text.now) (html.read_page text.now atoms.old)) result atoms.new }
+    ensures over { IfOk result (λ t. IsTreeOver (length atoms.new) t) }
 {
     match read_page(alloc, text, atoms) {
         Ok(tree) => Ok(tree),
@@ -110,7 +115,9 @@ fn open_page(alloc: Global, text: &[u8], atoms: &mut AtomTable) -> Result<Tree, 
 /// What was read of a sheet, or why the run stops at it.
 fn open_sheet(alloc: Global, text: &[u8], atoms: &mut AtomTable) -> Result<Sheet, Stop>
     requires { length text.now ≤ MOST_BYTES }
-    ensures { IsOpened sheet_of (spec.read_as (sheet_stop text.now) (css.read_sheet text.now atoms.old)) result atoms.new }
+    ensures opened { IsOpened sheet_of (spec.read_as (sheet_stop text.now) (css.read_sheet text.now atoms.old)) result atoms.new }
+    ensures readable { IfOk result (λ s. AllReadable atoms.new (sheet_of s).items) }
+    ensures front { IsFront atoms.old atoms.new }
 {
     match read_sheet(alloc, text, atoms) {
         Ok(sheet) => Ok(sheet),
@@ -118,15 +125,17 @@ fn open_sheet(alloc: Global, text: &[u8], atoms: &mut AtomTable) -> Result<Sheet
     }
 }
 
-/// The rules of a script's statements, or why the run stops at it.
-#[tactic(auto, using(crate::proofs::RuleLemmas::not_opened, crate::proofs::RuleLemmas::few_rules))]
-fn open_script(alloc: Global, text: &[u8], atoms: &mut AtomTable) -> Result<Vec<Rule>, Stop>
+/// The statements of a script, or why the run stops at it.
+#[tactic(auto, using(crate::proofs::ReadingLemmas::not_opened))]
+fn open_script(alloc: Global, text: &[u8], atoms: &mut AtomTable) -> Result<Vec<Stmt>, Stop>
     requires { length text.now ≤ MOST_BYTES }
-    ensures opened { IsOpened (λ v. map statement_of v.items) (spec.read_script_as text.now (script text.now atoms.old)) result atoms.new }
-    ensures few { IfOk result (λ v. vec_len v ≤ MOST_STATEMENTS) }
+    ensures opened { IsOpened (λ v. statements_of v.items) (spec.read_script_as text.now (script text.now atoms.old)) result atoms.new }
+    ensures over { IfOk result (λ v. AreStatementsOver (length atoms.new) (statements_of v.items)) }
+    ensures within { IfOk result (λ v. AreWithin (statements_of v.items)) }
+    ensures front { IsFront atoms.old atoms.new }
 {
     match read_script(alloc, text, atoms) {
-        Ok(statements) => rules_of(alloc, &statements),
+        Ok(statements) => Ok(statements),
         Err(fault) => Err(script_stop(text, fault)),
     }
 }

@@ -1,4 +1,4 @@
-//! Which selectors of a sheet match a node, after whatever a script does to a page.
+//! Which selectors of a sheet match a node, after whatever rules do to a page.
 ghost use Rattle.std.specs.Prelude.{◌≡◌, ◌≤◌, ◌+◌, List, ℕ, length, map, IfOk, IfSome, IsNone, OnOk, vec_len};
 ghost use Rattle.tp_base.specs.Classes.{union_of};
 ghost use Rattle.tree_sem.specs.Trees.{LabelTree};
@@ -30,8 +30,7 @@ pub(crate) const MOST_LISTED: u64 = 1_000;
 
 /// An answer for each item of the sheet, of what the statements make of the page. It closes the page once, and then tests each
 /// selector at the nodes of the closed page up to the first that it matches.
-
-pub(crate) fn judge(
+pub(crate) fn judge_rules(
     alloc: Global,
     page: &Tree,
     sheet: &Sheet,

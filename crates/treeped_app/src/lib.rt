@@ -1,6 +1,7 @@
 //! The command `treeped`: from its words and three files to a report.
 #![tactic(auto)]
 
+mod answering;
 mod closed_page;
 mod closing;
 mod index;
@@ -14,7 +15,7 @@ mod stops;
 mod tracing;
 mod words;
 
-pub use refusals::{Fault, Part, Refusal};
+pub use refusals::{Fault, JudgeRefusal, Part, Refusal};
 pub use runs::treeped;
 pub use status::Status;
 pub use stops::Stop;

@@ -31,8 +31,6 @@ pub enum Fault {
     TooLong,
     TooManyStatements,
     TooManyForestNodes,
-    /// A statement that is read, and not judged so far.
-    NotYetJudged,
 }
 
 /// Why a file is refused: which one, what is wrong, and where.
@@ -41,4 +39,11 @@ pub struct Refusal {
     pub part: Part,
     pub fault: Fault,
     pub place: Place,
+}
+
+/// Why judging is refused. The limits are those of a simple system.
+#[derive(Clone, Copy, Debug, PartialEq, Eq)]
+pub enum JudgeRefusal {
+    TooManyAtoms,
+    TooManyVisible,
 }

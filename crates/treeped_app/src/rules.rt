@@ -1,17 +1,12 @@
-//! Statements that are judged so far.
-ghost use Rattle.std.specs.Prelude.{◌≡◌, ◌≤◌, ◌++◌, ◌∷◌, [], false, true, List, length, map, vec_len, IfOk, OnOk, IfSome, IfNone};
-ghost use Rattle.tp_base.specs.Names.{Named};
+//! Statements each of which gives one class to the nodes that have one atom.
+ghost use Rattle.std.specs.Prelude.{◌≡◌, ◌≤◌, ◌++◌, ◌∷◌, [], false, true, length, map, vec_len, IfOk, OnOk, IfSome, IfNone};
 ghost use Rattle.tree_sem.specs.declared.actions.Action.TheVariants as acts;
 ghost use Rattle.sel_core.specs.Selectors.{simple};
 ghost use Rattle.sel_core.specs.Views.{selector_of};
 ghost use Rattle.jq_sem.specs.Statements.{matched};
 ghost use Rattle.jq_sem.specs.Views as sem;
-ghost use Rattle.treeped_app.specs.Inputs.{IsOpened};
 ghost use Rattle.treeped_app.specs.Rules as spec;
-ghost use Rattle.treeped_app.specs.Runs.{all_judged};
 
-use crate::refusals::{Fault, Part, Refusal};
-use crate::stops::Stop;
 use jq_sem::{Root, Stmt};
 use sel_core::{Compound, Selector};
 use std::alloc::Global;
@@ -26,22 +21,23 @@ pub(crate) struct Rule {
     pub(crate) gives: Atom,
 }
 
-/// The rules of statements, or why the run stops at one that isn't judged so far. Linear in their number.
-#[tactic(auto, using(crate::proofs::RuleLemmas::one_rule_more, crate::proofs::RuleLemmas::rule_goes_on, crate::proofs::RuleLemmas::first_is_other, crate::proofs::RuleLemmas::all_are_rules))]
-pub(crate) fn rules_of(alloc: Global, statements: &[Stmt]) -> Result<Vec<Rule>, Stop>
-    ensures opened { (names : List Named) → IsOpened (λ v. map spec.statement_of v.items) (all_judged names (sem.statements_of statements.now)) result names }
-    ensures few { IfOk result (λ v. vec_len v ≤ length statements.now) }
+/// The rules that statements are, where each of them is one. Linear in their number.
+#[tactic(auto, using(crate::proofs::RuleLemmas::one_rule_more, crate::proofs::RuleLemmas::rule_goes_on, crate::proofs::RuleLemmas::other_there, crate::proofs::RuleLemmas::all_are_rules))]
+pub(crate) fn rules_of(alloc: Global, statements: &[Stmt]) -> Result<Option<Vec<Rule>>, NoMemory>
+    ensures rules { IfOk result (λ o. IfSome o (λ v. (spec.are_rules (sem.statements_of statements.now) ≡ true) × (map spec.statement_of v.items ≡ sem.statements_of statements.now))) }
+    ensures other { IfOk result (λ o. IfNone o (spec.are_rules (sem.statements_of statements.now) ≡ false)) }
+    ensures few { IfOk result (λ o. IfSome o (λ v. vec_len v ≤ length statements.now)) }
 {
     let mut rules = Vec::new(alloc);
     let mut left = statements;
     'statements: while let Some((first, others)) = left.split_first() {
         let Some(rule) = rule_of(first) else {
-            return Err(not_yet_judged(first.place));
+            return Ok(None);
         };
         put(&mut rules, rule)?;
         left = others;
     }
-    Ok(rules)
+    Ok(Some(rules))
 }
 
 fn put(rules: &mut Vec<Rule>, rule: Rule) -> Result<(), NoMemory>
@@ -51,17 +47,7 @@ fn put(rules: &mut Vec<Rule>, rule: Rule) -> Result<(), NoMemory>
     Ok(())
 }
 
-fn not_yet_judged(place: Place) -> Stop
-    ensures { result ≡ spec.not_yet_judged place }
-{
-    Stop::Unread(Refusal {
-        part: Part::Script,
-        fault: Fault::NotYetJudged,
-        place,
-    })
-}
-
-/// The rule that a statement is, where it is judged so far.
+/// The rule that a statement is, if it is one.
 #[tactic(auto, using(crate::proofs::RuleLemmas::has_handlers, crate::proofs::RuleLemmas::has_calls, crate::proofs::RuleLemmas::other_root, crate::proofs::RuleLemmas::other_action, crate::proofs::RuleLemmas::is_one_rule, crate::proofs::RuleLemmas::same_statement))]
 fn rule_of(statement: &Stmt) -> Option<Rule>
     ensures some { IfSome result (λ r. (spec.is_rule (sem.statement_of statement.now) ≡ true) × (spec.statement_of r ≡ sem.statement_of statement.now)) }

@@ -2,20 +2,19 @@
 ghost use Rattle.std.specs.Prelude.{◌≡◌, ◌≤◌, map, string_bytes, vec_len, IfOk};
 ghost use Rattle.std.specs.List.{list_any};
 ghost use Rattle.treeped_app.specs.Runs as spec;
-ghost use Rattle.treeped_app.specs.Rules.{statement_of};
 ghost use Rattle.treeped_app.specs.Runs.{Ends, Written, put_of, run_of};
-ghost use Rattle.treeped_app.specs.Inputs.{inputs_of, texts_of};
+ghost use Rattle.treeped_app.specs.Inputs.{AreInputs, inputs_of, texts_of};
 ghost use Rattle.treeped_app.specs.Commands.{Headline, IsEnded, SaysWhy, Causes};
 ghost use Rattle.usage_report.specs.Views.{answer_of};
-ghost use Rattle.jq_words.specs.declared.faults.TheConstants.{MOST_STATEMENTS};
+ghost use Rattle.jq_sem.specs.Views.{statements_of};
 ghost use Rattle.tp_base.specs.declared.places.TheConstants.{MOST_BYTES};
 
+use crate::answering::answers_of;
 use crate::inputs::{Inputs, Texts, load_all, read_all};
-use crate::judging::judge;
-use crate::rules::Rule;
 use crate::status::Status;
 use crate::stops::{Stop, tell};
 use crate::words::read_words;
+use jq_sem::Stmt;
 use std::alloc::Global;
 use tp_base::{NoMemory, Place};
 use tp_io::{Files, Sink};
@@ -68,6 +67,7 @@ fn run<F: Files, O: Sink>(
 }
 
 /// Judges the selectors and writes the report.
+#[tactic(auto, using(crate::proofs::AnsweringLemmas::unanswered, crate::proofs::AnsweringLemmas::unreached))]
 fn report<O: Sink>(
     alloc: Global,
     texts: &Texts,
@@ -75,12 +75,12 @@ fn report<O: Sink>(
     out: &mut O,
 ) -> Result<Status, Stop>
     requires in_limit { vec_len texts.now.sheet ≤ MOST_BYTES }
-    requires few { vec_len inputs.now.rules ≤ MOST_STATEMENTS }
+    requires given { AreInputs (inputs_of inputs.now) }
     ensures { Written (texts_of texts.now) (inputs_of inputs.now)
         (put_of (O.written out.old) (O.written out.new) (O.faults out.old) (O.faults out.new)) result }
 {
-    let answers = judge(alloc, &inputs.page, &inputs.sheet, &inputs.rules)?;
-    let places = places_of(alloc, &inputs.rules)?;
+    let answers = answers_of(alloc, inputs)?;
+    let places = places_of(alloc, &inputs.stmts)?;
     write_report(
         alloc,
         &inputs.sheet,
@@ -94,12 +94,12 @@ fn report<O: Sink>(
 }
 
 /// The places of the statements, in their order.
-fn places_of(alloc: Global, rules: &[Rule]) -> Result<Vec<Place>, NoMemory>
-    ensures { IfOk result (λ places. places.items ≡ map (λ s. s.place) (map statement_of rules.now)) }
+fn places_of(alloc: Global, stmts: &[Stmt]) -> Result<Vec<Place>, NoMemory>
+    ensures { IfOk result (λ places. places.items ≡ map (λ s. s.place) (statements_of stmts.now)) }
 {
     let mut places = Vec::new(alloc);
-    'rules: for rule in rules {
-        places.push(rule.place)?;
+    'statements: for stmt in stmts {
+        places.push(stmt.place)?;
     }
     Ok(places)
 }
@@ -109,11 +109,26 @@ fn places_of(alloc: Global, rules: &[Rule]) -> Result<Vec<Place>, NoMemory>
 fn status_of(answers: &[Answer]) -> Status
     ensures { result ≡ spec.status_of (map answer_of answers.now) }
 {
-    if any_unused(answers) {
+    if any_open(answers) {
+        Status::Budget
+    } else if any_unused(answers) {
         Status::Unused
     } else {
         Status::Complete
     }
+}
+
+fn any_open(answers: &[Answer]) -> bool
+    ensures { result ≡ list_any (λ a. spec.is_open (answer_of a)) answers.now }
+{
+    answers.iter().any(|a| is_open(a))
+}
+
+/// Whether a limit was passed.
+fn is_open(answer: &Answer) -> bool
+    ensures { result ≡ spec.is_open (answer_of answer.now) }
+{
+    matches!(answer, Answer::UsedUnshown | Answer::Spent)
 }
 
 fn any_unused(answers: &[Answer]) -> bool

@@ -5,13 +5,13 @@ ghost use Rattle.treeped_app.specs.Stops as spec;
 /// How a run ended.
 #[derive(Clone, Copy, Debug, PartialEq, Eq)]
 pub enum Status {
-    /// The report is written, and no line is `unused`.
+    /// The report is written, and each line is `used` or `skipped`.
     Complete,
-    /// The report is written, and a line is `unused`.
+    /// The report is written, a line is `unused`, and no limit was passed.
     Unused,
     /// The words aren't of the grammar.
     Words,
-    /// A file is refused.
+    /// A file is refused, or judging is.
     Refused,
     /// A file couldn't be loaded.
     ReadFault,
@@ -19,7 +19,7 @@ pub enum Status {
     WriteFault,
     /// No memory was to be had.
     NoMemory,
-    /// The report is written, and a budget was exceeded.
+    /// The report is written, and a line is `used-unshown` or `spent`.
     Budget,
 }
 

@@ -8,12 +8,13 @@ ghost use Rattle.treeped_app.specs.Refusals as refusal;
 ghost use Rattle.treeped_app.specs.Runs.{put_of};
 ghost use Rattle.treeped_app.specs.Stops as spec;
 
-use crate::refusals::{Fault, Part, Refusal};
+use crate::refusals::{Fault, JudgeRefusal, Part, Refusal};
 use crate::status::Status;
 use css_read::SheetFault;
 use html_subset::PageFault;
 use jq_read::ScriptFault;
 use js_scan::ScanFault;
+use judge::JudgeFault;
 use std::alloc::Global;
 use tp_base::NoMemory;
 use tp_io::{Sink, SinkFault, put_all};
@@ -26,6 +27,7 @@ pub enum Stop {
     TooLarge(Part),
     ReadFault(Part),
     Unread(Refusal),
+    Judging(JudgeRefusal),
     WriteFault,
     NoMemory,
 }
@@ -51,6 +53,21 @@ impl From<ReportFault> for Stop {
         match error {
             ReportFault::Write => Stop::WriteFault,
             ReportFault::Memory => Stop::NoMemory,
+        }
+    }
+}
+
+impl From<JudgeFault> for Stop {
+    ghost use Rattle.std.specs.Prelude.{◌≡◌};
+    ghost use Rattle.treeped_app.specs.Stops.{judging_stop};
+
+    ghost from_gives = { λ e f. f ≡ judging_stop e };
+
+    fn from(error: JudgeFault) -> Stop {
+        match error {
+            JudgeFault::TooManyAtoms => Stop::Judging(JudgeRefusal::TooManyAtoms),
+            JudgeFault::TooManyVisible => Stop::Judging(JudgeRefusal::TooManyVisible),
+            JudgeFault::Memory => Stop::NoMemory,
         }
     }
 }
@@ -141,7 +158,7 @@ impl Stop {
     {
         match self {
             Stop::Words => Status::Words,
-            Stop::TooLarge(_) | Stop::Unread(_) => Status::Refused,
+            Stop::TooLarge(_) | Stop::Unread(_) | Stop::Judging(_) => Status::Refused,
             Stop::ReadFault(_) => Status::ReadFault,
             Stop::WriteFault => Status::WriteFault,
             Stop::NoMemory => Status::NoMemory,
@@ -171,6 +188,10 @@ impl Stop {
             Stop::ReadFault(Part::Sheet) => b"treeped: sheet: read fault\n",
             Stop::ReadFault(Part::Script) => b"treeped: script: read fault\n",
             Stop::Unread(_) => b"",
+            Stop::Judging(JudgeRefusal::TooManyAtoms) => b"treeped: judge: too many atoms\n",
+            Stop::Judging(JudgeRefusal::TooManyVisible) => {
+                b"treeped: judge: too many visible atoms\n"
+            }
             Stop::WriteFault => b"treeped: write fault\n",
             Stop::NoMemory => b"treeped: no memory\n",
         }
@@ -237,7 +258,6 @@ fn fault_text(fault: &Fault) -> &'static [u8]
         Fault::TooLong => b"too long",
         Fault::TooManyStatements => b"too many statements",
         Fault::TooManyForestNodes => b"too many forest nodes",
-        Fault::NotYetJudged => b"not yet judged",
     }
 }
 

@@ -42,6 +42,9 @@ const PLAIN: Case = Case {
     err: "",
 };
 
+/// Below an element of one class, elements of another get a third.
+const OPENS: &str = "$('.btn').click(function(){ $('.m').addClass('open'); });";
+
 /// A run whose page, sheet or script is refused.
 const REFUSED: Case = Case {
     status: 3,
@@ -49,7 +52,7 @@ const REFUSED: Case = Case {
     ..PLAIN
 };
 
-static CASES: [Case; 28] = [
+static CASES: [Case; 35] = [
     PLAIN,
     Case { most: 1, ..PLAIN },
     Case {
@@ -249,10 +252,72 @@ static CASES: [Case; 28] = [
         out: "treeped 1\n1:1 used 2 .x.y\n  1 at 2:21 on /1/0\n  2 at 2:59 on /1/0\n  match /1/0\n1:8 unused .z\n",
         ..PLAIN
     },
+    Case {
+        texts: ["<p class=\"m\"></p>", ".open{} .shut{}", OPENS],
+        status: 1,
+        out: "treeped 1\n1:1 unused .open\n1:9 unused .shut\n",
+        ..PLAIN
+    },
+    Case {
+        texts: [
+            "<p class=\"btn\"></p><p class=\"m\"></p>",
+            ".open{} .btn.open{}",
+            OPENS,
+        ],
+        status: 7,
+        out: "treeped 1\n1:1 used-unshown .open\n1:9 unused .btn.open\n",
+        ..PLAIN
+    },
+    Case {
+        texts: [
+            "<p class=\"a\"></p>",
+            ".a.b > p{} .a > .b{}",
+            "$('.a').addClass('b').html('<p>')",
+        ],
+        status: 7,
+        out: "treeped 1\n1:1 used-unshown .a.b > p\n1:12 unused .a > .b\n",
+        ..PLAIN
+    },
+    Case {
+        texts: [
+            "<div class=\"a\"><p class=\"b\"></p></div><p class=\"b\"></p>",
+            ".a .c{} body > .c{}",
+            "$('.a > .b').addClass('c')",
+        ],
+        status: 7,
+        out: "treeped 1\n1:1 used-unshown .a .c\n1:9 unused body > .c\n",
+        ..PLAIN
+    },
+    Case {
+        texts: [
+            "<div class=\"a\"><p></p></div>",
+            "p.c{} .c.a{}",
+            "$('.a').children().addClass('c')",
+        ],
+        status: 7,
+        out: "treeped 1\n1:1 used-unshown p.c\n1:7 unused .c.a\n",
+        ..PLAIN
+    },
+    Case {
+        texts: [
+            "<ul class=\"l\"></ul>",
+            ".l > li > ul > li{} .l > ul{}",
+            "$('ul').append('<li><ul></ul></li>')",
+        ],
+        status: 7,
+        out: "treeped 1\n1:1 used-unshown .l > li > ul > li\n1:21 unused .l > ul\n",
+        ..PLAIN
+    },
+    Case {
+        texts: ["", "p{} a + b{}", "$('html').after('<p></p>')"],
+        status: 1,
+        out: "treeped 1\n1:1 unused p\n1:5 skipped sibling at 1:7\n",
+        ..PLAIN
+    },
 ];
 
 /// Scripts that are refused, beside the page with its own class, and what is said of them.
-static SCRIPTS: [(&str, &str); 14] = [
+static SCRIPTS: [(&str, &str); 10] = [
     (
         "$('.a').wrap('<p>');",
         "treeped: script: unknown call wrap at 1:9\n",
@@ -281,22 +346,6 @@ static SCRIPTS: [(&str, &str); 14] = [
     ("x = 'a", "treeped: script: bad string at 1:5\n"),
     ("x = `${y}`", "treeped: script: template at 1:5\n"),
     ("x\n @", "treeped: script: bad byte at 2:2\n"),
-    (
-        "$('.btn').click(function(){ $('.m').addClass('open'); });",
-        "treeped: script: not yet judged at 1:37\n",
-    ),
-    (
-        "$('.a').addClass('b').html('<p>')",
-        "treeped: script: not yet judged at 1:23\n",
-    ),
-    (
-        "$('.a > .b').addClass('c')",
-        "treeped: script: not yet judged at 1:14\n",
-    ),
-    (
-        "$('.a').children().addClass('c')",
-        "treeped: script: not yet judged at 1:20\n",
-    ),
 ];
 
 /// Pieces of a page, a sheet and a script, each so many times, and what is said of them.
@@ -465,28 +514,57 @@ fn repeated(alloc: Global, (piece, count): (&[u8], usize)) -> Result<Vec<u8>, Al
     Ok(text)
 }
 
-fn run_limit(rt: &impl Abort, alloc: Global, limit: &Limit) -> Result<(), AllocError> {
+/// Runs the command over these texts.
+fn run_texts(
+    rt: &impl Abort,
+    alloc: Global,
+    texts: [Vec<u8>; 3],
+    code: u8,
+    line: &str,
+) -> Result<(), AllocError> {
     let words = strings(alloc, &NAMES)?;
+    let [page, sheet, script] = texts;
     let mut entries = Vec::new(alloc);
-    entries.push((
-        String::from_str(alloc, "page")?,
-        repeated(alloc, limit.page)?,
-    ))?;
-    entries.push((
-        String::from_str(alloc, "sheet")?,
-        repeated(alloc, limit.sheet)?,
-    ))?;
-    entries.push((
-        String::from_str(alloc, "script")?,
-        repeated(alloc, limit.script)?,
-    ))?;
+    entries.push((String::from_str(alloc, "page")?, page))?;
+    entries.push((String::from_str(alloc, "sheet")?, sheet))?;
+    entries.push((String::from_str(alloc, "script")?, script))?;
     let mut files = MemFiles::new(alloc, entries, Vec::new(alloc));
     let mut out = SureSink::new(alloc);
     let mut err = SureSink::new(alloc);
     let status = treeped(alloc, &words, &mut files, &mut out, &mut err);
-    assert!(rt; status.code() == limit.status, "status {status:?}");
-    assert!(rt; err.bytes() == limit.err.as_bytes());
+    assert!(rt; status.code() == code, "status {status:?}");
+    assert!(rt; err.bytes() == line.as_bytes());
     Ok(())
+}
+
+fn run_limit(rt: &impl Abort, alloc: Global, limit: &Limit) -> Result<(), AllocError> {
+    let page = repeated(alloc, limit.page)?;
+    let sheet = repeated(alloc, limit.sheet)?;
+    let script = repeated(alloc, limit.script)?;
+    run_texts(rt, alloc, [page, sheet, script], limit.status, limit.err)
+}
+
+/// A page of so many paragraphs, each with a class of its own.
+fn own_classes(alloc: Global, count: u32) -> Result<Vec<u8>, AllocError> {
+    let mut text = Vec::new(alloc);
+    for n in 0..count {
+        text.extend_from_slice(b"<p class=\"c")?;
+        text.extend_from_slice(n.to_string(alloc)?.as_bytes())?;
+        text.extend_from_slice(b"\">")?;
+    }
+    Ok(text)
+}
+
+/// A selector for each letter, of which it has one compound and below it 511 others.
+fn long_selectors(alloc: Global, letters: &[u8]) -> Result<Vec<u8>, AllocError> {
+    let mut text = Vec::new(alloc);
+    for letter in letters {
+        text.extend_from_slice(b".")?;
+        text.push(*letter)?;
+        text.extend_from_slice(&repeated(alloc, (b" .a", 511))?)?;
+        text.extend_from_slice(b"{}")?;
+    }
+    Ok(text)
 }
 
 #[test]
@@ -495,6 +573,23 @@ fn runs_at_the_limits(rt: HostRuntime) -> Result<(), Fail> {
     for limit in &LIMITS {
         run_limit(&rt, alloc, limit)?;
     }
+    Ok(())
+}
+
+/// The table has room for what is read, and not for the atoms of formulas; there are few atoms, and too many are asked for of parents.
+#[test]
+fn judging_is_refused(rt: HostRuntime) -> Result<(), Fail> {
+    let alloc = rt.alloc();
+    let script = Vec::from_slice(alloc, OPENS.as_bytes())?;
+    let page = own_classes(alloc, 65_520)?;
+    let sheet = long_selectors(alloc, b"b")?;
+    let line = "treeped: judge: too many atoms\n";
+    run_texts(&rt, alloc, [page, sheet, script], 3, line)?;
+    let script = Vec::from_slice(alloc, OPENS.as_bytes())?;
+    let page = Vec::new(alloc);
+    let sheet = long_selectors(alloc, b"bcdefghijklmnopqr")?;
+    let line = "treeped: judge: too many visible atoms\n";
+    run_texts(&rt, alloc, [page, sheet, script], 3, line)?;
     Ok(())
 }
 

@@ -1,7 +1,7 @@
 use Rattle.std.proofs.Common.{[], ◌∷◌, length, map, ap, arith, length-append}
 use Rattle.treeped_app.specs.Rules.{statement_of}
 use Rattle.treeped_app.proofs.JudgingLemmas.{judged_more}
-use Rattle.treeped_app.proofs.judging.judge.Goals as goal
+use Rattle.treeped_app.proofs.judging.judge_rules.Goals as goal
 
 pub items-preserved : goal.items-preserved
 items-preserved c = record {

@@ -3,7 +3,7 @@ use Rattle.css_read.specs.Views.{item_of}
 use Rattle.usage_report.specs.Views.{answer_of}
 use Rattle.treeped_app.specs.Answers.{AreRight}
 use Rattle.treeped_app.specs.Rules.{statement_of}
-use Rattle.treeped_app.proofs.judging.judge.Given as goal
+use Rattle.treeped_app.proofs.judging.judge_rules.Given as goal
 
 abbrev pub invariant-items : goal.invariant-items
 invariant-items l = record {

@@ -1,0 +1,65 @@
+//! An answer for each item of a sheet, of whatever was read.
+ghost use Rattle.std.specs.Prelude.{◌≡◌, false, length, map, IfOk, IfErr, vec_len};
+ghost use Rattle.jq_sem.specs.Views.{statements_of};
+ghost use Rattle.usage_report.specs.Views.{answer_of};
+ghost use Rattle.treeped_app.specs.Inputs.{AreInputs, IsUnanswered, inputs_of};
+ghost use Rattle.treeped_app.specs.Rules.{are_rules};
+ghost use Rattle.treeped_app.specs.Runs as spec;
+ghost use Rattle.treeped_app.specs.Runs.{AreRightOf};
+
+use crate::inputs::Inputs;
+use crate::judging::judge_rules;
+use crate::rules::rules_of;
+use crate::stops::Stop;
+use judge::{Limits, judge};
+use std::alloc::Global;
+use usage_report::Answer;
+
+/// How much may be worked out, and how much is listed.
+fn default_limits() -> Limits
+    ensures { result ≡ spec.default_limits }
+{
+    Limits {
+        plain: false,
+        pairs: 50_000,
+        nodes: 4_194_304,
+        entries: 100_000,
+        list: 1_000,
+    }
+}
+
+/// An answer for each item of the sheet, of what the script makes of the page. It costs what `judge_rules` costs where each statement
+/// is a rule, and else what `judge` does.
+#[tactic(auto, using(crate::proofs::AnsweringLemmas::right_by_rules, crate::proofs::RuleLemmas::few_rules))]
+pub(crate) fn answers_of(alloc: Global, inputs: &Inputs) -> Result<Vec<Answer>, Stop>
+    requires given { AreInputs (inputs_of inputs.now) }
+    ensures right { IfOk result (λ answers. AreRightOf (inputs_of inputs.now) (map answer_of answers.items)) }
+    ensures count { IfOk result (λ answers. vec_len answers ≡ length inputs.now.sheet.items) }
+    ensures stop { IfErr result (λ e. IsUnanswered (inputs_of inputs.now) e) }
+{
+    match rules_of(alloc, &inputs.stmts)? {
+        Some(rules) => Ok(judge_rules(alloc, &inputs.page, &inputs.sheet, &rules)?),
+        None => judge_all(alloc, inputs),
+    }
+}
+
+/// The same where not each statement is a rule.
+#[tactic(auto, using(crate::proofs::AnsweringLemmas::right_by_system, crate::proofs::AnsweringLemmas::count_judged, crate::proofs::AnsweringLemmas::refused_by_fault))]
+fn judge_all(alloc: Global, inputs: &Inputs) -> Result<Vec<Answer>, Stop>
+    requires given { AreInputs (inputs_of inputs.now) }
+    requires other { are_rules (statements_of inputs.now.stmts.items) ≡ false }
+    ensures right { IfOk result (λ answers. AreRightOf (inputs_of inputs.now) (map answer_of answers.items)) }
+    ensures count { IfOk result (λ answers. vec_len answers ≡ length inputs.now.sheet.items) }
+    ensures stop { IfErr result (λ e. IsUnanswered (inputs_of inputs.now) e) }
+{
+    let limits = default_limits();
+    let answers = judge(
+        alloc,
+        &inputs.page,
+        &inputs.sheet,
+        &inputs.stmts,
+        &inputs.atoms,
+        &limits,
+    )?;
+    Ok(answers)
+}
