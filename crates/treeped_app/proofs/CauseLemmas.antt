@@ -3,7 +3,11 @@ use Rattle.std.proofs.Common.{◌≡◌, ◌⊎◌, ℕ, ◌≤◌, ◌<◌, Boo
 use Rattle.std.specs.List.{list_any}
 use Rattle.std.proofs.lemmas.Bool.{true≢false}
 use Rattle.std.proofs.lemmas.List.{append_cancel_left}
-use Rattle.usage_report.specs.Answers.{Answer}
+use Rattle.tree_sem.specs.Trees.{LabelTree}
+use Rattle.css_read.specs.Sheets.{Outcome, judged, skipped as left_out, Item}
+use Rattle.jq_sem.specs.Statements.{Statement}
+use Rattle.usage_report.specs.Answers.{Answer, used, used_unshown, unused, skipped, spent as spent_}
+use Rattle.treeped_app.specs.Answers.{IsRight, AreRight}
 use Rattle.tp_io.specs.Files.{Load}
 use Rattle.tp_io.specs.Sinks.{Adds, Rose}
 use Rattle.tp_io.specs.declared.files.TheConstants.{MOST_BYTES}
@@ -18,7 +22,7 @@ use Rattle.treeped_app.specs.declared.stops.Stop.TheVariants.{Words, TooLarge, R
 use Rattle.treeped_app.specs.Rules.{are_rules}
 use Rattle.treeped_app.specs.Words.{Names, command}
 use Rattle.treeped_app.specs.Stops.{line_of, status_of_stop}
-use Rattle.treeped_app.specs.Runs.{Put, Run, Ends, Texts, Inputs, AreTexts, IsAccepted, Exceeds, read_inputs, loads_before, all_loads, name_of, succeeded, failed, is_unused, is_open, AreRightBy, AreRightOf, IsRefusedBy, IsJudgeable}
+use Rattle.treeped_app.specs.Runs.{Put, Run, Ends, Texts, Inputs, AreTexts, IsAccepted, Exceeds, read_inputs, loads_before, all_loads, name_of, succeeded, failed, is_unused, is_open, status_of, AreRightBy, AreRightOf, IsRefusedBy, IsJudgeable}
 use Rattle.treeped_app.specs.Commands.{Reports, Says, IsTold, IsEnded, Fails, IsRefusal, FailedAt, AreTold, Fit, Causes}
 
 -- the stops whose line is said whole or not at all
@@ -162,6 +166,30 @@ module _ (r : Run) (n : Names) (x : Texts) (told : AreTold r n x) where
 
 -- ---- judging
 
+-- where each statement is a rule, no limit is passed
+one_open : (t : LabelTree) (ss : List Statement) (o : Outcome) (a : Answer) → IsRight t ss o a → is_open a ≡ false
+one_open t ss (judged s) (used steps shown) right = refl
+one_open t ss (judged s) used_unshown right = absurd right
+one_open t ss (judged s) unused right = refl
+one_open t ss (judged s) (skipped cause at) right = refl
+one_open t ss (judged s) spent_ right = absurd right
+one_open t ss (left_out cause at) a right = ap is_open right
+
+none_open : (t : LabelTree) (ss : List Statement) (items : List Item) (answers : List Answer) → AreRight t ss items answers → list_any is_open answers ≡ false
+none_open t ss [] [] right = refl
+none_open t ss [] (a ∷ answers) right = absurd right
+none_open t ss (i ∷ items) [] right = absurd right
+none_open t ss (i ∷ items) (a ∷ answers) right = rw (one_open t ss i.outcome a right.0) (none_open t ss items answers right.1)
+
+never_budget : (a b : Bool) → a ≡ false → (if a then status.Budget else if b then status.Unused else status.Complete) ≡ status.Budget → ⊥
+never_budget true b is same = true≢false is
+never_budget false true is same = cc
+never_budget false false is same = cc
+
+not_rules : (b : Bool) (i : Inputs) (answers : List Answer) → AreRightBy b i answers → status_of answers ≡ status.Budget → b ≡ false
+not_rules true i answers right is = absurd (never_budget (list_any is_open answers) (list_any is_unused answers) (none_open i.tree i.stmts i.sheet.items answers right) is)
+not_rules false i answers right is = refl
+
 judged_where : (b : Bool) (i : Inputs) (answers : List Answer) → are_rules i.stmts ≡ b → AreRightBy b i answers → IsJudgeable i
 judged_where true i answers is right = inl is
 judged_where false i answers is right = inr right.0
@@ -280,7 +308,7 @@ module _ (r : Run) (err : Put) (s : Status) where
   write_fault_of (said WriteFault lined ends status_is line) is = elim lined [ ]
   write_fault_of (said NoMemory lined ends status_is line) is = elim lined [ ]
   write_fault_of (cut stop ends (inl fault)) is = inr fault.1
-  write_fault_of (cut stop ends (inr spent_)) is = cc
+  write_fault_of (cut stop ends (inr short)) is = cc
   write_fault_of (unwritten ends status_is) is = inl ends.3.4
   write_fault_of (spent status_is) is = cc
 
@@ -297,6 +325,20 @@ module _ (r : Run) (err : Put) (s : Status) where
   not_judged_of n x i f (unwritten ends status_is) told fits reads refused = absurd (not_answered r n x i f told reads refused ends.0 ends.1 ends.2 ends.3.0 ends.3.2.right)
   not_judged_of n x i f (spent status_is) told fits reads refused = inr (inr (inr status_is))
 
+  budget_of : IsOne r err s → s ≡ status.Budget → (x : Texts) × (i : Inputs) × IsAccepted r x i × (are_rules i.stmts ≡ false)
+  budget_of (reported report ends) is = (ends.0, ends.1, ends.2, not_rules (are_rules ends.1.stmts) ends.1 ends.3.0 ends.3.2.right (sym ends.3.4 ∙ is))
+  budget_of (said Words lined ends status_is line) is = cc
+  budget_of (said (TooLarge part) lined ends status_is line) is = cc
+  budget_of (said (ReadFault part) lined ends status_is line) is = cc
+  budget_of (said (Unread refusal) lined ends status_is line) is = cc
+  budget_of (said (Judging refusal) lined ends status_is line) is = cc
+  budget_of (said WriteFault lined ends status_is line) is = elim lined [ ]
+  budget_of (said NoMemory lined ends status_is line) is = elim lined [ ]
+  budget_of (cut stop ends (inl fault)) is = let a = fault.0 in cc
+  budget_of (cut stop ends (inr short)) is = cc
+  budget_of (unwritten ends status_is) is = cc
+  budget_of (spent status_is) is = cc
+
   completes_of : (n : Names) (x : Texts) (i : Inputs) → IsOne r err s → AreTold r n x → Fit x → read_inputs x ≡ Ok i → IsJudgeable i → ((part : Part) → FailedAt r n part → ⊥)
       → (Rose r.out.faults r.out.faults' → ⊥) → (Rose err.faults err.faults' → ⊥) → Reports s ⊎ (s ≡ status.NoMemory)
   completes_of n x i (reported report ends) told fits reads can loads out errors = inl report
@@ -311,7 +353,7 @@ module _ (r : Run) (err : Put) (s : Status) where
   completes_of n x i (said WriteFault lined ends status_is line) told fits reads can loads out errors = elim lined [ ]
   completes_of n x i (said NoMemory lined ends status_is line) told fits reads can loads out errors = elim lined [ ]
   completes_of n x i (cut stop ends (inl fault)) told fits reads can loads out errors = absurd (errors fault.1)
-  completes_of n x i (cut stop ends (inr spent_)) told fits reads can loads out errors = inr spent_
+  completes_of n x i (cut stop ends (inr short)) told fits reads can loads out errors = inr short
   completes_of n x i (unwritten ends status_is) told fits reads can loads out errors = absurd (out ends.3.4)
   completes_of n x i (spent status_is) told fits reads can loads out errors = inr status_is
 
@@ -329,5 +371,6 @@ module _ (r : Run) (err : Put) (s : Status) where
         read_fault = read_fault_of one;
         failed_load = λ n part. failed_load_of n part one;
         write_fault = write_fault_of one;
+        budget = budget_of one;
         completes = λ n x i. completes_of n x i one;
       }

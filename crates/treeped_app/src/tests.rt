@@ -518,12 +518,13 @@ fn repeated(alloc: Global, (piece, count): (&[u8], usize)) -> Result<Vec<u8>, Al
 fn run_texts(
     rt: &impl Abort,
     alloc: Global,
-    texts: [Vec<u8>; 3],
+    page: Vec<u8>,
+    sheet: Vec<u8>,
+    script: Vec<u8>,
     code: u8,
     line: &str,
 ) -> Result<(), AllocError> {
     let words = strings(alloc, &NAMES)?;
-    let [page, sheet, script] = texts;
     let mut entries = Vec::new(alloc);
     entries.push((String::from_str(alloc, "page")?, page))?;
     entries.push((String::from_str(alloc, "sheet")?, sheet))?;
@@ -541,7 +542,7 @@ fn run_limit(rt: &impl Abort, alloc: Global, limit: &Limit) -> Result<(), AllocE
     let page = repeated(alloc, limit.page)?;
     let sheet = repeated(alloc, limit.sheet)?;
     let script = repeated(alloc, limit.script)?;
-    run_texts(rt, alloc, [page, sheet, script], limit.status, limit.err)
+    run_texts(rt, alloc, page, sheet, script, limit.status, limit.err)
 }
 
 /// A page of so many paragraphs, each with a class of its own.
@@ -584,12 +585,12 @@ fn judging_is_refused(rt: HostRuntime) -> Result<(), Fail> {
     let page = own_classes(alloc, 65_520)?;
     let sheet = long_selectors(alloc, b"b")?;
     let line = "treeped: judge: too many atoms\n";
-    run_texts(&rt, alloc, [page, sheet, script], 3, line)?;
+    run_texts(&rt, alloc, page, sheet, script, 3, line)?;
     let script = Vec::from_slice(alloc, OPENS.as_bytes())?;
     let page = Vec::new(alloc);
     let sheet = long_selectors(alloc, b"bcdefghijklmnopqr")?;
     let line = "treeped: judge: too many visible atoms\n";
-    run_texts(&rt, alloc, [page, sheet, script], 3, line)?;
+    run_texts(&rt, alloc, page, sheet, script, 3, line)?;
     Ok(())
 }
 
