@@ -20,7 +20,7 @@ use Rattle.jq_read.specs.Limits.{trees_added, nodes_added, AreWithin}
 use Rattle.guard_simplify.specs.Auxiliaries.{tops_of}
 use Rattle.judge.specs.Answers.{judged_of, judged_in}
 use Rattle.judge.specs.Outcomes.{forest_nodes, AreGiven}
-use Rattle.treeped_app.proofs.ReadableLemmas.{readable_within}
+use Rattle.jq_sem.proofs.ReadableLemmas.{readable_within}
 
 -- ---- the table grows
 

@@ -8,7 +8,6 @@ pub mod JudgingLemmas
 pub mod LevelLemmas
 pub mod LoadingLemmas
 pub mod MatchLemmas
-pub mod ReadableLemmas
 pub mod ReadingLemmas
 pub mod RuleLemmas
 pub mod StepLemmas
