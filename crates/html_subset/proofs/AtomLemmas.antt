@@ -36,11 +36,11 @@ below_later n m label le is a there = let below = is a there in omega arith
 
 -- ---- what holds of the outcome of a step, if it has one
 
-abbrev Brings : {X : Type 0} → (X → Type 0) → Outcome X → Type 0
+abbrev pub Brings : {X : Type 0} → (X → Type 0) → Outcome X → Type 0
 Brings P (Ok x) = P x
 Brings P (Err e) = Unit {0}
 
-brings_then : {X Y : Type 0} (P : X → Type 0) (Q : Y → Type 0) (r : Outcome X) (f : X → Outcome Y) → Brings P r → ((x : X) → P x → Brings Q (f x)) → Brings Q (r >>= f)
+pub brings_then : {X Y : Type 0} (P : X → Type 0) (Q : Y → Type 0) (r : Outcome X) (f : X → Outcome Y) → Brings P r → ((x : X) → P x → Brings Q (f x)) → Brings Q (r >>= f)
 brings_then P Q (Ok x) f first next = next x first
 brings_then P Q (Err e) f first next = tt
 
@@ -48,7 +48,7 @@ brings_more : {X : Type 0} (P Q : X → Type 0) (r : Outcome X) → ((x : X) →
 brings_more P Q (Ok x) weaker is = weaker x is
 brings_more P Q (Err e) weaker is = tt
 
-brings_either : {X : Type 0} (P : X → Type 0) (b : Bool) (r s : Outcome X) → Brings P r → Brings P s → Brings P (if b then r else s)
+pub brings_either : {X : Type 0} (P : X → Type 0) (b : Bool) (r s : Outcome X) → Brings P r → Brings P s → Brings P (if b then r else s)
 brings_either P true r s first second = first
 brings_either P false r s first second = second
 
@@ -311,7 +311,7 @@ bare_over table =
     })))
 
 -- what is read at the end of an outcome
-ended_over : {A : Type 0} (P : ℕ → A → Type 0) (seen : State → A) (r : Outcome State) (names : List Named) (x : A) → Brings (λ s. P (length s.table) (seen s)) r
+pub ended_over : {A : Type 0} (P : ℕ → A → Type 0) (seen : State → A) (r : Outcome State) (names : List Named) (x : A) → Brings (λ s. P (length s.table) (seen s)) r
     → ending (λ (s : State). s.table) seen r ≡ (names, Ok x) → P (length names) x
 ended_over {A} P seen (Ok s) names x is e =
     let same : s.table ≡ names = ap (λ (z : Ending A). z.0) e in
@@ -322,7 +322,7 @@ ended_over {A} P seen (Err f) names x is e =
     let read : ◌≡◌ {A = Result A PageFault} (Err f.0) (Ok x) = ap (λ (z : Ending A). z.1) e in
     cc
 
-if_read : {A : Type 0} (b : Bool) (read : Ending A) (table names : List Named) (f : PageFault) (x : A) → (if b then read else (table, Err f)) ≡ (names, Ok x) → read ≡ (names, Ok x)
+pub if_read : {A : Type 0} (b : Bool) (read : Ending A) (table names : List Named) (f : PageFault) (x : A) → (if b then read else (table, Err f)) ≡ (names, Ok x) → read ≡ (names, Ok x)
 if_read true read table names f x e = e
 if_read {A} false read table names f x e = let other : ◌≡◌ {A = Result A PageFault} (Err f) (Ok x) = ap (λ (z : Ending A). z.1) e in cc
 

@@ -15,5 +15,6 @@ pub mod Simulation
 pub mod ReadingSteps
 pub mod EndingLemmas
 pub mod AtomLemmas
+pub mod NamesKept
 mod TokenRows
 mod Rows

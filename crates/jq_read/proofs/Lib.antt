@@ -7,3 +7,8 @@ pub mod SeveralSteps
 pub mod Tables
 pub mod ReadingLaws
 pub mod LimitLaws
+pub mod TableStates
+pub mod TableRoots
+pub mod TableArguments
+pub mod TableChains
+pub mod TableStatements

@@ -7,6 +7,7 @@ ghost use Rattle.js_scan.specs.declared.token.ScanFault.TheVariants as scan;
 ghost use Rattle.sel_core.specs.Results.{IsFront};
 ghost use Rattle.jq_words.specs.Results.{Gives, Finds};
 ghost use Rattle.jq_words.specs.declared.faults.ScriptFault.TheVariants.{Memory, Scan};
+ghost use Rattle.jq_sem.specs.Tables.{AreStatementsOver};
 ghost use Rattle.jq_read.specs.Script as spec;
 ghost use Rattle.jq_read.specs.Limits.{AreWithin};
 
@@ -93,7 +94,7 @@ fn read_file(alloc: Global, text: &[u8], atoms: &mut AtomTable) -> Result<Vec<St
 
 /// Reads a script file: its statements, in the order of the names of their actions, or its first fault. Linear in the file but for
 /// look-ups of names.
-#[tactic(auto, using(sel_core::proofs::Fronts::front_itself, crate::proofs::LimitLaws::kept_within))]
+#[tactic(auto, using(sel_core::proofs::Fronts::front_itself, crate::proofs::LimitLaws::kept_within, crate::proofs::TableStatements::kept_over))]
 pub fn read_script(
     alloc: Global,
     text: &[u8],
@@ -104,6 +105,7 @@ pub fn read_script(
     ensures memory { IfErr result (λ e. e ≢ Scan scan.Memory) }
     ensures front { IsFront atoms.old atoms.new }
     ensures within { IfOk result (λ v. AreWithin (statements_of v.items)) }
+    ensures over { IfOk result (λ v. AreStatementsOver (length atoms.new) (statements_of v.items)) }
 {
     match read_file(alloc, text, atoms) {
         Ok(statements) => Ok(statements),
