@@ -1,5 +1,5 @@
 -- Calls, one more at a time, and the set before that of the last.
-use Rattle.std.proofs.Common.{◌≡◌, ℕ, ◌+◌, ◌≢◌, Bool, true, false, not, List, [], ◌∷◌, ◌++◌, length, map, refl, ap, ◌∙◌, arith}
+use Rattle.std.proofs.Common.{◌≡◌, ◌≢◌, Bool, true, false, not, List, [], ◌∷◌, ◌++◌, length, map, refl, ap, ◌∙◌, arith}
 use Rattle.std.proofs.lemmas.List.{map-append}
 use denote.Bor.{Bor}
 use Rattle.jq_sem.specs.declared.chains.Call.{Call}

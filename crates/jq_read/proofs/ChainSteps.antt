@@ -1,7 +1,7 @@
 -- The calls of a chain, one by one.
 use Rattle.std.proofs.Common.{◌≡◌, ℕ, zero, suc, ◌-◌, true, false, List, [], ◌∷◌, length, drop, Ok, Err, refl, ap, ◌∙◌, codes}
 use Rattle.jq_words.specs.declared.faults.ScriptFault.{ScriptFault}
-use Rattle.jq_words.specs.Words.{Word, ◌>>=◌, is_mark, begins, first_is}
+use Rattle.jq_words.specs.Words.{Word, is_mark, begins, first_is}
 use Rattle.jq_words.specs.Results.{IsRest, IsBehind}
 use Rattle.jq_parts.specs.Bindings.{Value}
 use Rattle.jq_read.specs.States.{Context, State, size}

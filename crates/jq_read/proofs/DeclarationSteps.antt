@@ -1,7 +1,7 @@
 -- Declarations, each behind a comma.
 use Rattle.std.proofs.Common.{◌≡◌, ℕ, zero, suc, ◌-◌, true, false, List, [], ◌∷◌, length, drop, Option, Ok, Err, refl, ap, ◌∙◌, codes}
 use Rattle.jq_words.specs.declared.faults.ScriptFault.{ScriptFault}
-use Rattle.jq_words.specs.Words.{Word, ◌>>=◌, is_mark, begins, first_is, want_name}
+use Rattle.jq_words.specs.Words.{Word, is_mark, begins, first_is, want_name}
 use Rattle.jq_words.specs.Results.{IsRest, IsBehind}
 use Rattle.jq_words.proofs.Rests.{is_rest}
 use Rattle.jq_read.specs.States.{Context, State, size}

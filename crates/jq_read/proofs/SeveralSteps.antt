@@ -2,7 +2,7 @@
 use Rattle.std.proofs.Common.{◌≡◌, ℕ, suc, ◌+◌, Bool, List, Ok, Err, Option, refl, arith}
 use Rattle.jq_sem.specs.Statements.{Chain}
 use Rattle.jq_words.specs.declared.faults.ScriptFault.{ScriptFault}
-use Rattle.jq_words.specs.Words.{Word, ◌>>=◌}
+use Rattle.jq_words.specs.Words.{Word}
 use Rattle.jq_read.specs.States.{Context, State, size}
 use Rattle.jq_read.specs.Functions.{Block, handed}
 use Rattle.jq_read.specs.Chains.{behind_one, several}

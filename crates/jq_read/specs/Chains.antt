@@ -5,7 +5,7 @@
 --     call          one call
 --     calls         all of them
 --     chain         a root and its calls
-use Rattle.std.specs.Prelude.{ℕ, zero, suc, ◌-◌, ◌==◌, ◌&&◌, ◌||◌, not, Bool, true, false, if◌then◌else◌, List, [], ◌∷◌, length, map, drop, codes, Option, Some, None, Ok, Err}
+use Rattle.std.specs.Prelude.{ℕ, zero, suc, ◌-◌, ◌==◌, ◌&&◌, not, Bool, true, false, if◌then◌else◌, List, [], ◌∷◌, length, map, drop, codes, Option, Some, None, Ok, Err}
 use Rattle.sel_core.specs.Selectors.{simple}
 use Rattle.jq_sem.specs.Statements.{Chain, find, back, standing}
 use Rattle.jq_words.specs.declared.faults.ScriptFault.TheVariants.{UnknownCall, UnknownForm}

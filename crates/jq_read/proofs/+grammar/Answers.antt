@@ -1,4 +1,4 @@
-use Rattle.std.proofs.Common.{◌≡◌, ◌-◌, sym, ap, ◌∙◌, arith}
+use Rattle.std.proofs.Common.{◌-◌, sym, ap, ◌∙◌, arith}
 use Rattle.std.proofs.lemmas.Result.{err_from_is_err_and}
 use Rattle.sel_core.proofs.Fronts.{front_of_front}
 use Rattle.jq_words.proofs.Rests.{of_rest, is_rest, rest_behind, behind_rest, behind_behind}

@@ -1,4 +1,4 @@
-use Rattle.std.proofs.Common.{◌≡◌, ◌≢◌, length, arith}
+use Rattle.std.proofs.Common.{◌≢◌, length, arith}
 use Rattle.std.proofs.lemmas.Grind.{common_steps}
 use Rattle.jq_read.proofs.CallSteps.{some_before}
 use Rattle.jq_read.proofs.calls.has_set_before.Goals as goal
