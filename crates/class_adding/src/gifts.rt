@@ -4,7 +4,8 @@ ghost use Rattle.tp_base.specs.Classes.{union_of};
 ghost use Rattle.class_adding.specs.Gifts.{given_by, AreEarly, IsGiven};
 ghost use Rattle.class_adding.specs.Filling.{IsBefore};
 
-use simple_core::{Summaries, System};
+use crate::indexed_system::IndexedSystem;
+use simple_core::Summaries;
 use std::alloc::Global;
 use tp_base::{Atom, ClassSet, NoMemory};
 
@@ -18,7 +19,7 @@ pub(crate) struct Gift {
 /// What a known child of the kind gives. It costs a question for each link from a child.
 pub(crate) fn gifts_of<S: Summaries>(
     alloc: Global,
-    system: &System,
+    system: &IndexedSystem,
     sums: &S,
     kind: u32,
     seen: &ClassSet,
@@ -28,7 +29,7 @@ pub(crate) fn gifts_of<S: Summaries>(
     ensures { IfOk result (λ v. IsGiven system.now kind seen.now v.items) }
 {
     let mut gifts = Vec::new(alloc);
-    let mut rest = system.down.items();
+    let mut rest = system.down_links();
     'links: while let Some((link, others)) = rest.split_first() {
         if let Some(round) = sums.first_round(kind, seen, link.from) {
             gifts.push(Gift { to: link.to, round })?;

@@ -1,0 +1,244 @@
+-- Rules found by the atoms that they look at.
+use Rattle.std.proofs.Common.{◌≡◌, ◌≢◌, ◌⊎◌, ◌==◌, false, ℕ, zero, suc, ◌+◌, ◌-◌, ◌<◌, List, [], ◌∷◌, ◌++◌, take, length, get_or, slice_get, Option, Some, None, option_map, unwrap_or, All, Contains, refl, sym, ap, ◌∙◌, inl, inr, arith, subst}
+use Rattle.std.specs.List.Sorted.{IsStrictlyIncreasing}
+use Rattle.std.proofs.lemmas.Bool.{cases_order, cases_Bool, both_ways, eq-eqb}
+use Rattle.std.proofs.lemmas.List.{take_more, length-take-le, append_assoc}
+use Rattle.std.proofs.lemmas.Grind.{flat_map-append}
+use Rattle.std.proofs.lemmas.List.Sums.{fold-append}
+use Rattle.std.proofs.lemmas.List.Elements.{Contains-append_left, Contains-append_right, Contains-append_cases, Contains-get_or}
+use Rattle.std.proofs.lemmas.Option.{slice_get_within, slice_get-get_or, get_or_from_slice_get}
+use Rattle.tp_base.specs.Classes.{with_class, union_of}
+use Rattle.tp_base.proofs.ClassLemmas.{same_members, Contains-union_of, IsStrictlyIncreasing-union_of}
+use Rattle.tp_base.proofs.Rising.{Contains-here, Contains-cons, Contains-none, All-from_Contains}
+use Rattle.tp_base.proofs.NamesLemmas.{slice_get-append_left, slice_get-push}
+use Rattle.simple_core.specs.declared.system.System.{System}
+use Rattle.simple_core.specs.declared.rules.Local.{Local}
+use Rattle.simple_core.specs.declared.rules.Link.{Link}
+use Rattle.simple_core.specs.declared.rules.Spawn.{Spawn}
+use Rattle.simple_core.specs.Labels.{given_by_rules, given_by_links}
+use Rattle.simple_core.proofs.Members.{flat_map-Contains, Contains-flat_map, all_among_each}
+use Rattle.simple_core.proofs.LabelLemmas.{IsByRule, given_by_rules-is, is-given_by_rules, given_by_links-is, is-given_by_links, kinds_at-is, is-kinds_at}
+use Rattle.class_adding.specs.Indexes.{row_of, IsNoted, IsIndex, needs_key, AreLocalsAt, AreLinksAt, AreSpawnsAt, at_place, at_row, by_label, given_in, to_of, kind_of, AreKinds}
+
+-- unions with the same members are one
+pub union_of-same : (start xs ys : List ℕ) → IsStrictlyIncreasing start → ((y : ℕ) → Contains xs y → Contains ys y) → ((y : ℕ) → Contains ys y → Contains xs y) → union_of start xs ≡ union_of start ys
+union_of-same start xs ys up there back =
+    same_members (union_of start xs) (union_of start ys) (IsStrictlyIncreasing-union_of start xs up) (IsStrictlyIncreasing-union_of start ys up)
+    (All-from_Contains (Contains (union_of start ys)) (union_of start xs) (λ y h. (Contains-union_of start ys y).1 (elim ((Contains-union_of start xs y).0 h) [ inl old ↦ inl old | inr new ↦ inr (there y new) ])))
+    (All-from_Contains (Contains (union_of start xs)) (union_of start ys) (λ y h. (Contains-union_of start xs y).1 (elim ((Contains-union_of start ys y).0 h) [ inl old ↦ inl old | inr new ↦ inr (back y new) ])))
+
+-- ---- making an index
+
+last_at : {X : Type 0} (xs : List X) (x : X) (j : ℕ) (y : X) → slice_get (xs ++ x ∷ []) j ≡ Some y → (slice_get xs j ≡ Some y) ⊎ ((j ≡ length xs) × (y ≡ x))
+last_at [] x zero y at = let same : y ≡ x = cc in inr (refl, same)
+last_at [] x (suc j) y at = cc
+last_at (z ∷ xs) x zero y at = inl at
+last_at (z ∷ xs) x (suc j) y at = elim (last_at xs x j y at) [ inl old ↦ inl old | inr last ↦ inr (ap suc last.0, last.1) ]
+
+pub index_none : {X : Type 0} (key : X → ℕ) (rows : List (List ℕ)) → rows ≡ [] → IsIndex key [] rows
+index_none {X} key rows none = record {
+  whole = λ i x at. let never : None ≡ Some x = at in cc;
+  only = λ k i there. absurd (Contains-none i (subst (λ (z : List (List ℕ)). Contains (row_of z k) i) none there));
+}
+
+noted_kept : (old new : List (List ℕ)) (key place : ℕ) → IsNoted old new key place → (k j : ℕ) → Contains (row_of old k) j → Contains (row_of new k) j
+noted_kept old new key place noted k j there = elim (cases_order k key) [
+  | inl same ↦ subst (λ z. Contains (row_of new z) j) (sym same) (subst (λ (z : List ℕ). Contains z j) (sym noted.here) (Contains-append_left (row_of old key) (place ∷ []) j (subst (λ z. Contains (row_of old z) j) same there)))
+  | inr (inl less) ↦ subst (λ (z : List ℕ). Contains z j) (sym (noted.others k (λ e. omega arith))) there
+  | inr (inr more) ↦ subst (λ (z : List ℕ). Contains z j) (sym (noted.others k (λ e. omega arith))) there
+]
+
+noted_cases : (old new : List (List ℕ)) (key place : ℕ) → IsNoted old new key place → (k j : ℕ) → Contains (row_of new k) j → Contains (row_of old k) j ⊎ ((k ≡ key) × (j ≡ place))
+noted_cases old new key place noted k j there = elim (cases_order k key) [
+  | inl same ↦ elim (Contains-append_cases (row_of old key) (place ∷ []) j (subst (λ (z : List ℕ). Contains z j) noted.here (subst (λ z. Contains (row_of new z) j) same there))) [
+    | inl before ↦ inl (subst (λ z. Contains (row_of old z) j) (sym same) before)
+    | inr now ↦ elim ((Contains-cons j place []).0 now) [ inl here ↦ inr (same, here) | inr none ↦ absurd (Contains-none j none) ]
+  ]
+  | inr (inl less) ↦ inl (subst (λ (z : List ℕ). Contains z j) (noted.others k (λ e. omega arith)) there)
+  | inr (inr more) ↦ inl (subst (λ (z : List ℕ). Contains z j) (noted.others k (λ e. omega arith)) there)
+]
+
+pub index_more : {X : Type 0} (key : X → ℕ) (rules : List X) (i : ℕ) (x : X) (old new : List (List ℕ)) → i < length rules → x ≡ get_or rules i x → IsIndex key (take i rules) old → IsNoted old new (key x) i
+    → IsIndex key (take (i + 1) rules) new
+index_more {X} key rules i x old new less at before noted =
+    let longer : take (i + 1) rules ≡ take i rules ++ x ∷ [] = take_more rules i x less ∙ (λ n. take i rules ++ sym at n ∷ []) in
+    let long : length (take i rules) ≡ i = length-take-le i rules (omega arith) in
+    subst (λ (xs : List X). IsIndex key xs new) (sym longer) (record {
+      whole = λ j y at_j. elim (last_at (take i rules) x j y at_j) [
+        | inl old_one ↦ noted_kept old new (key x) i noted (key y) j (before.whole j y old_one)
+        | inr last ↦
+            let place : j ≡ i = last.0 ∙ long in
+            subst (λ z. Contains (row_of new (key z)) j) (sym last.1) (subst (λ z. Contains (row_of new (key x)) z) (sym place)
+            (subst (λ (z : List ℕ). Contains z i) (sym noted.here) (Contains-append_right (row_of old (key x)) (i ∷ []) i (Contains-here i i [] refl))))
+      ];
+      only = λ k j there. elim (noted_cases old new (key x) i noted k j there) [
+        | inl old_one ↦
+            let y = before.only k j old_one in
+            (y.0, slice_get-append_left (take i rules) (x ∷ []) j (slice_get_within (take i rules) j y.0 y.1) ∙ y.1, y.2)
+        | inr last ↦ (x, ap (slice_get (take i rules ++ x ∷ [])) (last.1 ∙ sym long) ∙ slice_get-push (take i rules) x, sym last.0)
+      ];
+    })
+
+-- the row at a key gets one place more
+pub noted_at : (old reached new : List (List ℕ)) (key place : ℕ) (row : List ℕ) → ((k : ℕ) → row_of reached k ≡ row_of old k) → ((k : ℕ) → k ≢ key → row_of new k ≡ row_of reached k) → row_of new key ≡ row
+    → row ≡ row_of reached key ++ place ∷ [] → IsNoted old new key place
+noted_at old reached new key place row same others here more = record {
+  here = here ∙ more ∙ ap (λ (z : List ℕ). z ++ place ∷ []) (same key);
+  others = λ k other. others k other ∙ same k;
+}
+
+-- ---- what is found
+
+pub row_next : {X : Type 0} (f : X → List ℕ) (rules : List X) (next next' rest : List ℕ) (p : ℕ) (others : List ℕ) → rest ≡ p ∷ others → next' ≡ union_of next (at_place f rules p)
+    → union_of next' (at_row f rules others) ≡ union_of next (at_row f rules rest)
+row_next {X} f rules next next' rest p others split given =
+    ap (λ z. union_of z (at_row f rules others)) given
+    ∙ sym (fold-append (λ (xs : List ℕ) (y : ℕ). with_class y xs) next (at_place f rules p) (at_row f rules others))
+    ∙ ap (λ z. union_of next (at_row f rules z)) (sym split)
+
+pub row_end : {X : Type 0} (f : X → List ℕ) (rules : List X) (next start rest row : List ℕ) → length rest ≡ 0 → union_of next (at_row f rules rest) ≡ union_of start (at_row f rules row) → next ≡ union_of start (at_row f rules row)
+row_end f rules next start [] row none same = same
+row_end f rules next start (p ∷ rest) row none same = absurd (omega arith)
+
+join_end : (xs : List ℕ) → xs ++ [] ≡ xs
+join_end [] = refl
+join_end (x ∷ xs) = ap (λ z. x ∷ z) (join_end xs)
+
+pub kinds_next : {X : Type 0} (f : X → List ℕ) (rules : List X) (next next' rest : List ℕ) (p : ℕ) (others : List ℕ) → rest ≡ p ∷ others → next' ≡ next ++ at_place f rules p
+    → next' ++ at_row f rules others ≡ next ++ at_row f rules rest
+kinds_next {X} f rules next next' rest p others split given =
+    ap (λ z. z ++ at_row f rules others) given
+    ∙ append_assoc next (at_place f rules p) (at_row f rules others)
+    ∙ ap (λ z. next ++ at_row f rules z) (sym split)
+
+pub kinds_end : {X : Type 0} (f : X → List ℕ) (rules : List X) (next start rest row : List ℕ) → length rest ≡ 0 → next ++ at_row f rules rest ≡ start ++ at_row f rules row → next ≡ start ++ at_row f rules row
+kinds_end f rules next start [] row none same = sym (join_end next) ∙ same
+kinds_end f rules next start (p ∷ rest) row none same = absurd (omega arith)
+
+take_next : {X : Type 0} (xs : List X) (i : ℕ) (a : X) → slice_get xs i ≡ Some a → take (i + 1) xs ≡ take i xs ++ a ∷ []
+take_next xs i a at = take_more xs i a (slice_get_within xs i a at) ∙ (λ n. take i xs ++ get_or_from_slice_get xs i a a at n ∷ [])
+
+by_label-more : {X : Type 0} (f : X → List ℕ) (rules : List X) (rows : List (List ℕ)) (at : ℕ → ℕ) (label : List ℕ) (i a : ℕ) → slice_get label i ≡ Some a
+    → by_label f rules rows at (take (i + 1) label) ≡ by_label f rules rows at (take i label) ++ at_row f rules (row_of rows (at a))
+by_label-more f rules rows at label i a is =
+    ap (by_label f rules rows at) (take_next label i a is)
+    ∙ flat_map-append (λ a. at_row f rules (row_of rows (at a))) (take i label) (a ∷ [])
+    ∙ ap (λ z. by_label f rules rows at (take i label) ++ z) (join_end (at_row f rules (row_of rows (at a))))
+
+-- one atom of the label more
+pub label_more : {X : Type 0} (f : X → List ℕ) (rules : List X) (rows : List (List ℕ)) (at : ℕ → ℕ) (label start next next' row : List ℕ) (i a : ℕ) → slice_get label i ≡ Some a
+    → next ≡ union_of start (by_label f rules rows at (take i label)) → row ≡ row_of rows (at a) → next' ≡ union_of next (at_row f rules row) → next' ≡ union_of start (by_label f rules rows at (take (i + 1) label))
+label_more f rules rows at label start next next' row i a is so_far here given =
+    given ∙ ap (λ z. union_of next (at_row f rules z)) here ∙ ap (λ z. union_of z (at_row f rules (row_of rows (at a)))) so_far
+    ∙ sym (fold-append (λ (xs : List ℕ) (y : ℕ). with_class y xs) start (by_label f rules rows at (take i label)) (at_row f rules (row_of rows (at a))))
+    ∙ ap (union_of start) (sym (by_label-more f rules rows at label i a is))
+
+pub kinds_more : {X : Type 0} (f : X → List ℕ) (rules : List X) (rows : List (List ℕ)) (at : ℕ → ℕ) (label start next next' row : List ℕ) (i a : ℕ) → slice_get label i ≡ Some a
+    → next ≡ start ++ by_label f rules rows at (take i label) → row ≡ row_of rows (at a) → next' ≡ next ++ at_row f rules row → next' ≡ start ++ by_label f rules rows at (take (i + 1) label)
+kinds_more f rules rows at label start next next' row i a is so_far here given =
+    given ∙ ap (λ z. next ++ at_row f rules z) here ∙ ap (λ z. z ++ at_row f rules (row_of rows (at a))) so_far
+    ∙ append_assoc start (by_label f rules rows at (take i label)) (at_row f rules (row_of rows (at a)))
+    ∙ ap (λ z. start ++ z) (sym (by_label-more f rules rows at label i a is))
+
+place_is : {X : Type 0} (f : X → List ℕ) (rules : List X) (i : ℕ) (x : X) → slice_get rules i ≡ Some x → at_place f rules i ≡ f x
+place_is {X} f rules i x at = ap (λ (o : Option X). unwrap_or (option_map f o) []) at
+
+listed_at : {X : Type 0} (rules : List X) (i : ℕ) (x : X) → slice_get rules i ≡ Some x → Contains rules x
+listed_at rules i x at = subst (Contains rules) (get_or_from_slice_get rules i x x at) (Contains-get_or rules i x (slice_get_within rules i x at))
+
+module _ {X : Type 0} (f : X → List ℕ) (key : X → ℕ) (rules : List X) (rows : List (List ℕ)) (index : IsIndex key rules rows) where
+  -- what the rules of a row give
+  pub row-is : (k y : ℕ) → Contains (at_row f rules (row_of rows k)) y → (x : X) × Contains rules x × (key x ≡ k) × Contains (f x) y
+  row-is k y there =
+      let place = flat_map-Contains (at_place f rules) (row_of rows k) y there in
+      let x = index.only k place.0 place.1 in
+      (x.0, listed_at rules place.0 x.0 x.1, x.2, subst (λ (z : List ℕ). Contains z y) (place_is f rules place.0 x.0 x.1) place.2)
+
+  pub is-row : (x : X) (k y : ℕ) → Contains rules x → key x ≡ k → Contains (f x) y → Contains (at_row f rules (row_of rows k)) y
+  is-row x k y (i, within, at) is given =
+      let here : slice_get rules i ≡ Some x = slice_get-get_or rules i x within ∙ ap Some at in
+      Contains-flat_map (at_place f rules) (row_of rows k) i y (subst (λ z. Contains (row_of rows z) i) is (index.whole i x here)) (subst (λ (z : List ℕ). Contains z y) (sym (place_is f rules i x here)) given)
+
+  pub label-is : (at : ℕ → ℕ) (label : List ℕ) (y : ℕ) → Contains (by_label f rules rows at label) y → (a : ℕ) × Contains label a × (x : X) × Contains rules x × (key x ≡ at a) × Contains (f x) y
+  label-is at label y there =
+      let a = flat_map-Contains (λ a. at_row f rules (row_of rows (at a))) label y there in
+      let x = row-is (at a.0) y a.2 in
+      (a.0, a.1, x.0, x.1, x.2, x.3)
+
+  pub is-label : (at : ℕ → ℕ) (label : List ℕ) (x : X) (a y : ℕ) → Contains label a → Contains rules x → key x ≡ at a → Contains (f x) y → Contains (by_label f rules rows at label) y
+  is-label at label x a y in_label listed is given = Contains-flat_map (λ a. at_row f rules (row_of rows (at a))) label a y in_label (is-row x (at a) y listed is given)
+
+one_of : (y x : ℕ) → Contains (x ∷ []) y → y ≡ x
+one_of y x there = elim ((Contains-cons y x []).0 there) [ inl here ↦ here | inr none ↦ absurd (Contains-none y none) ]
+
+-- links
+pub linked : (links : List Link) (rows : List (List ℕ)) (label start : List ℕ) → AreLinksAt links rows → IsStrictlyIncreasing start → union_of start (by_label to_of links rows (λ a. a) label) ≡ union_of start (given_by_links links label)
+linked links rows label start index up = union_of-same start (by_label to_of links rows (λ a. a) label) (given_by_links links label) up
+    (λ y there.
+    let of = label-is to_of (λ (l : Link). l.from) links rows index (λ a. a) label y there in
+    let l : Link = of.2 in
+    is-given_by_links links label y (record { link = l; listed = of.3; from = subst (Contains label) (sym of.4) of.1; to = sym (one_of y l.to of.5) }))
+    (λ y there.
+    let by = given_by_links-is links label y there in
+    is-label to_of (λ (l : Link). l.from) links rows index (λ a. a) label by.link by.link.from y by.from by.listed refl (Contains-here y by.link.to [] (sym by.to)))
+
+-- kinds
+pub spawned : (s : System) (rows : List (List ℕ)) (own kinds : List ℕ) → AreSpawnsAt s.child rows → kinds ≡ by_label kind_of s.child rows (λ a. a) own → AreKinds s own kinds
+spawned s rows own kinds index is = λ j. (
+  λ there.
+      let of = label-is kind_of (λ (c : Spawn). c.needs) s.child rows index (λ a. a) own j (subst (λ (z : List ℕ). Contains z j) is there) in
+      let c : Spawn = of.2 in
+      is-kinds_at s own j (record { spawn = c; listed = of.3; needs = subst (Contains own) (sym of.4) of.1; kind = sym (one_of j c.kind of.5) }),
+  λ there.
+      let by = kinds_at-is s own j there in
+      subst (λ (z : List ℕ). Contains z j) (sym is)
+      (is-label kind_of (λ (c : Spawn). c.needs) s.child rows index (λ a. a) own by.spawn by.spawn.needs j by.needs by.listed refl (Contains-here j by.spawn.kind [] (sym by.kind))),
+)
+
+-- rules that look at one node
+given_in-is : (rules : List Local) (label : List ℕ) (r : Local) (y : ℕ) → Contains rules r → Contains (given_in label r) y → Contains (given_by_rules rules label) y
+given_in-is rules label r y listed there =
+    let by = given_by_rules-is (r ∷ []) label y there in
+    let same : by.rule ≡ r = elim ((Contains-cons by.rule r []).0 by.listed) [ inl here ↦ here | inr none ↦ absurd (Contains-none by.rule none) ] in
+    is-given_by_rules rules label y (record { rule = by.rule; listed = subst (Contains rules) (sym same) listed; needs = by.needs; gives = by.gives })
+
+is-given_in : (rules : List Local) (label : List ℕ) (y : ℕ) (by : IsByRule rules label y) → Contains (given_in label by.rule) y
+is-given_in rules label y by = is-given_by_rules (by.rule ∷ []) label y (record { rule = by.rule; listed = Contains-here by.rule by.rule [] refl; needs = by.needs; gives = by.gives })
+
+-- what a rule needs last is there, where all that it needs is
+positive : (n : ℕ) → (n == 0) ≡ false → 0 < n
+positive n other = elim (cases_order n 0) [
+  | inl same ↦ absurd (both_ways (n == 0) other (eq-eqb n 0 same))
+  | inr (inl less) ↦ absurd (omega (arith, less))
+  | inr (inr more) ↦ more
+]
+
+last_need : (needs label : List ℕ) → All (Contains label) needs → (needs_key needs ≡ 0) ⊎ ((a : ℕ) × Contains label a × (needs_key needs ≡ a + 1))
+last_need needs label all = elim (cases_Bool (length needs == 0)) [
+  | inl none ↦ inl (rw none refl)
+  | inr some ↦
+      let long = positive (length needs) some in
+      let a = get_or needs (length needs - 1) 0 in
+      inr (a, all_among_each needs label all a (Contains-get_or needs (length needs - 1) 0 (omega (arith, long))), rw some refl)
+]
+
+pub ruled : (rules : List Local) (rows : List (List ℕ)) (label start first next row : List ℕ) → AreLocalsAt rules rows → IsStrictlyIncreasing start → row ≡ row_of rows 0 → first ≡ union_of start (at_row (given_in label) rules row)
+    → next ≡ union_of first (by_label (given_in label) rules rows (λ a. a + 1) label) → next ≡ union_of start (given_by_rules rules label)
+ruled rules rows label start first next row index up at_first is_first is_next =
+    let key : Local → ℕ = λ r. needs_key r.needs in
+    let f = given_in label in
+    let xs = at_row f rules (row_of rows 0) in
+    let ys = by_label f rules rows (λ a. a + 1) label in
+    is_next ∙ ap (λ z. union_of z ys) (is_first ∙ ap (λ z. union_of start (at_row f rules z)) at_first)
+    ∙ sym (fold-append (λ (zs : List ℕ) (y : ℕ). with_class y zs) start xs ys)
+    ∙ union_of-same start (xs ++ ys) (given_by_rules rules label) up
+    (λ y there. elim (Contains-append_cases xs ys y there) [
+      | inl free ↦ let x = row-is f key rules rows index 0 y free in given_in-is rules label x.0 y x.1 x.3
+      | inr found ↦ let of = label-is f key rules rows index (λ a. a + 1) label y found in given_in-is rules label of.2 y of.3 of.5
+    ])
+    (λ y there.
+    let by = given_by_rules-is rules label y there in
+    elim (last_need by.rule.needs label by.needs) [
+      | inl free ↦ Contains-append_left xs ys y (is-row f key rules rows index by.rule 0 y by.listed free (is-given_in rules label y by))
+      | inr last ↦ Contains-append_right xs ys y (is-label f key rules rows index (λ a. a + 1) label by.rule last.0 y last.1 by.listed last.2 (is-given_in rules label y by))
+    ])

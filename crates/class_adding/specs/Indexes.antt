@@ -1,0 +1,65 @@
+-- Rules found by the atoms that they look at.
+--     row_of rows key          the places that stand at a key
+--     IsNoted old new key i    the place i was noted at the key, and nothing else
+--     IsIndex key rules rows   each rule's place stands at the rule's key, and nothing else stands anywhere
+--     by_label f rules rows at label   what the rules give that are found at the keys of the label's atoms
+--     AreKinds s own kinds     the kinds that the label adds, in any order
+use Rattle.std.specs.Prelude.{◌≡◌, ◌≢◌, ◌↔◌, ◌==◌, if◌then◌else◌, ℕ, ◌+◌, ◌-◌, List, [], ◌∷◌, ◌++◌, length, get_or, slice_get, Some, option_map, unwrap_or, Contains}
+use Rattle.std.specs.List.{flat_map}
+use Rattle.simple_core.specs.declared.system.System.{System}
+use Rattle.simple_core.specs.declared.rules.Local.{Local}
+use Rattle.simple_core.specs.declared.rules.Link.{Link}
+use Rattle.simple_core.specs.declared.rules.Spawn.{Spawn}
+use Rattle.simple_core.specs.Labels.{given_by_rules, kinds_at}
+
+abbrev pub row_of : List (List ℕ) → ℕ → List ℕ
+row_of rows key = get_or rows key []
+
+pub record IsNoted (old new : List (List ℕ)) (key place : ℕ) : Type 0 where
+  pub here : row_of new key ≡ row_of old key ++ place ∷ []
+  pub others : (k : ℕ) → k ≢ key → row_of new k ≡ row_of old k
+
+pub record IsIndex {X : Type 0} (key : X → ℕ) (rules : List X) (rows : List (List ℕ)) : Type 0 where
+  pub whole : (i : ℕ) (x : X) → slice_get rules i ≡ Some x → Contains (row_of rows (key x)) i
+  pub only : (k i : ℕ) → Contains (row_of rows k) i → (x : X) × (slice_get rules i ≡ Some x) × (key x ≡ k)
+
+-- a rule that needs nothing stands at 0, each other behind the last atom that it needs
+abbrev pub needs_key : List ℕ → ℕ
+needs_key needs = if length needs == 0 then 0 else get_or needs (length needs - 1) 0 + 1
+
+abbrev pub AreLocalsAt : List Local → List (List ℕ) → Type 0
+AreLocalsAt rules rows = IsIndex (λ (r : Local). needs_key r.needs) rules rows
+
+abbrev pub AreLinksAt : List Link → List (List ℕ) → Type 0
+AreLinksAt links rows = IsIndex (λ (l : Link). l.from) links rows
+
+abbrev pub AreSpawnsAt : List Spawn → List (List ℕ) → Type 0
+AreSpawnsAt spawns rows = IsIndex (λ (c : Spawn). c.needs) spawns rows
+
+pub record AreIndexes (s : System) (local up down child : List (List ℕ)) : Type 0 where
+  pub of_local : AreLocalsAt s.local local
+  pub of_up : AreLinksAt s.up up
+  pub of_down : AreLinksAt s.down down
+  pub of_child : AreSpawnsAt s.child child
+
+-- what comes of the rule at a place, and of the rules at the places of a row
+abbrev pub at_place : {X : Type 0} → (X → List ℕ) → List X → ℕ → List ℕ
+at_place f rules i = unwrap_or (option_map f (slice_get rules i)) []
+
+abbrev pub at_row : {X : Type 0} → (X → List ℕ) → List X → List ℕ → List ℕ
+at_row f rules row = flat_map (at_place f rules) row
+
+abbrev pub by_label : {X : Type 0} → (X → List ℕ) → List X → List (List ℕ) → (ℕ → ℕ) → List ℕ → List ℕ
+by_label f rules rows at label = flat_map (λ a. at_row f rules (row_of rows (at a))) label
+
+abbrev pub given_in : List ℕ → Local → List ℕ
+given_in label r = given_by_rules (r ∷ []) label
+
+abbrev pub to_of : Link → List ℕ
+to_of l = l.to ∷ []
+
+abbrev pub kind_of : Spawn → List ℕ
+kind_of c = c.kind ∷ []
+
+abbrev pub AreKinds : System → List ℕ → List ℕ → Type 0
+AreKinds s own kinds = (j : ℕ) → Contains kinds j ↔ Contains (kinds_at s own) j

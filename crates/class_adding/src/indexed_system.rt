@@ -1,0 +1,233 @@
+//! The rules of a system, found by the atoms that they look at.
+ghost use Rattle.std.specs.Prelude.{◌≡◌, ◌++◌, ◌+◌, IfOk, OnOk};
+ghost use Rattle.tp_base.specs.Classes.{union_of};
+ghost use Rattle.simple_core.specs.Labels.{given_by_rules, given_by_links};
+ghost use Rattle.class_adding.specs.Indexes.{row_of, at_place, at_row, by_label, given_in, to_of, kind_of, AreKinds, AreLocalsAt, AreLinksAt, AreSpawnsAt};
+
+use crate::places::Index;
+use simple_core::{Link, Local, Spawn, System};
+use std::alloc::Global;
+use std::marker::Model;
+use tp_base::{ClassSet, NoMemory};
+
+/// A system, and for each atom the places of the rules that look at it. What a label gives costs a look at the atoms of
+/// the label and at the rules that stand there. A contract sees the system.
+#[derive(Drop)]
+pub(crate) struct IndexedSystem<'a> {
+    system: &'a System,
+    local: Index,
+    up: Index,
+    down: Index,
+    child: Index,
+}
+
+impl<'a> Model for IndexedSystem<'a> {
+    ghost use Rattle.simple_core.specs.declared.system.System.{System};
+    ghost use Rattle.class_adding.specs.Indexes.{AreIndexes};
+
+    ghost Value = { System };
+
+    ghost view = { λ s. s.system.now };
+
+    ghost invariant = { λ s. AreIndexes s.system.now s.local s.up s.down s.child };
+}
+
+impl<'a> IndexedSystem<'a> {
+    /// Notes where each rule stands. Linear in the rules and in the largest atom that they look at.
+    pub(crate) fn new(alloc: Global, system: &'a System) -> Result<IndexedSystem<'a>, NoMemory>
+        ensures { IfOk result (λ s. s ≡ system.now) }
+    {
+        let local = Index::of_locals(alloc, system.local.items())?;
+        let up = Index::of_links(alloc, system.up.items())?;
+        let down = Index::of_links(alloc, system.down.items())?;
+        let child = Index::of_spawns(alloc, system.child.items())?;
+        Ok(IndexedSystem {
+            system,
+            local,
+            up,
+            down,
+            child,
+        })
+    }
+
+    /// The links from a child.
+    pub(crate) fn down_links(&self) -> &[Link]
+        ensures { result.now ≡ self.now.down }
+    {
+        self.system.down.items()
+    }
+
+    /// The atoms that links from a parent look at.
+    pub(crate) fn visible(&self) -> &ClassSet
+        ensures { result.now ≡ self.now.visible }
+    {
+        &self.system.visible
+    }
+
+    /// Adds what a label gives to its own node.
+    pub(crate) fn add_local(&self, label: &ClassSet, next: &mut ClassSet) -> Result<(), NoMemory>
+        ensures { OnOk result (next.new ≡ union_of next.old (given_by_rules self.now.local label.now)) }
+    {
+        add_by_needs(self.system.local.items(), &self.local, label, next)
+    }
+
+    /// Adds what the label of the parent gives.
+    pub(crate) fn add_up(&self, label: &ClassSet, next: &mut ClassSet) -> Result<(), NoMemory>
+        ensures { OnOk result (next.new ≡ union_of next.old (given_by_links self.now.up label.now)) }
+    {
+        add_linked(self.system.up.items(), &self.up, label, next)
+    }
+
+    /// Adds what the label of a child gives.
+    pub(crate) fn add_down(&self, label: &ClassSet, next: &mut ClassSet) -> Result<(), NoMemory>
+        ensures { OnOk result (next.new ≡ union_of next.old (given_by_links self.now.down label.now)) }
+    {
+        add_linked(self.system.down.items(), &self.down, label, next)
+    }
+
+    /// The kinds that a label adds; one may stand there more than once.
+    pub(crate) fn kinds_of(&self, alloc: Global, label: &ClassSet) -> Result<Vec<u32>, NoMemory>
+        ensures { IfOk result (λ v. AreKinds self.now label.now v.items) }
+    {
+        let mut kinds = Vec::new(alloc);
+        add_spawned(self.system.child.items(), &self.child, label, &mut kinds)?;
+        Ok(kinds)
+    }
+}
+
+fn add_rule(
+    rules: &[Local],
+    place: usize,
+    label: &ClassSet,
+    next: &mut ClassSet,
+) -> Result<(), NoMemory>
+    ensures { OnOk result (next.new ≡ union_of next.old (at_place (given_in label.now) rules.now place)) }
+{
+    if let Some(rule) = rules.get(place) {
+        if rule.needs.within(label) {
+            next.add(rule.gives)?;
+        }
+    }
+    Ok(())
+}
+
+fn add_rules(
+    rules: &[Local],
+    row: &[usize],
+    label: &ClassSet,
+    next: &mut ClassSet,
+) -> Result<(), NoMemory>
+    ensures { OnOk result (next.new ≡ union_of next.old (at_row (given_in label.now) rules.now row.now)) }
+{
+    let mut rest = row;
+    'places: while let Some((place, others)) = rest.split_first() {
+        add_rule(rules, *place, label, next)?;
+        rest = others;
+    }
+    Ok(())
+}
+
+// Adds what the rules give that need an atom of the label last.
+fn add_by_last(
+    rules: &[Local],
+    index: &Index,
+    label: &ClassSet,
+    next: &mut ClassSet,
+) -> Result<(), NoMemory>
+    ensures { OnOk result (next.new ≡ union_of next.old (by_label (given_in label.now) rules.now index.now (λ a. a + 1) label.now)) }
+{
+    for i in 0..label.len() {
+        let atom = label.at(i);
+        add_rules(rules, index.of(atom.0 as usize + 1), label, next)?;
+    }
+    Ok(())
+}
+
+fn add_by_needs(
+    rules: &[Local],
+    index: &Index,
+    label: &ClassSet,
+    next: &mut ClassSet,
+) -> Result<(), NoMemory>
+    requires { AreLocalsAt rules.now index.now }
+    ensures { OnOk result (next.new ≡ union_of next.old (given_by_rules rules.now label.now)) }
+{
+    // Its contract says that a set rises.
+    let _ = next.len();
+    add_rules(rules, index.of(0), label, next)?;
+    add_by_last(rules, index, label, next)?;
+    Ok(())
+}
+
+fn add_link(links: &[Link], place: usize, next: &mut ClassSet) -> Result<(), NoMemory>
+    ensures { OnOk result (next.new ≡ union_of next.old (at_place to_of links.now place)) }
+{
+    if let Some(link) = links.get(place) {
+        next.add(link.to)?;
+    }
+    Ok(())
+}
+
+fn add_links(links: &[Link], row: &[usize], next: &mut ClassSet) -> Result<(), NoMemory>
+    ensures { OnOk result (next.new ≡ union_of next.old (at_row to_of links.now row.now)) }
+{
+    let mut rest = row;
+    'places: while let Some((place, others)) = rest.split_first() {
+        add_link(links, *place, next)?;
+        rest = others;
+    }
+    Ok(())
+}
+
+fn add_linked(
+    links: &[Link],
+    index: &Index,
+    label: &ClassSet,
+    next: &mut ClassSet,
+) -> Result<(), NoMemory>
+    requires { AreLinksAt links.now index.now }
+    ensures { OnOk result (next.new ≡ union_of next.old (given_by_links links.now label.now)) }
+{
+    // Its contract says that a set rises.
+    let _ = next.len();
+    for i in 0..label.len() {
+        let atom = label.at(i);
+        add_links(links, index.of(atom.0 as usize), next)?;
+    }
+    Ok(())
+}
+
+fn add_spawn(spawns: &[Spawn], place: usize, kinds: &mut Vec<u32>) -> Result<(), NoMemory>
+    ensures { OnOk result (kinds.new.items ≡ kinds.old.items ++ at_place kind_of spawns.now place) }
+{
+    if let Some(spawn) = spawns.get(place) {
+        kinds.push(spawn.kind)?;
+    }
+    Ok(())
+}
+
+fn add_spawns(spawns: &[Spawn], row: &[usize], kinds: &mut Vec<u32>) -> Result<(), NoMemory>
+    ensures { OnOk result (kinds.new.items ≡ kinds.old.items ++ at_row kind_of spawns.now row.now) }
+{
+    let mut rest = row;
+    'places: while let Some((place, others)) = rest.split_first() {
+        add_spawn(spawns, *place, kinds)?;
+        rest = others;
+    }
+    Ok(())
+}
+
+fn add_spawned(
+    spawns: &[Spawn],
+    index: &Index,
+    label: &ClassSet,
+    kinds: &mut Vec<u32>,
+) -> Result<(), NoMemory>
+    ensures { OnOk result (kinds.new.items ≡ kinds.old.items ++ by_label kind_of spawns.now index.now (λ a. a) label.now) }
+{
+    for i in 0..label.len() {
+        let atom = label.at(i);
+        add_spawns(spawns, index.of(atom.0 as usize), kinds)?;
+    }
+    Ok(())
+}

@@ -1,0 +1,127 @@
+//! Places in lists of rules, by what the rules look at.
+ghost use Rattle.std.specs.Prelude.{◌≡◌, ◌<◌, ℕ, [], length, IfOk, OnOk};
+ghost use Rattle.class_adding.specs.Indexes.{row_of, needs_key, IsNoted, AreLocalsAt, AreLinksAt, AreSpawnsAt};
+
+use simple_core::{Link, Local, Spawn};
+use std::alloc::Global;
+use std::marker::Model;
+use tp_base::{ClassSet, NoMemory};
+
+/// Places in a list. A contract sees the list of them.
+#[derive(Drop)]
+pub(crate) struct Places {
+    items: Vec<usize>,
+}
+
+impl Model for Places {
+    ghost use Rattle.std.specs.Prelude.{List, ℕ};
+
+    ghost Value = { List ℕ };
+
+    ghost view = { λ p. p.items.items };
+}
+
+/// For each key the places that stand there. A contract sees the rows, by their keys.
+#[derive(Drop)]
+pub(crate) struct Index {
+    rows: Vec<Places>,
+}
+
+impl Model for Index {
+    ghost use Rattle.std.specs.Prelude.{List, ℕ};
+
+    ghost Value = { List (List ℕ) };
+
+    ghost view = { λ t. t.rows.items };
+}
+
+// The key of a rule that needs these atoms.
+fn key_by_needs(needs: &ClassSet) -> usize
+    ensures { result ≡ needs_key needs.now }
+{
+    let count = needs.len();
+    if count == 0 {
+        return 0;
+    }
+    needs.at(count - 1).0 as usize + 1
+}
+
+impl Index {
+    fn new(alloc: Global) -> Index
+        ensures { result ≡ [] }
+    {
+        Index {
+            rows: Vec::new(alloc),
+        }
+    }
+
+    /// Rules by the last atom that they need.
+    pub(crate) fn of_locals(alloc: Global, rules: &[Local]) -> Result<Index, NoMemory>
+        ensures { IfOk result (λ t. AreLocalsAt rules.now t) }
+    {
+        let mut index = Index::new(alloc);
+        for i in 0..rules.len() {
+            let rule = &rules[i];
+            index.note(alloc, key_by_needs(&rule.needs), i)?;
+        }
+        Ok(index)
+    }
+
+    /// Links by the atom that they look at.
+    pub(crate) fn of_links(alloc: Global, links: &[Link]) -> Result<Index, NoMemory>
+        ensures { IfOk result (λ t. AreLinksAt links.now t) }
+    {
+        let mut index = Index::new(alloc);
+        for i in 0..links.len() {
+            let link = &links[i];
+            let from = link.from;
+            index.note(alloc, from.0 as usize, i)?;
+        }
+        Ok(index)
+    }
+
+    /// Spawns by the atom that they need.
+    pub(crate) fn of_spawns(alloc: Global, spawns: &[Spawn]) -> Result<Index, NoMemory>
+        ensures { IfOk result (λ t. AreSpawnsAt spawns.now t) }
+    {
+        let mut index = Index::new(alloc);
+        for i in 0..spawns.len() {
+            let spawn = &spawns[i];
+            let needs = spawn.needs;
+            index.note(alloc, needs.0 as usize, i)?;
+        }
+        Ok(index)
+    }
+
+    /// The places at a key. Constant.
+    pub(crate) fn of(&self, key: usize) -> &[usize]
+        ensures { result.now ≡ row_of self.now key }
+    {
+        match self.rows.get(key) {
+            Some(row) => &row.items,
+            None => &[],
+        }
+    }
+
+    // Makes a row for the key.
+    fn reach(&mut self, alloc: Global, key: usize) -> Result<(), NoMemory>
+        ensures there { OnOk result (key < length self.new) }
+        ensures same { OnOk result ((k : ℕ) → row_of self.new k ≡ row_of self.old k) }
+    {
+        'rows: while self.rows.len() <= key {
+            self.rows.push(Places {
+                items: Vec::new(alloc),
+            })?;
+        }
+        Ok(())
+    }
+
+    fn note(&mut self, alloc: Global, key: usize, place: usize) -> Result<(), NoMemory>
+        ensures { OnOk result (IsNoted self.old self.new key place) }
+    {
+        self.reach(alloc, key)?;
+        let row = &mut self.rows[key];
+        row.items.push(place)?;
+        Ok(())
+    }
+}
