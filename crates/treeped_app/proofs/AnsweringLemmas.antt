@@ -1,11 +1,11 @@
 -- What the answers for the items of a sheet come to, whatever the statements are.
-use Rattle.std.proofs.Common.{◌≡◌, ◌≢◌, ℕ, zero, suc, Bool, true, false, List, [], ◌∷◌, length, map, Option, Some, None, Ok, Err, refl, sym, ap, ◌∙◌, subst, inl, inr, slice_get}
+use Rattle.std.proofs.Common.{◌≡◌, ℕ, zero, suc, Bool, true, false, List, [], ◌∷◌, length, map, Some, Err, refl, sym, ap, ◌∙◌, subst, inl, inr, slice_get}
 use Rattle.std.proofs.lemmas.List.{length-map}
 use Rattle.tp_base.specs.declared.places.Place.{Place}
 use Rattle.tp_io.specs.Sinks.{AddsPrefix, Rose}
 use Rattle.tree_sem.specs.Trees.{LabelTree}
 use Rattle.sel_core.specs.Selectors.{Selector}
-use Rattle.css_read.specs.Sheets.{Outcome, judged, skipped as left_out, Item}
+use Rattle.css_read.specs.Sheets.{Outcome, judged, Item}
 use Rattle.jq_sem.specs.Statements.{Statement}
 use Rattle.jq_sem.specs.Reachability.{Reaches}
 use Rattle.usage_report.specs.Answers.{Answer, unused, spent}
@@ -82,9 +82,13 @@ pub right_by_rules : (i : Inputs) (rules : List Rule) (answers : List Answer) �
 right_by_rules i rules answers is same right =
     subst (λ (b : Bool). AreRightBy b i answers) (sym is) (subst (λ (ss : List Statement). AreRight i.tree ss i.sheet.items answers) same right)
 
-pub right_by_system : (i : Inputs) (answers : List Answer) → are_rules i.stmts ≡ false → judge.IsWithin i.stmts i.sheet.items (length i.names) → judge.IsJudged i.stmts i.sheet.items (length i.names) i.tree default_limits answers
-    → AreRightOf i answers
-right_by_system i answers is within judged_ = subst (λ (b : Bool). AreRightBy b i answers) (sym is) (within, judged_)
+pub right_by_system : (i : Inputs) (ss : List Statement) (limits : Limits) (answers : List Answer) → ss ≡ i.stmts → limits ≡ default_limits → are_rules i.stmts ≡ false → judge.IsWithin ss i.sheet.items (length i.names)
+    → judge.IsJudged ss i.sheet.items (length i.names) i.tree limits answers → AreRightOf i answers
+right_by_system i ss limits answers same same' is within right =
+    let within' : judge.IsWithin i.stmts i.sheet.items (length i.names) = subst (λ (z : List Statement). judge.IsWithin z i.sheet.items (length i.names)) same within in
+    let right' : judge.IsJudged i.stmts i.sheet.items (length i.names) i.tree limits answers = subst (λ (z : List Statement). judge.IsJudged z i.sheet.items (length i.names) i.tree limits answers) same right in
+    let right'' : judge.IsJudged i.stmts i.sheet.items (length i.names) i.tree default_limits answers = subst (λ (z : Limits). judge.IsJudged i.stmts i.sheet.items (length i.names) i.tree z answers) same' right' in
+    subst (λ (b : Bool). AreRightBy b i answers) (sym is) (within', right'')
 
 -- ---- one answer for each item
 
@@ -101,10 +105,13 @@ count_judged ss items n t limits answers (inr (by, more)) = ap length by ∙ len
 -- ---- no answers
 
 -- by the fault of the system
-pub refused_by_fault : (i : Inputs) (e : JudgeFault) → are_rules i.stmts ≡ false → judge.IsFault i.stmts i.sheet.items (length i.names) e → IsUnanswered i (judging_stop e)
+refused_by_fault : (i : Inputs) (e : JudgeFault) → are_rules i.stmts ≡ false → judge.IsFault i.stmts i.sheet.items (length i.names) e → IsUnanswered i (judging_stop e)
 refused_by_fault i TooManyAtoms other is = (other, is)
 refused_by_fault i TooManyVisible other is = (other, is)
 refused_by_fault i Memory other is = tt
+
+pub refused_by_system : (i : Inputs) (ss : List Statement) (e : JudgeFault) → ss ≡ i.stmts → are_rules i.stmts ≡ false → judge.IsFault ss i.sheet.items (length i.names) e → IsUnanswered i (judging_stop e)
+refused_by_system i ss e same other is = refused_by_fault i e other (subst (λ (z : List Statement). judge.IsFault z i.sheet.items (length i.names) e) same is)
 
 pub unanswered : (x : Texts) (i : Inputs) (out : Put) (e : Stop) → out.held' ≡ out.held → IsUnanswered i e → Written x i out (Err e)
 unanswered x i out stop.Words same is = absurd is

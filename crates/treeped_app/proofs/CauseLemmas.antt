@@ -166,7 +166,7 @@ module _ (r : Run) (n : Names) (x : Texts) (told : AreTold r n x) where
 
 -- ---- judging
 
--- where each statement is a rule, no limit is passed
+-- where each statement is a rule, nothing is left open
 one_open : (t : LabelTree) (ss : List Statement) (o : Outcome) (a : Answer) → IsRight t ss o a → is_open a ≡ false
 one_open t ss (judged s) (used steps shown) right = refl
 one_open t ss (judged s) used_unshown right = absurd right

@@ -5,7 +5,6 @@
 use Rattle.std.specs.Prelude.{◌≡◌, ◌⊎◌, ℕ, ◌<◌, ◌≤◌, Bool, true, false, if◌then◌else◌, List, [], ◌∷◌, ◌++◌, length, map, take, Option, Some, None, IfSome, Result, Ok, Err}
 use Rattle.std.specs.List.{list_any}
 use Rattle.tp_base.specs.Names.{Named}
-use Rattle.tp_base.specs.declared.places.Place.{Place}
 use Rattle.tp_io.specs.Files.{Load}
 use Rattle.tp_io.specs.Sinks.{Adds, AddsPrefix, Rose}
 use Rattle.tp_io.specs.declared.files.TheConstants.{MOST_BYTES}
@@ -169,7 +168,7 @@ abbrev pub is_unused : Answer → Bool
 is_unused unused = true
 is_unused _ = false
 
--- a limit was passed
+-- something is left open: the steps, or whether there are any
 abbrev pub is_open : Answer → Bool
 is_open used_unshown = true
 is_open spent = true

@@ -44,7 +44,6 @@ pub(crate) fn answers_of(alloc: Global, inputs: &Inputs) -> Result<Vec<Answer>, 
 }
 
 /// The same where not each statement is a rule.
-#[tactic(auto, using(crate::proofs::AnsweringLemmas::right_by_system, crate::proofs::AnsweringLemmas::count_judged, crate::proofs::AnsweringLemmas::refused_by_fault))]
 fn judge_all(alloc: Global, inputs: &Inputs) -> Result<Vec<Answer>, Stop>
     requires given { AreInputs (inputs_of inputs.now) }
     requires other { are_rules (statements_of inputs.now.stmts.items) ≡ false }

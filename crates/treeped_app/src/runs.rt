@@ -124,7 +124,7 @@ fn any_open(answers: &[Answer]) -> bool
     answers.iter().any(|a| is_open(a))
 }
 
-/// Whether a limit was passed.
+/// Whether something is left open: the steps, or whether there are any.
 fn is_open(answer: &Answer) -> bool
     ensures { result ≡ spec.is_open (answer_of answer.now) }
 {

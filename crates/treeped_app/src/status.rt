@@ -7,7 +7,7 @@ ghost use Rattle.treeped_app.specs.Stops as spec;
 pub enum Status {
     /// The report is written, and each line is `used` or `skipped`.
     Complete,
-    /// The report is written, a line is `unused`, and no limit was passed.
+    /// The report is written, a line is `unused`, and none is `used-unshown` or `spent`.
     Unused,
     /// The words aren't of the grammar.
     Words,
