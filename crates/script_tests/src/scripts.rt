@@ -409,3 +409,48 @@ fn statements(rt: HostRuntime) -> Result<(), Fail> {
     assert!(rt; others.is_empty(), "{others}");
     Ok(())
 }
+
+// A front, so many names, and an end.
+fn numbered(alloc: Global, front: &str, count: u32, end: &str) -> Result<String, AllocError> {
+    let mut text = String::from_str(alloc, front)?;
+    for i in 0..count {
+        let name = format!(in alloc; "c{i} ")?;
+        text.push_str(&name)?;
+    }
+    text.push_str(end)?;
+    Ok(text)
+}
+
+// The rows whose script reads otherwise: a front, so many names, an end, and what is expected.
+fn other_numbers(alloc: Global, rows: &[(&str, u32, &str, &str)]) -> Result<String, AllocError> {
+    let mut out = String::new(alloc);
+    for (front, count, end, expected) in rows {
+        let text = numbered(alloc, front, *count, end)?;
+        let got = read(alloc, &text)?;
+        if got.as_str() != *expected {
+            let other = format!(in alloc; "{front} {count}: {got}\n")?;
+            out.push_str(&other)?;
+        }
+    }
+    Ok(out)
+}
+
+// At the limit on names and past it: the class of the root is one of them, and so is the type of an element.
+static NAMES: [(&str, u32, &str, &str); 4] = [
+    ("$('.a').addClass('", 65534, "')", "1:9 "),
+    ("$('.a').addClass('", 65535, "')", "TooManyAtoms 17"),
+    ("$('.a').append('<p class=\"", 65533, "\">')", "1:9 "),
+    (
+        "$('.a').append('<p class=\"",
+        65534,
+        "\">')",
+        "TooManyAtoms 15",
+    ),
+];
+
+#[test]
+fn names(rt: HostRuntime) -> Result<(), Fail> {
+    let others = other_numbers(rt.alloc(), &NAMES)?;
+    assert!(rt; others.is_empty(), "{others}");
+    Ok(())
+}
