@@ -1,6 +1,20 @@
 //! The canonical proof that the root of a page gets an atom: it has what the atom needs and nothing else, in one order.
 #![tactic(auto)]
 
+mod choices;
+mod entries;
+mod givers;
+mod glances;
 mod laws;
+mod looking;
+mod making;
+mod names;
+mod needs;
+mod numbers;
+mod orders;
+mod spots;
+mod wants;
+mod worlds;
 
 pub use laws::{canonical_is_one, canonical_is_valid, canonical_length};
+pub use making::{ProveFault, prove};

@@ -1,0 +1,60 @@
+-- Rules by the atoms that they give: one rule more.
+use Rattle.std.proofs.Common.{◌≡◌, ℕ, suc, ◌+◌, ◌<◌, Bool, true, false, ◌==◌, cond, if◌then◌else◌, List, [], ◌∷◌, ◌++◌, take, length, get_or, Some, Option, unwrap_or, refl, sym, ap, ◌∙◌, arith, inl, inr}
+use Rattle.std.proofs.lemmas.Bool.{cases_Bool, both_ways, eqb-true}
+use Rattle.std.proofs.lemmas.List.{take_more, length-take-le}
+use Rattle.proof_maker.specs.Choices.{numbers_of}
+use Rattle.proof_maker.specs.Givers.{places_in, AreGivers}
+
+numbers_of-push : {X : Type 0} (test : X → Bool) (k : ℕ) (xs : List X) (x : X)
+    → numbers_of test k (xs ++ x ∷ []) ≡ (if test x then numbers_of test k xs ++ (k + length xs) ∷ [] else numbers_of test k xs)
+numbers_of-push test k [] x = elim (cases_Bool (test x)) [
+  | inl here ↦ rw here (let same : k ≡ k + 0 = omega arith in ap (λ n. n ∷ []) same)
+  | inr other ↦ rw other refl
+]
+numbers_of-push test k (y ∷ xs) x =
+    let more = numbers_of-push test (suc k) xs x in
+    let place : suc k + length xs ≡ k + suc (length xs) = omega arith in
+    elim (cases_Bool (test y)) [
+      | inl first ↦ elim (cases_Bool (test x)) [
+        | inl here ↦ rw (first, here) (ap (λ ns. k ∷ ns) ((rw here at more) ∙ ap (λ n. numbers_of test (suc k) xs ++ n ∷ []) place))
+        | inr other ↦ rw (first, other) (ap (λ ns. k ∷ ns) (rw other at more))
+      ]
+      | inr skipped ↦ elim (cases_Bool (test x)) [
+        | inl here ↦ rw (skipped, here) ((rw here at more) ∙ ap (λ n. numbers_of test (suc k) xs ++ n ∷ []) place)
+        | inr other ↦ rw (skipped, other) (rw other at more)
+      ]
+    ]
+
+pub unwrap_cond : {X : Type 0} (b : Bool) (x : X) (o : Option X) (d : X) → unwrap_or (cond b (Some x) o) d ≡ cond b x (unwrap_or o d)
+unwrap_cond true x o d = refl
+unwrap_cond false x o d = refl
+
+pub kept : {X : Type 0} (b : Bool) (x y z : X) → b ≡ false → z ≡ cond b x y → z ≡ y
+kept true x y z other is = absurd (both_ways true other refl)
+kept false x y z other is = is
+
+-- first the places are taken, then the longer list is put there
+pub noted : (old taken new : ℕ → List ℕ) (atom : ℕ) (places longer : List ℕ) (place : ℕ) → places ≡ old atom → longer ≡ places ++ place ∷ []
+    → ((a : ℕ) → (atom == a) ≡ false → taken a ≡ old a) → ((a : ℕ) → new a ≡ (if atom == a then longer else taken a))
+    → (a : ℕ) → new a ≡ (if atom == a then old atom ++ place ∷ [] else old a)
+noted old taken new atom places longer place is more others put a = elim (cases_Bool (atom == a)) [
+  | inl here ↦ rw here ((rw here at (put a)) ∙ more ∙ ap (λ ns. ns ++ place ∷ []) is)
+  | inr other ↦ rw other ((rw other at (put a)) ∙ others a other)
+]
+
+module _ {X : Type 0} (gives : X → ℕ) (rules : List X) (i : ℕ) (r : X) (less : i < length rules) (at : r ≡ get_or rules i r) (old new : List (ℕ × List ℕ)) where
+  pub givers_more : AreGivers gives (take i rules) old
+      → ((a : ℕ) → places_in new a ≡ (if gives r == a then places_in old (gives r) ++ i ∷ [] else places_in old a))
+      → AreGivers gives (take (i + 1) rules) new
+  givers_more before put a =
+      let longer : take (i + 1) rules ≡ take i rules ++ r ∷ [] = take_more rules i r less ∙ (λ n. take i rules ++ sym at n ∷ []) in
+      let push = ap (numbers_of (λ (x : X). gives x == a) 0) longer ∙ numbers_of-push (λ (x : X). gives x == a) 0 (take i rules) r in
+      let place : 0 + length (take i rules) ≡ i = omega (arith, length-take-le i rules (omega (arith, less))) in
+      elim (cases_Bool (gives r == a)) [
+        | inl here ↦
+            (rw here at (put a))
+            ∙ ap (λ b. places_in old b ++ i ∷ []) (eqb-true (gives r) a here)
+            ∙ (λ n. before a n ++ sym place n ∷ [])
+            ∙ sym (rw here at push)
+        | inr other ↦ (rw other at (put a)) ∙ before a ∙ sym (rw other at push)
+      ]

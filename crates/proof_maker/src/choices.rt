@@ -1,0 +1,277 @@
+//! The reason that is chosen for an atom at a place: the first one all of whose premises stand in the round before the atom's first round.
+ghost use Rattle.std.specs.Prelude.{◌≡◌, ◌&&◌, ◌++◌, ◌∷◌, [], ◌<◌, length, map, find, slice_get, Contains, IsSome, IfOk, option_map, unwrap_or};
+ghost use Rattle.std.specs.List.{flat_map, range_with_len};
+ghost use Rattle.tp_base.specs.Classes.{has_class};
+ghost use Rattle.tree_sem.specs.Trees.{node_at, children_at};
+ghost use Rattle.simple_core.specs.Labels.{visible_in};
+ghost use Rattle.simple_core.specs.Rounds.{grown};
+ghost use Rattle.simple_core.specs.Pages.{page_round};
+ghost use Rattle.class_adding.specs.ClosedPages.{IsClosedPage};
+ghost use Rattle.proof_maker.specs.Choices.{by_local, by_up, ways_down, ways, chosen};
+ghost use Rattle.proof_maker.specs.Worlds.{setting_of, path_of, labels_of, IsPlace, IsNodeOf, IsReady, stands_at, real_has, spawn_has};
+ghost use Rattle.proof_maker.specs.Reasons.{reason_of};
+
+use crate::worlds::{Place, World, added_has, has, has_all, is_above, node_has, visible_at};
+use simple_core::{Link, Spawn, Summaries};
+use std::alloc::Global;
+use tp_base::{Atom, ClassSet, NoMemory, Path};
+
+/// Why a place has an atom: from the start, or by rules of these numbers.
+#[derive(Clone, Copy, Debug, PartialEq, Eq)]
+pub(crate) enum Choice {
+    Start,
+    Local(u64),
+    Up(u64),
+    Real(u64, u32),
+    Spawn(u64, u64),
+}
+
+/// The reason for an atom whose first round is `round`.
+pub(crate) fn chosen<S: Summaries>(
+    alloc: Global,
+    world: &World<'_>,
+    sums: &S,
+    place: &Place<'_>,
+    atom: Atom,
+    round: u64,
+) -> Result<Choice, NoMemory>
+    requires made { S.system sums.now ≡ world.now.system.now }
+    requires ready { IsReady world.now (S.known sums.now) }
+    requires place { IsPlace world.now.page.now (S.known sums.now) place.now }
+    ensures { IfOk result (λ w. reason_of w ≡ chosen world.now.system.now (setting_of world.now.system.now world.now.page.now place.now) (path_of place.now) atom round) }
+{
+    match round.checked_sub(1) {
+        None => Ok(Choice::Start),
+        Some(before) => {
+            let way = way(alloc, world, sums, place, atom, before)?;
+            Ok(way.unwrap_or(Choice::Start))
+        }
+    }
+}
+
+// The first way to the atom all of whose premises stand in the round.
+fn way<S: Summaries>(
+    alloc: Global,
+    world: &World<'_>,
+    sums: &S,
+    place: &Place<'_>,
+    atom: Atom,
+    round: u64,
+) -> Result<Option<Choice>, NoMemory>
+    requires made { S.system sums.now ≡ world.now.system.now }
+    requires ready { IsReady world.now (S.known sums.now) }
+    requires place { IsPlace world.now.page.now (S.known sums.now) place.now }
+    ensures { IfOk result (λ w. option_map reason_of w
+        ≡ find (stands_at world.now place.now round) (ways world.now.system.now (setting_of world.now.system.now world.now.page.now place.now) (path_of place.now) atom)) }
+{
+    if let Some(rule) = local_way(world, sums, place, world.locals.of(atom), round) {
+        return Ok(Some(Choice::Local(rule as u64)));
+    }
+    if let Some(link) = up_way(world, place, world.ups.of(atom), round)? {
+        return Ok(Some(Choice::Up(link as u64)));
+    }
+    down_way(alloc, world, sums, place, world.downs.of(atom), round)
+}
+
+fn local_way<S: Summaries>(
+    world: &World<'_>,
+    sums: &S,
+    place: &Place<'_>,
+    rules: &[usize],
+    round: u64,
+) -> Option<usize>
+    requires made { S.system sums.now ≡ world.now.system.now }
+    requires closed { IsClosedPage world.now.system.now world.now.page.now world.now.closed.now }
+    requires place { IsPlace world.now.page.now (S.known sums.now) place.now }
+    ensures { result ≡ find (λ l. stands_at world.now place.now round (by_local l)) rules.now }
+{
+    for rule in rules {
+        if local_stands(world, sums, place, *rule, round) {
+            return Some(*rule);
+        }
+    }
+    None
+}
+
+fn local_stands<S: Summaries>(
+    world: &World<'_>,
+    sums: &S,
+    place: &Place<'_>,
+    rule: usize,
+    round: u64,
+) -> bool
+    requires made { S.system sums.now ≡ world.now.system.now }
+    requires closed { IsClosedPage world.now.system.now world.now.page.now world.now.closed.now }
+    requires place { IsPlace world.now.page.now (S.known sums.now) place.now }
+    ensures { result ≡ stands_at world.now place.now round (by_local rule) }
+{
+    match world.system.local.items().get(rule) {
+        Some(rule) => has_all(world, sums, place, &rule.needs, round),
+        None => true,
+    }
+}
+
+fn up_way(
+    world: &World<'_>,
+    place: &Place<'_>,
+    links: &[usize],
+    round: u64,
+) -> Result<Option<usize>, NoMemory>
+    requires closed { IsClosedPage world.now.system.now world.now.page.now world.now.closed.now }
+    requires node { IsNodeOf world.now.page.now place.now }
+    ensures { IfOk result (λ w. w ≡ find (λ l. stands_at world.now place.now round (by_up l)) links.now) }
+{
+    for link in links {
+        let from = from_of(world.system.up.items(), *link);
+        if is_above(world, place, from, round)? {
+            return Ok(Some(*link));
+        }
+    }
+    Ok(None)
+}
+
+/// The left side of a link.
+pub(crate) fn from_of(links: &[Link], link: usize) -> Atom
+    ensures { result ≡ unwrap_or (option_map (λ l. l.from) (slice_get links.now link)) 0 }
+{
+    match links.get(link) {
+        Some(link) => link.from,
+        None => Atom(0),
+    }
+}
+
+fn down_way<S: Summaries>(
+    alloc: Global,
+    world: &World<'_>,
+    sums: &S,
+    place: &Place<'_>,
+    links: &[usize],
+    round: u64,
+) -> Result<Option<Choice>, NoMemory>
+    requires made { S.system sums.now ≡ world.now.system.now }
+    requires ready { IsReady world.now (S.known sums.now) }
+    requires place { IsPlace world.now.page.now (S.known sums.now) place.now }
+    ensures { IfOk result (λ w. option_map reason_of w
+        ≡ find (stands_at world.now place.now round) (flat_map (ways_down world.now.system.now (setting_of world.now.system.now world.now.page.now place.now) (path_of place.now)) links.now)) }
+{
+    let visible = visible_at(alloc, world, sums, place, round)?;
+    for link in links {
+        let way = link_way(world, sums, place, *link, &visible, round)?;
+        if way.is_some() {
+            return Ok(way);
+        }
+    }
+    Ok(None)
+}
+
+// The first child, in the page or by a spawn rule, that has the link's left side by the round.
+fn link_way<S: Summaries>(
+    world: &World<'_>,
+    sums: &S,
+    place: &Place<'_>,
+    link: usize,
+    visible: &ClassSet,
+    round: u64,
+) -> Result<Option<Choice>, NoMemory>
+    requires made { S.system sums.now ≡ world.now.system.now }
+    requires ready { IsReady world.now (S.known sums.now) }
+    requires place { IsPlace world.now.page.now (S.known sums.now) place.now }
+    requires visible { visible.now ≡ visible_in world.now.system.now (labels_of world.now.system.now world.now.page.now place.now round) }
+    ensures { IfOk result (λ w. option_map reason_of w
+        ≡ find (stands_at world.now place.now round) (ways_down world.now.system.now (setting_of world.now.system.now world.now.page.now place.now) (path_of place.now) link)) }
+{
+    let from = from_of(world.system.down.items(), link);
+    if let Some(child) = real_child(world, place, from, round)? {
+        return Ok(Some(Choice::Real(link as u64, child)));
+    }
+    match added_child(world, sums, place, from, visible, round) {
+        Some(spawn) => Ok(Some(Choice::Spawn(link as u64, spawn as u64))),
+        None => Ok(None),
+    }
+}
+
+fn real_child(
+    world: &World<'_>,
+    place: &Place<'_>,
+    from: Atom,
+    round: u64,
+) -> Result<Option<u32>, NoMemory>
+    requires closed { IsClosedPage world.now.system.now world.now.page.now world.now.closed.now }
+    requires node { IsNodeOf world.now.page.now place.now }
+    ensures { IfOk result (λ w. w ≡ find (real_has world.now place.now round from)
+        (range_with_len 0 ((setting_of world.now.system.now world.now.page.now place.now).reals (path_of place.now)))) }
+{
+    match place {
+        Place::Node(at) => node_child(world, at, from, round),
+        Place::Added(_, _) => Ok(None),
+    }
+}
+
+fn node_child(world: &World<'_>, at: &Path, from: Atom, round: u64) -> Result<Option<u32>, NoMemory>
+    requires closed { IsClosedPage world.now.system.now world.now.page.now world.now.closed.now }
+    ensures { IfOk result (λ w. w ≡ find (λ n. has_class from (page_round world.now.system.now world.now.page.now round (at.now ++ n ∷ [])))
+        (range_with_len 0 (unwrap_or (children_at at.now world.now.page.now) 0))) }
+{
+    for n in 0..world.page.children(at).unwrap_or(0) {
+        if child_has(world, at, n, from, round)? {
+            return Ok(Some(n));
+        }
+    }
+    Ok(None)
+}
+
+fn child_has(world: &World<'_>, at: &Path, n: u32, from: Atom, round: u64) -> Result<bool, NoMemory>
+    requires closed { IsClosedPage world.now.system.now world.now.page.now world.now.closed.now }
+    requires node { IsSome (node_at (at.now ++ n ∷ []) world.now.page.now) }
+    ensures { IfOk result (λ b. b ≡ has_class from (page_round world.now.system.now world.now.page.now round (at.now ++ n ∷ []))) }
+{
+    let mut child = at.copy()?;
+    child.push(n)?;
+    Ok(node_has(world, &child, from, round))
+}
+
+fn added_child<S: Summaries>(
+    world: &World<'_>,
+    sums: &S,
+    place: &Place<'_>,
+    from: Atom,
+    visible: &ClassSet,
+    round: u64,
+) -> Option<usize>
+    requires made { S.system sums.now ≡ world.now.system.now }
+    requires ready { IsReady world.now (S.known sums.now) }
+    requires place { IsPlace world.now.page.now (S.known sums.now) place.now }
+    requires visible { visible.now ≡ visible_in world.now.system.now (labels_of world.now.system.now world.now.page.now place.now round) }
+    ensures { result ≡ find (spawn_has world.now place.now round from) (range_with_len 0 (length world.now.system.now.child)) }
+{
+    let spawns = world.system.child.items();
+    for c in 0..spawns.len() {
+        let spawn = spawns[c];
+        if spawn_stands(world, sums, place, &spawn, from, visible, round) {
+            return Some(c);
+        }
+    }
+    None
+}
+
+fn spawn_stands<S: Summaries>(
+    world: &World<'_>,
+    sums: &S,
+    place: &Place<'_>,
+    spawn: &Spawn,
+    from: Atom,
+    visible: &ClassSet,
+    round: u64,
+) -> bool
+    requires made { S.system sums.now ≡ world.now.system.now }
+    requires ready { IsReady world.now (S.known sums.now) }
+    requires place { IsPlace world.now.page.now (S.known sums.now) place.now }
+    requires visible { visible.now ≡ visible_in world.now.system.now (labels_of world.now.system.now world.now.page.now place.now round) }
+    requires listed { Contains world.now.system.now.child spawn.now }
+    ensures { result ≡ (has_class spawn.now.needs (labels_of world.now.system.now world.now.page.now place.now round) && has_class from (grown world.now.system.now round spawn.now.kind visible.now)) }
+{
+    if !has(world, sums, place, spawn.needs, round) {
+        return false;
+    }
+    added_has(world.system, sums, spawn.kind, visible, from, round)
+}

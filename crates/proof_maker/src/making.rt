@@ -1,0 +1,95 @@
+//! The canonical proof.
+ghost use Rattle.std.specs.Prelude.{◌≡◌, ◌≤◌, [], length, IfOk, IsErrOf};
+ghost use Rattle.tree_sem.specs.Nodes.{HasAtom};
+ghost use Rattle.simple_core.specs.Systems.{IsSound};
+ghost use Rattle.simple_core.specs.Pairs.{Pair, Asked};
+ghost use Rattle.class_adding.specs.ClosedPages.{IsClosedPage};
+ghost use Rattle.proof_check.specs.Validity.{IsValid};
+ghost use Rattle.proof_maker.specs.Forests.{KeepsForests};
+ghost use Rattle.proof_maker.specs.Needs.{IsCanonical, UsesMore};
+ghost use Rattle.proof_maker.specs.Making.{IsMakeable, IsProofOf};
+
+use crate::entries::{entries_of, page_items};
+use crate::givers::Givers;
+use crate::looking::needs_of;
+use crate::names::numbers_of;
+use crate::needs::Needs;
+use crate::orders::orders_of;
+use crate::worlds::World;
+use class_adding::Closed;
+use proof_check::Proof;
+use simple_core::{Summaries, System};
+use std::alloc::Global;
+use thiserror::Error;
+use tp_base::{Atom, NoMemory};
+use tree_sem::Tree;
+
+/// Why a proof wasn't made.
+#[derive(Clone, Copy, Debug, PartialEq, Eq, Error)]
+pub enum ProveFault {
+    #[error("more entries than the limit")]
+    Unshown,
+    #[error("no memory")]
+    Memory,
+}
+
+impl From<NoMemory> for ProveFault {
+    ghost use Rattle.proof_maker.specs.declared.making.ProveFault.TheVariants.{Memory};
+
+    ghost from_gives = { λ _ e. e ≡ Memory };
+
+    fn from(_error: NoMemory) -> ProveFault {
+        ProveFault::Memory
+    }
+}
+
+/// The canonical proof that the page's root gets the target, where it has no more entries than the limit. Each atom that is needed is
+/// looked at once: that costs a look-up of a first round for each premise of the rules that give it.
+pub fn prove<S: Summaries>(
+    alloc: Global,
+    page: &Tree,
+    system: &System,
+    closed: &Closed,
+    sums: &S,
+    target: Atom,
+    limit: u32,
+) -> Result<Proof, ProveFault>
+    requires sound { IsSound system.now }
+    requires closed { IsClosedPage system.now page.now closed.now }
+    requires made { S.system sums.now ≡ system.now }
+    requires known { (q : Pair) → Asked system.now page.now q → S.known sums.now q }
+    requires target { HasAtom closed.now.labels [] target }
+    requires forests { KeepsForests system.now page.now }
+    ensures canonical { IfOk result (λ p. IsCanonical system.now page.now target p) }
+    ensures valid { IfOk result (λ p. IsValid system.now page.now p target) }
+    ensures within { IfOk result (λ p. length p.entries ≤ limit) }
+    ensures unshown { IsErrOf result ProveFault.Unshown → UsesMore system.now page.now target limit }
+{
+    let locals = Givers::of_locals(alloc, system.local.items())?;
+    let ups = Givers::of_links(alloc, system.up.items())?;
+    let downs = Givers::of_links(alloc, system.down.items())?;
+    let world = World {
+        page,
+        system,
+        closed,
+        locals: &locals,
+        ups: &ups,
+        downs: &downs,
+    };
+    match needs_of(alloc, &world, sums, target, limit)? {
+        Some(needs) => Ok(proof_of(alloc, &needs, system)?),
+        None => Err(ProveFault::Unshown),
+    }
+}
+
+// The proof of what is needed.
+fn proof_of(alloc: Global, needs: &Needs, system: &System) -> Result<Proof, NoMemory>
+    requires makeable { IsMakeable needs.now }
+    ensures { IfOk result (IsProofOf system.now needs.now) }
+{
+    let orders = orders_of(alloc, needs)?;
+    let order = numbers_of(alloc, &needs.drafts, &orders)?;
+    let entries = entries_of(alloc, needs, system, &orders.triples, &order)?;
+    let page = page_items(alloc, needs, &orders.page.wants, &order)?;
+    Ok(Proof { entries, page })
+}

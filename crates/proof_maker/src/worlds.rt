@@ -1,0 +1,179 @@
+//! A closed page, and the places at which its labels are looked at.
+ghost use Rattle.std.specs.Prelude.{◌≡◌, IsSome, IfOk};
+ghost use Rattle.tp_base.specs.Classes.{has_class, all_among};
+ghost use Rattle.tree_sem.specs.Trees.{node_at};
+ghost use Rattle.simple_core.specs.Labels.{visible_in};
+ghost use Rattle.simple_core.specs.Rounds.{grown, IsFirst};
+ghost use Rattle.simple_core.specs.Pages.{page_round};
+ghost use Rattle.simple_core.specs.Knowledge.{KeepsAsking};
+ghost use Rattle.class_adding.specs.ClosedPages.{IsClosedPage};
+ghost use Rattle.proof_maker.specs.Worlds.{setting_of, path_of, labels_of, IsPlace, above_on, IsNodeOf, IsAsking};
+
+use crate::givers::Givers;
+use class_adding::Closed;
+use simple_core::{Summaries, System};
+use std::alloc::Global;
+use tp_base::{Atom, ClassSet, NoMemory, Path};
+use tree_sem::Tree;
+
+/// A closed page and the rules of its system by what they give.
+#[derive(Clone, Copy)]
+pub(crate) struct World<'a> {
+    pub(crate) page: &'a Tree,
+    pub(crate) system: &'a System,
+    pub(crate) closed: &'a Closed,
+    pub(crate) locals: &'a Givers,
+    pub(crate) ups: &'a Givers,
+    pub(crate) downs: &'a Givers,
+}
+
+/// A node of the page, or an added node of a kind below a parent with this visible label.
+#[derive(Clone, Copy)]
+pub(crate) enum Place<'a> {
+    Node(&'a Path),
+    Added(u32, &'a ClassSet),
+}
+
+/// The first round in which the label at the place has the atom.
+pub(crate) fn first<S: Summaries>(
+    world: &World<'_>,
+    sums: &S,
+    place: &Place<'_>,
+    atom: Atom,
+) -> Option<u64>
+    requires made { S.system sums.now ≡ world.now.system.now }
+    requires closed { IsClosedPage world.now.system.now world.now.page.now world.now.closed.now }
+    requires place { IsPlace world.now.page.now (S.known sums.now) place.now }
+    ensures first { IsFirst (labels_of world.now.system.now world.now.page.now place.now) atom result }
+    ensures asking { IsAsking world.now.system.now (S.known sums.now) place.now }
+{
+    match place {
+        Place::Node(at) => world.closed.first_round(at, atom),
+        Place::Added(kind, parent) => sums.first_round(*kind, parent, atom),
+    }
+}
+
+// Whether a node of the page has the atom by the round.
+pub(crate) fn node_has(world: &World<'_>, at: &Path, atom: Atom, round: u64) -> bool
+    requires closed { IsClosedPage world.now.system.now world.now.page.now world.now.closed.now }
+    requires node { IsSome (node_at at.now world.now.page.now) }
+    ensures { result ≡ has_class atom (page_round world.now.system.now world.now.page.now round at.now) }
+{
+    match world.closed.first_round(at, atom) {
+        Some(first) => first <= round,
+        None => false,
+    }
+}
+
+// Whether an added node has the atom by the round.
+pub(crate) fn added_has<S: Summaries>(
+    system: &System,
+    sums: &S,
+    kind: u32,
+    parent: &ClassSet,
+    atom: Atom,
+    round: u64,
+) -> bool
+    requires made { S.system sums.now ≡ system.now }
+    requires known { S.known sums.now (kind, parent.now) }
+    ensures test { result ≡ has_class atom (grown system.now round kind parent.now) }
+    ensures asking { KeepsAsking system.now (S.known sums.now) }
+{
+    match sums.first_round(kind, parent, atom) {
+        Some(first) => first <= round,
+        None => false,
+    }
+}
+
+/// Whether the label at the place has the atom by the round.
+pub(crate) fn has<S: Summaries>(
+    world: &World<'_>,
+    sums: &S,
+    place: &Place<'_>,
+    atom: Atom,
+    round: u64,
+) -> bool
+    requires made { S.system sums.now ≡ world.now.system.now }
+    requires closed { IsClosedPage world.now.system.now world.now.page.now world.now.closed.now }
+    requires place { IsPlace world.now.page.now (S.known sums.now) place.now }
+    ensures test { result ≡ has_class atom (labels_of world.now.system.now world.now.page.now place.now round) }
+    ensures asking { IsAsking world.now.system.now (S.known sums.now) place.now }
+{
+    match place {
+        Place::Node(at) => node_has(world, at, atom, round),
+        Place::Added(kind, parent) => added_has(world.system, sums, *kind, parent, atom, round),
+    }
+}
+
+/// Whether it has all these atoms.
+pub(crate) fn has_all<S: Summaries>(
+    world: &World<'_>,
+    sums: &S,
+    place: &Place<'_>,
+    atoms: &ClassSet,
+    round: u64,
+) -> bool
+    requires made { S.system sums.now ≡ world.now.system.now }
+    requires closed { IsClosedPage world.now.system.now world.now.page.now world.now.closed.now }
+    requires place { IsPlace world.now.page.now (S.known sums.now) place.now }
+    ensures { result ≡ all_among atoms.now (labels_of world.now.system.now world.now.page.now place.now round) }
+{
+    for i in 0..atoms.len() {
+        if !has(world, sums, place, atoms.at(i), round) {
+            return false;
+        }
+    }
+    true
+}
+
+/// Whether the parent has the atom by the round.
+pub(crate) fn is_above(
+    world: &World<'_>,
+    place: &Place<'_>,
+    atom: Atom,
+    round: u64,
+) -> Result<bool, NoMemory>
+    requires closed { IsClosedPage world.now.system.now world.now.page.now world.now.closed.now }
+    requires node { IsNodeOf world.now.page.now place.now }
+    ensures { IfOk result (λ b. b ≡ has_class atom ((setting_of world.now.system.now world.now.page.now place.now).above round (path_of place.now))) }
+{
+    match place {
+        Place::Added(_, parent) => Ok(parent.has(atom)),
+        Place::Node(at) => parent_has(world, at, atom, round),
+    }
+}
+
+fn parent_has(world: &World<'_>, at: &Path, atom: Atom, round: u64) -> Result<bool, NoMemory>
+    requires closed { IsClosedPage world.now.system.now world.now.page.now world.now.closed.now }
+    requires node { IsSome (node_at at.now world.now.page.now) }
+    ensures { IfOk result (λ b. b ≡ has_class atom (above_on world.now.system.now world.now.page.now round at.now)) }
+{
+    let mut above = at.copy()?;
+    if above.pop().is_none() {
+        return Ok(false);
+    }
+    Ok(node_has(world, &above, atom, round))
+}
+
+/// The visible part of the label at the place in a round. Linear in the visible atoms, but for look-ups.
+pub(crate) fn visible_at<S: Summaries>(
+    alloc: Global,
+    world: &World<'_>,
+    sums: &S,
+    place: &Place<'_>,
+    round: u64,
+) -> Result<ClassSet, NoMemory>
+    requires made { S.system sums.now ≡ world.now.system.now }
+    requires closed { IsClosedPage world.now.system.now world.now.page.now world.now.closed.now }
+    requires place { IsPlace world.now.page.now (S.known sums.now) place.now }
+    ensures { IfOk result (λ l. l ≡ visible_in world.now.system.now (labels_of world.now.system.now world.now.page.now place.now round)) }
+{
+    let mut label = ClassSet::new(alloc);
+    for i in 0..world.system.visible.len() {
+        let atom = world.system.visible.at(i);
+        if has(world, sums, place, atom, round) {
+            label.add(atom)?;
+        }
+    }
+    Ok(label)
+}
