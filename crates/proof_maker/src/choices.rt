@@ -154,9 +154,8 @@ fn down_way<S: Summaries>(
     ensures { IfOk result (λ w. option_map reason_of w
         ≡ find (stands_at world.now place.now round) (flat_map (ways_down world.now.system.now (setting_of world.now.system.now world.now.page.now place.now) (path_of place.now)) links.now)) }
 {
-    let visible = visible_at(alloc, world, sums, place, round)?;
     for link in links {
-        let way = link_way(world, sums, place, *link, &visible, round)?;
+        let way = link_way(alloc, world, sums, place, *link, round)?;
         if way.is_some() {
             return Ok(way);
         }
@@ -166,17 +165,16 @@ fn down_way<S: Summaries>(
 
 // The first child, in the page or by a spawn rule, that has the link's left side by the round.
 fn link_way<S: Summaries>(
+    alloc: Global,
     world: &World<'_>,
     sums: &S,
     place: &Place<'_>,
     link: usize,
-    visible: &ClassSet,
     round: u64,
 ) -> Result<Option<Choice>, NoMemory>
     requires made { S.system sums.now ≡ world.now.system.now }
     requires ready { IsReady world.now (S.known sums.now) }
     requires place { IsPlace world.now.page.now (S.known sums.now) place.now }
-    requires visible { visible.now ≡ visible_in world.now.system.now (labels_of world.now.system.now world.now.page.now place.now round) }
     ensures { IfOk result (λ w. option_map reason_of w
         ≡ find (stands_at world.now place.now round) (ways_down world.now.system.now (setting_of world.now.system.now world.now.page.now place.now) (path_of place.now) link)) }
 {
@@ -184,7 +182,8 @@ fn link_way<S: Summaries>(
     if let Some(child) = real_child(world, place, from, round)? {
         return Ok(Some(Choice::Real(link as u64, child)));
     }
-    match added_child(world, sums, place, from, visible, round) {
+    let visible = visible_at(alloc, world, sums, place, round)?;
+    match added_child(world, sums, place, from, &visible, round) {
         Some(spawn) => Ok(Some(Choice::Spawn(link as u64, spawn as u64))),
         None => Ok(None),
     }

@@ -11,7 +11,7 @@ returns-in-Some-added_child g c =
     let is = link_from c.items.result.now c.args.world.now.system.now.down c.args.link c.from_of-from.result c.items.ensures c.from_of-from.ensures in
     spawn_found c.args.world.now c.args.place.now c.args.round c.args.link c.from_of-from.result is c.in_ok-child.field-0 c.in_ok-child.ensures c.in-Some-added_child.spawn c.in_default.is c.in-Some-added_child.ensures
 
-pub returns-in-None : goal.returns-in-None
-returns-in-None g c =
+pub returns : goal.returns
+returns g c =
     let is = link_from c.items.result.now c.args.world.now.system.now.down c.args.link c.from_of-from.result c.items.ensures c.from_of-from.ensures in
     none_found c.args.world.now c.args.place.now c.args.round c.args.link c.from_of-from.result is c.in_ok-child.field-0 c.in_ok-child.ensures c.in_default.is c.in-None.ensures
