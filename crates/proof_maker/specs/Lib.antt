@@ -2,6 +2,7 @@ pub mod Choices
 pub mod Needs
 pub mod Forests
 pub mod Givers
+pub mod Rules
 pub mod Worlds
 pub mod Reasons
 pub mod Sets

@@ -12,9 +12,11 @@ mod names;
 mod needs;
 mod numbers;
 mod orders;
+mod rules;
 mod spots;
 mod wants;
 mod worlds;
 
 pub use laws::{canonical_is_one, canonical_is_valid, canonical_length};
-pub use making::{ProveFault, prove};
+pub use making::{ProveFault, prove, prove_by};
+pub use rules::Rules;

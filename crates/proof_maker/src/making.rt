@@ -7,14 +7,15 @@ ghost use Rattle.class_adding.specs.ClosedPages.{IsClosedPage};
 ghost use Rattle.proof_check.specs.Validity.{IsValid};
 ghost use Rattle.proof_maker.specs.Forests.{KeepsForests};
 ghost use Rattle.proof_maker.specs.Needs.{IsCanonical, UsesMore};
+ghost use Rattle.proof_maker.specs.Rules.{AreRulesOf};
 ghost use Rattle.proof_maker.specs.Making.{IsMakeable, IsProofOf};
 
 use crate::entries::{entries_of, page_items};
-use crate::givers::Givers;
 use crate::looking::needs_of;
 use crate::names::numbers_of;
 use crate::needs::Needs;
 use crate::orders::orders_of;
+use crate::rules::Rules;
 use crate::worlds::World;
 use class_adding::Closed;
 use proof_check::Proof;
@@ -65,16 +66,40 @@ pub fn prove<S: Summaries>(
     ensures within { IfOk result (λ p. length p.entries ≤ limit) }
     ensures unshown { IsErrOf result ProveFault.Unshown → UsesMore system.now page.now target limit }
 {
-    let locals = Givers::of_locals(alloc, system.local.items())?;
-    let ups = Givers::of_links(alloc, system.up.items())?;
-    let downs = Givers::of_links(alloc, system.down.items())?;
+    let rules = Rules::of(alloc, system)?;
+    prove_by(alloc, page, system, &rules, closed, sums, target, limit)
+}
+
+/// The same, where the rules of the system are looked up already.
+pub fn prove_by<S: Summaries>(
+    alloc: Global,
+    page: &Tree,
+    system: &System,
+    rules: &Rules,
+    closed: &Closed,
+    sums: &S,
+    target: Atom,
+    limit: u32,
+) -> Result<Proof, ProveFault>
+    requires sound { IsSound system.now }
+    requires rules { AreRulesOf system.now rules.now }
+    requires closed { IsClosedPage system.now page.now closed.now }
+    requires made { S.system sums.now ≡ system.now }
+    requires known { (q : Pair) → Asked system.now page.now q → S.known sums.now q }
+    requires target { HasAtom closed.now.labels [] target }
+    requires forests { KeepsForests system.now page.now }
+    ensures canonical { IfOk result (λ p. IsCanonical system.now page.now target p) }
+    ensures valid { IfOk result (λ p. IsValid system.now page.now p target) }
+    ensures within { IfOk result (λ p. length p.entries ≤ limit) }
+    ensures unshown { IsErrOf result ProveFault.Unshown → UsesMore system.now page.now target limit }
+{
     let world = World {
         page,
         system,
         closed,
-        locals: &locals,
-        ups: &ups,
-        downs: &downs,
+        locals: &rules.locals,
+        ups: &rules.ups,
+        downs: &rules.downs,
     };
     match needs_of(alloc, &world, sums, target, limit)? {
         Some(needs) => Ok(proof_of(alloc, &needs, system)?),
