@@ -1,12 +1,13 @@
 //! Reports on one sheet, and one that is cut off.
 use css_read::{Outcome, Ranges, Sheet, SheetItem, SheetItems};
+use proof_core::{Entries, PageItems, Proof, Steps, Unfolded};
 use sel_core::{SelFault, Skip, read_selector};
 use std::alloc::Global;
 use std::test::Fail;
 use tp_base::{AtomTable, NoMemory, Path, Place};
 use tp_io::{MemSink, SureSink};
 use tree_sem::Step;
-use usage_report::{Answer, ReportFault, Steps, Unfolded, write_report};
+use usage_report::{Answer, ReportFault, write_report};
 
 const TEXT: &str = ".a{}\nli.item > #b, c + d{}\n";
 
@@ -167,13 +168,29 @@ fn unfolded_of(alloc: Global, steps: &[(u32, &[u32])], at: &[u32]) -> Result<Unf
     })
 }
 
+// A proof that says nothing.
+fn no_proof(alloc: Global) -> Proof {
+    Proof {
+        entries: Entries::new(Vec::new(alloc)),
+        page: PageItems::new(Vec::new(alloc)),
+    }
+}
+
+fn used(alloc: Global, steps: u64, shown: Option<Unfolded>) -> Answer {
+    Answer::Used {
+        proof: no_proof(alloc),
+        steps,
+        shown,
+    }
+}
+
 fn answer_of(alloc: Global, said: Said) -> Result<Answer, NoMemory> {
     let answer = match said {
-        Said::Used(steps) => Answer::Used { steps, shown: None },
-        Said::Shown(steps, listed, at) => Answer::Used {
-            steps,
-            shown: Some(unfolded_of(alloc, listed, at)?),
-        },
+        Said::Used(steps) => used(alloc, steps, None),
+        Said::Shown(steps, listed, at) => {
+            let unfolded = unfolded_of(alloc, listed, at)?;
+            used(alloc, steps, Some(unfolded))
+        }
         Said::UsedUnshown => Answer::UsedUnshown,
         Said::Unused => Answer::Unused,
         Said::Skipped(cause, at) => Answer::Skipped(cause, at),

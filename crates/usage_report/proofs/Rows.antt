@@ -8,6 +8,7 @@ use Rattle.sel_core.specs.Selectors.{simple, child}
 use Rattle.sel_core.specs.SelectorText.{selector_text}
 use Rattle.sel_core.specs.declared.faults.Skip.{Skip}
 use Rattle.sel_core.specs.declared.faults.Skip.TheVariants.{Sibling, Pseudo, Attribute, Escape, Long, Bad}
+use Rattle.proof_check.specs.declared.proofs.Proof.{Proof}
 use Rattle.css_read.specs.Sheets.{judged, skipped, Item}
 use Rattle.usage_report.specs.Answers as answers
 use Rattle.usage_report.specs.Report.{report, place_text, path_text, step_text, shown_text, count_text, answer_text}
@@ -29,6 +30,10 @@ second = record { from = 5; to = 11; rule = 1; outcome = judged (record { subjec
 abbrev places : List Place
 places = record { line = 1; column = 9 } ∷ record { line = 2; column = 27 } ∷ record { line = 10; column = 100 } ∷ []
 
+-- the text says nothing of a proof but its steps
+abbrev no_proof : Proof
+no_proof = record { entries = []; page = [] }
+
 -- the report on both
 abbrev both : answers.Answer → answers.Answer → List ℕ
 both a b = report text names places (record { items = first ∷ second ∷ []; rules = [] }) (a ∷ b ∷ [])
@@ -40,16 +45,16 @@ unused_and_spent : both answers.unused answers.spent ≡ codes "treeped 1\n1:1 u
 unfolding digits answer_text place_text selector_text
 unused_and_spent = refl
 
-used_at_once : both (answers.used 0 (Some (record { steps = []; at = [] }))) answers.used_unshown ≡ codes "treeped 1\n1:1 used 0 .a\n  match /\n2:1 used-unshown .a > b\n"
+used_at_once : both (answers.used no_proof 0 (Some (record { steps = []; at = [] }))) answers.used_unshown ≡ codes "treeped 1\n1:1 used 0 .a\n  match /\n2:1 used-unshown .a > b\n"
 unfolding digits answer_text place_text selector_text count_text shown_text path_text step_text
 used_at_once = refl
 
-used_after_steps : both answers.unused (answers.used 2 (Some (record { steps = record { stmt = 1; at = 1 ∷ 0 ∷ [] } ∷ record { stmt = 2; at = [] } ∷ []; at = 1 ∷ 0 ∷ 12 ∷ [] })))
+used_after_steps : both answers.unused (answers.used no_proof 2 (Some (record { steps = record { stmt = 1; at = 1 ∷ 0 ∷ [] } ∷ record { stmt = 2; at = [] } ∷ []; at = 1 ∷ 0 ∷ 12 ∷ [] })))
     ≡ codes "treeped 1\n1:1 unused .a\n2:1 used 2 .a > b\n  2 at 2:27 on /1/0\n  3 at 10:100 on /\n  match /1/0/12\n"
 unfolding digits answer_text place_text selector_text count_text shown_text path_text step_text
 used_after_steps = refl
 
-greatest : both (answers.used 18446744073709551615 None) (answers.used 18446744073709551614 None)
+greatest : both (answers.used no_proof 18446744073709551615 None) (answers.used no_proof 18446744073709551614 None)
     ≡ codes "treeped 1\n1:1 used 18446744073709551615+ .a\n  not listed\n2:1 used 18446744073709551614 .a > b\n  not listed\n"
 unfolding digits answer_text place_text selector_text count_text shown_text
 greatest = refl

@@ -1,17 +1,13 @@
 -- What is said of a selector.
-use Rattle.std.specs.Prelude.{ℕ, List, Option}
-use Rattle.tree_sem.specs.declared.actions.Step.{Step}
+use Rattle.std.specs.Prelude.{ℕ, Option}
 use Rattle.sel_core.specs.declared.faults.Skip.{Skip}
+use Rattle.proof_check.specs.declared.proofs.Proof.{Proof}
+use Rattle.proof_core.specs.declared.unfolded.Unfolded.{Unfolded}
 
--- steps, and a node at their end
-pub record Unfolded : Type 0 where
-  pub steps : List Step
-  pub at : List ℕ
-
--- a selector is used after so many steps, which may be shown, or after steps that were not found; it is unused; it is skipped for a cause
+-- a selector is used by a proof of so many steps, which may be shown, or by one that was too large; it is unused; it is skipped for a cause
 -- at an offset of the sheet; or it was not found out
 pub data Answer : Type 0 where
-  used : (steps : ℕ) (shown : Option Unfolded) → Answer
+  used : (proof : Proof) (steps : ℕ) (shown : Option Unfolded) → Answer
   used_unshown : Answer
   unused : Answer
   skipped : (cause : Skip) (at : ℕ) → Answer

@@ -10,7 +10,8 @@ use Rattle.sel_core.specs.declared.faults.Skip.{Skip}
 use Rattle.sel_core.specs.declared.faults.Skip.TheVariants as cause
 use Rattle.sel_core.specs.SelectorText.{selector_text}
 use Rattle.css_read.specs.Sheets as sheets
-use Rattle.usage_report.specs.Answers.{Unfolded, Answer, used, used_unshown, unused, skipped, spent}
+use Rattle.proof_core.specs.declared.unfolded.Unfolded.{Unfolded}
+use Rattle.usage_report.specs.Answers.{Answer, used, used_unshown, unused, skipped, spent}
 
 -- the place of an offset, or of the text's end where it is past it
 abbrev pub place_at : List ℕ → ℕ → Place
@@ -54,7 +55,7 @@ cause_text cause.Bad = codes "bad"
 
 -- the lines of an answer in a sheet of this text, for an item whose place and whose selector's text are these
 unfoldable pub answer_text : List ℕ → List Place → List ℕ → List ℕ → Answer → List ℕ
-answer_text text places place selector (used steps shown) = place ++ codes " used " ++ count_text steps ++ codes " " ++ selector ++ codes "\n" ++ shown_text places shown
+answer_text text places place selector (used proof steps shown) = place ++ codes " used " ++ count_text steps ++ codes " " ++ selector ++ codes "\n" ++ shown_text places shown
 answer_text text places place selector used_unshown = place ++ codes " used-unshown " ++ selector ++ codes "\n"
 answer_text text places place selector unused = place ++ codes " unused " ++ selector ++ codes "\n"
 answer_text text places place selector (skipped cause at) = place ++ codes " skipped " ++ cause_text cause ++ codes " at " ++ place_text (place_at text at) ++ codes "\n"

@@ -8,7 +8,7 @@ mod lines;
 mod pieces;
 mod report;
 
-pub use answers::{Answer, Steps, Unfolded};
+pub use answers::Answer;
 pub use cursor::Cursor;
 pub use faults::ReportFault;
 pub use report::write_report;

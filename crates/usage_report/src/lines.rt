@@ -1,16 +1,17 @@
 //! The lines of an answer.
-ghost use Rattle.std.specs.Prelude.{◌≡◌, ◌≤◌, ◌++◌, codes, length, OnOk, option_map, slice_get};
+ghost use Rattle.std.specs.Prelude.{◌≡◌, ◌≤◌, ◌++◌, codes, length, OnOk, slice_get};
 ghost use Rattle.std.specs.List.{flat_map};
 ghost use Rattle.tp_base.specs.declared.places.TheConstants.{MOST_BYTES};
 ghost use Rattle.css_read.specs.Views.{outcome_of};
 ghost use Rattle.usage_report.specs.Cursor.{IsAt};
 ghost use Rattle.usage_report.specs.Report as spec;
-ghost use Rattle.usage_report.specs.Views.{answer_of, unfolded_of};
+ghost use Rattle.usage_report.specs.Views.{answer_of};
 
-use crate::answers::{Answer, Unfolded};
+use crate::answers::Answer;
 use crate::cursor::Cursor;
 use crate::pieces::Piece;
 use css_read::Outcome;
+use proof_core::Unfolded;
 use sel_core::{Skip, write_selector};
 use tp_base::{AtomTable, NoMemory, Path, Place};
 use tree_sem::Step;
@@ -34,7 +35,7 @@ impl Piece {
         ensures here { IsAt text.now cursor.new }
     {
         match answer {
-            Answer::Used { steps, shown } => {
+            Answer::Used { steps, shown, .. } => {
                 self.put(b" used ")?;
                 self.count(*steps)?;
                 self.judged(b" ", atoms, outcome)?;
@@ -105,7 +106,7 @@ impl Piece {
     /// The steps and the match, or that they are not listed.
     #[tactic(auto, unfolding(crate::specs::Report::shown_text), using(std::proofs::Common::append_assoc))]
     fn shown(&mut self, places: &[Place], shown: &Option<Unfolded>) -> Result<(), NoMemory>
-        ensures { OnOk result (self.new.bytes.items ≡ self.old.bytes.items ++ spec.shown_text places.now (option_map unfolded_of shown.now)) }
+        ensures { OnOk result (self.new.bytes.items ≡ self.old.bytes.items ++ spec.shown_text places.now shown.now) }
     {
         match shown {
             None => self.put(b"  not listed\n"),
