@@ -10,6 +10,10 @@ pub mod JudgedSelectors
 mod GuardLemmas
 mod SheetSystem
 mod TableNeeds
+mod PlacedForests
 mod AnswerLemmas
+mod LoopLemmas
+mod ShownLemmas
+mod DecisionLemmas
 mod OutcomeLemmas
 mod Examples

@@ -1,35 +1,70 @@
--- The answers by the closed label of the page's root, and by the atoms that are seen there, one for each selector that is judged.
-use Rattle.std.specs.Prelude.{◌≡◌, ◌⊎◌, ℕ, if◌then◌else◌, List, [], ◌∷◌, drop}
+-- What is said of the atoms that are seen at the page's root, one for each selector that is judged, by the root's closed label and by proofs.
+--     IsProved a proof ..       the atom's one proof, with what it unfolds to
+--     IsSaid a answer           the answer is right for the atom
+--     AreSaid items seen ..     and the answers for the items, whose atoms these are
+use Rattle.std.specs.Prelude.{◌≡◌, ◌⊎◌, ℕ, ◌≤◌, Bool, true, false, List, [], ◌∷◌, length, drop, Option}
 use Rattle.tp_base.specs.Classes.{has_class}
 use Rattle.tree_sem.specs.Trees.{LabelTree}
 use Rattle.css_read.specs.Sheets.{Outcome, judged, skipped as left_out, Item}
-use Rattle.usage_report.specs.Answers.{Answer, used_unshown, unused, skipped}
+use Rattle.proof_check.specs.declared.proofs.Proof.{Proof}
+use Rattle.proof_check.specs.Unfolding.{unfolded}
+use Rattle.proof_check.specs.Validity.{IsValid}
+use Rattle.proof_core.specs.declared.unfolded.Unfolded.{Unfolded}
+use Rattle.proof_maker.specs.Needs.{IsCanonical, UsesMore}
+use Rattle.usage_report.specs.Answers.{Answer, used, used_unshown, unused, skipped, spent}
 use Rattle.simple_core.specs.declared.system.System.{System}
 use Rattle.simple_core.specs.Pairs.{Asked, Needed, HasMore}
 use Rattle.class_adding.specs.ClosedPages.{ClosedPage, IsClosedPage}
-use Rattle.judge.specs.Answers.{spent_answers}
+use Rattle.judge.specs.declared.limits.Limits.{Limits}
+use Rattle.judge.specs.Answers.{count_of, IsShown, spent_answers}
 
 -- the atoms of the items behind this one
 abbrev pub atoms_behind : Outcome → List ℕ → List ℕ
 atoms_behind (judged s) seen = drop 1 seen
 atoms_behind (left_out cause at) seen = seen
 
-module _ (label : List ℕ) where
-  -- by the first of the atoms
-  abbrev pub first_answer : List ℕ → Answer
-  first_answer [] = unused
-  first_answer (a ∷ seen) = if has_class a label then used_unshown else unused
+module _ (s : System) (page : LabelTree) (limits : Limits) where
+  pub record IsProved (a : ℕ) (proof : Proof) (steps : ℕ) (shown : Option Unfolded) : Type 0 where
+    pub canonical : IsCanonical s page a proof
+    pub valid : IsValid s page proof a
+    pub within : length proof.entries ≤ limits.entries
+    pub count : steps ≡ count_of (unfolded s proof page a)
+    pub shows : IsShown (unfolded s proof page a) limits.list shown
 
-  abbrev pub answer_by : Outcome → List ℕ → Answer
-  answer_by (judged s) seen = first_answer seen
-  answer_by (left_out cause at) seen = skipped cause at
+  -- of an atom that the root has
+  abbrev pub IsSaidProved : ℕ → Answer → Type 0
+  IsSaidProved a unused = ⊥
+  IsSaidProved a used_unshown = UsesMore s page a limits.entries
+  IsSaidProved a (used proof steps shown) = IsProved a proof steps shown
+  IsSaidProved a (skipped cause at) = ⊥
+  IsSaidProved a spent = ⊥
 
-  abbrev pub answers_by : List Item → List ℕ → List Answer
-  answers_by [] seen = []
-  answers_by (i ∷ items) seen = answer_by i.outcome seen ∷ answers_by items (atoms_behind i.outcome seen)
+  -- whether the root has it
+  abbrev pub IsSaidWhere : Bool → ℕ → Answer → Type 0
+  IsSaidWhere false a answer = answer ≡ unused
+  IsSaidWhere true a answer = IsSaidProved a answer
+
+  module _ (label : List ℕ) where
+    abbrev pub IsSaid : ℕ → Answer → Type 0
+    IsSaid a answer = IsSaidWhere (has_class a label) a answer
+
+    -- by the first of the atoms
+    abbrev pub IsSaidFirst : List ℕ → Answer → Type 0
+    IsSaidFirst [] answer = answer ≡ unused
+    IsSaidFirst (a ∷ seen) answer = IsSaid a answer
+
+    abbrev pub IsSaidOf : Outcome → List ℕ → Answer → Type 0
+    IsSaidOf (judged s) seen answer = IsSaidFirst seen answer
+    IsSaidOf (left_out cause at) seen answer = answer ≡ skipped cause at
+
+    abbrev pub AreSaid : List Item → List ℕ → List Answer → Type 0
+    AreSaid [] seen [] = Unit {0}
+    AreSaid [] seen (a ∷ answers) = ⊥
+    AreSaid (i ∷ items) seen [] = ⊥
+    AreSaid (i ∷ items) seen (a ∷ answers) = IsSaidOf i.outcome seen a × AreSaid items (atoms_behind i.outcome seen) answers
 
 -- by the closed page, or spent where it needs more than so many pairs
-abbrev pub AreBySeen : System → List ℕ → LabelTree → List Item → ℕ → List Answer → Type 0
-AreBySeen s seen page items pairs answers =
-    ((c : ClosedPage) × IsClosedPage s page c × (answers ≡ answers_by c.labels.label items seen) × (¬ HasMore (Needed s (Asked s page)) pairs))
-    ⊎ ((answers ≡ spent_answers items) × HasMore (Needed s (Asked s page)) pairs)
+abbrev pub AreBySeen : System → List ℕ → LabelTree → List Item → Limits → List Answer → Type 0
+AreBySeen s seen page items limits answers =
+    ((c : ClosedPage) × IsClosedPage s page c × AreSaid s page limits c.labels.label items seen answers × (¬ HasMore (Needed s (Asked s page)) limits.pairs))
+    ⊎ ((answers ≡ spent_answers items) × HasMore (Needed s (Asked s page)) limits.pairs)

@@ -53,4 +53,4 @@ module _ (stmts : List Statement) (items : List Item) (n : ℕ) where
 
   abbrev pub IsJudged : LabelTree → Limits → List Answer → Type 0
   IsJudged page limits answers =
-      (AreAnswers stmts page items answers × (¬ NeedsMore page limits.pairs)) ⊎ ((answers ≡ spent_answers items) × NeedsMore page limits.pairs)
+      (AreAnswers stmts (judged_in items) n page limits items answers × (¬ NeedsMore page limits.pairs)) ⊎ ((answers ≡ spent_answers items) × NeedsMore page limits.pairs)

@@ -1,5 +1,6 @@
 -- What proofs of a selector's atom show.
 --     IsProofFor ..  s proof     the proof is a valid one of that atom
+--     trace ..  s proof          the steps that it unfolds to, and the node that they lead to
 --     IsWitness ..  s proof      its unfolded steps are legal from the page, and at their end the selector matches the node that is named
 use Rattle.std.specs.Prelude.{ℕ, List}
 use Rattle.tree_sem.specs.declared.actions.Step.{Step}
@@ -16,10 +17,9 @@ module _ (stmts : List Statement) (sheet : List Selector) (n : ℕ) (page : Labe
   abbrev pub IsProofFor : Type 0
   IsProofFor = IsValid (the_system stmts sheet n) page proof (seen_atom stmts sheet n s)
 
-  -- the steps, and the node
-  abbrev shown : List Step × List ℕ
-  shown = unfolded (the_system stmts sheet n) proof page (seen_atom stmts sheet n s)
+  abbrev pub trace : List Step × List ℕ
+  trace = unfolded (the_system stmts sheet n) proof page (seen_atom stmts sheet n s)
 
   pub record IsWitness : Type 0 where
-    pub legal : AreLegal page stmts shown.0
-    pub match : Matches (end_of page stmts shown.0) shown.1 s
+    pub legal : AreLegal page stmts trace.0
+    pub match : Matches (end_of page stmts trace.0) trace.1 s

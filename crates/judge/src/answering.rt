@@ -4,10 +4,13 @@ ghost use Rattle.tp_base.specs.Classes.{has_class};
 ghost use Rattle.css_read.specs.Views.{outcome_of, item_of};
 ghost use Rattle.usage_report.specs.Views.{answer_of};
 ghost use Rattle.judge.specs.Answers as spec;
-ghost use Rattle.judge.specs.BySeen.{first_answer, answer_by, atoms_behind, answers_by};
+ghost use Rattle.judge.specs.BySeen.{IsSaid, IsSaidFirst, IsSaidOf, AreSaid, atoms_behind};
+ghost use Rattle.judge.specs.Grounds.{IsReady};
 
+use crate::proving::{Ground, proved};
 use class_adding::Closed;
 use css_read::{Outcome, SheetItem};
+use simple_core::Summaries;
 use std::alloc::Global;
 use tp_base::{Atom, NoMemory, Path};
 use usage_report::Answer;
@@ -23,25 +26,59 @@ fn is_seen(closed: &Closed, root: &Path, atom: Atom) -> bool
     }
 }
 
+// The answer for a selector of this atom.
+fn by_atom<S: Summaries>(
+    alloc: Global,
+    ground: &Ground<'_>,
+    sums: &S,
+    root: &Path,
+    atom: Atom,
+) -> Result<Answer, NoMemory>
+    requires ready { IsReady (S.system sums.now) (S.known sums.now) ground.now }
+    requires root { root.now ≡ [] }
+    ensures { IfOk result (λ a. IsSaid ground.now.system.now ground.now.page.now ground.now.limits.now ground.now.closed.now.labels.label atom (answer_of a)) }
+{
+    if is_seen(ground.closed, root, atom) {
+        proved(alloc, ground, sums, atom)
+    } else {
+        Ok(Answer::Unused)
+    }
+}
+
 // The answer for a selector whose atom is the first of these.
-fn by_first(closed: &Closed, root: &Path, seen: &[Atom]) -> Answer
-    requires { root.now ≡ [] }
-    ensures { answer_of result ≡ first_answer closed.now.labels.label seen.now }
+fn by_first<S: Summaries>(
+    alloc: Global,
+    ground: &Ground<'_>,
+    sums: &S,
+    root: &Path,
+    seen: &[Atom],
+) -> Result<Answer, NoMemory>
+    requires ready { IsReady (S.system sums.now) (S.known sums.now) ground.now }
+    requires root { root.now ≡ [] }
+    ensures { IfOk result (λ a. IsSaidFirst ground.now.system.now ground.now.page.now ground.now.limits.now ground.now.closed.now.labels.label seen.now (answer_of a)) }
 {
     match seen.first() {
-        Some(atom) if is_seen(closed, root, *atom) => Answer::UsedUnshown,
-        _ => Answer::Unused,
+        Some(atom) => by_atom(alloc, ground, sums, root, *atom),
+        None => Ok(Answer::Unused),
     }
 }
 
 // The answer for an item, where the atoms begin with its own if it is judged.
-fn answer(closed: &Closed, root: &Path, outcome: &Outcome, seen: &[Atom]) -> Answer
-    requires { root.now ≡ [] }
-    ensures { answer_of result ≡ answer_by closed.now.labels.label (outcome_of outcome.now) seen.now }
+fn answer<S: Summaries>(
+    alloc: Global,
+    ground: &Ground<'_>,
+    sums: &S,
+    root: &Path,
+    outcome: &Outcome,
+    seen: &[Atom],
+) -> Result<Answer, NoMemory>
+    requires ready { IsReady (S.system sums.now) (S.known sums.now) ground.now }
+    requires root { root.now ≡ [] }
+    ensures { IfOk result (λ a. IsSaidOf ground.now.system.now ground.now.page.now ground.now.limits.now ground.now.closed.now.labels.label (outcome_of outcome.now) seen.now (answer_of a)) }
 {
     match outcome {
-        Outcome::Judged(_) => by_first(closed, root, seen),
-        Outcome::Skipped(cause, at) => Answer::Skipped(*cause, *at),
+        Outcome::Judged(_) => by_first(alloc, ground, sums, root, seen),
+        Outcome::Skipped(cause, at) => Ok(Answer::Skipped(*cause, *at)),
     }
 }
 
@@ -58,22 +95,25 @@ fn behind<'a>(outcome: &Outcome, seen: &'a [Atom]) -> &'a [Atom]
     }
 }
 
-/// An answer for each item, by the closed label of the root. The atoms are those of the items that are judged. A
-/// look-up for each item.
-pub(crate) fn all_answers(
+/// An answer for each item, by the closed label of the root and by proofs. The atoms are those of the items that are judged.
+/// A look-up for each item, and a proof for each that is used.
+pub(crate) fn all_answers<S: Summaries>(
     alloc: Global,
+    ground: &Ground<'_>,
+    sums: &S,
     items: &[SheetItem],
     seen: &[Atom],
-    closed: &Closed,
 ) -> Result<Vec<Answer>, NoMemory>
-    ensures { IfOk result (λ v. map answer_of v.items ≡ answers_by closed.now.labels.label (map item_of items.now) seen.now) }
+    requires ready { IsReady (S.system sums.now) (S.known sums.now) ground.now }
+    ensures { IfOk result (λ v. AreSaid ground.now.system.now ground.now.page.now ground.now.limits.now ground.now.closed.now.labels.label (map item_of items.now) seen.now (map answer_of v.items)) }
 {
     let root = Path::root(alloc);
     let mut answers = Vec::new(alloc);
     let mut rest = items;
     let mut left = seen;
     'items: while let Some((item, later)) = rest.split_first() {
-        answers.push(answer(closed, &root, &item.outcome, left))?;
+        let said = answer(alloc, ground, sums, &root, &item.outcome, left)?;
+        answers.push(said)?;
         left = behind(&item.outcome, left);
         rest = later;
     }

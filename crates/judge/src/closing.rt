@@ -1,7 +1,7 @@
 //! The closed page, within a limit of pairs.
-ghost use Rattle.std.specs.Prelude.{IfOk, OnOk, IsErrOf};
+ghost use Rattle.std.specs.Prelude.{◌≡◌, [], None, Contains, IfOk, OnOk, IsErrOf};
 ghost use Rattle.simple_core.specs.Systems.{IsSound};
-ghost use Rattle.simple_core.specs.Pairs.{Asked, Needed, HasMore};
+ghost use Rattle.simple_core.specs.Pairs.{Pair, Asked, Needed, HasMore};
 ghost use Rattle.class_adding.specs.ClosedPages.{IsClosedPage};
 
 use class_adding::{Closed, close_page};
@@ -10,20 +10,26 @@ use simple_core::{GainFault, System};
 use std::alloc::Global;
 use tree_sem::Tree;
 
-/// Closes the page by a table of at most so many pairs, where it needs no more. It costs what `close_page` costs over the table.
+/// Closes the page by a table of at most so many pairs, which has none yet, where it needs no more. It costs what `close_page` costs
+/// over the table.
 pub(crate) fn close_within(
     alloc: Global,
     page: &Tree,
     system: &System,
+    sums: &mut PlainSummaries,
     pairs: u32,
 ) -> Result<Closed, GainFault>
-    requires { IsSound system.now }
+    requires sound { IsSound system.now }
+    requires made { sums.old.system ≡ system.now }
+    requires none { sums.old.known ≡ [] }
+    requires unspent { sums.old.spent ≡ None }
     ensures closed { IfOk result (λ c. IsClosedPage system.now page.now c) }
+    ensures made { OnOk result (sums.new.system ≡ system.now) }
+    ensures known { OnOk result ((q : Pair) → Asked system.now page.now q → Contains sums.new.known q) }
     ensures few { OnOk result (¬ HasMore (Needed system.now (Asked system.now page.now)) pairs) }
     ensures spent { IsErrOf result GainFault.Spent → HasMore (Needed system.now (Asked system.now page.now)) pairs }
 {
-    let mut sums = PlainSummaries::new(alloc, system, pairs)?;
-    let closing = close_page(alloc, page, system, &mut sums);
+    let closing = close_page(alloc, page, system, sums);
     // The limit stays as it was, which no clause on summaries says.
     if sums.limit() != pairs {
         return Err(GainFault::Memory);

@@ -1,40 +1,56 @@
 //! What is said of each selector of a sheet.
-ghost use Rattle.std.specs.Prelude.{◌≡◌, length, map, IfOk, IfErr, OnOk};
+ghost use Rattle.std.specs.Prelude.{◌≡◌, ◌≤◌, [], None, length, map, IfOk, IfErr, OnOk};
 ghost use Rattle.jq_sem.specs.Views.{statements_of};
 ghost use Rattle.css_read.specs.Views.{item_of};
 ghost use Rattle.usage_report.specs.Views.{answer_of};
 ghost use Rattle.simple_core.specs.Systems.{IsSound};
+ghost use Rattle.proof_maker.specs.Forests.{KeepsForests};
+ghost use Rattle.judge.specs.declared.limits.TheConstants.{MOST_LISTED};
 ghost use Rattle.judge.specs.BySeen.{AreBySeen};
 ghost use Rattle.judge.specs.Outcomes.{AreGiven, IsFault, IsWithin, IsJudged};
 
 use crate::answering::{all_answers, all_spent};
 use crate::closing::close_within;
 use crate::limits::{JudgeFault, Limits};
+use crate::proving::Ground;
 use crate::simplifying::simplify_all;
 use css_read::{Sheet, SheetItem};
 use guard_simplify::Simplified;
 use jq_sem::Stmt;
+use need_table::PlainSummaries;
 use simple_core::GainFault;
 use std::alloc::Global;
 use tp_base::AtomTable;
 use tree_sem::Tree;
 use usage_report::Answer;
 
-// The answers by the closed page of a system.
-fn answers_of(
+// The answers by the closed page of a system, whose pairs stand in the table from then on.
+fn answers_within(
     alloc: Global,
     page: &Tree,
     items: &[SheetItem],
     made: &Simplified,
-    pairs: u32,
+    sums: &mut PlainSummaries,
+    limits: &Limits,
 ) -> Result<Vec<Answer>, JudgeFault>
-    requires { IsSound made.now.system }
-    ensures answers { IfOk result (λ v. AreBySeen made.now.system made.now.seen page.now (map item_of items.now) pairs (map answer_of v.items)) }
+    requires sound { IsSound made.now.system }
+    requires forests { KeepsForests made.now.system page.now }
+    requires list { limits.now.list ≤ MOST_LISTED }
+    requires made { sums.old.system ≡ made.now.system }
+    requires none { sums.old.known ≡ [] }
+    requires unspent { sums.old.spent ≡ None }
+    ensures answers { IfOk result (λ v. AreBySeen made.now.system made.now.seen page.now (map item_of items.now) limits.now (map answer_of v.items)) }
     ensures only_memory { IfErr result (λ e. e ≡ JudgeFault.Memory) }
 {
-    match close_within(alloc, page, &made.system, pairs) {
+    match close_within(alloc, page, &made.system, sums, limits.pairs) {
         Ok(closed) => {
-            let answers = all_answers(alloc, items, made.seen.items(), &closed)?;
+            let ground = Ground {
+                page,
+                system: &made.system,
+                closed: &closed,
+                limits,
+            };
+            let answers = all_answers(alloc, &ground, sums, items, made.seen.items())?;
             Ok(answers)
         }
         Err(GainFault::Spent) => {
@@ -45,11 +61,32 @@ fn answers_of(
     }
 }
 
+// The answers by a system.
+fn answers_of(
+    alloc: Global,
+    page: &Tree,
+    items: &[SheetItem],
+    made: &Simplified,
+    limits: &Limits,
+) -> Result<Vec<Answer>, JudgeFault>
+    requires sound { IsSound made.now.system }
+    requires forests { KeepsForests made.now.system page.now }
+    requires list { limits.now.list ≤ MOST_LISTED }
+    ensures answers { IfOk result (λ v. AreBySeen made.now.system made.now.seen page.now (map item_of items.now) limits.now (map answer_of v.items)) }
+    ensures only_memory { IfErr result (λ e. e ≡ JudgeFault.Memory) }
+{
+    let mut sums = PlainSummaries::new(alloc, &made.system, limits.pairs)?;
+    answers_within(alloc, page, items, made, &mut sums, limits)
+}
+
 /// An answer for each item of the sheet, in order, of what the statements make of the page. A selector is unused where no
-/// legal steps lead to a node that it matches, however many they are. Where more than `limits.pairs` pairs are needed, each
-/// selector that is judged is spent.
+/// legal steps lead to a node that it matches, however many they are. It is used with the one canonical proof of its atom, whose
+/// steps are legal and end at a match; they are shown where they are at most `limits.list`. Where that proof has more than
+/// `limits.entries` entries, it is used unshown. Where more than `limits.pairs` pairs are needed, each selector that is judged
+/// is spent. A caller can unfold a longer proof by `unfold`.
 ///
-/// Each statement and each selector is translated once, and the page is closed once; then a look-up answers an item.
+/// Each statement and each selector is translated once, and the page is closed once; then a look-up answers an item that is
+/// unused, and one proof an item that is used.
 pub fn judge(
     alloc: Global,
     page: &Tree,
@@ -58,6 +95,7 @@ pub fn judge(
     atoms: &AtomTable,
     limits: &Limits,
 ) -> Result<Vec<Answer>, JudgeFault>
+    requires list { limits.now.list ≤ MOST_LISTED }
     requires given { AreGiven (statements_of stmts.now) (map item_of sheet.now.items) (length atoms.now) page.now }
     ensures judged { IfOk result (λ v. IsJudged (statements_of stmts.now) (map item_of sheet.now.items) (length atoms.now) page.now limits.now (map answer_of v.items)) }
     ensures within { OnOk result (IsWithin (statements_of stmts.now) (map item_of sheet.now.items) (length atoms.now)) }
@@ -65,5 +103,5 @@ pub fn judge(
 {
     let items = sheet.items.items();
     let made = simplify_all(alloc, items, stmts, atoms)?;
-    answers_of(alloc, page, items, &made, limits.pairs)
+    answers_of(alloc, page, items, &made, limits)
 }

@@ -1,17 +1,21 @@
 //! What the statements of a script reach, and what proofs show of it.
-ghost use Rattle.std.specs.Prelude.{◌↔◌, length, map, Contains};
+ghost use Rattle.std.specs.Prelude.{◌≡◌, ◌↔◌, length, map, Contains};
 ghost use Rattle.sel_core.specs.Views.{selector_of};
 ghost use Rattle.jq_sem.specs.Views.{statements_of};
 ghost use Rattle.jq_sem.specs.Reachability.{Reaches};
+ghost use Rattle.usage_report.specs.Views.{answer_of};
+ghost use Rattle.judge.specs.Answers.{IsAnswerFor};
 ghost use Rattle.judge.specs.Losses.{ReachesWithLosses};
 ghost use Rattle.judge.specs.TheSystem.{IsJudgeable, IsOverTable, IsSeenAtRoot};
 ghost use Rattle.judge.specs.Witnesses.{IsProofFor, IsWitness};
 
+use crate::limits::Limits;
 use jq_sem::Stmt;
 use proof_core::Proof;
 use sel_core::Selector;
 use tp_base::AtomTable;
 use tree_sem::Tree;
+use usage_report::Answer;
 
 /// What is reached where classes and subtrees are lost between steps is reached without losses.
 pub fn losses_reach_nothing_more(page: &Tree, stmts: &[Stmt], selector: &Selector)
@@ -44,4 +48,21 @@ pub fn proof_shows(
     requires listed { Contains (map selector_of sheet.now) (selector_of selector.now) }
     requires valid { IsProofFor (statements_of stmts.now) (map selector_of sheet.now) (length atoms.now) page.now (selector_of selector.now) proof.now }
     ensures { IsWitness (statements_of stmts.now) (map selector_of sheet.now) (length atoms.now) page.now (selector_of selector.now) proof.now }
+{}
+
+/// A selector has one right answer, so that what `judge` says of it rests on nothing but the page, the sheet, the statements and
+/// the limits.
+pub fn one_answer(
+    page: &Tree,
+    sheet: &[Selector],
+    stmts: &[Stmt],
+    atoms: &AtomTable,
+    limits: &Limits,
+    selector: &Selector,
+    answer: &Answer,
+    other: &Answer,
+)
+    requires answer { IsAnswerFor (statements_of stmts.now) (map selector_of sheet.now) (length atoms.now) page.now limits.now (selector_of selector.now) (answer_of answer.now) }
+    requires other { IsAnswerFor (statements_of stmts.now) (map selector_of sheet.now) (length atoms.now) page.now limits.now (selector_of selector.now) (answer_of other.now) }
+    ensures { answer_of answer.now ≡ answer_of other.now }
 {}

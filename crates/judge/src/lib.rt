@@ -6,8 +6,9 @@ mod closing;
 mod judging;
 mod laws;
 mod limits;
+mod proving;
 mod simplifying;
 
 pub use judging::judge;
-pub use laws::{losses_reach_nothing_more, proof_shows, reached_at_root};
-pub use limits::{JudgeFault, Limits};
+pub use laws::{losses_reach_nothing_more, one_answer, proof_shows, reached_at_root};
+pub use limits::{JudgeFault, Limits, MOST_LISTED};

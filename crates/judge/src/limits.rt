@@ -2,8 +2,11 @@
 use thiserror::Error;
 use tp_base::NoMemory;
 
-/// How much may be worked out, and how much is listed. Only `pairs` is read so far: summaries are always held in the plain table,
-/// and no steps are shown.
+/// How many steps can be listed at most.
+pub const MOST_LISTED: u32 = 1_000_000;
+
+/// How much may be worked out, and how much is listed. `plain` and `nodes` have no effect yet: summaries are always held in
+/// the plain table.
 #[derive(Clone, Copy, Debug, PartialEq, Eq)]
 pub struct Limits {
     /// Whether summaries are held in a table of pairs, in place of diagrams.
@@ -12,9 +15,9 @@ pub struct Limits {
     pub pairs: u32,
     /// How many branches the diagrams may need.
     pub nodes: u32,
-    /// How many entries one proof may need.
+    /// How many entries one proof may have.
     pub entries: u32,
-    /// How many steps are listed at most.
+    /// How many steps a trace has at most that is listed.
     pub list: u32,
 }
 

@@ -132,12 +132,48 @@ pub fn statements(alloc: Global, lines: &[Line], atoms: &mut AtomTable) -> Resul
     Ok(stmts)
 }
 
-/// A statement that puts this markup into each node of the class `box`.
-pub fn box_statement(alloc: Global, markup: &str, atoms: &mut AtomTable) -> Result<Stmt, Fail> {
+/// A statement that puts this markup into each node that the list matches.
+pub fn appending(
+    alloc: Global,
+    list: &str,
+    markup: &str,
+    atoms: &mut AtomTable,
+) -> Result<Stmt, Fail> {
     Ok(Stmt {
         place: Place { line: 1, column: 1 },
         handlers: Chains::new(Vec::new(alloc)),
-        chain: chain(alloc, &[(Word::Matched, ".box")], atoms)?,
+        chain: Chain {
+            root: Root::List(Selectors::new(selectors(alloc, list, atoms)?)),
+            calls: Calls::new(Vec::new(alloc)),
+        },
         action: Action::Inside(read_forest(alloc, markup.as_bytes(), atoms)?),
+    })
+}
+
+// The call `parent()`, or none.
+fn parent_call(alloc: Global, is_parent: bool) -> Result<Calls, Fail> {
+    let mut items = Vec::new(alloc);
+    if is_parent {
+        items.push(Call::Parent(Compounds::new(Vec::new(alloc))))?;
+    }
+    Ok(Calls::new(items))
+}
+
+/// A statement that adds a class to each node that the list matches, or to its parent.
+pub fn adding(
+    alloc: Global,
+    list: &str,
+    is_parent: bool,
+    class: &str,
+    atoms: &mut AtomTable,
+) -> Result<Stmt, Fail> {
+    Ok(Stmt {
+        place: Place { line: 1, column: 1 },
+        handlers: Chains::new(Vec::new(alloc)),
+        chain: Chain {
+            root: Root::List(Selectors::new(selectors(alloc, list, atoms)?)),
+            calls: parent_call(alloc, is_parent)?,
+        },
+        action: Action::Classes(label(alloc, class, atoms)?),
     })
 }

@@ -9,3 +9,5 @@ mod checks;
 mod rows;
 #[cfg(test)]
 mod tests;
+#[cfg(test)]
+mod texts;

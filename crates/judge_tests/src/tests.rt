@@ -1,23 +1,31 @@
-use crate::building::{box_statement, statements};
+ghost use Rattle.std.specs.Prelude.{◌≤◌};
+ghost use Rattle.judge.specs.declared.limits.TheConstants.{MOST_LISTED};
+
+use crate::building::{adding, appending, statements};
 use crate::checks::is_given;
-use crate::rows::{ROWS, Row};
+use crate::rows::{Budget, ROWS, Row};
+use crate::texts::text_of;
 use css_read::{Sheet, read_sheet};
 use html_subset::read_page;
 use jq_sem::Stmt;
-use judge::{JudgeFault, Limits, judge};
+use judge::{JudgeFault, Limits, MOST_LISTED, judge};
 use std::alloc::Global;
 use std::test::Fail;
-use tp_base::{AtomTable, NoMemory};
+use tp_base::AtomTable;
 use tree_sem::Tree;
 use usage_report::Answer;
 
-fn limits_of(pairs: u32) -> Limits {
+const AMPLE: Budget = (50_000, 100_000, 1_000);
+
+fn limits_of(budget: Budget) -> Limits
+    ensures { result.list ≤ MOST_LISTED }
+{
     Limits {
         plain: false,
-        pairs,
+        pairs: budget.0,
         nodes: 0,
-        entries: 0,
-        list: 0,
+        entries: budget.1,
+        list: budget.2.min(MOST_LISTED),
     }
 }
 
@@ -28,42 +36,12 @@ fn judged(
     sheet: &Sheet,
     stmts: &[Stmt],
     atoms: &AtomTable,
-    pairs: u32,
+    budget: Budget,
 ) -> Result<Vec<Answer>, JudgeFault> {
     if !is_given(alloc, page, sheet, stmts, atoms)? {
         return Err(JudgeFault::Memory);
     }
-    judge(alloc, page, sheet, stmts, atoms, &limits_of(pairs))
-}
-
-fn word(alloc: Global, answer: &Answer) -> Result<String, Fail> {
-    match answer {
-        Answer::Used { steps, .. } => Ok(format!(in alloc; "used {steps}")?),
-        Answer::UsedUnshown => Ok(String::from_str(alloc, "used-unshown")?),
-        Answer::Unused => Ok(String::from_str(alloc, "unused")?),
-        Answer::Skipped(cause, at) => Ok(format!(in alloc; "skipped {cause:?} {at}")?),
-        Answer::Spent => Ok(String::from_str(alloc, "spent")?),
-    }
-}
-
-// The answers, with commas between them.
-fn words(alloc: Global, answers: &[Answer]) -> Result<String, Fail> {
-    let mut text = String::new(alloc);
-    for answer in answers {
-        if !text.is_empty() {
-            text.push_str(", ")?;
-        }
-        text.push_str(word(alloc, answer)?.as_str())?;
-    }
-    Ok(text)
-}
-
-// The answers as text, or the fault.
-fn text_of(alloc: Global, found: Result<Vec<Answer>, JudgeFault>) -> Result<String, Fail> {
-    match found {
-        Ok(answers) => words(alloc, &answers),
-        Err(fault) => Ok(format!(in alloc; "{fault:?}")?),
-    }
+    judge(alloc, page, sheet, stmts, atoms, &limits_of(budget))
 }
 
 fn said_by(
@@ -114,9 +92,9 @@ fn script_of_all(alloc: Global, count: u32, atoms: &mut AtomTable) -> Result<Vec
     let mut stmts = Vec::new(alloc);
     for number in 1..=count {
         let markup = format!(in alloc; "<div class='box c{number}'></div>")?;
-        stmts.push(box_statement(alloc, markup.as_str(), atoms)?)?;
+        stmts.push(appending(alloc, ".box", markup.as_str(), atoms)?)?;
     }
-    stmts.push(box_statement(alloc, "<i class='z'></i>", atoms)?)?;
+    stmts.push(appending(alloc, ".box", "<i class='z'></i>", atoms)?)?;
     Ok(stmts)
 }
 
@@ -128,7 +106,10 @@ fn said_of_all(
     atoms: &mut AtomTable,
 ) -> Result<String, Fail> {
     let stmts = script_of_all(alloc, count, atoms)?;
-    text_of(alloc, judged(alloc, page, sheet, &stmts, atoms, 500))
+    text_of(
+        alloc,
+        judged(alloc, page, sheet, &stmts, atoms, (500, 100_000, 1_000)),
+    )
 }
 
 fn said_below_all(
@@ -158,12 +139,14 @@ fn repeated(alloc: Global, word: &str, count: u32) -> Result<String, Fail> {
     Ok(text)
 }
 
+const OF_THREE: &str =
+    "used 2 (1 on /1/0, 4 on /1/0/0, match /1/0/0/0), used 2 (2 on /1/0, 4 on /1/0/0, match /1/0/0/0), used 2 (3 on /1/0, 4 on /1/0/0, match /1/0/0/0), used 4 (1 on /1/0, 2 on /1/0/0, 3 on /1/0/0/0, 4 on /1/0/0/0/0, match /1/0/0/0/0/0)";
+
 // Any of 32 classes may stand above a node, so there are more than four billion labels of parents.
 #[test]
 fn four_billion_labels(rt: HostRuntime) -> Result<(), Fail> {
     let alloc = rt.alloc();
-    let few = repeated(alloc, "used-unshown", 4)?;
-    assert!(rt; said_with(alloc, 3)?.as_str() == few.as_str());
+    assert!(rt; said_with(alloc, 3)?.as_str() == OF_THREE);
     let many = repeated(alloc, "spent", 33)?;
     assert!(rt; said_with(alloc, 32)?.as_str() == many.as_str());
     Ok(())
@@ -190,7 +173,7 @@ fn said_below_long(
 ) -> Result<String, Fail> {
     let text = long_sheet(alloc, count)?;
     let sheet = read_sheet(alloc, text.as_bytes(), atoms)?;
-    text_of(alloc, judged(alloc, page, &sheet, &[], atoms, 0))
+    text_of(alloc, judged(alloc, page, &sheet, &[], atoms, (0, 0, 0)))
 }
 
 fn said_of_long(alloc: Global, count: u32) -> Result<String, Fail> {
@@ -205,5 +188,64 @@ fn limits_of_the_system(rt: HostRuntime) -> Result<(), Fail> {
     let alloc = rt.alloc();
     assert!(rt; said_of_long(alloc, 33)?.as_str() == "TooManyVisible");
     assert!(rt; said_of_long(alloc, 65)?.as_str() == "TooManyAtoms");
+    Ok(())
+}
+
+// A class of one level comes from both children of a node that have the class of the level below.
+fn doubling(alloc: Global, levels: u32, atoms: &mut AtomTable) -> Result<Vec<Stmt>, Fail> {
+    let mut stmts = Vec::new(alloc);
+    stmts.push(appending(alloc, ".n", "<div class='n l'></div>", atoms)?)?;
+    stmts.push(appending(alloc, ".n", "<div class='n r'></div>", atoms)?)?;
+    stmts.push(adding(alloc, ".n", false, ".d1", atoms)?)?;
+    for level in 1..=levels {
+        add_level(alloc, level, &mut stmts, atoms)?;
+    }
+    Ok(stmts)
+}
+
+fn add_level(
+    alloc: Global,
+    level: u32,
+    stmts: &mut Vec<Stmt>,
+    atoms: &mut AtomTable,
+) -> Result<(), Fail> {
+    let next = u64::from(level) + 1;
+    let left = format!(in alloc; ".l.d{level}")?;
+    let right = format!(in alloc; ".r.d{level}")?;
+    let both = format!(in alloc; ".p{level}.q{level}")?;
+    let from_left = format!(in alloc; ".p{level}")?;
+    let from_right = format!(in alloc; ".q{level}")?;
+    let class = format!(in alloc; ".d{next}")?;
+    stmts.push(adding(alloc, left.as_str(), true, from_left.as_str(), atoms)?)?;
+    stmts.push(adding(alloc, right.as_str(), true, from_right.as_str(), atoms)?)?;
+    stmts.push(adding(alloc, both.as_str(), false, class.as_str(), atoms)?)?;
+    Ok(())
+}
+
+fn said_by_doubling(
+    alloc: Global,
+    page: &Tree,
+    sheet: &Sheet,
+    atoms: &mut AtomTable,
+) -> Result<String, Fail> {
+    let stmts = doubling(alloc, 30, atoms)?;
+    text_of(alloc, judged(alloc, page, sheet, &stmts, atoms, AMPLE))
+}
+
+fn said_below_doubling(alloc: Global, page: &Tree, atoms: &mut AtomTable) -> Result<String, Fail> {
+    let sheet = read_sheet(alloc, b".d31{}", atoms)?;
+    said_by_doubling(alloc, page, &sheet, atoms)
+}
+
+fn said_doubling(alloc: Global) -> Result<String, Fail> {
+    let mut atoms = AtomTable::new(alloc);
+    let page = read_page(alloc, b"<div class='n'></div>", &mut atoms)?;
+    said_below_doubling(alloc, &page, &mut atoms)
+}
+
+// A class costs two appends, twice the steps of the class below, and three classes more: 6 * 2^30 - 5 for the 31st.
+#[test]
+fn six_billion_steps(rt: HostRuntime) -> Result<(), Fail> {
+    assert!(rt; said_doubling(rt.alloc())?.as_str() == "used 6442450939");
     Ok(())
 }

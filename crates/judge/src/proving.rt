@@ -1,0 +1,94 @@
+//! What is said of an atom that the page's root has: its proof, how many steps it has, and the steps if they are few.
+ghost use Rattle.std.specs.Prelude.{◌≡◌, ◌≤◌, [], length, IfOk};
+ghost use Rattle.tree_sem.specs.Nodes.{HasAtom};
+ghost use Rattle.simple_core.specs.Systems.{IsSound};
+ghost use Rattle.simple_core.specs.Pairs.{Pair, Asked};
+ghost use Rattle.class_adding.specs.ClosedPages.{IsClosedPage};
+ghost use Rattle.proof_check.specs.Unfolding.{unfolded};
+ghost use Rattle.proof_check.specs.Validity.{IsValid};
+ghost use Rattle.proof_maker.specs.Forests.{KeepsForests};
+ghost use Rattle.proof_maker.specs.Needs.{IsCanonical};
+ghost use Rattle.usage_report.specs.Views.{answer_of};
+ghost use Rattle.judge.specs.declared.limits.TheConstants.{MOST_LISTED};
+ghost use Rattle.judge.specs.Answers.{IsShown};
+ghost use Rattle.judge.specs.BySeen.{IsSaidProved};
+ghost use Rattle.judge.specs.Grounds.{IsReady};
+
+use crate::limits::Limits;
+use class_adding::Closed;
+use proof_core::{Proof, UnfoldFault, Unfolded, steps, unfold};
+use proof_maker::{ProveFault, prove};
+use simple_core::{Summaries, System};
+use std::alloc::Global;
+use tp_base::{Atom, NoMemory};
+use tree_sem::Tree;
+use usage_report::Answer;
+
+/// What all answers are read from: a page, a system and the page that it closes.
+#[derive(Clone, Copy)]
+pub(crate) struct Ground<'a> {
+    pub(crate) page: &'a Tree,
+    pub(crate) system: &'a System,
+    pub(crate) closed: &'a Closed,
+    pub(crate) limits: &'a Limits,
+}
+
+// What the proof unfolds to, where it has no more steps than are listed.
+fn listed(ground: &Ground<'_>, proof: &Proof, atom: Atom) -> Result<Option<Unfolded>, NoMemory>
+    requires sound { IsSound ground.now.system.now }
+    requires list { ground.now.limits.now.list ≤ MOST_LISTED }
+    requires valid { IsValid ground.now.system.now ground.now.page.now proof.now atom }
+    ensures { IfOk result (λ shown. IsShown (unfolded ground.now.system.now proof.now ground.now.page.now atom) ground.now.limits.now.list shown) }
+{
+    let list = u64::from(ground.limits.list);
+    match unfold(proof, ground.system, ground.page, atom, list) {
+        Ok(unfolded) => Ok(Some(unfolded)),
+        Err(UnfoldFault::OverLimit) => Ok(None),
+        Err(UnfoldFault::Memory) => Err(NoMemory),
+    }
+}
+
+// The answer by a proof of the atom.
+fn used_by(ground: &Ground<'_>, proof: Proof, atom: Atom) -> Result<Answer, NoMemory>
+    requires sound { IsSound ground.now.system.now }
+    requires list { ground.now.limits.now.list ≤ MOST_LISTED }
+    requires canonical { IsCanonical ground.now.system.now ground.now.page.now atom proof }
+    requires valid { IsValid ground.now.system.now ground.now.page.now proof atom }
+    requires within { length proof.entries ≤ ground.now.limits.now.entries }
+    ensures { IfOk result (λ a. IsSaidProved ground.now.system.now ground.now.page.now ground.now.limits.now atom (answer_of a)) }
+{
+    let count = steps(&proof, ground.system);
+    let shown = listed(ground, &proof, atom)?;
+    Ok(Answer::Used {
+        proof,
+        steps: count,
+        shown,
+    })
+}
+
+/// The answer for an atom that the closed root has. It costs what `prove` and `unfold` cost.
+pub(crate) fn proved<S: Summaries>(
+    alloc: Global,
+    ground: &Ground<'_>,
+    sums: &S,
+    atom: Atom,
+) -> Result<Answer, NoMemory>
+    requires ready { IsReady (S.system sums.now) (S.known sums.now) ground.now }
+    requires has { HasAtom ground.now.closed.now.labels [] atom }
+    ensures { IfOk result (λ a. IsSaidProved ground.now.system.now ground.now.page.now ground.now.limits.now atom (answer_of a)) }
+{
+    let entries = ground.limits.entries;
+    match prove(
+        alloc,
+        ground.page,
+        ground.system,
+        ground.closed,
+        sums,
+        atom,
+        entries,
+    ) {
+        Ok(proof) => used_by(ground, proof, atom),
+        Err(ProveFault::Unshown) => Ok(Answer::UsedUnshown),
+        Err(ProveFault::Memory) => Err(NoMemory),
+    }
+}
