@@ -5,7 +5,7 @@ use Rattle.tree_sem.specs.Trees.{LabelTree}
 use Rattle.sel_core.specs.Selectors.{Selector}
 use Rattle.jq_sem.specs.Statements.{Statement}
 use Rattle.proof_check.specs.declared.proofs.Proof.{Proof}
-use Rattle.proof_core.specs.declared.unfolded.Unfolded.{Unfolded}
+use Rattle.proof_check.specs.declared.unfolded.Unfolded.{Unfolded}
 use Rattle.proof_maker.specs.Needs.{UsesMore}
 use Rattle.proof_maker.proofs.OneLemmas.{one_canonical}
 use Rattle.proof_maker.proofs.UsedLemmas.{more_entries}

@@ -4,7 +4,7 @@ use Rattle.std.proofs.lemmas.Bool.{cases_lt}
 use Rattle.tp_base.specs.Classes.{has_class}
 use Rattle.tree_sem.specs.declared.actions.Step.{Step}
 use Rattle.tree_sem.specs.Trees.{LabelTree}
-use Rattle.proof_core.specs.declared.unfolded.Unfolded.{Unfolded}
+use Rattle.proof_check.specs.declared.unfolded.Unfolded.{Unfolded}
 use Rattle.proof_core.specs.declared.unfolded.UnfoldFault.{UnfoldFault}
 use Rattle.proof_core.specs.declared.unfolded.UnfoldFault.TheVariants.{OverLimit}
 use Rattle.usage_report.specs.declared.answers.Answer as code

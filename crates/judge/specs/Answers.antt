@@ -13,7 +13,7 @@ use Rattle.jq_sem.specs.Reachability.{Reaches}
 use Rattle.css_read.specs.Sheets.{Outcome, judged, skipped as left_out, Item}
 use Rattle.proof_check.specs.declared.proofs.Proof.{Proof}
 use Rattle.proof_check.specs.Validity.{MOST_STEPS}
-use Rattle.proof_core.specs.declared.unfolded.Unfolded.{Unfolded}
+use Rattle.proof_check.specs.declared.unfolded.Unfolded.{Unfolded}
 use Rattle.proof_maker.specs.Needs.{IsCanonical, UsesMore}
 use Rattle.usage_report.specs.Answers.{Answer, used, used_unshown, unused, skipped, spent}
 use Rattle.judge.specs.declared.limits.Limits.{Limits}

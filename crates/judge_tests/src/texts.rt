@@ -1,6 +1,6 @@
 //! Answers as text.
 use judge::JudgeFault;
-use proof_core::Unfolded;
+use proof_check::Unfolded;
 use std::alloc::Global;
 use std::test::Fail;
 use tp_base::Path;

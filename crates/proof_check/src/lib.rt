@@ -9,6 +9,7 @@ mod nodes;
 mod page_checks;
 mod premises;
 mod proofs;
+mod unfolded;
 
 pub use checking::check;
 pub use counting::{items_steps, steps};
@@ -16,3 +17,4 @@ pub use nodes::{Nodes, steps_of};
 pub use proofs::{
     Below, Entries, Entry, PageItem, PageItems, Proof, ProofItem, ProofItems, Reason,
 };
+pub use unfolded::{Steps, Unfolded};

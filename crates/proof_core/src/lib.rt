@@ -12,6 +12,7 @@ mod worlds;
 
 pub use laws::{Reading, unfolding_is_right, valid_shows};
 pub use proof_check::{
-    Below, Entries, Entry, PageItem, PageItems, Proof, ProofItem, ProofItems, Reason, check, steps,
+    Below, Entries, Entry, PageItem, PageItems, Proof, ProofItem, ProofItems, Reason, Steps,
+    Unfolded, check, steps,
 };
-pub use unfolded::{Steps, UnfoldFault, Unfolded, unfold};
+pub use unfolded::{UnfoldFault, unfold};

@@ -9,49 +9,12 @@ use crate::node_passes::NodePasses;
 use crate::page_passes::{page_passed, place_at};
 use crate::trails::Trail;
 use crate::worlds::{Forests, World};
-use proof_check::{Nodes, Proof, steps};
+use proof_check::{Nodes, Proof, Steps, Unfolded, steps};
 use simple_core::System;
 use std::alloc::Global;
-use std::marker::Model;
 use thiserror::Error;
 use tp_base::{Atom, NoMemory, Path};
-use tree_sem::{Step, Tree};
-
-/// Steps, in their order. A contract sees the list of them.
-#[derive(Drop)]
-pub struct Steps {
-    items: Vec<Step>,
-}
-
-impl Model for Steps {
-    ghost use Rattle.std.specs.Prelude.{List};
-    ghost use Rattle.tree_sem.specs.declared.actions.Step.{Step};
-
-    ghost Value = { List Step };
-
-    ghost view = { λ s. s.items.items };
-}
-
-impl Steps {
-    pub fn new(items: Vec<Step>) -> Self
-        ensures { result ≡ items.items }
-    {
-        Steps { items }
-    }
-
-    pub fn items(&self) -> &[Step]
-        ensures { result.now ≡ self.now }
-    {
-        &self.items
-    }
-}
-
-/// The steps that a proof says, and the node that they lead to.
-#[derive(Drop)]
-pub struct Unfolded {
-    pub steps: Steps,
-    pub at: Path,
-}
+use tree_sem::Tree;
 
 /// Why a proof wasn't unfolded.
 #[derive(Clone, Copy, Debug, PartialEq, Eq, Error)]

@@ -1,6 +1,6 @@
 //! Reports on one sheet, and one that is cut off.
 use css_read::{Outcome, Ranges, Sheet, SheetItem, SheetItems};
-use proof_core::{Entries, PageItems, Proof, Steps, Unfolded};
+use proof_check::{Entries, PageItems, Proof, Steps, Unfolded};
 use sel_core::{SelFault, Skip, read_selector};
 use std::alloc::Global;
 use std::test::Fail;

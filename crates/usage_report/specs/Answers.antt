@@ -2,7 +2,7 @@
 use Rattle.std.specs.Prelude.{ℕ, Option}
 use Rattle.sel_core.specs.declared.faults.Skip.{Skip}
 use Rattle.proof_check.specs.declared.proofs.Proof.{Proof}
-use Rattle.proof_core.specs.declared.unfolded.Unfolded.{Unfolded}
+use Rattle.proof_check.specs.declared.unfolded.Unfolded.{Unfolded}
 
 -- a selector is used by a proof of so many steps, which may be shown, or by one that was too large; it is unused; it is skipped for a cause
 -- at an offset of the sheet; or it was not found out

@@ -10,7 +10,7 @@ use Rattle.sel_core.specs.declared.faults.Skip.{Skip}
 use Rattle.sel_core.specs.declared.faults.Skip.TheVariants as cause
 use Rattle.sel_core.specs.SelectorText.{selector_text}
 use Rattle.css_read.specs.Sheets as sheets
-use Rattle.proof_core.specs.declared.unfolded.Unfolded.{Unfolded}
+use Rattle.proof_check.specs.declared.unfolded.Unfolded.{Unfolded}
 use Rattle.usage_report.specs.Answers.{Answer, used, used_unshown, unused, skipped, spent}
 
 -- the place of an offset, or of the text's end where it is past it

@@ -1,5 +1,5 @@
 //! What is said of a selector.
-use proof_core::{Proof, Unfolded};
+use proof_check::{Proof, Unfolded};
 use sel_core::Skip;
 
 /// What is said of one selector of a sheet.

@@ -11,7 +11,7 @@ use crate::answers::Answer;
 use crate::cursor::Cursor;
 use crate::pieces::Piece;
 use css_read::Outcome;
-use proof_core::Unfolded;
+use proof_check::Unfolded;
 use sel_core::{Skip, write_selector};
 use tp_base::{AtomTable, NoMemory, Path, Place};
 use tree_sem::Step;
