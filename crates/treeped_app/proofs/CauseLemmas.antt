@@ -1,13 +1,16 @@
 -- From the end of a run to the causes of its answers.
-use Rattle.std.proofs.Common.{◌≡◌, ◌⊎◌, ℕ, ◌≤◌, ◌<◌, Bool, true, false, if◌then◌else◌, List, [], ◌∷◌, ◌++◌, length, Option, Some, None, IfSome, Result, Ok, Err, refl, sym, ap, ◌∙◌, inl, inr, subst, append_assoc, append-nil, arith}
+use Rattle.std.proofs.Common.{◌≡◌, ◌⊎◌, ℕ, ◌≤◌, ◌<◌, ◌||◌, Bool, true, false, if◌then◌else◌, List, [], ◌∷◌, ◌++◌, length, Contains, Option, Some, None, IfSome, Result, Ok, Err, refl, sym, ap, ◌∙◌, inl, inr, subst, append_assoc, append-nil, arith}
 use Rattle.std.specs.List.{list_any}
 use Rattle.std.proofs.lemmas.Bool.{true≢false}
 use Rattle.std.proofs.lemmas.List.{append_cancel_left}
+use Rattle.tp_base.proofs.Rising.{Contains-here, Contains-behind}
 use Rattle.tree_sem.specs.Trees.{LabelTree}
+use Rattle.sel_core.specs.Selectors.{Selector}
 use Rattle.css_read.specs.Sheets.{Outcome, judged, skipped as left_out, Item}
 use Rattle.jq_sem.specs.Statements.{Statement}
 use Rattle.usage_report.specs.Answers.{Answer, used, used_unshown, unused, skipped, spent as spent_}
-use Rattle.treeped_app.specs.Answers.{IsRight, AreRight}
+use Rattle.judge.specs.Answers.{judged_of, judged_in}
+use Rattle.treeped_app.specs.Answers.{IsRight, AreRight, IsPastBudget}
 use Rattle.tp_io.specs.Files.{Load}
 use Rattle.tp_io.specs.Sinks.{Adds, Rose}
 use Rattle.tp_io.specs.declared.files.TheConstants.{MOST_BYTES}
@@ -19,10 +22,9 @@ use Rattle.treeped_app.specs.declared.refusals.Part.{Part}
 use Rattle.treeped_app.specs.declared.refusals.Part.TheVariants.{Page, Sheet, Script}
 use Rattle.treeped_app.specs.declared.stops.Stop.{Stop}
 use Rattle.treeped_app.specs.declared.stops.Stop.TheVariants.{Words, TooLarge, ReadFault, Unread, Judging, WriteFault, NoMemory}
-use Rattle.treeped_app.specs.Rules.{are_rules}
 use Rattle.treeped_app.specs.Words.{Names, command}
 use Rattle.treeped_app.specs.Stops.{line_of, status_of_stop}
-use Rattle.treeped_app.specs.Runs.{Put, Run, Ends, Texts, Inputs, AreTexts, IsAccepted, Exceeds, read_inputs, loads_before, all_loads, name_of, succeeded, failed, is_unused, is_open, status_of, AreRightBy, AreRightOf, IsRefusedBy, IsJudgeable}
+use Rattle.treeped_app.specs.Runs.{Put, Run, Ends, Texts, Inputs, AreTexts, IsAccepted, Exceeds, read_inputs, loads_before, all_loads, name_of, succeeded, failed, is_unused, is_open, status_of, AreAnswersOf, IsRefusedBy, IsJudgeable, IsOverBudget}
 use Rattle.treeped_app.specs.Commands.{Reports, Says, IsTold, IsEnded, Fails, IsRefusal, FailedAt, AreTold, Fit, Causes}
 
 -- the stops whose line is said whole or not at all
@@ -166,49 +168,53 @@ module _ (r : Run) (n : Names) (x : Texts) (told : AreTold r n x) where
 
 -- ---- judging
 
--- where each statement is a rule, nothing is left open
-one_open : (t : LabelTree) (ss : List Statement) (o : Outcome) (a : Answer) → IsRight t ss o a → is_open a ≡ false
-one_open t ss (judged s) (used steps shown) right = refl
-one_open t ss (judged s) used_unshown right = absurd right
-one_open t ss (judged s) unused right = refl
-one_open t ss (judged s) (skipped cause at) right = refl
-one_open t ss (judged s) spent_ right = absurd right
-one_open t ss (left_out cause at) a right = ap is_open right
+-- a status past a budget has an answer that is left open
+budget_open : (a b : Bool) → (if a then status.Budget else if b then status.Unused else status.Complete) ≡ status.Budget → a ≡ true
+budget_open true b is = refl
+budget_open false true is = cc
+budget_open false false is = cc
 
-none_open : (t : LabelTree) (ss : List Statement) (items : List Item) (answers : List Answer) → AreRight t ss items answers → list_any is_open answers ≡ false
-none_open t ss [] [] right = refl
-none_open t ss [] (a ∷ answers) right = absurd right
-none_open t ss (i ∷ items) [] right = absurd right
-none_open t ss (i ∷ items) (a ∷ answers) right = rw (one_open t ss i.outcome a right.0) (none_open t ss items answers right.1)
+-- what is left open is past a budget
+module _ (t : LabelTree) (ss : List Statement) (items : List Item) (n : ℕ) where
+  abbrev AreAmong : List Selector → Type 0
+  AreAmong sheet = (s : Selector) → Contains sheet s → Contains (judged_in items) s
 
-never_budget : (a b : Bool) → a ≡ false → (if a then status.Budget else if b then status.Unused else status.Complete) ≡ status.Budget → ⊥
-never_budget true b is same = true≢false is
-never_budget false true is same = cc
-never_budget false false is same = cc
+  open_first : (o : Outcome) (rest : List Item) (a : Answer) → IsRight t ss items n o a → is_open a ≡ true → AreAmong (judged_of o ++ judged_in rest) → IsPastBudget t ss items n
+  open_first (judged s) rest (used proof steps shown) right open among = absurd (true≢false (sym open))
+  open_first (judged s) rest used_unshown right open among = inr (s, among s (Contains-here s s (judged_in rest) refl), right)
+  open_first (judged s) rest unused right open among = absurd (true≢false (sym open))
+  open_first (judged s) rest (skipped cause at) right open among = absurd right
+  open_first (judged s) rest spent_ right open among = inl right
+  open_first (left_out cause at) rest a right open among = absurd (true≢false (sym open ∙ ap is_open right))
 
-not_rules : (b : Bool) (i : Inputs) (answers : List Answer) → AreRightBy b i answers → status_of answers ≡ status.Budget → b ≡ false
-not_rules true i answers right is = absurd (never_budget (list_any is_open answers) (list_any is_unused answers) (none_open i.tree i.stmts i.sheet.items answers right) is)
-not_rules false i answers right is = refl
+  later_among : (o : Outcome) (rest : List Item) → AreAmong (judged_of o ++ judged_in rest) → AreAmong (judged_in rest)
+  later_among (judged s) rest among = λ x there. among x (Contains-behind x s (judged_in rest) there)
+  later_among (left_out cause at) rest among = among
 
-judged_where : (b : Bool) (i : Inputs) (answers : List Answer) → are_rules i.stmts ≡ b → AreRightBy b i answers → IsJudgeable i
-judged_where true i answers is right = inl is
-judged_where false i answers is right = inr right.0
+  open_past : (rest : List Item) (answers : List Answer) → AreRight t ss items n rest answers → list_any is_open answers ≡ true → AreAmong (judged_in rest) → IsPastBudget t ss items n
+  open_past [] [] right open among = absurd (true≢false (sym open))
+  open_past [] (a ∷ answers) right open among = absurd right
+  open_past (i ∷ rest) [] right open among = absurd right
+  open_past (i ∷ rest) (a ∷ answers) right open among = elim (is_open a) as (λ b. is_open a ≡ b → (b || list_any is_open answers) ≡ true → IsPastBudget t ss items n) [
+    | true ↦ λ e there. open_first i.outcome rest a right.0 e among
+    | false ↦ λ e there. open_past rest answers right.1 there (later_among i.outcome rest among)
+  ] refl open
+
+past_budget : (i : Inputs) (answers : List Answer) → AreAnswersOf i answers → status_of answers ≡ status.Budget → IsOverBudget i
+past_budget i answers are is =
+    open_past i.tree i.stmts i.sheet.items (length i.names) i.sheet.items answers are.right (budget_open (list_any is_open answers) (list_any is_unused answers) is) (λ s there. there)
 
 -- what has answers isn't refused
 refused_and_judged : (i : Inputs) (f : JudgeRefusal) → IsRefusedBy i f → IsJudgeable i → ⊥
-refused_and_judged i f (other, fault) (inl rules) = true≢false (sym rules ∙ other)
-refused_and_judged i TooManyAtoms (other, many) (inr within) = let few = within.0 in omega (arith, many, few)
-refused_and_judged i TooManyVisible (other, many) (inr within) = let few = within.1 in let more = many.1 in omega (arith, more, few)
+refused_and_judged i TooManyAtoms many within = let few = within.0 in omega (arith, many, few)
+refused_and_judged i TooManyVisible many within = let few = within.1 in let more = many.1 in omega (arith, more, few)
 
 module _ (r : Run) (n : Names) (x : Texts) (i : Inputs) where
   one_reading : AreTold r n x → read_inputs x ≡ Ok i → (x' : Texts) (i' : Inputs) → IsAccepted r x' i' → i' ≡ i
   one_reading told reads x' i' accepted = let same : Ok i' ≡ Ok i = sym (accepted_reads r n x told x' i' accepted) ∙ reads in cc
 
-  not_answered : (f : JudgeRefusal) → AreTold r n x → read_inputs x ≡ Ok i → IsRefusedBy i f → (x' : Texts) (i' : Inputs) → IsAccepted r x' i' → (answers : List Answer) → AreRightOf i' answers → ⊥
-  not_answered f told reads refused x' i' accepted answers right =
-      let same = one_reading told reads x' i' accepted in
-      let right' : AreRightOf i answers = subst (λ (j : Inputs). AreRightOf j answers) same right in
-      refused_and_judged i f refused (judged_where (are_rules i.stmts) i answers refl right')
+  not_answered : (f : JudgeRefusal) → AreTold r n x → read_inputs x ≡ Ok i → IsRefusedBy i f → (x' : Texts) (i' : Inputs) → IsAccepted r x' i' → (answers : List Answer) → AreAnswersOf i' answers → ⊥
+  not_answered f told reads refused x' i' accepted answers are = refused_and_judged i f refused (subst (λ (j : Inputs). IsJudgeable j) (one_reading told reads x' i' accepted) are.within)
 
 -- the causes, from the ways in which a run ends
 module _ (r : Run) (err : Put) (s : Status) where
@@ -313,7 +319,7 @@ module _ (r : Run) (err : Put) (s : Status) where
   write_fault_of (spent status_is) is = cc
 
   not_judged_of : (n : Names) (x : Texts) (i : Inputs) (f : JudgeRefusal) → IsOne r err s → AreTold r n x → Fit x → read_inputs x ≡ Ok i → IsRefusedBy i f → (s ≡ status.Refused) ⊎ (s ≡ status.ReadFault) ⊎ Fails err s
-  not_judged_of n x i f (reported report ends) told fits reads refused = absurd (not_answered r n x i f told reads refused ends.0 ends.1 ends.2 ends.3.0 ends.3.2.right)
+  not_judged_of n x i f (reported report ends) told fits reads refused = absurd (not_answered r n x i f told reads refused ends.0 ends.1 ends.2 ends.3.0 ends.3.2.answers_are)
   not_judged_of n x i f (said Words lined ends status_is line) told fits reads refused = let none = ends.0 in let some = told.are_names in cc
   not_judged_of n x i f (said (TooLarge p) lined ends status_is line) told fits reads refused = inl status_is
   not_judged_of n x i f (said (ReadFault p) lined ends status_is line) told fits reads refused = inr (inl status_is)
@@ -322,11 +328,11 @@ module _ (r : Run) (err : Put) (s : Status) where
   not_judged_of n x i f (said WriteFault lined ends status_is line) told fits reads refused = elim lined [ ]
   not_judged_of n x i f (said NoMemory lined ends status_is line) told fits reads refused = elim lined [ ]
   not_judged_of n x i f (cut stop ends fails) told fits reads refused = inr (inr fails)
-  not_judged_of n x i f (unwritten ends status_is) told fits reads refused = absurd (not_answered r n x i f told reads refused ends.0 ends.1 ends.2 ends.3.0 ends.3.2.right)
+  not_judged_of n x i f (unwritten ends status_is) told fits reads refused = absurd (not_answered r n x i f told reads refused ends.0 ends.1 ends.2 ends.3.0 ends.3.2.answers_are)
   not_judged_of n x i f (spent status_is) told fits reads refused = inr (inr (inr status_is))
 
-  budget_of : IsOne r err s → s ≡ status.Budget → (x : Texts) × (i : Inputs) × IsAccepted r x i × (are_rules i.stmts ≡ false)
-  budget_of (reported report ends) is = (ends.0, ends.1, ends.2, not_rules (are_rules ends.1.stmts) ends.1 ends.3.0 ends.3.2.right (sym ends.3.4 ∙ is))
+  budget_of : IsOne r err s → s ≡ status.Budget → (x : Texts) × (i : Inputs) × IsAccepted r x i × IsOverBudget i
+  budget_of (reported report ends) is = (ends.0, ends.1, ends.2, past_budget ends.1 ends.3.0 ends.3.2.answers_are (sym ends.3.4 ∙ is))
   budget_of (said Words lined ends status_is line) is = cc
   budget_of (said (TooLarge part) lined ends status_is line) is = cc
   budget_of (said (ReadFault part) lined ends status_is line) is = cc
@@ -357,6 +363,14 @@ module _ (r : Run) (err : Put) (s : Status) where
   completes_of n x i (unwritten ends status_is) told fits reads can loads out errors = absurd (out ends.3.4)
   completes_of n x i (spent status_is) told fits reads can loads out errors = inr status_is
 
+  -- within all budgets a report is not cut short
+  decided : (n : Names) (x : Texts) (i : Inputs) → IsOne r err s → AreTold r n x → read_inputs x ≡ Ok i → (IsOverBudget i → ⊥) → Reports s ⊎ (s ≡ status.NoMemory) → (s ≡ status.Complete) ⊎ (s ≡ status.Unused) ⊎ (s ≡ status.NoMemory)
+  decided n x i one told reads enough (inl (inl complete)) = inl complete
+  decided n x i one told reads enough (inl (inr (inl some))) = inr (inl some)
+  decided n x i one told reads enough (inl (inr (inr budget))) =
+      let past = budget_of one budget in absurd (enough (subst (λ (j : Inputs). IsOverBudget j) (one_reading r n x i told reads past.0 past.1 past.2) past.3))
+  decided n x i one told reads enough (inr memory) = inr (inr memory)
+
   -- all of them
   pub causes_of : IsEnded r err s → Causes r err s
   causes_of ended =
@@ -373,4 +387,5 @@ module _ (r : Run) (err : Put) (s : Status) where
         write_fault = write_fault_of one;
         budget = budget_of one;
         completes = λ n x i. completes_of n x i one;
+        decides = λ n x i told fits reads can enough loads out errors. decided n x i one told reads enough (completes_of n x i one told fits reads can loads out errors);
       }

@@ -1,15 +1,6 @@
 pub mod AnsweringLemmas
 pub mod CauseLemmas
-pub mod ClosedLemmas
-pub mod ClosingLemmas
 pub mod GivenLemmas
-pub mod IndexLemmas
-pub mod JudgingLemmas
-pub mod LevelLemmas
 pub mod LoadingLemmas
-pub mod MatchLemmas
 pub mod ReadingLemmas
-pub mod RuleLemmas
-pub mod StepLemmas
 pub mod StopLemmas
-pub mod TraceLemmas

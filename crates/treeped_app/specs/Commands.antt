@@ -2,7 +2,7 @@
 --     Headline run s             a report is whole and right
 --     SaysWhy wants err s        the last line of a run without its report is whole
 --     Causes run s               each answer comes where its cause stands, and only there
-use Rattle.std.specs.Prelude.{◌≡◌, ◌≤◌, ◌⊎◌, ℕ, false, List, [], ◌∷◌, ◌++◌, length, Option, Some, None, Result, Ok, Err}
+use Rattle.std.specs.Prelude.{◌≡◌, ◌≤◌, ◌⊎◌, ℕ, List, [], ◌∷◌, ◌++◌, length, Option, Some, None, Result, Ok, Err}
 use Rattle.tp_io.specs.Sinks.{Adds, AddsPrefix, Rose}
 use Rattle.treeped_app.specs.declared.status.Status.{Status}
 use Rattle.treeped_app.specs.declared.status.Status.TheVariants as status
@@ -12,9 +12,8 @@ use Rattle.treeped_app.specs.declared.refusals.Part.{Part}
 use Rattle.treeped_app.specs.declared.stops.Stop.{Stop}
 use Rattle.treeped_app.specs.declared.stops.Stop.TheVariants.{Words, TooLarge, ReadFault, Unread, Judging, WriteFault, NoMemory}
 use Rattle.treeped_app.specs.Stops.{line_of, status_of_stop}
-use Rattle.treeped_app.specs.Rules.{are_rules}
 use Rattle.treeped_app.specs.Words.{Names, command}
-use Rattle.treeped_app.specs.Runs.{Put, Run, Ends, Texts, Inputs, IsAccepted, IsRefusedBy, IsJudgeable, read_inputs, loads_before, name_of, failed}
+use Rattle.treeped_app.specs.Runs.{Put, Run, Ends, Texts, Inputs, IsAccepted, IsRefusedBy, IsJudgeable, IsOverBudget, read_inputs, loads_before, name_of, failed}
 
 -- a status that comes with a report
 abbrev pub Reports : Status → Type 0
@@ -104,6 +103,8 @@ pub record Causes (r : Run) (err : Put) (s : Status) : Type 0 where
   pub read_fault : s ≡ status.ReadFault → (n : Names) × (part : Part) × (command r.words ≡ Some n) × FailedAt r n part × Adds err.held err.held' (line_of (ReadFault part))
   pub failed_load : (n : Names) (part : Part) → FailedAt r n part → (s ≡ status.ReadFault) ⊎ Fails err s
   pub write_fault : s ≡ status.WriteFault → Rose r.out.faults r.out.faults' ⊎ Rose err.faults err.faults'
-  pub budget : s ≡ status.Budget → (x : Texts) × (i : Inputs) × IsAccepted r x i × (are_rules i.stmts ≡ false)
+  pub budget : s ≡ status.Budget → (x : Texts) × (i : Inputs) × IsAccepted r x i × IsOverBudget i
   pub completes : (n : Names) (x : Texts) (i : Inputs) → AreTold r n x → Fit x → read_inputs x ≡ Ok i → IsJudgeable i → ((part : Part) → FailedAt r n part → ⊥) → (Rose r.out.faults r.out.faults' → ⊥) → (Rose err.faults err.faults' → ⊥)
       → Reports s ⊎ (s ≡ status.NoMemory)
+  pub decides : (n : Names) (x : Texts) (i : Inputs) → AreTold r n x → Fit x → read_inputs x ≡ Ok i → IsJudgeable i → (IsOverBudget i → ⊥) → ((part : Part) → FailedAt r n part → ⊥) → (Rose r.out.faults r.out.faults' → ⊥)
+      → (Rose err.faults err.faults' → ⊥) → (s ≡ status.Complete) ⊎ (s ≡ status.Unused) ⊎ (s ≡ status.NoMemory)

@@ -1,14 +1,8 @@
 pub mod Answers
-pub mod ClosedPages
-pub mod Closing
 pub mod Commands
-pub mod Indexes
 pub mod Inputs
-pub mod Matching
 pub mod Refusals
-pub mod Rules
 pub mod Runs
 pub mod Stops
-pub mod Traces
 pub mod Views
 pub mod Words

@@ -25,14 +25,12 @@ use Rattle.jq_words.specs.Words.{Outcome}
 use Rattle.jq_read.specs.Script.{script}
 use Rattle.usage_report.specs.Answers.{Answer, used_unshown, unused, spent}
 use Rattle.usage_report.specs.Report.{report}
-use Rattle.judge.specs.declared.limits.Limits.{Limits}
 use Rattle.judge.specs.declared.limits.JudgeFault.{JudgeFault}
 use Rattle.judge.specs.declared.limits.JudgeFault.TheVariants as fault
 use Rattle.judge.specs.Outcomes.{IsFault, IsWithin}
 use Rattle.judge.specs.Outcomes as judge
-use Rattle.treeped_app.specs.Answers.{AreRight, AreUnreached}
+use Rattle.treeped_app.specs.Answers.{default_limits, AreRight, IsPastBudget}
 use Rattle.treeped_app.specs.Refusals.{page_stop, sheet_stop, script_stop}
-use Rattle.treeped_app.specs.Rules.{are_rules}
 use Rattle.treeped_app.specs.Words.{Names, command}
 
 -- the texts of the three files
@@ -138,31 +136,27 @@ Loaded told n before after (Err e) = ⊥
 
 -- ---- judging
 
--- how much may be worked out, and how much is listed
-abbrev pub default_limits : Limits
-default_limits = record { plain = false; pairs = 50000; nodes = 4194304; entries = 100000; list = 1000 }
-
--- by whether each statement is a rule
-abbrev pub AreRightBy : Bool → Inputs → List Answer → Type 0
-AreRightBy true i answers = AreRight i.tree i.stmts i.sheet.items answers
-AreRightBy false i answers = IsWithin i.stmts i.sheet.items (length i.names) × judge.IsJudged i.stmts i.sheet.items (length i.names) i.tree default_limits answers
-
--- Where each statement is a rule, a right answer for each item with its steps. Else right answers without steps; or each selector that
--- is judged is spent, where too many pairs are needed.
-abbrev pub AreRightOf : Inputs → List Answer → Type 0
-AreRightOf i answers = AreRightBy (are_rules i.stmts) i answers
+-- One right answer for each item; and as exactly as `judge` decides it, with the proof of each selector that is used.
+pub record AreAnswersOf (i : Inputs) (answers : List Answer) : Type 0 where
+  pub right : AreRight i.tree i.stmts i.sheet.items (length i.names) i.sheet.items answers
+  pub within : IsWithin i.stmts i.sheet.items (length i.names)
+  pub exactly : judge.IsJudged i.stmts i.sheet.items (length i.names) i.tree default_limits answers
 
 abbrev pub fault_of : JudgeRefusal → JudgeFault
 fault_of refused.TooManyAtoms = fault.TooManyAtoms
 fault_of refused.TooManyVisible = fault.TooManyVisible
 
--- why there are no answers: not each statement is a rule, and the system is past one of its limits
+-- why there are no answers: the system is past one of its limits
 abbrev pub IsRefusedBy : Inputs → JudgeRefusal → Type 0
-IsRefusedBy i f = (are_rules i.stmts ≡ false) × IsFault i.stmts i.sheet.items (length i.names) (fault_of f)
+IsRefusedBy i f = IsFault i.stmts i.sheet.items (length i.names) (fault_of f)
 
 -- there are answers
 abbrev pub IsJudgeable : Inputs → Type 0
-IsJudgeable i = (are_rules i.stmts ≡ true) ⊎ IsWithin i.stmts i.sheet.items (length i.names)
+IsJudgeable i = IsWithin i.stmts i.sheet.items (length i.names)
+
+-- a budget doesn't suffice for each answer
+abbrev pub IsOverBudget : Inputs → Type 0
+IsOverBudget i = IsPastBudget i.tree i.stmts i.sheet.items (length i.names)
 
 abbrev pub is_unused : Answer → Bool
 is_unused unused = true
@@ -177,10 +171,9 @@ is_open _ = false
 abbrev pub status_of : List Answer → Status
 status_of answers = if list_any is_open answers then status.Budget else if list_any is_unused answers then status.Unused else status.Complete
 
--- Right answers, and the report on them. Whatever the statements are, no legal steps reach a selector that is said to be unused.
+-- right answers, and the report on them
 pub record IsJudged (x : Texts) (i : Inputs) (answers : List Answer) (text : List ℕ) : Type 0 where
-  pub right : AreRightOf i answers
-  pub unused : AreUnreached i.tree i.stmts i.sheet.items answers
+  pub answers_are : AreAnswersOf i answers
   pub text_is : text ≡ report x.sheet i.names (map (λ s. s.place) i.stmts) i.sheet answers
 
 -- what a sink held, and the count of its faults, before and after

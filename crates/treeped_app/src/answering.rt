@@ -1,15 +1,11 @@
 //! An answer for each item of a sheet, of whatever was read.
-ghost use Rattle.std.specs.Prelude.{◌≡◌, false, length, map, IfOk, IfErr, vec_len};
-ghost use Rattle.jq_sem.specs.Views.{statements_of};
+ghost use Rattle.std.specs.Prelude.{◌≡◌, length, map, IfOk, IfErr, vec_len};
 ghost use Rattle.usage_report.specs.Views.{answer_of};
+ghost use Rattle.treeped_app.specs.Answers as spec;
 ghost use Rattle.treeped_app.specs.Inputs.{AreInputs, IsUnanswered, inputs_of};
-ghost use Rattle.treeped_app.specs.Rules.{are_rules};
-ghost use Rattle.treeped_app.specs.Runs as spec;
-ghost use Rattle.treeped_app.specs.Runs.{AreRightOf};
+ghost use Rattle.treeped_app.specs.Runs.{AreAnswersOf};
 
 use crate::inputs::Inputs;
-use crate::judging::judge_rules;
-use crate::rules::rules_of;
 use crate::stops::Stop;
 use judge::{Limits, judge};
 use std::alloc::Global;
@@ -28,26 +24,10 @@ fn default_limits() -> Limits
     }
 }
 
-/// An answer for each item of the sheet, of what the script makes of the page. It costs what `judge_rules` costs where each statement
-/// is a rule, and else what `judge` does.
-#[tactic(auto, using(crate::proofs::AnsweringLemmas::right_by_rules, crate::proofs::RuleLemmas::few_rules))]
+/// An answer for each item of the sheet, of what the script makes of the page. It costs what `judge` costs.
 pub(crate) fn answers_of(alloc: Global, inputs: &Inputs) -> Result<Vec<Answer>, Stop>
     requires given { AreInputs (inputs_of inputs.now) }
-    ensures right { IfOk result (λ answers. AreRightOf (inputs_of inputs.now) (map answer_of answers.items)) }
-    ensures count { IfOk result (λ answers. vec_len answers ≡ length inputs.now.sheet.items) }
-    ensures stop { IfErr result (λ e. IsUnanswered (inputs_of inputs.now) e) }
-{
-    match rules_of(alloc, &inputs.stmts)? {
-        Some(rules) => Ok(judge_rules(alloc, &inputs.page, &inputs.sheet, &rules)?),
-        None => judge_all(alloc, inputs),
-    }
-}
-
-/// The same where not each statement is a rule.
-fn judge_all(alloc: Global, inputs: &Inputs) -> Result<Vec<Answer>, Stop>
-    requires given { AreInputs (inputs_of inputs.now) }
-    requires other { are_rules (statements_of inputs.now.stmts.items) ≡ false }
-    ensures right { IfOk result (λ answers. AreRightOf (inputs_of inputs.now) (map answer_of answers.items)) }
+    ensures answers { IfOk result (λ answers. AreAnswersOf (inputs_of inputs.now) (map answer_of answers.items)) }
     ensures count { IfOk result (λ answers. vec_len answers ≡ length inputs.now.sheet.items) }
     ensures stop { IfErr result (λ e. IsUnanswered (inputs_of inputs.now) e) }
 {

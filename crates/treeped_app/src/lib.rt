@@ -2,17 +2,11 @@
 #![tactic(auto)]
 
 mod answering;
-mod closed_page;
-mod closing;
-mod index;
 mod inputs;
-mod judging;
 mod refusals;
-mod rules;
 mod runs;
 mod status;
 mod stops;
-mod tracing;
 mod words;
 
 pub use refusals::{Fault, JudgeRefusal, Part, Refusal};
