@@ -67,7 +67,7 @@ fn run<F: Files, O: Sink>(
 }
 
 /// Judges the selectors and writes the report.
-#[tactic(auto, using(crate::proofs::AnsweringLemmas::unanswered, crate::proofs::AnsweringLemmas::unreached))]
+#[tactic(auto, using(crate::proofs::AnsweringLemmas::unanswered))]
 fn report<O: Sink>(
     alloc: Global,
     texts: &Texts,

@@ -5,21 +5,20 @@ use Rattle.css_read.specs.Views.{item_of}
 use Rattle.jq_sem.specs.Views.{statements_of}
 use Rattle.usage_report.specs.Views.{answer_of}
 use Rattle.treeped_app.specs.Inputs.{inputs_of}
-use Rattle.treeped_app.proofs.AnsweringLemmas.{right_by_system, count_judged, refused_by_system}
-use Rattle.treeped_app.proofs.answering.judge_all.Goals as goal
+use Rattle.treeped_app.proofs.AnsweringLemmas.{answers_are, count_of, refused_by_system}
+use Rattle.treeped_app.proofs.answering.answers_of.Goals as goal
 
-pub returns-clause-right : goal.returns-clause-right
-returns-clause-right c =
-    right_by_system (inputs_of c.args.inputs.now) (statements_of c.deref.result.now) c.default_limits-limits.result (map answer_of c.in_ok-answers.answers.items) (ap statements_of c.deref.ensures.value)
-    c.default_limits-limits.ensures c.requires.other c.in_ok-answers.ensures.within c.in_ok-answers.ensures.judged
+pub returns-clause-answers : goal.returns-clause-answers
+returns-clause-answers c =
+    answers_are (inputs_of c.args.inputs.now) (statements_of c.deref.result.now) c.default_limits-limits.result (map answer_of c.in_ok-answers.answers.items) (ap statements_of c.deref.ensures.value)
+    c.default_limits-limits.ensures c.in_ok-answers.ensures.within c.in_ok-answers.ensures.judged
 
 pub returns-clause-count : goal.returns-clause-count
 returns-clause-count c =
     let answers = c.in_ok-answers.answers in
-    answers.ok.0 ∙ sym (length-map answers.items answer_of) ∙ count_judged _ _ _ _ c.default_limits-limits.result _ c.in_ok-answers.ensures.judged ∙ length-map c.args.inputs.now.sheet.items item_of
+    answers.ok.0 ∙ sym (length-map answers.items answer_of) ∙ count_of (inputs_of c.args.inputs.now) (map answer_of answers.items) (returns-clause-answers c) ∙ length-map c.args.inputs.now.sheet.items item_of
 
 pub returns-in_err-answers-clause-stop : goal.returns-in_err-answers-clause-stop
 returns-in_err-answers-clause-stop c =
     let exit = err_from_is_err_and c.from_residual.result c.from_residual.ensures.1 in
-    rw (exit.1, exit.2)
-    (refused_by_system (inputs_of c.args.inputs.now) (statements_of c.deref.result.now) c.in_err-answers.field-0.0 (ap statements_of c.deref.ensures.value) c.requires.other c.in_err-answers.ensures.fault)
+    rw (exit.1, exit.2) (refused_by_system (inputs_of c.args.inputs.now) (statements_of c.deref.result.now) c.in_err-answers.field-0.0 (ap statements_of c.deref.ensures.value) c.in_err-answers.ensures.fault)
