@@ -180,25 +180,25 @@ module _ (t : LabelTree) (ss : List Statement) (items : List Item) (n : ℕ) whe
   AreAmong sheet = (s : Selector) → Contains sheet s → Contains (judged_in items) s
 
   open_first : (o : Outcome) (rest : List Item) (a : Answer) → IsRight t ss items n o a → is_open a ≡ true → AreAmong (judged_of o ++ judged_in rest) → IsPastBudget t ss items n
-  open_first (judged s) rest (used proof steps shown) right open among = absurd (true≢false (sym open))
-  open_first (judged s) rest used_unshown right open among = inr (s, among s (Contains-here s s (judged_in rest) refl), right)
-  open_first (judged s) rest unused right open among = absurd (true≢false (sym open))
-  open_first (judged s) rest (skipped cause at) right open among = absurd right
-  open_first (judged s) rest spent_ right open among = inl right
-  open_first (left_out cause at) rest a right open among = absurd (true≢false (sym open ∙ ap is_open right))
+  open_first (judged s) rest (used proof steps shown) right is among = absurd (true≢false (sym is))
+  open_first (judged s) rest used_unshown right is among = inr (s, among s (Contains-here s s (judged_in rest) refl), right)
+  open_first (judged s) rest unused right is among = absurd (true≢false (sym is))
+  open_first (judged s) rest (skipped cause at) right is among = absurd right
+  open_first (judged s) rest spent_ right is among = inl right
+  open_first (left_out cause at) rest a right is among = absurd (true≢false (sym is ∙ ap is_open right))
 
   later_among : (o : Outcome) (rest : List Item) → AreAmong (judged_of o ++ judged_in rest) → AreAmong (judged_in rest)
   later_among (judged s) rest among = λ x there. among x (Contains-behind x s (judged_in rest) there)
   later_among (left_out cause at) rest among = among
 
   open_past : (rest : List Item) (answers : List Answer) → AreRight t ss items n rest answers → list_any is_open answers ≡ true → AreAmong (judged_in rest) → IsPastBudget t ss items n
-  open_past [] [] right open among = absurd (true≢false (sym open))
-  open_past [] (a ∷ answers) right open among = absurd right
-  open_past (i ∷ rest) [] right open among = absurd right
-  open_past (i ∷ rest) (a ∷ answers) right open among = elim (is_open a) as (λ b. is_open a ≡ b → (b || list_any is_open answers) ≡ true → IsPastBudget t ss items n) [
+  open_past [] [] right is among = absurd (true≢false (sym is))
+  open_past [] (a ∷ answers) right is among = absurd right
+  open_past (i ∷ rest) [] right is among = absurd right
+  open_past (i ∷ rest) (a ∷ answers) right is among = elim (is_open a) as (λ b. is_open a ≡ b → (b || list_any is_open answers) ≡ true → IsPastBudget t ss items n) [
     | true ↦ λ e there. open_first i.outcome rest a right.0 e among
     | false ↦ λ e there. open_past rest answers right.1 there (later_among i.outcome rest among)
-  ] refl open
+  ] refl is
 
 past_budget : (i : Inputs) (answers : List Answer) → AreAnswersOf i answers → status_of answers ≡ status.Budget → IsOverBudget i
 past_budget i answers are is =

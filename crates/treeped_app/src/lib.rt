@@ -15,6 +15,8 @@ pub use status::Status;
 pub use stops::Stop;
 
 #[cfg(test)]
+mod rows;
+#[cfg(test)]
 mod sure_runs;
 #[cfg(test)]
 mod tests;

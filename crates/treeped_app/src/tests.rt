@@ -1,320 +1,11 @@
 //! Whole runs over files and sinks in memory.
+use crate::rows::{CASES, Case, NAMES, OPENS, OWN, OWN_REPORT, REFUSED};
 use crate::sure_runs::sure_run;
 use crate::treeped;
 use std::alloc::{AllocError, Global};
 use std::process::Abort;
 use std::test::Fail;
 use tp_io::{MemFiles, MemSink, SureFiles, SureSink};
-
-/// Words, texts and faults of a run, and what comes of it.
-#[derive(Clone, Copy)]
-struct Case {
-    words: &'static [&'static str],
-    texts: [&'static str; 3],
-    loads: &'static [u64],
-    puts: &'static [u64],
-    most: usize,
-    errors: &'static [u64],
-    status: u8,
-    out: &'static str,
-    err: &'static str,
-}
-
-const NAMES: [&str; 3] = ["page", "sheet", "script"];
-
-/// A page whose element has the sheet's class.
-const OWN: [&str; 3] = ["<p class=\"a\"></p>", ".a{}", ""];
-
-const OWN_REPORT: &str = "treeped 1\n1:1 used 0 .a\n  match /1/0\n";
-
-const USAGE: &str = "usage: treeped PAGE SHEET SCRIPT\n";
-
-/// The run that reports on the page with its own class.
-const PLAIN: Case = Case {
-    words: &NAMES,
-    texts: OWN,
-    loads: &[],
-    puts: &[],
-    most: 100,
-    errors: &[],
-    status: 0,
-    out: OWN_REPORT,
-    err: "",
-};
-
-/// Below an element of one class, elements of another get a third.
-const OPENS: &str = "$('.btn').click(function(){ $('.m').addClass('open'); });";
-
-/// A run whose page, sheet or script is refused.
-const REFUSED: Case = Case {
-    status: 3,
-    out: "",
-    ..PLAIN
-};
-
-static CASES: [Case; 35] = [
-    PLAIN,
-    Case { most: 1, ..PLAIN },
-    Case {
-        words: &["a", "b"],
-        status: 2,
-        out: "",
-        err: USAGE,
-        ..PLAIN
-    },
-    Case {
-        words: &["page", "-x", "script"],
-        status: 2,
-        out: "",
-        err: USAGE,
-        ..PLAIN
-    },
-    Case {
-        words: &["page", "-", "script"],
-        status: 4,
-        out: "",
-        err: "treeped: sheet: read fault\n",
-        ..PLAIN
-    },
-    Case {
-        loads: &[1],
-        status: 4,
-        out: "",
-        err: "treeped: page: read fault\n",
-        ..PLAIN
-    },
-    Case {
-        loads: &[2],
-        status: 4,
-        out: "",
-        err: "treeped: sheet: read fault\n",
-        ..PLAIN
-    },
-    Case {
-        loads: &[3],
-        status: 4,
-        out: "",
-        err: "treeped: script: read fault\n",
-        ..PLAIN
-    },
-    Case {
-        most: 0,
-        status: 5,
-        out: "",
-        err: "treeped: write fault\n",
-        ..PLAIN
-    },
-    Case {
-        puts: &[1],
-        status: 5,
-        out: "",
-        err: "treeped: write fault\n",
-        ..PLAIN
-    },
-    Case {
-        puts: &[2],
-        status: 5,
-        out: "treeped 1\n",
-        err: "treeped: write fault\n",
-        ..PLAIN
-    },
-    Case {
-        puts: &[2],
-        errors: &[1],
-        status: 5,
-        out: "treeped 1\n",
-        err: "",
-        ..PLAIN
-    },
-    Case {
-        loads: &[3],
-        errors: &[1],
-        status: 5,
-        out: "",
-        err: "treeped: write fault\n",
-        ..PLAIN
-    },
-    Case {
-        loads: &[3],
-        errors: &[1, 2],
-        status: 5,
-        out: "",
-        err: "",
-        ..PLAIN
-    },
-    Case {
-        texts: ["<p></p>", "", ""],
-        out: "treeped 1\n",
-        ..PLAIN
-    },
-    Case {
-        texts: ["", " .a{}\n.b{}\n", "\n"],
-        status: 1,
-        out: "treeped 1\n1:2 unused .a\n2:1 unused .b\n",
-        ..PLAIN
-    },
-    Case {
-        texts: [
-            "x<div class=\"a b\"><span>y</span><p class=\" c\tb \">z</p></div><p class=\"c\"></p>",
-            ".c{} .b{}.d{} .c{}",
-            " ",
-        ],
-        status: 1,
-        out: "treeped 1\n1:1 used 0 .c\n  match /1/0/1\n1:6 used 0 .b\n  match /1/0\n1:10 unused .d\n1:15 used 0 .c\n  match /1/0/1\n",
-        ..PLAIN
-    },
-    Case {
-        texts: ["", "body{} p{}", ""],
-        status: 1,
-        out: "treeped 1\n1:1 used 0 body\n  match /1\n1:8 unused p\n",
-        ..PLAIN
-    },
-    Case {
-        texts: ["<a></a>", "a:hover{} a + b{} li:first-child{}", ""],
-        out: "treeped 1\n1:1 used 0 a\n  match /1/0\n1:11 skipped sibling at 1:13\n1:19 skipped pseudo at 1:21\n",
-        ..PLAIN
-    },
-    Case {
-        texts: [
-            "<table><tr><td class=\"c\">x</table>",
-            "table > tbody > tr > .c{} table > tr{}",
-            "",
-        ],
-        status: 1,
-        out: "treeped 1\n1:1 used 0 table > tbody > tr > .c\n  match /1/0/0/0/0\n1:27 unused table > tr\n",
-        ..PLAIN
-    },
-    Case {
-        texts: ["<p class=\"a\"></p>", ".a{ /* x", ""],
-        ..PLAIN
-    },
-    Case {
-        texts: ["", "a{}a{}\n\u{feff}{", "while (x) {}"],
-        err: "treeped: script: unknown form at 1:1\n",
-        ..REFUSED
-    },
-    Case {
-        texts: [
-            "<div class=\"a\"><p class=\"x\"></p><p class=\"a\"></p></div>",
-            ".b .c{} .b > .a.d{} .c .b{}",
-            "$(\".b\").addClass(\"d\"); $(\".a\").addClass(\"b\"); $(\".x\").addClass(\"c\");",
-        ],
-        status: 1,
-        out: "treeped 1\n1:1 used 2 .b .c\n  2 at 1:32 on /1/0\n  3 at 1:55 on /1/0/0\n  match /1/0/0\n1:9 used 3 .b > .a.d\n  2 at 1:32 on /1/0\n  2 at 1:32 on /1/0/1\n  1 at 1:9 on /1/0/1\n  match /1/0/1\n1:21 unused .c .b\n",
-        ..PLAIN
-    },
-    Case {
-        texts: [
-            "<p></p><p class=\"a\"></p><p class=\"a\"></p>",
-            ".b{} .d{} .a{}",
-            "$(\".a\").addClass(\"b\");",
-        ],
-        status: 1,
-        out: "treeped 1\n1:1 used 1 .b\n  1 at 1:9 on /1/1\n  match /1/1\n1:6 unused .d\n1:11 used 0 .a\n  match /1/1\n",
-        ..PLAIN
-    },
-    Case {
-        texts: [
-            "<p class=\"a\"></p>",
-            ".c{}",
-            "$(\".b\").addClass(\"c\");\n$(\".a\").addClass(\"b\");",
-        ],
-        out: "treeped 1\n1:1 used 2 .c\n  2 at 2:9 on /1/0\n  1 at 1:9 on /1/0\n  match /1/0\n",
-        ..PLAIN
-    },
-    Case {
-        texts: [
-            "<p class=\"a\"></p>",
-            ".b{} .c{}",
-            "$(\".b\").addClass(\"c\"); $(\".c\").addClass(\"b\");",
-        ],
-        status: 1,
-        out: "treeped 1\n1:1 unused .b\n1:6 unused .c\n",
-        ..PLAIN
-    },
-    Case {
-        texts: [
-            "<p class=\"a\"></p>",
-            ".a.b{} .b .a{}",
-            "$('.a').addClass('b')",
-        ],
-        status: 1,
-        out: "treeped 1\n1:1 used 1 .a.b\n  1 at 1:9 on /1/0\n  match /1/0\n1:8 unused .b .a\n",
-        ..PLAIN
-    },
-    Case {
-        texts: [
-            "<p id=\"i\"></p>",
-            ".x.y{} .z{}",
-            "var p = jQuery('p');\nif (p.is('.z')) { p.addClass('x') } else { $('#i').show().addClass('y') }",
-        ],
-        status: 1,
-        out: "treeped 1\n1:1 used 2 .x.y\n  1 at 2:21 on /1/0\n  2 at 2:59 on /1/0\n  match /1/0\n1:8 unused .z\n",
-        ..PLAIN
-    },
-    Case {
-        texts: ["<p class=\"m\"></p>", ".open{} .shut{}", OPENS],
-        status: 1,
-        out: "treeped 1\n1:1 unused .open\n1:9 unused .shut\n",
-        ..PLAIN
-    },
-    Case {
-        texts: [
-            "<p class=\"btn\"></p><p class=\"m\"></p>",
-            ".open{} .btn.open{}",
-            OPENS,
-        ],
-        status: 7,
-        out: "treeped 1\n1:1 used-unshown .open\n1:9 unused .btn.open\n",
-        ..PLAIN
-    },
-    Case {
-        texts: [
-            "<p class=\"a\"></p>",
-            ".a.b > p{} .a > .b{}",
-            "$('.a').addClass('b').html('<p>')",
-        ],
-        status: 7,
-        out: "treeped 1\n1:1 used-unshown .a.b > p\n1:12 unused .a > .b\n",
-        ..PLAIN
-    },
-    Case {
-        texts: [
-            "<div class=\"a\"><p class=\"b\"></p></div><p class=\"b\"></p>",
-            ".a .c{} body > .c{}",
-            "$('.a > .b').addClass('c')",
-        ],
-        status: 7,
-        out: "treeped 1\n1:1 used-unshown .a .c\n1:9 unused body > .c\n",
-        ..PLAIN
-    },
-    Case {
-        texts: [
-            "<div class=\"a\"><p></p></div>",
-            "p.c{} .c.a{}",
-            "$('.a').children().addClass('c')",
-        ],
-        status: 7,
-        out: "treeped 1\n1:1 used-unshown p.c\n1:7 unused .c.a\n",
-        ..PLAIN
-    },
-    Case {
-        texts: [
-            "<ul class=\"l\"></ul>",
-            ".l > li > ul > li{} .l > ul{}",
-            "$('ul').append('<li><ul></ul></li>')",
-        ],
-        status: 7,
-        out: "treeped 1\n1:1 used-unshown .l > li > ul > li\n1:21 unused .l > ul\n",
-        ..PLAIN
-    },
-    Case {
-        texts: ["", "p{} a + b{}", "$('html').after('<p></p>')"],
-        status: 1,
-        out: "treeped 1\n1:1 unused p\n1:5 skipped sibling at 1:7\n",
-        ..PLAIN
-    },
-];
 
 /// Scripts that are refused, beside the page with its own class, and what is said of them.
 static SCRIPTS: [(&str, &str); 10] = [
@@ -514,6 +205,13 @@ fn repeated(alloc: Global, (piece, count): (&[u8], usize)) -> Result<Vec<u8>, Al
     Ok(text)
 }
 
+/// What is wanted of a run; a long report isn't compared.
+struct Wanted<'a> {
+    code: u8,
+    out: Option<&'a [u8]>,
+    err: &'a str,
+}
+
 /// Runs the command over these texts.
 fn run_texts(
     rt: &impl Abort,
@@ -521,8 +219,7 @@ fn run_texts(
     page: Vec<u8>,
     sheet: Vec<u8>,
     script: Vec<u8>,
-    code: u8,
-    line: &str,
+    wanted: &Wanted<'_>,
 ) -> Result<(), AllocError> {
     let words = strings(alloc, &NAMES)?;
     let mut entries = Vec::new(alloc);
@@ -533,8 +230,9 @@ fn run_texts(
     let mut out = SureSink::new(alloc);
     let mut err = SureSink::new(alloc);
     let status = treeped(alloc, &words, &mut files, &mut out, &mut err);
-    assert!(rt; status.code() == code, "status {status:?}");
-    assert!(rt; err.bytes() == line.as_bytes());
+    assert!(rt; status.code() == wanted.code, "status {status:?}");
+    assert!(rt; wanted.out.unwrap_or(out.bytes()) == out.bytes());
+    assert!(rt; err.bytes() == wanted.err.as_bytes());
     Ok(())
 }
 
@@ -542,7 +240,12 @@ fn run_limit(rt: &impl Abort, alloc: Global, limit: &Limit) -> Result<(), AllocE
     let page = repeated(alloc, limit.page)?;
     let sheet = repeated(alloc, limit.sheet)?;
     let script = repeated(alloc, limit.script)?;
-    run_texts(rt, alloc, page, sheet, script, limit.status, limit.err)
+    let wanted = Wanted {
+        code: limit.status,
+        out: None,
+        err: limit.err,
+    };
+    run_texts(rt, alloc, page, sheet, script, &wanted)
 }
 
 /// A page of so many paragraphs, each with a class of its own.
@@ -577,6 +280,15 @@ fn runs_at_the_limits(rt: HostRuntime) -> Result<(), Fail> {
     Ok(())
 }
 
+/// A run that judging refuses, with this line.
+const fn refused(line: &str) -> Wanted<'_> {
+    Wanted {
+        code: 3,
+        out: Some(b""),
+        err: line,
+    }
+}
+
 /// The table has room for what is read, and not for the atoms of formulas; there are few atoms, and too many are asked for of parents.
 #[test]
 fn judging_is_refused(rt: HostRuntime) -> Result<(), Fail> {
@@ -584,13 +296,93 @@ fn judging_is_refused(rt: HostRuntime) -> Result<(), Fail> {
     let script = Vec::from_slice(alloc, OPENS.as_bytes())?;
     let page = own_classes(alloc, 65_520)?;
     let sheet = long_selectors(alloc, b"b")?;
-    let line = "treeped: judge: too many atoms\n";
-    run_texts(&rt, alloc, page, sheet, script, 3, line)?;
+    let wanted = refused("treeped: judge: too many atoms\n");
+    run_texts(&rt, alloc, page, sheet, script, &wanted)?;
     let script = Vec::from_slice(alloc, OPENS.as_bytes())?;
     let page = Vec::new(alloc);
     let sheet = long_selectors(alloc, b"bcdefghijklmnopqr")?;
-    let line = "treeped: judge: too many visible atoms\n";
-    run_texts(&rt, alloc, page, sheet, script, 3, line)?;
+    let wanted = refused("treeped: judge: too many visible atoms\n");
+    run_texts(&rt, alloc, page, sheet, script, &wanted)?;
+    Ok(())
+}
+
+/// Puts the template, with the number in the place of `#` and the next one in the place of `@`.
+fn put_numbered(text: &mut Vec<u8>, template: &[u8], number: u32) -> Result<(), AllocError> {
+    let alloc = *text.allocator();
+    for byte in template {
+        match byte {
+            b'#' => text.extend_from_slice(number.to_string(alloc)?.as_bytes())?,
+            b'@' => text.extend_from_slice((u64::from(number) + 1).to_string(alloc)?.as_bytes())?,
+            _ => text.push(*byte)?,
+        }
+    }
+    Ok(())
+}
+
+/// A text, then the template with each number from 1 on, and a text at the end.
+fn numbered(
+    alloc: Global,
+    front: &[u8],
+    (template, count): (&[u8], u32),
+    end: &[u8],
+) -> Result<Vec<u8>, AllocError> {
+    let mut text = Vec::from_slice(alloc, front)?;
+    for number in 1..=count {
+        put_numbered(&mut text, template, number)?;
+    }
+    text.extend_from_slice(end)?;
+    Ok(text)
+}
+
+/// A proof that is far shorter than the steps that it says: each class needs the one before in two boxes, which are added.
+#[test]
+fn counts_without_listing(rt: HostRuntime) -> Result<(), Fail> {
+    let alloc = rt.alloc();
+    let page = Vec::from_slice(alloc, b"<div class=\"n\"></div>")?;
+    let sheet = Vec::from_slice(alloc, b".d31{}")?;
+    let front =
+        b"$('.n').append('<div class=\"n l\"></div>');\n$('.n').append('<div class=\"n r\"></div>');\n$('.n').addClass('d1');\n";
+    let lines =
+        b"$('.l.d#').parent().addClass('p#');\n$('.r.d#').parent().addClass('q#');\n$('.p#.q#').addClass('d@');\n";
+    let script = numbered(alloc, front, (lines, 30), b"")?;
+    let wanted = Wanted {
+        code: 0,
+        out: Some(b"treeped 1\n1:1 used 6442450939 .d31\n  not listed\n"),
+        err: "",
+    };
+    run_texts(&rt, alloc, page, sheet, script, &wanted)?;
+    Ok(())
+}
+
+/// Boxes of 32 classes that can stand in each other in any order: more pairs are needed than there may be.
+#[test]
+fn spends_the_pairs(rt: HostRuntime) -> Result<(), Fail> {
+    let alloc = rt.alloc();
+    let page = Vec::from_slice(alloc, b"<div class=\"box\"></div>")?;
+    let all = numbered(alloc, b"", (b".c# ", 32), b".z")?;
+    let mut sheet = numbered(alloc, b"", (b".c# .z{}\n", 32), &all)?;
+    sheet.extend_from_slice(b"{}")?;
+    let boxes = b"$('.box').append('<div class=\"box c#\"></div>');\n";
+    let script = numbered(
+        alloc,
+        b"",
+        (boxes, 32),
+        b"$('.box').append('<i class=\"z\"></i>');",
+    )?;
+    let mut report = numbered(
+        alloc,
+        b"treeped 1\n",
+        (b"#:1 spent .c# .z\n", 32),
+        b"33:1 spent ",
+    )?;
+    report.extend_from_slice(&all)?;
+    report.push(b'\n')?;
+    let wanted = Wanted {
+        code: 7,
+        out: Some(&report),
+        err: "",
+    };
+    run_texts(&rt, alloc, page, sheet, script, &wanted)?;
     Ok(())
 }
 
