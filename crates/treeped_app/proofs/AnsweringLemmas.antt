@@ -1,6 +1,5 @@
 -- What the answers for the items of a sheet come to.
-use Rattle.std.proofs.Common.{◌≡◌, ℕ, suc, List, [], ◌∷◌, length, map, Err, refl, sym, ap, ◌∙◌, subst, inl, inr}
-use Rattle.std.proofs.lemmas.List.{length-map}
+use Rattle.std.proofs.Common.{◌≡◌, ℕ, suc, List, [], ◌∷◌, length, map, Err, refl, sym, ap, subst, inl, inr}
 use Rattle.tp_base.specs.declared.places.Place.{Place}
 use Rattle.tp_io.specs.Sinks.{AddsPrefix, Rose}
 use Rattle.tree_sem.specs.Trees.{LabelTree}
