@@ -206,6 +206,7 @@ fn repeated(alloc: Global, (piece, count): (&[u8], usize)) -> Result<Vec<u8>, Al
 }
 
 /// What is wanted of a run; a long report isn't compared.
+#[derive(Clone, Copy)]
 struct Wanted<'a> {
     code: u8,
     out: Option<&'a [u8]>,
