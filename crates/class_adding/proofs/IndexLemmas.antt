@@ -1,13 +1,14 @@
 -- Rules found by the atoms that they look at.
-use Rattle.std.proofs.Common.{◌≡◌, ◌≢◌, ◌⊎◌, ◌==◌, false, ℕ, zero, suc, ◌+◌, ◌-◌, ◌<◌, List, [], ◌∷◌, ◌++◌, take, length, get_or, slice_get, Option, Some, None, option_map, unwrap_or, All, Contains, refl, sym, ap, ◌∙◌, inl, inr, arith, subst}
+use Rattle.std.proofs.Common.{◌≡◌, ◌≢◌, ◌⊎◌, ◌==◌, Bool, true, false, ℕ, zero, suc, ◌+◌, ◌-◌, ◌<◌, List, [], ◌∷◌, ◌++◌, take, length, get_or, slice_get, Option, Some, None, option_map, unwrap_or, All, Contains, refl, sym, ap, ◌∙◌, inl, inr, arith, subst}
 use Rattle.std.specs.List.Sorted.{IsStrictlyIncreasing}
-use Rattle.std.proofs.lemmas.Bool.{cases_order, cases_Bool, both_ways, eq-eqb}
+use Rattle.std.proofs.lemmas.Bool.{cases_order, cases_Bool, both_ways, eq-eqb, and_from}
 use Rattle.std.proofs.lemmas.List.{take_more, length-take-le, append_assoc}
 use Rattle.std.proofs.lemmas.Grind.{flat_map-append}
+use Rattle.std.proofs.lemmas.List.Folds.{list_all_at, list_all_more}
 use Rattle.std.proofs.lemmas.List.Sums.{fold-append}
 use Rattle.std.proofs.lemmas.List.Elements.{Contains-append_left, Contains-append_right, Contains-append_cases, Contains-get_or}
 use Rattle.std.proofs.lemmas.Option.{slice_get_within, slice_get-get_or, get_or_from_slice_get}
-use Rattle.tp_base.specs.Classes.{with_class, union_of}
+use Rattle.tp_base.specs.Classes.{has_class, all_among, with_class, union_of}
 use Rattle.tp_base.proofs.ClassLemmas.{same_members, Contains-union_of, IsStrictlyIncreasing-union_of}
 use Rattle.tp_base.proofs.Rising.{Contains-here, Contains-cons, Contains-none, All-from_Contains}
 use Rattle.tp_base.proofs.NamesLemmas.{slice_get-append_left, slice_get-push}
@@ -29,7 +30,7 @@ union_of-same start xs ys up there back =
 
 -- ---- making an index
 
-last_at : {X : Type 0} (xs : List X) (x : X) (j : ℕ) (y : X) → slice_get (xs ++ x ∷ []) j ≡ Some y → (slice_get xs j ≡ Some y) ⊎ ((j ≡ length xs) × (y ≡ x))
+pub last_at : {X : Type 0} (xs : List X) (x : X) (j : ℕ) (y : X) → slice_get (xs ++ x ∷ []) j ≡ Some y → (slice_get xs j ≡ Some y) ⊎ ((j ≡ length xs) × (y ≡ x))
 last_at [] x zero y at = let same : y ≡ x = cc in inr (refl, same)
 last_at [] x (suc j) y at = cc
 last_at (z ∷ xs) x zero y at = inl at
@@ -41,14 +42,14 @@ index_none {X} key rows none = record {
   only = λ k i there. absurd (Contains-none i (subst (λ (z : List (List ℕ)). Contains (row_of z k) i) none there));
 }
 
-noted_kept : (old new : List (List ℕ)) (key place : ℕ) → IsNoted old new key place → (k j : ℕ) → Contains (row_of old k) j → Contains (row_of new k) j
+pub noted_kept : (old new : List (List ℕ)) (key place : ℕ) → IsNoted old new key place → (k j : ℕ) → Contains (row_of old k) j → Contains (row_of new k) j
 noted_kept old new key place noted k j there = elim (cases_order k key) [
   | inl same ↦ subst (λ z. Contains (row_of new z) j) (sym same) (subst (λ (z : List ℕ). Contains z j) (sym noted.here) (Contains-append_left (row_of old key) (place ∷ []) j (subst (λ z. Contains (row_of old z) j) same there)))
   | inr (inl less) ↦ subst (λ (z : List ℕ). Contains z j) (sym (noted.others k (λ e. omega arith))) there
   | inr (inr more) ↦ subst (λ (z : List ℕ). Contains z j) (sym (noted.others k (λ e. omega arith))) there
 ]
 
-noted_cases : (old new : List (List ℕ)) (key place : ℕ) → IsNoted old new key place → (k j : ℕ) → Contains (row_of new k) j → Contains (row_of old k) j ⊎ ((k ≡ key) × (j ≡ place))
+pub noted_cases : (old new : List (List ℕ)) (key place : ℕ) → IsNoted old new key place → (k j : ℕ) → Contains (row_of new k) j → Contains (row_of old k) j ⊎ ((k ≡ key) × (j ≡ place))
 noted_cases old new key place noted k j there = elim (cases_order k key) [
   | inl same ↦ elim (Contains-append_cases (row_of old key) (place ∷ []) j (subst (λ (z : List ℕ). Contains z j) noted.here (subst (λ z. Contains (row_of new z) j) same there))) [
     | inl before ↦ inl (subst (λ z. Contains (row_of old z) j) (sym same) before)
@@ -242,3 +243,15 @@ ruled rules rows label start first next row index up at_first is_first is_next =
       | inl free ↦ Contains-append_left xs ys y (is-row f key rules rows index by.rule 0 y by.listed free (is-given_in rules label y by))
       | inr last ↦ Contains-append_right xs ys y (is-label f key rules rows index (λ a. a + 1) label by.rule last.0 y last.1 by.listed last.2 (is-given_in rules label y by))
     ])
+
+-- ---- what a rule needs
+
+pub has_more : (needs label : List ℕ) (i a : ℕ) (has : Bool) → slice_get needs i ≡ Some a → has ≡ has_class a label → has ≡ true → all_among (take i needs) label ≡ true → all_among (take (i + 1) needs) label ≡ true
+has_more needs label i a has at is there before =
+    let less = slice_get_within needs i a at in
+    list_all_more (λ x. has_class x label) needs i 0 less
+    ∙ and_from _ _ before (ap (λ z. has_class z label) (get_or_from_slice_get needs i a 0 at) ∙ sym is ∙ there)
+
+pub has_not : (needs label : List ℕ) (i a : ℕ) (has : Bool) → slice_get needs i ≡ Some a → has ≡ has_class a label → has ≡ false → false ≡ all_among needs label
+has_not needs label i a has at is none =
+    sym (list_all_at (λ x. has_class x label) needs i 0 (slice_get_within needs i a at) (ap (λ z. has_class z label) (get_or_from_slice_get needs i a 0 at) ∙ sym is ∙ none))

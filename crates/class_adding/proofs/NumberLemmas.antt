@@ -13,7 +13,7 @@ module _ (t : LabelTree) where
   pub node_there : (i : ℕ) → i < count_of t → IsNode t (path_at t i)
   node_there i lt = (Contains-paths_of t (path_at t i)).0 (Contains-get_or (paths_of t) i [] (rw (length-paths_of t) lt))
 
-  one_number : (i j : ℕ) → i < count_of t → j < count_of t → path_at t i ≡ path_at t j → i ≡ j
+  pub one_number : (i j : ℕ) → i < count_of t → j < count_of t → path_at t i ≡ path_at t j → i ≡ j
   one_number i j lt lt' same =
       let count = length-paths_of t in
       elim (cases_order i j) [

@@ -4,7 +4,7 @@
 --     IsIndex key rules rows   each rule's place stands at the rule's key, and nothing else stands anywhere
 --     by_label f rules rows at label   what the rules give that are found at the keys of the label's atoms
 --     AreKinds s own kinds     the kinds that the label adds, in any order
-use Rattle.std.specs.Prelude.{◌≡◌, ◌≢◌, ◌↔◌, ◌==◌, if◌then◌else◌, ℕ, ◌+◌, ◌-◌, List, [], ◌∷◌, ◌++◌, length, get_or, slice_get, Some, option_map, unwrap_or, Contains}
+use Rattle.std.specs.Prelude.{◌≡◌, ◌≢◌, ◌↔◌, ◌==◌, if◌then◌else◌, ℕ, ◌+◌, ◌-◌, List, [], ◌∷◌, ◌++◌, length, get_or, slice_get, Option, Some, None, option_map, unwrap_or, Contains}
 use Rattle.std.specs.List.{flat_map}
 use Rattle.simple_core.specs.declared.system.System.{System}
 use Rattle.simple_core.specs.declared.rules.Local.{Local}
@@ -63,3 +63,13 @@ kind_of c = c.kind ∷ []
 
 abbrev pub AreKinds : System → List ℕ → List ℕ → Type 0
 AreKinds s own kinds = (j : ℕ) → Contains kinds j ↔ Contains (kinds_at s own) j
+
+-- the place i was noted at its number, if it has one
+abbrev pub IsNotedIf : List (List ℕ) → List (List ℕ) → Option ℕ → ℕ → Type 0
+IsNotedIf old new None i = new ≡ old
+IsNotedIf old new (Some j) i = IsNoted old new j i
+
+-- each place in a list of numbers stands at its number
+pub record AreByNumber (numbers : List (Option ℕ)) (rows : List (List ℕ)) : Type 0 where
+  pub whole : (i j : ℕ) → slice_get numbers i ≡ Some (Some j) → Contains (row_of rows j) i
+  pub only : (j i : ℕ) → Contains (row_of rows j) i → slice_get numbers i ≡ Some (Some j)

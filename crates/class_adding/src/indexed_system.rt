@@ -1,6 +1,6 @@
 //! The rules of a system, found by the atoms that they look at.
 ghost use Rattle.std.specs.Prelude.{◌≡◌, ◌++◌, ◌+◌, IfOk, OnOk};
-ghost use Rattle.tp_base.specs.Classes.{union_of};
+ghost use Rattle.tp_base.specs.Classes.{all_among, union_of};
 ghost use Rattle.simple_core.specs.Labels.{given_by_rules, given_by_links};
 ghost use Rattle.class_adding.specs.Indexes.{row_of, at_place, at_row, by_label, given_in, to_of, kind_of, AreKinds, AreLocalsAt, AreLinksAt, AreSpawnsAt};
 
@@ -95,6 +95,18 @@ impl<'a> IndexedSystem<'a> {
     }
 }
 
+// Whether the label has each of these atoms. Logarithmic in the label for each.
+fn has_each(label: &ClassSet, needs: &ClassSet) -> bool
+    ensures { result ≡ all_among needs.now label.now }
+{
+    for i in 0..needs.len() {
+        if !label.has(needs.at(i)) {
+            return false;
+        }
+    }
+    true
+}
+
 fn add_rule(
     rules: &[Local],
     place: usize,
@@ -104,7 +116,7 @@ fn add_rule(
     ensures { OnOk result (next.new ≡ union_of next.old (at_place (given_in label.now) rules.now place)) }
 {
     if let Some(rule) = rules.get(place) {
-        if rule.needs.within(label) {
+        if has_each(label, &rule.needs) {
             next.add(rule.gives)?;
         }
     }

@@ -1,6 +1,6 @@
 //! Places in lists of rules, by what the rules look at.
-ghost use Rattle.std.specs.Prelude.{◌≡◌, ◌<◌, ℕ, [], length, IfOk, OnOk};
-ghost use Rattle.class_adding.specs.Indexes.{row_of, needs_key, IsNoted, AreLocalsAt, AreLinksAt, AreSpawnsAt};
+ghost use Rattle.std.specs.Prelude.{◌≡◌, ◌<◌, ℕ, [], None, length, get_or, IfOk, OnOk};
+ghost use Rattle.class_adding.specs.Indexes.{row_of, needs_key, IsNoted, IsNotedIf, AreLocalsAt, AreLinksAt, AreSpawnsAt, AreByNumber};
 
 use simple_core::{Link, Local, Spawn};
 use std::alloc::Global;
@@ -93,6 +93,17 @@ impl Index {
         Ok(index)
     }
 
+    /// Places in a list of numbers, by the numbers that stand there.
+    pub(crate) fn of_numbers(alloc: Global, numbers: &[Option<usize>]) -> Result<Index, NoMemory>
+        ensures { IfOk result (λ t. AreByNumber numbers.now t) }
+    {
+        let mut index = Index::new(alloc);
+        for i in 0..numbers.len() {
+            index.note_number(alloc, numbers, i)?;
+        }
+        Ok(index)
+    }
+
     /// The places at a key. Constant.
     pub(crate) fn of(&self, key: usize) -> &[usize]
         ensures { result.now ≡ row_of self.now key }
@@ -114,6 +125,22 @@ impl Index {
             })?;
         }
         Ok(())
+    }
+
+    // Notes a place at the number that stands there, if one does.
+    fn note_number(
+        &mut self,
+        alloc: Global,
+        numbers: &[Option<usize>],
+        i: usize,
+    ) -> Result<(), NoMemory>
+        requires { i < length numbers.now }
+        ensures { OnOk result (IsNotedIf self.old self.new (get_or numbers.now i None) i) }
+    {
+        match numbers[i] {
+            Some(number) => self.note(alloc, number, i),
+            None => Ok(()),
+        }
     }
 
     fn note(&mut self, alloc: Global, key: usize, place: usize) -> Result<(), NoMemory>

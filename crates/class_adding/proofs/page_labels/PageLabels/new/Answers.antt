@@ -1,0 +1,17 @@
+use Rattle.std.proofs.Common.{List, ℕ, Option, length, sym, ◌∙◌, subst}
+use Rattle.tree_sem.specs.Trees.{LabelTree}
+use Rattle.class_adding.specs.Indexes.{AreByNumber}
+use Rattle.class_adding.specs.Labelled.{AreRelated, AreAllLabels}
+use Rattle.class_adding.proofs.LabelledLemmas.{related_page}
+use Rattle.class_adding.proofs.page_labels.PageLabels.new.Goals as goal
+
+pub invariant_of-result : goal.invariant_of-result
+invariant_of-result c =
+    let nodes = c.in_ok-nodes.nodes in
+    let parents = c.in_ok-parents.parents.items in
+    let kids = c.in_ok-kids.kids in
+    let own = c.in_ok-own.own.items in
+    subst (λ (z : LabelTree). AreRelated z nodes parents kids own) (sym c.in_ok-tree.ensures)
+    (related_page c.args.page.now nodes parents kids own (c.in_ok-nodes.ensures ∙ c.in_ok-paths.ensures) c.in_ok-parents.ensures
+    (subst (λ (z : List (Option ℕ)). AreByNumber z kids) c.deref.ensures.value c.in_ok-kids.ensures)
+    (subst (λ (z : List (List ℕ)). AreAllLabels c.args.page.now z own (length z)) c.paths.ensures c.in_ok-own.ensures))
