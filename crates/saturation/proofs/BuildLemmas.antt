@@ -1,0 +1,23 @@
+-- What is true of summaries when they are built.
+use Rattle.std.proofs.Common.{◌≡◌, ℕ, List, sym, ap, subst, ◌∙◌}
+use Rattle.class_diagrams.specs.Arena.{Arena}
+use Rattle.simple_core.specs.declared.system.System.{System}
+use Rattle.simple_core.specs.Systems.{IsSound}
+use Rattle.pushdown_sym.specs.CellMap.{Entries}
+use Rattle.pushdown_sym.specs.Adding.{AreIn}
+use Rattle.pushdown_sym.specs.Rounds.{given_atoms}
+use Rattle.saturation.specs.declared.histories.CellKey.{CellKey}
+use Rattle.saturation.specs.Histories.{Change}
+use Rattle.saturation.specs.HistoryMap.{history_in}
+use Rattle.saturation.specs.Saturation.{IsBuilt}
+use Rattle.saturation.specs.Shared.{AreSummaries}
+
+-- the summaries keep a copy of the system
+pub summaries_built : (s copy : System) (atoms : List ℕ) (d : Arena) (cells : Entries) (histories : List (CellKey × List Change)) → copy ≡ s → IsSound s → atoms ≡ given_atoms s
+    → AreIn d.branches cells → IsBuilt s d (history_in histories) cells → AreSummaries copy atoms d cells histories
+summaries_built s copy atoms d cells histories same sound given inside built = record {
+  sound = subst IsSound (sym same) sound;
+  given = given ∙ ap given_atoms (sym same);
+  inside = inside;
+  built = subst (λ (z : System). IsBuilt z d (history_in histories) cells) (sym same) built;
+}

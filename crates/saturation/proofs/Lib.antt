@@ -1,0 +1,23 @@
+pub mod HistoryLemmas
+pub mod SkipLemmas
+pub mod RestLemmas
+pub mod FewRounds
+pub mod BudgetLemmas
+pub mod LoopLemmas
+pub mod GivenLemmas
+pub mod StartLemmas
+pub mod EndLemmas
+mod NoteLemmas
+mod RoundLemmas
+mod OneCellLemmas
+mod AskLemmas
+mod HistoryMapLemmas
+mod SameLemmas
+mod TableLemmas
+mod NameLemmas
+mod WakingLemmas
+mod MemberLemmas
+mod DoneLemmas
+mod FirstLemmas
+mod ReadsLemmas
+mod BuildLemmas

@@ -1,0 +1,92 @@
+-- Lists of atoms and of cells, one element more.
+use Rattle.std.proofs.Common.{◌≡◌, ℕ, suc, ◌+◌, List, [], ◌∷◌, ◌++◌, map, take, slice_get, Some, refl, sym, ap, ◌∙◌, arith, zero, ◌<◌, length, get_or, append_assoc, append-nil}
+use Rattle.std.proofs.lemmas.Option.{slice_get-get_or}
+use Rattle.std.specs.List.{flat_map, range_with_len}
+use Rattle.tp_base.specs.Classes.{with_class, union_of}
+use Rattle.simple_core.specs.Labels.{set_of}
+use Rattle.simple_core.specs.declared.rules.Kind.{Kind}
+use Rattle.simple_core.specs.declared.rules.Link.{Link}
+use Rattle.simple_core.specs.declared.rules.Local.{Local}
+use Rattle.simple_core.specs.declared.system.System.{System}
+use Rattle.pushdown_sym.specs.Rounds.{given_atoms}
+use Rattle.saturation.specs.Waking.{CellName, named, named_each}
+use Rattle.saturation.proofs.TableLemmas.{longer_by}
+
+pub union_append : (xs ys zs : List ℕ) → union_of xs (ys ++ zs) ≡ union_of (union_of xs ys) zs
+union_append xs [] zs = refl
+union_append xs (y ∷ ys) zs = union_append (with_class y xs) ys zs
+
+pub union_four : (a b c d : List ℕ) → union_of (union_of (union_of (union_of [] a) b) c) d ≡ set_of (a ++ b ++ c ++ d)
+union_four a b c d =
+    sym (union_append [] (a ++ b ++ c) d ∙ ap (λ xs. union_of xs d) (union_append [] (a ++ b) c ∙ ap (λ xs. union_of xs c) (union_append [] a b)))
+
+-- the atoms that are given, from the lists that they were taken from
+pub given_is : (s : System) (kinds : List Kind) (locals : List Local) (ups downs : List Link) (none a b c d : List ℕ)
+    → kinds ≡ s.kinds → locals ≡ s.local → ups ≡ s.up → downs ≡ s.down → none ≡ []
+    → a ≡ union_of none (flat_map (λ (k : Kind). k.label) kinds) → b ≡ union_of a (map (λ (r : Local). r.gives) locals)
+    → c ≡ union_of b (map (λ (l : Link). l.to) ups) → d ≡ union_of c (map (λ (l : Link). l.to) downs) → d ≡ given_atoms s
+given_is s kinds locals ups downs none a b c d kinds_are locals_are ups_are downs_are nothing first second third last =
+    let all = union_four (flat_map (λ (k : Kind). k.label) s.kinds) (map (λ (r : Local). r.gives) s.local) (map (λ (l : Link). l.to) s.up) (map (λ (l : Link). l.to) s.down) in
+    let labels : a ≡ union_of [] (flat_map (λ (k : Kind). k.label) s.kinds) =
+    first ∙ ap (λ (xs : List ℕ). union_of xs (flat_map (λ (k : Kind). k.label) kinds)) nothing ∙ ap (λ (ks : List Kind). union_of [] (flat_map (λ (k : Kind). k.label) ks)) kinds_are in
+    let gives : b ≡ union_of a (map (λ (r : Local). r.gives) s.local) = second ∙ ap (λ (rs : List Local). union_of a (map (λ (r : Local). r.gives) rs)) locals_are in
+    let up_ends : c ≡ union_of b (map (λ (l : Link). l.to) s.up) = third ∙ ap (λ (ls : List Link). union_of b (map (λ (l : Link). l.to) ls)) ups_are in
+    let down_ends : d ≡ union_of c (map (λ (l : Link). l.to) s.down) = last ∙ ap (λ (ls : List Link). union_of c (map (λ (l : Link). l.to) ls)) downs_are in
+    down_ends
+    ∙ ap (λ (xs : List ℕ). union_of xs (map (λ (l : Link). l.to) s.down))
+    (up_ends ∙ ap (λ (xs : List ℕ). union_of xs (map (λ (l : Link). l.to) s.up)) (gives ∙ ap (λ (xs : List ℕ). union_of xs (map (λ (r : Local). r.gives) s.local)) labels))
+    ∙ all
+
+map_append : {X Y : Type 0} (g : X → Y) (xs ys : List X) → map g (xs ++ ys) ≡ map g xs ++ map g ys
+map_append g [] ys = refl
+map_append g (x ∷ xs) ys = ap (λ zs. g x ∷ zs) (map_append g xs ys)
+
+flat_append : {X Y : Type 0} (f : X → List Y) (xs ys : List X) → flat_map f (xs ++ ys) ≡ flat_map f xs ++ flat_map f ys
+flat_append f [] ys = refl
+flat_append f (x ∷ xs) ys = ap (λ zs. f x ++ zs) (flat_append f xs ys) ∙ sym (append_assoc (f x) (flat_map f xs) (flat_map f ys))
+
+-- one cell more of a kind
+pub named_more : (old now new : List CellName) (kind : ℕ) (atoms : List ℕ) (i a : ℕ) → slice_get atoms i ≡ Some a → now ≡ old ++ named kind (take i atoms) → new ≡ now ++ (kind, a) ∷ []
+    → new ≡ old ++ named kind (take (i + 1) atoms)
+named_more old now new kind atoms i a at before more =
+    more
+    ∙ ap (λ (cs : List CellName). cs ++ (kind, a) ∷ []) before
+    ∙ append_assoc old (named kind (take i atoms)) ((kind, a) ∷ [])
+    ∙ ap (λ (cs : List CellName). old ++ cs) (sym (ap (named kind) (longer_by atoms i a at) ∙ map_append {X = ℕ} {Y = CellName} (λ b. (kind, b)) (take i atoms) (a ∷ [])))
+
+-- one kind more
+one_kind : (kinds more : List ℕ) (kind : ℕ) (atoms : List ℕ) → more ≡ kinds ++ kind ∷ [] → named_each more atoms ≡ named_each kinds atoms ++ named kind atoms
+one_kind kinds more kind atoms is =
+    ap (λ (ks : List ℕ). named_each ks atoms) is
+    ∙ flat_append {X = ℕ} {Y = CellName} (λ k. named k atoms) kinds (kind ∷ [])
+    ∙ ap (λ (cs : List CellName). named_each kinds atoms ++ cs) (append-nil (named kind atoms))
+
+pub each_more : (old now new : List CellName) (kinds atoms : List ℕ) (i kind : ℕ) → slice_get kinds i ≡ Some kind → now ≡ old ++ named_each (take i kinds) atoms → new ≡ now ++ named kind atoms
+    → new ≡ old ++ named_each (take (i + 1) kinds) atoms
+each_more old now new kinds atoms i kind at before more =
+    more
+    ∙ ap (λ (cs : List CellName). cs ++ named kind atoms) before
+    ∙ append_assoc old (named_each (take i kinds) atoms) (named kind atoms)
+    ∙ ap (λ (cs : List CellName). old ++ cs) (sym (one_kind (take i kinds) (take (i + 1) kinds) kind atoms (longer_by kinds i kind at)))
+
+range_more : (a n : ℕ) → range_with_len a (suc n) ≡ range_with_len a n ++ (a + n) ∷ []
+range_more a zero = let same : a ≡ a + 0 = omega arith in ap (λ b. b ∷ []) same
+range_more a (suc n) =
+    let same : a + 1 + n ≡ a + suc n = omega arith in
+    ap (λ bs. a ∷ bs) (range_more (a + 1) n ∙ ap (λ b. range_with_len (a + 1) n ++ b ∷ []) same)
+
+pub kinds_more : (i : ℕ) (atoms : List ℕ) → named_each (range_with_len 0 (i + 1)) atoms ≡ named_each (range_with_len 0 i) atoms ++ named i atoms
+kinds_more i atoms =
+    let next : i + 1 ≡ suc i = omega arith in
+    let same : 0 + i ≡ i = omega arith in
+    one_kind (range_with_len 0 i) (range_with_len 0 (i + 1)) i atoms
+    (ap (range_with_len 0) next ∙ range_more 0 i ∙ ap (λ b. range_with_len 0 i ++ b ∷ []) same)
+
+pub at_item : {X : Type 0} (xs : List X) (i : ℕ) (x : X) → i < length xs → x ≡ get_or xs i x → slice_get xs i ≡ Some x
+at_item xs i x less item = slice_get-get_or xs i x less ∙ ap (λ y. Some y) (sym item)
+
+pub three_added : {X : Type 0} (old a b c first second third : List X) → first ≡ old ++ a → second ≡ first ++ b → third ≡ second ++ c → third ≡ old ++ (a ++ b ++ c)
+three_added {X} old a b c first second third f g h =
+    h
+    ∙ ap (λ (t : List X). t ++ c) (g ∙ ap (λ (t : List X). t ++ b) f ∙ append_assoc old a b)
+    ∙ append_assoc old (a ++ b) c

@@ -1,0 +1,83 @@
+-- What is noted in tables.
+use Rattle.std.proofs.Common.{◌≡◌, ℕ, ◌+◌, ◌<◌, Bool, true, false, ◌==◌, cond, if◌then◌else◌, List, [], ◌∷◌, ◌++◌, take, length, get_or, slice_get, Some, Option, unwrap_or, Contains, refl, sym, ap, subst, ◌∙◌, inl, inr}
+use Rattle.std.proofs.lemmas.Bool.{cases_Bool, both_ways, eqb-true, eq-eqb}
+use Rattle.std.proofs.lemmas.List.{take_more}
+use Rattle.std.proofs.lemmas.List.Elements.{Contains-append_left, Contains-append_right}
+use Rattle.std.proofs.lemmas.Option.{slice_get_within, get_or_from_slice_get}
+use Rattle.tp_base.proofs.Rising.{Contains-here, Contains-none}
+use Rattle.saturation.specs.Tables.{IsNoted, HasAll}
+use Rattle.saturation.proofs.NoteLemmas.{last_cases}
+
+pub unwrap_cond : {X : Type 0} (b : Bool) (x : X) (o : Option X) (d : X) → unwrap_or (cond b (Some x) o) d ≡ cond b x (unwrap_or o d)
+unwrap_cond true x o d = refl
+unwrap_cond false x o d = refl
+
+pub kept : {X : Type 0} (b : Bool) (x y z : X) → b ≡ false → z ≡ cond b x y → z ≡ y
+kept true x y z other is = absurd (both_ways true other refl)
+kept false x y z other is = is
+
+-- first the numbers are taken, then the longer list is put there
+module _ (old taken new : ℕ → List ℕ) (key : ℕ) (numbers longer : List ℕ) (number : ℕ) (is : numbers ≡ old key) (more : longer ≡ numbers ++ number ∷ [])
+    (others : (a : ℕ) → (key == a) ≡ false → taken a ≡ old a) (put : (a : ℕ) → new a ≡ (if key == a then longer else taken a)) where
+  at_key : (b : ℕ) → (key == b) ≡ true → new b ≡ old b ++ number ∷ []
+  at_key b here = (rw here at (put b)) ∙ more ∙ ap (λ (ns : List ℕ). ns ++ number ∷ []) (is ∙ ap old (eqb-true key b here))
+
+  at_other : (b : ℕ) → (key == b) ≡ false → new b ≡ old b
+  at_other b other = (rw other at (put b)) ∙ others b other
+
+  pub noted : IsNoted (λ b. key ≡ b) number old new
+  noted = record {
+    kept = λ b a there. elim (cases_Bool (key == b)) [
+      | inl here ↦ subst (λ (ns : List ℕ). Contains ns a) (sym (at_key b here)) (Contains-append_left (old b) (number ∷ []) a there)
+      | inr other ↦ subst (λ (ns : List ℕ). Contains ns a) (sym (at_other b other)) there
+    ];
+    noted = λ b same. subst (λ (ns : List ℕ). Contains ns number) (sym (at_key b (eq-eqb key b same))) (Contains-append_right (old b) (number ∷ []) number (Contains-here number number [] refl));
+    only = λ b a there. elim (cases_Bool (key == b)) [
+      | inl here ↦ last_cases (old b) number a (subst (λ (ns : List ℕ). Contains ns a) (at_key b here) there)
+      | inr other ↦ inl (subst (λ (ns : List ℕ). Contains ns a) (at_other b other) there)
+    ];
+  }
+
+pub longer_by : {X : Type 0} (xs : List X) (i : ℕ) (x : X) → slice_get xs i ≡ Some x → take (i + 1) xs ≡ take i xs ++ x ∷ []
+longer_by xs i x at = take_more xs i x (slice_get_within xs i x at) ∙ (λ n. take i xs ++ get_or_from_slice_get xs i x x at n ∷ [])
+
+-- one key more
+pub noted_none : (number : ℕ) (f : ℕ → List ℕ) (keys : List ℕ) → keys ≡ [] → IsNoted (Contains keys) number f f
+noted_none number f keys none = record {
+  kept = λ b a there. there;
+  noted = λ b there. absurd (Contains-none b (subst (λ (ks : List ℕ). Contains ks b) none there));
+  only = λ b a there. inl there;
+}
+
+pub noted_more : (number : ℕ) (f g h : ℕ → List ℕ) (keys : List ℕ) (key i : ℕ) → slice_get keys i ≡ Some key → IsNoted (Contains (take i keys)) number f g → IsNoted (λ b. key ≡ b) number g h
+    → IsNoted (Contains (take (i + 1) keys)) number f h
+noted_more number f g h keys key i at before here = record {
+  kept = λ b a there. here.kept b a (before.kept b a there);
+  noted = λ b there. elim (last_cases (take i keys) key b (subst (λ (ks : List ℕ). Contains ks b) (longer_by keys i key at) there)) [
+    | inl earlier ↦ here.kept b number (before.noted b earlier)
+    | inr last ↦ here.noted b (sym last)
+  ];
+  only = λ b a there. elim (here.only b a there) [ inl earlier ↦ before.only b a earlier | inr new ↦ inr new ];
+}
+
+-- one rule more
+pub has_none : {X : Type 0} (keys : X → ℕ → Type 0) (number : X → ℕ) (xs : List X) (f : ℕ → List ℕ) → xs ≡ [] → ((b : ℕ) → f b ≡ []) → HasAll keys number xs f
+has_none {X} keys number xs f none empty = record {
+  whole = λ x there. absurd (Contains-none x (subst (λ (ys : List X). Contains ys x) none there));
+  only = λ b a there. absurd (Contains-none a (subst (λ (ns : List ℕ). Contains ns a) (empty b) there));
+}
+
+pub has_more : {X : Type 0} (keys : X → ℕ → Type 0) (number : X → ℕ) (rules : List X) (i : ℕ) (x : X) (old new : ℕ → List ℕ) → i < length rules → x ≡ get_or rules i x
+    → HasAll keys number (take i rules) old → IsNoted (keys x) (number x) old new → HasAll keys number (take (i + 1) rules) new
+has_more {X} keys number rules i x old new less at before here =
+    let longer : take (i + 1) rules ≡ take i rules ++ x ∷ [] = take_more rules i x less ∙ (λ n. take i rules ++ sym at n ∷ []) in
+    subst (λ (ys : List X). HasAll keys number ys new) (sym longer) (record {
+      whole = λ y there b key. elim (last_cases (take i rules) x y there) [
+        | inl earlier ↦ here.kept b (number y) (before.whole y earlier b key)
+        | inr last ↦ subst (λ z. Contains (new b) (number z)) (sym last) (here.noted b (subst (λ z. keys z b) last key))
+      ];
+      only = λ b a there. elim (here.only b a there) [
+        | inl earlier ↦ let old_one = before.only b a earlier in (old_one.0, Contains-append_left (take i rules) (x ∷ []) old_one.0 old_one.1, old_one.2)
+        | inr last ↦ (x, Contains-append_right (take i rules) (x ∷ []) x (Contains-here x x [] refl), last)
+      ];
+    })

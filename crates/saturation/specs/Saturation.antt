@@ -1,0 +1,104 @@
+-- How the calculation of all cells goes on, round by round.
+--     IsRound       what is true after each round
+--     AreChanges    what one round gives: the cells that changed
+--     Tells         what the cells' diagrams are
+--     AreNotedUpTo  the histories with these changes
+--     IsBuilt       what is true at the end
+--     IsDone        what is true after k rounds, of the code's state
+use Rattle.std.specs.Prelude.{◌≡◌, ◌≢◌, ℕ, suc, ◌<◌, List, [], length, All, Contains, Result, Ok, Err, ◌⊎◌}
+use Rattle.tp_base.specs.declared.atoms.TheConstants.{MOST_ATOMS}
+use Rattle.class_diagrams.specs.References.{Reference}
+use Rattle.class_diagrams.specs.Trees.{Tree}
+use Rattle.class_diagrams.specs.Arena.{tree_at, IsIn, Arena}
+use Rattle.class_diagrams.specs.declared.faults.DiagramFault.{DiagramFault}
+use Rattle.class_diagrams.specs.declared.faults.DiagramFault.TheVariants.{Full, Memory}
+use Rattle.diagram_ops.specs.Steps.{held_with_all, Brings}
+use Rattle.simple_core.specs.declared.system.System.{System}
+use Rattle.pushdown_sym.specs.CellMap.{Entries, trees_in}
+use Rattle.pushdown_sym.specs.Adding.{AreIn}
+use Rattle.pushdown_sym.specs.Terms.{CellTrees, partial_results}
+use Rattle.pushdown_sym.specs.Rounds.{cell, given_atoms, of_each_cell, work, IsAtRest}
+use Rattle.saturation.specs.Histories.{Change, IsHistory}
+use Rattle.saturation.specs.Waking.{CellName, Fits}
+
+-- the changes of each cell
+abbrev pub Histories : Type 0
+Histories = ℕ → ℕ → List Change
+
+-- an arena with no branches yet
+abbrev pub empty : ℕ → Arena
+empty nodes = record { branches = []; limit = nodes }
+
+-- round m + 1 changed some cell: its diagram then, which differs from the one before
+pub record IsChange (s : System) (branches : List Tree) (kinds atoms m : ℕ) : Type 0 where
+  pub kind : ℕ
+  pub atom : ℕ
+  pub place : Reference
+  pub kind_below : kind < kinds
+  pub atom_below : atom < atoms
+  pub inside : IsIn branches place
+  pub tree : tree_at branches place ≡ cell s (suc m) kind atom
+  pub differs : cell s (suc m) kind atom ≢ cell s m kind atom
+
+-- After k rounds the histories tell the cells of all these rounds; what is not in `todo` stays as it is in the next one; each
+-- of the rounds changed something; and the arena holds only what these rounds had to calculate.
+pub record IsRound (s : System) (nodes k : ℕ) (d : Arena) (histories : Histories) (todo : List CellName) : Type 0 where
+  pub told : (j a : ℕ) → j < length s.kinds → IsHistory s d.branches k (histories j a) j a
+  pub others : (j a : ℕ) → j < length s.kinds → Contains todo (j, a) ⊎ (cell s (suc k) j a ≡ cell s k j a)
+  pub cells : All (Fits s) todo
+  pub changed : (m : ℕ) → m < k → IsChange s d.branches (length s.kinds) MOST_ATOMS m
+  pub work : Brings (empty nodes) d (work s k)
+
+-- each of these cells got this diagram in round k + 1, and each other cell of `todo` stays
+pub record AreChanges (s : System) (k : ℕ) (old new : Arena) (todo : List CellName) (changes : List (CellName × Reference)) : Type 0 where
+  pub inside : All (λ c. IsIn new.branches c.1) changes
+  pub trees : All (λ c. tree_at new.branches c.1 ≡ cell s (suc k) c.0.0 c.0.1) changes
+  pub differ : All (λ c. cell s (suc k) c.0.0 c.0.1 ≢ cell s k c.0.0 c.0.1) changes
+  pub listed : All (λ c. Contains todo c.0) changes
+  pub others : (j a : ℕ) → Contains todo (j, a) → ((f : Reference) × Contains changes ((j, a), f)) ⊎ (cell s (suc k) j a ≡ cell s k j a)
+  pub brings : Brings old new (of_each_cell s (partial_results s (cell s k)))
+
+-- these diagrams are the cells of round k
+abbrev pub Tells : System → List Tree → Entries → ℕ → Type 0
+Tells s branches cells k = (j a : ℕ) → j < length s.kinds → trees_in branches cells j a ≡ cell s k j a
+
+-- a cell and its history up to round k
+abbrev pub IsTold : System → List Tree → ℕ → Histories → CellTrees → ℕ → ℕ → Type 0
+IsTold s branches k histories now j a = IsHistory s branches k (histories j a) j a × (now j a ≡ cell s k j a)
+
+-- each cell is told up to round k + 1, or up to round k where none of these changes is of it
+abbrev pub AreNotedUpTo : System → List Tree → ℕ → List (CellName × Reference) → Histories → CellTrees → Type 0
+AreNotedUpTo s branches k done histories now = (j a : ℕ) → j < length s.kinds
+    → IsTold s branches (suc k) histories now j a ⊎ (IsTold s branches k histories now j a × ((f : Reference) → ¬ Contains done ((j, a), f)))
+
+-- at some cell of the next round the arena had no room
+pub record IsFullIn (s : System) (k : ℕ) (old : Arena) : Type 0 where
+  pub kind : ℕ
+  pub atom : ℕ
+  pub at : Arena
+  pub kind_below : kind < length s.kinds
+  pub given : Contains (given_atoms s) atom
+  pub brings : Brings old at (of_each_cell s (partial_results s (cell s k)))
+  pub full : at.limit < length (held_with_all at.branches (partial_results s (cell s k) kind atom))
+
+abbrev pub IsStep : System → ℕ → Arena → Arena → List CellName → List (CellName × Reference) → Result (Unit {0}) DiagramFault → Type 0
+IsStep s k old new done changes (Ok u) = AreChanges s k old new done changes
+IsStep s k old new done changes (Err Full) = IsFullIn s k old
+IsStep s k old new done changes (Err Memory) = Unit {0}
+
+-- what is true at the end: a round at rest, histories that tell all cells up to it, and cells that are those of that round
+pub record IsBuilt (s : System) (d : Arena) (histories : Histories) (cells : Entries) : Type 0 where
+  pub round : ℕ
+  pub few : round < 4611686018427387904
+  pub rest : IsAtRest s round
+  pub told : (j a : ℕ) → j < length s.kinds → IsHistory s d.branches round (histories j a) j a
+  pub tells : Tells s d.branches cells round
+
+-- k rounds are done
+pub record IsDone (s : System) (nodes k : ℕ) (d : Arena) (histories : Histories) (cells : Entries) (todo : List CellName) : Type 0 where
+  pub inside : AreIn d.branches cells
+  pub round : IsRound s nodes k d histories todo
+  pub tells : Tells s d.branches cells k
+
+abbrev pub HasSome : {X : Type 0} → List X → Type 0
+HasSome {X} xs = (x : X) × Contains xs x

@@ -1,0 +1,18 @@
+-- What is true of summaries in diagrams.
+use Rattle.std.specs.Prelude.{◌≡◌, ℕ, List}
+use Rattle.class_diagrams.specs.Arena.{Arena}
+use Rattle.simple_core.specs.declared.system.System.{System}
+use Rattle.simple_core.specs.Systems.{IsSound}
+use Rattle.pushdown_sym.specs.CellMap.{Entries}
+use Rattle.pushdown_sym.specs.Adding.{AreIn}
+use Rattle.pushdown_sym.specs.Rounds.{given_atoms}
+use Rattle.saturation.specs.declared.histories.CellKey.{CellKey}
+use Rattle.saturation.specs.Histories.{Change}
+use Rattle.saturation.specs.HistoryMap.{history_in}
+use Rattle.saturation.specs.Saturation.{IsBuilt}
+
+pub record AreSummaries (s : System) (atoms : List ℕ) (d : Arena) (cells : Entries) (histories : List (CellKey × List Change)) : Type 0 where
+  pub sound : IsSound s
+  pub given : atoms ≡ given_atoms s
+  pub inside : AreIn d.branches cells
+  pub built : IsBuilt s d (history_in histories) cells

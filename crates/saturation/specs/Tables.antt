@@ -1,0 +1,52 @@
+-- Tables of numbers, and what a system's rules put into them.
+--     noted_in entries a     the numbers that are noted for a
+--     IsNoted keys n f g     n was noted for the keys, and nothing else
+--     HasAll keys n xs f     each x of the list has its n noted for its keys, and nothing else is noted
+--     AreReads s ..          for each cell, which cells of the round behind it are calculated from it
+--     AreReadsOf s reads     the same of what the code keeps
+use Rattle.std.specs.Prelude.{◌≡◌, ℕ, ◌==◌, List, [], Contains, ◌⊎◌, unwrap_or}
+use Rattle.std.specs.Map.{lookup}
+use Rattle.simple_core.specs.declared.rules.Local.{Local}
+use Rattle.simple_core.specs.declared.rules.Link.{Link}
+use Rattle.simple_core.specs.declared.rules.Spawn.{Spawn}
+use Rattle.simple_core.specs.declared.system.System.{System}
+use Rattle.saturation.specs.declared.reads.Reads.{Reads}
+
+abbrev pub Entries : Type 0
+Entries = List (ℕ × List ℕ)
+
+abbrev pub noted_in : List (ℕ × List ℕ) → ℕ → List ℕ
+noted_in entries a = unwrap_or (lookup (λ key. a == key) entries) []
+
+pub record IsNoted (keys : ℕ → Type 0) (number : ℕ) (old new : ℕ → List ℕ) : Type 0 where
+  pub kept : (b a : ℕ) → Contains (old b) a → Contains (new b) a
+  pub noted : (b : ℕ) → keys b → Contains (new b) number
+  pub only : (b a : ℕ) → Contains (new b) a → Contains (old b) a ⊎ (a ≡ number)
+
+pub record HasAll {X : Type 0} (keys : X → ℕ → Type 0) (number : X → ℕ) (xs : List X) (f : ℕ → List ℕ) : Type 0 where
+  pub whole : (x : X) → Contains xs x → (b : ℕ) → keys x b → Contains (f b) (number x)
+  pub only : (b a : ℕ) → Contains (f b) a → (x : X) × Contains xs x × (a ≡ number x)
+
+abbrev pub OfNeeds : List Local → (ℕ → List ℕ) → Type 0
+OfNeeds rules f = HasAll (λ r b. Contains r.needs b) (λ r. r.gives) rules f
+
+abbrev pub OfLinks : List Link → (ℕ → List ℕ) → Type 0
+OfLinks links f = HasAll (λ l b. l.from ≡ b) (λ l. l.to) links f
+
+abbrev pub OfSpawns : List Spawn → (ℕ → List ℕ) → Type 0
+OfSpawns spawns f = HasAll (λ c b. c.kind ≡ b) (λ c. c.needs) spawns f
+
+-- by_needs: what rules give to a node that has an atom; by_child: what links give to the parent of one that has it; makers: the
+-- atoms that make a child of a kind; ends: what links from children give; looked: the atoms that children or links look at
+pub record AreReads (s : System) (by_needs by_child makers : ℕ → List ℕ) (ends looked : List ℕ) : Type 0 where
+  pub needs : OfNeeds s.local by_needs
+  pub child : OfLinks s.down by_child
+  pub spawns : OfSpawns s.child makers
+  pub to : (l : Link) → Contains s.down l → Contains ends l.to
+  pub only_to : (a : ℕ) → Contains ends a → (l : Link) × Contains s.down l × (a ≡ l.to)
+  pub making : (c : Spawn) → Contains s.child c → Contains looked c.needs
+  pub visible : (b : ℕ) → Contains s.visible b → Contains looked b
+
+-- the same of a system's rules as the code keeps them
+abbrev pub AreReadsOf : System → Reads → Type 0
+AreReadsOf s r = AreReads s (noted_in r.by_needs) (noted_in r.by_child) (noted_in r.makers) r.ends r.looked

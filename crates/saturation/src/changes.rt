@@ -1,0 +1,92 @@
+//! The cells that change in a round.
+ghost use Rattle.std.specs.Prelude.{◌↔◌, ◌≡◌, ℕ, ◌<◌, length, List, [], ◌∷◌, ◌++◌, All, Contains, IfOk, IsErrOf};
+ghost use Rattle.class_diagrams.specs.Arena.{Arena, StartsWith, IsArena};
+ghost use Rattle.simple_core.specs.Systems.{IsSound};
+ghost use Rattle.pushdown_sym.specs.Adding.{AreIn};
+ghost use Rattle.pushdown_sym.specs.Rounds.{given_atoms};
+ghost use Rattle.saturation.specs.Budgets.{MayBeSpent};
+ghost use Rattle.saturation.specs.Waking.{CellName};
+ghost use Rattle.saturation.specs.Saturation.{AreChanges, Histories, IsDone, Tells, IsStep, IsFullIn};
+
+use class_diagrams::{DiagramFault, Diagrams, Ref};
+use pushdown_sym::{Cells, Equations};
+use simple_core::GainFault;
+use std::alloc::Global;
+use tp_base::{Atom, NoMemory};
+
+// One cell of the next round, which is noted where it differs.
+fn one_cell(
+    alloc: Global,
+    equations: &Equations,
+    d: &mut Diagrams,
+    now: &Cells,
+    name: (u32, Atom),
+    changes: &mut Vec<((u32, Atom), Ref)>,
+) -> Result<(), DiagramFault>
+    requires kind { name.0 < length equations.now.kinds }
+    requires inside { AreIn d.old.branches now.now }
+    ensures stays { StartsWith d.old.branches d.new.branches }
+    ensures step { (k : ℕ) (first : Arena) (done : List CellName) → IsSound equations.now → Contains (given_atoms equations.now) name.1
+        → Tells equations.now d.old.branches now.now k → AreChanges equations.now k first d.old done changes.old.items
+        → IsStep equations.now k first d.new (done ++ name ∷ []) changes.new.items result }
+{
+    let next = equations.next_cell(alloc, d, now, name.0, name.1)?;
+    if !d.same(next, now.get(name.0, name.1)) {
+        changes.push((name, next))?;
+    }
+    Ok(())
+}
+
+// The cells of the next round that differ.
+fn one_round(
+    alloc: Global,
+    equations: &Equations,
+    d: &mut Diagrams,
+    now: &Cells,
+    todo: &[(u32, Atom)],
+) -> Result<Vec<((u32, Atom), Ref)>, DiagramFault>
+    requires kinds { All (λ c. c.0 < length equations.now.kinds) todo.now }
+    requires inside { AreIn d.old.branches now.now }
+    requires arena { IsArena d.old }
+    ensures changes { (k : ℕ) → IsSound equations.now → All (λ c. Contains (given_atoms equations.now) c.1) todo.now → Tells equations.now d.old.branches now.now k
+        → IfOk result (λ cs. AreChanges equations.now k d.old d.new todo.now cs.items) }
+    ensures full { (k : ℕ) → IsSound equations.now → All (λ c. Contains (given_atoms equations.now) c.1) todo.now → Tells equations.now d.old.branches now.now k
+        → IsErrOf result DiagramFault.Full → IsFullIn equations.now k d.old }
+{
+    let mut changes = Vec::new(alloc);
+    for name in todo {
+        one_cell(alloc, equations, d, now, *name, &mut changes)?;
+    }
+    Ok(changes)
+}
+
+fn fault_of(fault: DiagramFault) -> GainFault
+    ensures { (result ≡ GainFault.Spent) ↔ (fault ≡ DiagramFault.Full) }
+{
+    match fault {
+        DiagramFault::Full => GainFault::Spent,
+        DiagramFault::Memory => GainFault::Memory,
+    }
+}
+
+/// The cells of the next round that differ, where so many rounds are done.
+pub(crate) fn changed_cells(
+    alloc: Global,
+    equations: &Equations,
+    d: &mut Diagrams,
+    now: &Cells,
+    todo: &[(u32, Atom)],
+) -> Result<Vec<((u32, Atom), Ref)>, GainFault>
+    requires kinds { All (λ c. c.0 < length equations.now.kinds) todo.now }
+    requires inside { AreIn d.old.branches now.now }
+    requires arena { IsArena d.old }
+    ensures changes { (nodes k : ℕ) (histories : Histories) → IsSound equations.now → IsDone equations.now nodes k d.old histories now.now todo.now
+        → IfOk result (λ cs. AreChanges equations.now k d.old d.new todo.now cs.items) }
+    ensures spent { (nodes k : ℕ) (histories : Histories) → IsSound equations.now → IsDone equations.now nodes k d.old histories now.now todo.now
+        → IsErrOf result GainFault.Spent → MayBeSpent equations.now nodes }
+{
+    match one_round(alloc, equations, d, now, todo) {
+        Ok(changes) => Ok(changes),
+        Err(fault) => Err(fault_of(fault)),
+    }
+}

@@ -1,0 +1,93 @@
+//! A round's changes noted.
+ghost use Rattle.std.specs.Prelude.{◌≡◌, ◌≤◌, ℕ, suc, length, List, [], ◌∷◌, ◌++◌, All, Contains, IfOk, OnOk};
+ghost use Rattle.class_diagrams.specs.References.{Reference};
+ghost use Rattle.class_diagrams.specs.Arena.{Arena, tree_at, IsIn};
+ghost use Rattle.simple_core.specs.declared.system.System.{System};
+ghost use Rattle.simple_core.specs.Systems.{IsSound};
+ghost use Rattle.pushdown_sym.specs.CellMap.{trees_in};
+ghost use Rattle.pushdown_sym.specs.Adding.{AreIn};
+ghost use Rattle.pushdown_sym.specs.Rounds.{cell};
+ghost use Rattle.saturation.specs.HistoryMap.{history_in};
+ghost use Rattle.saturation.specs.Tables.{AreReadsOf};
+ghost use Rattle.saturation.specs.Waking.{CellName};
+ghost use Rattle.saturation.specs.Saturation.{AreChanges, AreNotedUpTo, IsDone};
+
+use crate::histories::Histories;
+use crate::reads::Reads;
+use crate::waking::readers;
+use class_diagrams::{Diagrams, Ref};
+use pushdown_sym::Cells;
+use simple_core::MOST_KINDS;
+use std::alloc::Global;
+use tp_base::{Atom, NoMemory};
+
+// One change noted, unless the cell has it.
+fn note_one(
+    alloc: Global,
+    d: &Diagrams,
+    cells: &mut Cells,
+    histories: &mut Histories,
+    round: u64,
+    change: ((u32, Atom), Ref),
+) -> Result<(), NoMemory>
+    requires cells { AreIn d.now.branches cells.old }
+    requires inside { IsIn d.now.branches change.1 }
+    ensures cells { OnOk result (AreIn d.now.branches cells.new) }
+    ensures noted { (s : System) (k : ℕ) (done : List (CellName × Reference)) → round ≡ suc k → tree_at d.now.branches change.1 ≡ cell s (suc k) change.0.0 change.0.1
+        → AreNotedUpTo s d.now.branches k done (history_in histories.old) (trees_in d.now.branches cells.old)
+        → OnOk result (AreNotedUpTo s d.now.branches k (done ++ change ∷ []) (history_in histories.new) (trees_in d.now.branches cells.new)) }
+{
+    let ((kind, atom), to) = change;
+    if !d.same(to, cells.get(kind, atom)) {
+        histories.push(alloc, kind, atom, round, to)?;
+        cells.set(kind, atom, to)?;
+    }
+    Ok(())
+}
+
+// All changes of a round noted.
+fn note_all(
+    alloc: Global,
+    d: &Diagrams,
+    cells: &mut Cells,
+    histories: &mut Histories,
+    round: u64,
+    changes: &[((u32, Atom), Ref)],
+) -> Result<(), NoMemory>
+    requires cells { AreIn d.now.branches cells.old }
+    requires inside { All (λ c. IsIn d.now.branches c.1) changes.now }
+    ensures cells { OnOk result (AreIn d.now.branches cells.new) }
+    ensures noted { (s : System) (k : ℕ) → round ≡ suc k → All (λ c. tree_at d.now.branches c.1 ≡ cell s (suc k) c.0.0 c.0.1) changes.now
+        → AreNotedUpTo s d.now.branches k [] (history_in histories.old) (trees_in d.now.branches cells.old)
+        → OnOk result (AreNotedUpTo s d.now.branches k changes.now (history_in histories.new) (trees_in d.now.branches cells.new)) }
+{
+    for change in changes {
+        note_one(alloc, d, cells, histories, round, *change)?;
+    }
+    Ok(())
+}
+
+/// The changes noted, and the cells to calculate in the round behind it.
+pub(crate) fn noted(
+    alloc: Global,
+    d: &Diagrams,
+    cells: &mut Cells,
+    histories: &mut Histories,
+    round: u64,
+    count: usize,
+    reads: &Reads,
+    changes: &[((u32, Atom), Ref)],
+) -> Result<Vec<(u32, Atom)>, NoMemory>
+    requires cells { AreIn d.now.branches cells.old }
+    requires inside { All (λ c. IsIn d.now.branches c.1) changes.now }
+    requires few { count ≤ MOST_KINDS }
+    ensures { (s : System) (nodes k : ℕ) (old : Arena) (todo : List CellName) → round ≡ suc k → IsSound s → count ≡ length s.kinds
+        → AreReadsOf s reads.now
+        → IsDone s nodes k old (history_in histories.old) cells.old todo → AreChanges s k old d.now todo changes.now
+        → (c : CellName × Reference) → Contains changes.now c
+        → IfOk result (λ next. IsDone s nodes (suc k) d.now (history_in histories.new) cells.new next.items) }
+{
+    note_all(alloc, d, cells, histories, round, changes)?;
+    let next = readers(alloc, d, cells, count, reads, changes)?;
+    Ok(next)
+}

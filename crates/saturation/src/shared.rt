@@ -1,0 +1,166 @@
+//! Summaries that are read from diagrams.
+ghost use Rattle.std.specs.Prelude.{◌≡◌, ◌<◌, ◌≤◌, ◌^◌, [], length, IfOk, IfSome, IsOk, IsErrOf};
+ghost use Rattle.tp_base.specs.Classes.{has_class};
+ghost use Rattle.class_diagrams.specs.declared.refs.TheConstants.{MOST_BRANCHES};
+ghost use Rattle.simple_core.specs.Rounds.{grown, IsRest, IsFirst};
+ghost use Rattle.simple_core.specs.Systems.{kind_label, IsSound};
+ghost use Rattle.pushdown_sym.specs.Adding.{AreIn};
+ghost use Rattle.pushdown_sym.specs.Rounds.{given_atoms};
+ghost use Rattle.saturation.specs.Budgets.{MayBeSpent, HasToBeSpent};
+ghost use Rattle.saturation.specs.HistoryMap.{history_in};
+ghost use Rattle.saturation.specs.Saturation.{IsBuilt};
+
+use crate::histories::Histories;
+use crate::labels::label_of;
+use crate::names::given;
+use crate::saturating::saturate;
+use class_diagrams::Diagrams;
+use pushdown_sym::Cells;
+use simple_core::{GainFault, Summaries, System};
+use std::alloc::Global;
+use std::marker::Model;
+use tp_base::{Atom, ClassSet, NoMemory};
+
+// The cells of a round at rest, and how they came to be.
+#[derive(Drop)]
+struct Ended {
+    cells: Cells,
+    histories: Histories,
+}
+
+fn all_rounds(alloc: Global, system: &System, diagrams: &mut Diagrams) -> Result<Ended, GainFault>
+    requires sound { IsSound system.now }
+    requires empty { diagrams.old.branches ≡ [] }
+    ensures inside { IfOk result (λ e. AreIn diagrams.new.branches e.cells) }
+    ensures built { IfOk result (λ e. IsBuilt system.now diagrams.new (history_in e.histories) e.cells) }
+    ensures spent { IsErrOf result GainFault.Spent → MayBeSpent system.now diagrams.old.limit }
+    ensures whole { IsOk result → ¬ HasToBeSpent system.now diagrams.old.limit }
+{
+    let _ = diagrams.held();
+    let mut cells = Cells::first(alloc, system)?;
+    let mut histories = Histories::new(alloc);
+    saturate(alloc, system, diagrams, &mut cells, &mut histories)?;
+    Ok(Ended { cells, histories })
+}
+
+// A system, and the atoms that it gives.
+#[derive(Drop)]
+struct Copied {
+    system: System,
+    atoms: ClassSet,
+}
+
+fn copy_of(alloc: Global, system: &System) -> Result<Copied, NoMemory>
+    ensures same { IfOk result (λ c. c.system ≡ system.now) }
+    ensures given { IfOk result (λ c. c.atoms ≡ given_atoms system.now) }
+{
+    let atoms = given(alloc, system)?;
+    let system = system.copy(alloc)?;
+    Ok(Copied { system, atoms })
+}
+
+/// The summaries of a system, for every visible label of the parent. A contract sees the system.
+#[derive(Drop)]
+pub struct SharedSummaries {
+    system: System,
+    atoms: ClassSet,
+    diagrams: Diagrams,
+    cells: Cells,
+    histories: Histories,
+}
+
+impl Model for SharedSummaries {
+    ghost use Rattle.simple_core.specs.declared.system.System.{System};
+
+    ghost Value = { System };
+
+    ghost use Rattle.saturation.specs.Shared.{AreSummaries};
+
+    ghost view = { λ s. s.system };
+
+    ghost invariant = { λ s. AreSummaries s.system s.atoms s.diagrams s.cells s.histories };
+}
+
+impl SharedSummaries {
+    /// The summaries of a system, in at most so many branches. Rounds go on until no cell changes, each over the cells
+    /// that read one that changed in the round before.
+    pub fn build(alloc: Global, system: &System, nodes: u32) -> Result<Self, GainFault>
+        requires sound { IsSound system.now }
+        requires nodes { nodes ≤ MOST_BRANCHES }
+        ensures system { IfOk result (λ s. s ≡ system.now) }
+        ensures spent { IsErrOf result GainFault.Spent → MayBeSpent system.now nodes }
+        ensures whole { IsOk result → ¬ HasToBeSpent system.now nodes }
+    {
+        let mut diagrams = Diagrams::new(alloc, nodes)?;
+        let ended = all_rounds(alloc, system, &mut diagrams)?;
+        let copied = copy_of(alloc, system)?;
+        Ok(SharedSummaries {
+            system: copied.system,
+            atoms: copied.atoms,
+            diagrams,
+            cells: ended.cells,
+            histories: ended.histories,
+        })
+    }
+
+    // What a node of the kind has at the end, below a parent with these visible atoms.
+    fn last_label(&self, alloc: Global, kind: u32, parent: &ClassSet) -> Result<ClassSet, NoMemory>
+        requires kind { kind < length self.now.kinds }
+        ensures { IfOk result (λ label. IsRest self.now kind parent.now label) }
+    {
+        let label = label_of(
+            alloc,
+            &self.atoms,
+            &self.diagrams,
+            &self.cells,
+            kind,
+            parent,
+        )?;
+        Ok(label)
+    }
+
+    // Whether a kind has an atom from the beginning.
+    fn starts_with(&self, kind: u32, atom: Atom) -> bool
+        requires { kind < length self.now.kinds }
+        ensures { result ≡ has_class atom (kind_label self.now kind) }
+    {
+        let kinds = self.system.kinds.items();
+        kinds[kind as usize].label.has(atom)
+    }
+
+    // The first round after which a node of the kind has the atom, below a parent with these visible atoms.
+    fn first_told(&self, kind: u32, parent: &ClassSet, atom: Atom) -> Option<u64>
+        requires { kind < length self.now.kinds }
+        ensures first { IsFirst (λ k. grown self.now k kind parent.now) atom result }
+        ensures bound { IfSome result (λ k. k < 2 ^ 62) }
+    {
+        if self.starts_with(kind, atom) {
+            return Some(0);
+        }
+        let history = self.histories.of(kind, atom)?;
+        history.first_holding(&self.diagrams, parent)
+    }
+}
+
+impl Summaries for SharedSummaries {
+    ghost use Rattle.std.specs.Prelude.{◌<◌, length, None, All, Contains};
+
+    ghost system = { λ s. s };
+
+    ghost known = { λ s q. (q.0 < length s.kinds) × All (Contains s.visible) q.1 };
+
+    ghost told = { λ s. None };
+
+    ghost spent_on = { λ s. None };
+
+    fn gain(&mut self, kind: u32, parent: &ClassSet) -> Result<ClassSet, GainFault> {
+        let alloc = self.histories.allocator();
+        let label = self.last_label(alloc, kind, parent)?;
+        Ok(label)
+    }
+
+    fn first_round(&self, kind: u32, parent: &ClassSet, atom: Atom) -> Option<u64> {
+        let _ = &self.system;
+        self.first_told(kind, parent, atom)
+    }
+}
