@@ -1,0 +1,201 @@
+ghost use Rattle.std.specs.Prelude.{◌≡◌, ◌≤◌, ◌<◌, IfOk};
+ghost use Rattle.simple_core.specs.Systems.{IsSound};
+ghost use Rattle.class_diagrams.specs.declared.refs.TheConstants.{MOST_BRANCHES};
+ghost use Rattle.small_systems.specs.declared.nesting.TheConstants.{MOST_CLASSES};
+
+use crate::answers::{Answer, agree, answer_of, ask};
+use class_diagrams::MOST_BRANCHES;
+use need_table::PlainSummaries;
+use saturation::SharedSummaries;
+use simple_core::{GainFault, Summaries, System};
+use small_systems::{MOST_CLASSES, Script, is_sound, mark, nested, rules_of, set_of, system_of};
+use std::alloc::Global;
+use std::test::Fail;
+use tp_base::{Atom, ClassSet};
+
+// The system of a script, which is sound. Else it is as if no memory was to be had, and the test fails.
+fn sound_of(alloc: Global, script: Script) -> Result<System, GainFault>
+    ensures { IfOk result (λ s. IsSound s) }
+{
+    let system = system_of(alloc, rules_of(script))?;
+    if !is_sound(&system) {
+        return Err(GainFault::Memory);
+    }
+    Ok(system)
+}
+
+// As many as serve each row.
+const PAIRS: u32 = 1_000;
+
+fn plain(alloc: Global, system: &System, kind: u32, parent: &ClassSet) -> Result<Answer, GainFault>
+    requires { IsSound system.now }
+{
+    let mut sums = PlainSummaries::new(alloc, system, PAIRS)?;
+    answer_of(alloc, system, &mut sums, kind, parent)
+}
+
+fn shared(alloc: Global, system: &System, kind: u32, parent: &ClassSet) -> Result<Answer, GainFault>
+    requires { IsSound system.now }
+{
+    let mut sums = SharedSummaries::build(alloc, system, PAIRS)?;
+    answer_of(alloc, system, &mut sums, kind, parent)
+}
+
+// A kind below a label.
+type Question = (Script, u32, &'static [u32]);
+
+fn answers_alike(alloc: Global, row: &Question) -> Result<bool, GainFault> {
+    let system = sound_of(alloc, row.0)?;
+    let parent = set_of(alloc, row.2)?;
+    let one = plain(alloc, &system, row.1, &parent)?;
+    let other = shared(alloc, &system, row.1, &parent)?;
+    Ok(agree(&one, &other))
+}
+
+static QUESTIONS: [Question; 16] = [
+    (Script::Boxes, 0, &[]),
+    (Script::Boxes, 0, &[4]),
+    (Script::Boxes, 0, &[6]),
+    (Script::Boxes, 0, &[4, 6, 7]),
+    (Script::Boxes, 0, &[8]),
+    (Script::List, 0, &[]),
+    (Script::List, 0, &[4]),
+    (Script::List, 1, &[]),
+    (Script::List, 1, &[9]),
+    (Script::List, 1, &[4, 9]),
+    (Script::Errors, 0, &[]),
+    (Script::Errors, 1, &[]),
+    (Script::Three, 0, &[]),
+    (Script::Three, 2, &[5, 16]),
+    (Script::Three, 3, &[]),
+    (Script::Three, 3, &[8, 12, 18]),
+];
+
+#[test]
+fn tells_what_a_table_of_pairs_tells(rt: HostRuntime) -> Result<(), Fail> {
+    for row in &QUESTIONS {
+        assert!(rt; answers_alike(rt.alloc(), row)?);
+    }
+    Ok(())
+}
+
+// The system of n classes, which is sound.
+fn nested_of(alloc: Global, n: u32) -> Result<System, GainFault>
+    requires some { 0 < n }
+    requires n { n ≤ MOST_CLASSES }
+    ensures { IfOk result (λ s. IsSound s) }
+{
+    let system = nested(alloc, n)?;
+    if !is_sound(&system) {
+        return Err(GainFault::Memory);
+    }
+    Ok(system)
+}
+
+fn has_marks(label: &ClassSet, n: u32) -> bool
+    requires { n ≤ MOST_CLASSES }
+{
+    for i in 0..n + 1 {
+        if !label.has(Atom(mark(n, i))) {
+            return false;
+        }
+    }
+    true
+}
+
+// A box of the first class below nothing: each selector matches somewhere below it. Where the long one matches is known of
+// a z after three rounds, and of each box round it one round later.
+fn tells_all<S: Summaries>(
+    alloc: Global,
+    system: &System,
+    sums: &mut S,
+    n: u32,
+) -> Result<bool, GainFault>
+    requires system { S.system sums.old ≡ system.now }
+    requires n { n ≤ MOST_CLASSES }
+{
+    let none = ClassSet::new(alloc);
+    let label = ask(system, sums, 0, &none)?;
+    let last = sums.first_round(0, &none, Atom(mark(n, n)));
+    Ok(has_marks(&label, n) && last == Some(u64::from(n) + 3))
+}
+
+fn built_tells_all(alloc: Global, system: &System, n: u32, nodes: u32) -> Result<bool, GainFault>
+    requires sound { IsSound system.now }
+    requires n { n ≤ MOST_CLASSES }
+    requires nodes { nodes ≤ MOST_BRANCHES }
+{
+    let mut sums = SharedSummaries::build(alloc, system, nodes)?;
+    tells_all(alloc, system, &mut sums, n)
+}
+
+fn is_spent(alloc: Global, system: &System, nodes: u32) -> bool
+    requires sound { IsSound system.now }
+    requires nodes { nodes ≤ MOST_BRANCHES }
+{
+    matches!(
+        SharedSummaries::build(alloc, system, nodes),
+        Err(GainFault::Spent)
+    )
+}
+
+// A number of classes, and a budget.
+type Boxes = (u32, u32);
+
+fn boxes_tell_all(alloc: Global, row: &Boxes) -> Result<bool, GainFault> {
+    let (n, nodes) = *row;
+    if n == 0 || n > MOST_CLASSES || nodes > MOST_BRANCHES {
+        return Ok(false);
+    }
+    let system = nested_of(alloc, n)?;
+    built_tells_all(alloc, &system, n, nodes)
+}
+
+fn boxes_are_spent(alloc: Global, row: &Boxes) -> Result<bool, GainFault> {
+    let (n, nodes) = *row;
+    if n == 0 || n > MOST_CLASSES || nodes > MOST_BRANCHES {
+        return Ok(false);
+    }
+    let system = nested_of(alloc, n)?;
+    Ok(is_spent(alloc, &system, nodes))
+}
+
+// As many branches as all that is worked out has. A table would need a pair for each set of the 32 classes.
+static ENOUGH: [Boxes; 3] = [(3, 19), (8, 59), (32, 251)];
+
+#[test]
+fn tells_of_boxes_of_many_classes(rt: HostRuntime) -> Result<(), Fail> {
+    for row in &ENOUGH {
+        assert!(rt; boxes_tell_all(rt.alloc(), row)?);
+    }
+    Ok(())
+}
+
+// The last cells have 10, 30 and 126 branches.
+static TOO_FEW: [Boxes; 4] = [(3, 2), (3, 9), (8, 29), (32, 125)];
+
+#[test]
+fn is_spent_where_the_last_cells_have_more(rt: HostRuntime) -> Result<(), Fail> {
+    for row in &TOO_FEW {
+        assert!(rt; boxes_are_spent(rt.alloc(), row)?);
+    }
+    Ok(())
+}
+
+fn needs_no_branch(alloc: Global, system: &System) -> bool
+    requires { IsSound system.now }
+{
+    SharedSummaries::build(alloc, system, 0).is_ok()
+}
+
+// Nothing is visible there, so each cell is a leaf.
+fn errors_need_no_branch(alloc: Global) -> Result<bool, GainFault> {
+    let system = sound_of(alloc, Script::Errors)?;
+    Ok(needs_no_branch(alloc, &system))
+}
+
+#[test]
+fn needs_no_branch_where_nothing_is_visible(rt: HostRuntime) -> Result<(), Fail> {
+    assert!(rt; errors_need_no_branch(rt.alloc())?);
+    Ok(())
+}
