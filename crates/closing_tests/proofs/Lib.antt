@@ -1,1 +1,1 @@
-mod SoundLemmas
+mod NothingKnown

@@ -2,10 +2,6 @@
 #![tactic(auto)]
 
 #[cfg(test)]
-mod building;
-#[cfg(test)]
-mod rows;
-#[cfg(test)]
-mod soundness;
+mod pages;
 #[cfg(test)]
 mod tests;

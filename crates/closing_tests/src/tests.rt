@@ -1,12 +1,11 @@
 ghost use Rattle.std.specs.Prelude.{◌≡◌, Contains, IfOk, OnOk};
 ghost use Rattle.simple_core.specs.Systems.{IsSound};
 
-use crate::building::{page_of, path_of, set_of, system_of};
-use crate::rows::{Script, nodes_of, rules_of};
-use crate::soundness::is_sound;
+use crate::pages::{nodes_of, page_of, path_of};
 use class_adding::{Closed, close_page};
 use need_table::PlainSummaries;
 use simple_core::{GainFault, Summaries, System};
+use small_systems::{Script, is_sound, rules_of, set_of, system_of};
 use std::alloc::Global;
 use std::test::Fail;
 use tp_base::{Atom, ClassSet};
@@ -205,7 +204,7 @@ fn knows_what_a_question_needs(rt: HostRuntime) -> Result<(), Fail> {
     Ok(())
 }
 
-#[tactic(auto, using(crate::proofs::SoundLemmas::keeps_none, crate::proofs::SoundLemmas::told_none))]
+#[tactic(auto, using(crate::proofs::NothingKnown::keeps_none, crate::proofs::NothingKnown::told_none))]
 fn closed_page(
     alloc: Global,
     script: Script,
