@@ -5,6 +5,7 @@ use Rattle.simple_core.specs.Systems.{IsSound}
 use Rattle.simple_core.specs.Pairs.{Pair, Asked}
 use Rattle.class_adding.specs.ClosedPages.{IsClosedPage}
 use Rattle.proof_maker.specs.Forests.{KeepsForests}
+use Rattle.proof_maker.specs.Rules.{AreRulesOf}
 use Rattle.judge.specs.declared.limits.TheConstants.{MOST_LISTED}
 use Rattle.judge.specs.declared.proving.Ground.{Ground}
 
@@ -13,6 +14,7 @@ pub record IsReady (system : System) (known : Pair → Type 0) (ground : Ground)
   pub made : system ≡ ground.system.now
   pub asked : (q : Pair) → Asked ground.system.now ground.page.now q → known q
   pub sound : IsSound ground.system.now
+  pub rules : AreRulesOf ground.system.now ground.rules.now
   pub closed : IsClosedPage ground.system.now ground.page.now ground.closed.now
   pub forests : KeepsForests ground.system.now ground.page.now
   pub list : ground.limits.now.list ≤ MOST_LISTED

@@ -4,9 +4,11 @@ ghost use Rattle.jq_sem.specs.Views.{statements_of};
 ghost use Rattle.css_read.specs.Views.{item_of};
 ghost use Rattle.usage_report.specs.Views.{answer_of};
 ghost use Rattle.simple_core.specs.Systems.{IsSound};
+ghost use Rattle.simple_core.specs.Pairs.{Pair, Asked};
+ghost use Rattle.class_adding.specs.ClosedPages.{IsClosedPage};
 ghost use Rattle.proof_maker.specs.Forests.{KeepsForests};
 ghost use Rattle.judge.specs.declared.limits.TheConstants.{MOST_LISTED};
-ghost use Rattle.judge.specs.BySeen.{AreBySeen};
+ghost use Rattle.judge.specs.BySeen.{AreSaid, AreBySeen};
 ghost use Rattle.judge.specs.Outcomes.{AreGiven, IsFault, IsWithin, IsJudged};
 
 use crate::answering::{all_answers, all_spent};
@@ -14,15 +16,46 @@ use crate::closing::close_within;
 use crate::limits::{JudgeFault, Limits};
 use crate::proving::Ground;
 use crate::simplifying::simplify_all;
+use class_adding::Closed;
 use css_read::{Sheet, SheetItem};
 use guard_simplify::Simplified;
 use jq_sem::Stmt;
 use need_table::PlainSummaries;
-use simple_core::GainFault;
+use proof_maker::Rules;
+use simple_core::{GainFault, Summaries};
 use std::alloc::Global;
-use tp_base::AtomTable;
+use tp_base::{AtomTable, NoMemory};
 use tree_sem::Tree;
 use usage_report::Answer;
+
+// The answers by a closed page, whose pairs the summaries know.
+fn answers_by<S: Summaries>(
+    alloc: Global,
+    page: &Tree,
+    items: &[SheetItem],
+    made: &Simplified,
+    closed: &Closed,
+    sums: &S,
+    limits: &Limits,
+) -> Result<Vec<Answer>, NoMemory>
+    requires sound { IsSound made.now.system }
+    requires forests { KeepsForests made.now.system page.now }
+    requires list { limits.now.list ≤ MOST_LISTED }
+    requires closed { IsClosedPage made.now.system page.now closed.now }
+    requires made { S.system sums.now ≡ made.now.system }
+    requires known { (q : Pair) → Asked made.now.system page.now q → S.known sums.now q }
+    ensures { IfOk result (λ v. AreSaid made.now.system page.now limits.now closed.now.labels.label (map item_of items.now) made.now.seen (map answer_of v.items)) }
+{
+    let rules = Rules::of(alloc, &made.system)?;
+    let ground = Ground {
+        page,
+        system: &made.system,
+        rules: &rules,
+        closed,
+        limits,
+    };
+    all_answers(alloc, &ground, sums, items, made.seen.items())
+}
 
 // The answers by the closed page of a system, whose pairs stand in the table from then on.
 fn answers_within(
@@ -44,13 +77,7 @@ fn answers_within(
 {
     match close_within(alloc, page, &made.system, sums, limits.pairs) {
         Ok(closed) => {
-            let ground = Ground {
-                page,
-                system: &made.system,
-                closed: &closed,
-                limits,
-            };
-            let answers = all_answers(alloc, &ground, sums, items, made.seen.items())?;
+            let answers = answers_by(alloc, page, items, made, &closed, sums, limits)?;
             Ok(answers)
         }
         Err(GainFault::Spent) => {

@@ -17,18 +17,19 @@ ghost use Rattle.judge.specs.Grounds.{IsReady};
 use crate::limits::Limits;
 use class_adding::Closed;
 use proof_core::{Proof, UnfoldFault, Unfolded, steps, unfold};
-use proof_maker::{ProveFault, prove};
+use proof_maker::{ProveFault, Rules, prove_by};
 use simple_core::{Summaries, System};
 use std::alloc::Global;
 use tp_base::{Atom, NoMemory};
 use tree_sem::Tree;
 use usage_report::Answer;
 
-/// What all answers are read from: a page, a system and the page that it closes.
+/// What all answers are read from: a page, a system with its rules looked up, and the page that it closes.
 #[derive(Clone, Copy)]
 pub(crate) struct Ground<'a> {
     pub(crate) page: &'a Tree,
     pub(crate) system: &'a System,
+    pub(crate) rules: &'a Rules,
     pub(crate) closed: &'a Closed,
     pub(crate) limits: &'a Limits,
 }
@@ -66,7 +67,7 @@ fn used_by(ground: &Ground<'_>, proof: Proof, atom: Atom) -> Result<Answer, NoMe
     })
 }
 
-/// The answer for an atom that the closed root has. It costs what `prove` and `unfold` cost.
+/// The answer for an atom that the closed root has. It costs what `prove_by` and `unfold` cost.
 pub(crate) fn proved<S: Summaries>(
     alloc: Global,
     ground: &Ground<'_>,
@@ -78,10 +79,11 @@ pub(crate) fn proved<S: Summaries>(
     ensures { IfOk result (λ a. IsSaidProved ground.now.system.now ground.now.page.now ground.now.limits.now atom (answer_of a)) }
 {
     let entries = ground.limits.entries;
-    match prove(
+    match prove_by(
         alloc,
         ground.page,
         ground.system,
+        ground.rules,
         ground.closed,
         sums,
         atom,
