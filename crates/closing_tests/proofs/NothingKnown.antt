@@ -1,5 +1,5 @@
 -- A table that knows nothing.
-use Rattle.std.proofs.Common.{◌≡◌, ℕ, List, [], Contains, Some, sym, subst}
+use Rattle.std.proofs.Common.{◌≡◌, List, [], Contains, Some, sym, subst}
 use Rattle.tp_base.proofs.Rising.{Contains-none}
 use Rattle.simple_core.specs.declared.system.System.{System}
 use Rattle.simple_core.specs.Pairs.{Pair, AreDifferent}

@@ -1,4 +1,4 @@
-use Rattle.std.proofs.Common.{List, All, Contains, sym, subst}
+use Rattle.std.proofs.Common.{All, Contains, sym, subst}
 use Rattle.simple_core.specs.declared.system.System.{System}
 use Rattle.saturation_tests.proofs.answers.ask.Goals as goal
 
