@@ -1,11 +1,10 @@
 -- How many rounds there can be: each round before the last brings an atom that an entry didn't have.
-use Rattle.std.proofs.Common.{◌≡◌, ◌≢◌, ◌⊎◌, ◌↔◌, ℕ, zero, suc, ◌+◌, ◌*◌, ◌<◌, ◌≤◌, List, [], ◌∷◌, ◌++◌, map, length, Option, Some, None, slice_get, Bool, true, false, nat_le, option_map, unwrap_or, All, Contains, refl, sym, ap, ◌∙◌, inl, inr, arith, subst, length-append}
+use Rattle.std.proofs.Common.{◌≡◌, ◌≢◌, ◌⊎◌, ℕ, zero, suc, ◌*◌, ◌<◌, ◌≤◌, List, [], ◌∷◌, ◌++◌, map, length, Option, Some, None, slice_get, Bool, true, false, option_map, unwrap_or, All, Contains, refl, sym, ap, ◌∙◌, inl, inr, arith, subst, length-append}
 use Rattle.std.proofs.Math.Nat.{suc-mul}
 use Rattle.std.specs.List.{list_any}
-use Rattle.std.proofs.lemmas.Bool.{cases_lt, cases_order, le-leb, leb-true, both_ways}
+use Rattle.std.proofs.lemmas.Bool.{cases_lt, cases_order, both_ways}
 use Rattle.std.proofs.lemmas.List.Folds.{list_any_at}
 use Rattle.std.proofs.lemmas.List.Elements.{All-contains, All-head, Contains-append_left, Contains-append_right}
-use Rattle.std.proofs.lemmas.List.{length-map}
 use Rattle.tp_base.specs.declared.atoms.TheConstants.{MOST_ATOMS}
 use Rattle.tp_base.proofs.ClassLemmas.{same_members}
 use Rattle.tp_base.proofs.Rising.{Contains-here, Contains-behind, Contains-cons, Contains-none}
@@ -25,7 +24,7 @@ use Rattle.simple_core.proofs.RestLemmas.{AtRest, at_rest, first_is, first_one}
 use Rattle.simple_core.proofs.PairLemmas.{not_more}
 use Rattle.need_table.specs.declared.entries.First.{First}
 use Rattle.need_table.specs.declared.entries.Entry.{Entry}
-use Rattle.need_table.specs.Tables.{pair_of, labels, IsDone, IsUpTo, IsTable, AllDone, AllRest, has_later, rested}
+use Rattle.need_table.specs.Tables.{pair_of, labels, IsDone, IsTable, AllDone}
 use Rattle.need_table.proofs.TableLemmas.{Contains-at, at-within}
 
 -- the atoms of labels are atoms of the system
@@ -210,71 +209,12 @@ module _ (s : System) (pairs : ℕ) (entries : List Entry) (table : IsTable s pa
       ]
 
 -- what a test of a list says
-any_of : {X : Type 0} (p : X → Bool) (xs : List X) → list_any p xs ≡ true → (x : X) × Contains xs x × (p x ≡ true)
+pub any_of : {X : Type 0} (p : X → Bool) (xs : List X) → list_any p xs ≡ true → (x : X) × Contains xs x × (p x ≡ true)
 any_of p [] h = cc
 any_of p (x ∷ xs) h = elim (p x) as (λ b. p x ≡ b → list_any p (x ∷ xs) ≡ true → (y : _) × Contains (x ∷ xs) y × (p y ≡ true)) [
   | true ↦ λ e h. (x, Contains-here x x xs refl, e)
   | false ↦ λ e h. let rest = any_of p xs (rw e at h) in (rest.0, Contains-behind rest.0 x xs rest.1, rest.2)
 ] refl h
 
-none_of : {X : Type 0} (p : X → Bool) (xs : List X) → list_any p xs ≡ false → (x : X) → Contains xs x → p x ≡ true → ⊥
+pub none_of : {X : Type 0} (p : X → Bool) (xs : List X) → list_any p xs ≡ false → (x : X) → Contains xs x → p x ≡ true → ⊥
 none_of p xs h x (i, within, at) pass = both_ways (list_any p xs) h (list_any_at p xs i x within (ap p at ∙ pass))
-
-pub later_is : (round : ℕ) (entries : List Entry) → has_later round entries ≡ true → (e : Entry) × (f : First) × Contains entries e × Contains e.firsts.items f × (round ≤ f.round)
-later_is round entries h =
-    let e = any_of (λ (e : Entry). list_any (λ (f : First). nat_le round f.round) e.firsts.items) entries h in
-    let f = any_of (λ (f : First). nat_le round f.round) e.0.firsts.items e.2 in
-    (e.0, f.0, e.1, f.1, leb-true round f.0.round f.2)
-
-pub later_none : (round : ℕ) (entries : List Entry) → has_later round entries ≡ false → (e : Entry) (f : First) → Contains entries e → Contains e.firsts.items f → f.round < round
-later_none round entries h e f in_entries in_e = elim (cases_lt f.round round) [
-  | inl less ↦ less
-  | inr le ↦
-      let there = (let (i, within, at) = in_e in list_any_at (λ (f : First). nat_le round f.round) e.firsts.items i f within (ap (λ (z : First). nat_le round z.round) at ∙ le-leb round f.round le)) in
-      absurd (none_of (λ (e : Entry). list_any (λ (f : First). nat_le round f.round) e.firsts.items) entries h e in_entries there)
-]
-
--- all entries at rest
-pub table_rested : (s : System) (pairs : ℕ) (entries : List Entry) (k : ℕ) → IsTable s pairs entries → AllDone entries (suc k) → AtRest s (Contains (map pair_of entries)) k
-    → IsTable s pairs (map rested entries) × AllRest (map rested entries) × (map pair_of (map rested entries) ≡ map pair_of entries)
-table_rested s pairs entries k table done rest =
-    let same = pairs_same entries in (
-      record {
-        sound = table.sound;
-        up_to = λ x there.
-            let e = map-Contains rested entries x there in
-            subst (λ (z : Entry). IsUpTo s z) (sym e.2) (rested_up e.0 e.1);
-        asked = λ x there m r d asks.
-            let e = map-Contains rested entries x there in
-            subst (λ (z : List Pair). Contains z r) (sym same) (asked_later e.0 e.1 m r (subst (λ (z : Entry). Asks s (labels s (pair_of z) m) r) e.2 asks));
-        different = subst AreDifferent (sym same) table.different;
-        few = let few = table.few in omega (arith, length-map entries rested);
-      },
-      (λ x there. let e = map-Contains rested entries x there in ap (λ (z : Entry). z.rounds) e.2),
-      same,
-    )
-  where
-    pairs_same : (es : List Entry) → map pair_of (map rested es) ≡ map pair_of es
-    pairs_same [] = refl
-    pairs_same (e ∷ es) = ap (λ z. pair_of e ∷ z) (pairs_same es)
-
-    rested_up : (e : Entry) → Contains entries e → IsUpTo s (rested e)
-    rested_up e there =
-        let up = table.up_to e there in
-        record {
-          right = λ f in_e. (tt, (up.right f in_e).1);
-          whole = λ m a d in_m. elim (cases_lt m (suc k)) [
-            | inl early ↦ up.whole m a (done_before e.rounds (suc k) m (omega arith) (done e there)) in_m
-            | inr late ↦
-                let still = at_rest s (Contains (map pair_of entries)) k rest m (omega arith) (pair_of e) (Contains-map pair_of entries e there) in
-                up.whole k a (done_before e.rounds (suc k) k (omega arith) (done e there)) (subst (λ (z : List ℕ). Contains z a) still in_m)
-          ];
-        }
-
-    asked_later : (e : Entry) → Contains entries e → (m : ℕ) (r : Pair) → Asks s (labels s (pair_of e) m) r → Contains (map pair_of entries) r
-    asked_later e there m r asks = elim (cases_lt m (suc k)) [
-      | inl early ↦ table.asked e there m r (done_before e.rounds (suc k) (suc m) (omega arith) (done e there)) asks
-      | inr late ↦
-          let still = at_rest s (Contains (map pair_of entries)) k rest m (omega arith) (pair_of e) (Contains-map pair_of entries e there) in
-          rest.asks (pair_of e) r (Contains-map pair_of entries e there) (subst (λ (z : List ℕ). Asks s z r) still asks)
-    ]

@@ -1,6 +1,7 @@
 -- What a child gives, and what is left to look at.
-use Rattle.std.proofs.Common.{◌≡◌, ◌≢◌, ◌⊎◌, ℕ, zero, suc, ◌+◌, ◌<◌, ◌≤◌, true, false, List, [], ◌∷◌, ◌++◌, map, length, fold, get_or, Option, Some, None, slice_get, IsSomeAnd, Contains, if◌then◌else◌, refl, sym, ap, ◌∙◌, inl, inr, arith, subst}
+use Rattle.std.proofs.Common.{◌≡◌, ◌⊎◌, ℕ, zero, suc, ◌+◌, ◌<◌, true, false, List, [], ◌∷◌, ◌++◌, map, length, fold, get_or, Option, Some, None, slice_get, IsSomeAnd, Contains, if◌then◌else◌, refl, sym, ap, ◌∙◌, inl, inr, arith, subst}
 use Rattle.std.specs.List.{filter, flat_map, IsFirstAndRest}
+use Rattle.std.proofs.lemmas.List.Elements.{Contains-append_left, Contains-append_right}
 use Rattle.std.proofs.lemmas.List.Sums.{fold-append}
 use Rattle.tp_base.specs.Classes.{has_class, with_class, union_of}
 use Rattle.tp_base.proofs.ClassLemmas.{Contains-has_class}
@@ -16,9 +17,9 @@ use Rattle.simple_core.specs.Pairs.{Pair, Asks, Needed, further}
 use Rattle.simple_core.proofs.LabelLemmas.{is-kinds_at}
 use Rattle.need_table.specs.declared.entries.First.{First}
 use Rattle.need_table.specs.declared.entries.Entry.{Entry}
-use Rattle.need_table.specs.Tables.{pair_of, atoms_by, fresh_of, IsNoted, IsUntouched, labels, IsDone, AreUpTo, AllDone, IsTable, IsMore, AreNeeded, kinds_from, given_from}
+use Rattle.need_table.specs.Tables.{pair_of, atoms_by, fresh_of, IsNoted, IsUntouched, labels, IsDone, IsHeard, AreUpTo, AllDone, IsTable, IsMore, AreNeeded, kinds_from, given_from}
 use Rattle.need_table.proofs.TableLemmas.{Contains-at, at-within}
-use Rattle.need_table.proofs.FillLemmas.{label_is, later_at, read_at, more_itself, more_twice, pairs_more, IsStep, noted_step, untouched_step}
+use Rattle.need_table.proofs.FillLemmas.{label_is, later_at, read_at, more_itself, more_twice, IsStep, noted_step, untouched_step}
 
 pub at_of : {X : Type 0} (xs : List X) (i : ℕ) → i < length xs → (x : X) × (slice_get xs i ≡ Some x)
 at_of [] i less = absurd (omega arith)
@@ -37,6 +38,19 @@ child_there old new i q more at =
     let e = some_at (λ e. pair_of e ≡ q) (slice_get old i) at in
     let y = later_at old new i e.0 more e.1 in
     subst (λ z. Contains (map pair_of new) z) (y.2.pair ∙ e.2) (Contains-map pair_of new y.0 (Contains-at new i y.0 y.1))
+
+pub still_at : (old new : List Entry) (i : ℕ) (q : Pair) → IsMore old new → IsSomeAnd (slice_get old i) (λ e. pair_of e ≡ q) → IsSomeAnd (slice_get new i) (λ e. pair_of e ≡ q)
+still_at old new i q more at =
+    let e = some_at (λ e. pair_of e ≡ q) (slice_get old i) at in
+    let y = later_at old new i e.0 more e.1 in
+    subst (λ o. IsSomeAnd o (λ e. pair_of e ≡ q)) (sym y.1) (y.2.pair ∙ e.2)
+
+-- what was heard is there
+pub heard_there : (entries : List Entry) (children : List ℕ) (r : Pair) → IsHeard entries children r → Contains (map pair_of entries) r
+heard_there entries children r (j, among, at) = child_there entries entries j r (more_itself entries) at
+
+pub heard_more : (old new : List Entry) (children : List ℕ) (r : Pair) → IsMore old new → IsHeard old children r → IsHeard new children r
+heard_more old new children r more (j, among, at) = (j, among, still_at old new j r more at)
 
 pub child_label : (s : System) (old new : List Entry) (i k : ℕ) (q : Pair) (x : Entry) → AreUpTo s new → IsMore old new
     → IsSomeAnd (slice_get old i) (λ e. pair_of e ≡ q) → IsSomeAnd (slice_get new i) (λ e. IsDone e.rounds k) → x ≡ get_or new i x → set_of (atoms_by k x.firsts.items) ≡ grown s k q.0 q.1
@@ -91,11 +105,11 @@ pub first_rest : {X : Type 0} (xs : List X) (x : X) (rest : List X) → IsFirstA
 first_rest xs x rest is = is.0
 
 -- the loop over the rules that add children: what is left of them, and what was asked
-pub record IsAsking (s : System) (pairs : ℕ) (own seen : List ℕ) (old now : List Entry) (rest : List Spawn) : Type 0 where
+pub record IsAsking (s : System) (pairs : ℕ) (own seen : List ℕ) (old now : List Entry) (rest : List Spawn) (children : List ℕ) : Type 0 where
   pub table : IsTable s pairs now
   pub more : IsMore old now
   pub listed : (c : Spawn) → Contains rest c → Contains s.child c
-  pub asked : (j : ℕ) → Contains (kinds_from own s.child) j → Contains (kinds_from own rest) j ⊎ Contains (map pair_of now) (j, seen)
+  pub heard : (j : ℕ) → Contains (kinds_from own s.child) j → Contains (kinds_from own rest) j ⊎ IsHeard now children (j, seen)
   pub needed : (qs : List Pair) → AreNeeded s qs old → ((r : Pair) → Asks s own r → Needed s (Contains qs) r) → AreNeeded s qs now
 
 -- a rule of the list whose atom is there asks its pair
@@ -103,36 +117,39 @@ pub spawn_asks : (s : System) (own seen : List ℕ) (c : Spawn) → Contains s.c
 spawn_asks s own seen c listed has same =
     (is-kinds_at s own c.kind (record { spawn = c; listed = listed; needs = Contains-has_class c.needs own has; kind = refl }), same)
 
-pub asking_new : (s : System) (pairs : ℕ) (own seen : List ℕ) (old now : List Entry) (rest : List Spawn) (c : Spawn) (others : List Spawn) (now' : List Entry) (i : ℕ) → rest ≡ c ∷ others
-    → IsAsking s pairs own seen old now rest → has_class c.needs own ≡ true → seen ≡ visible_in s own → IsTable s pairs now' → IsMore now now' → IsSomeAnd (slice_get now' i) (λ e. pair_of e ≡ (c.kind, seen))
+pub asking_new : (s : System) (pairs : ℕ) (own seen : List ℕ) (old now : List Entry) (rest : List Spawn) (c : Spawn) (others : List Spawn) (now' : List Entry) (i : ℕ) (children children' : List ℕ) → rest ≡ c ∷ others
+    → IsAsking s pairs own seen old now rest children → children' ≡ children ++ i ∷ [] → has_class c.needs own ≡ true → seen ≡ visible_in s own → IsTable s pairs now' → IsMore now now' → IsSomeAnd (slice_get now' i) (λ e. pair_of e ≡ (c.kind, seen))
     → ((qs : List Pair) → AreNeeded s qs now → Needed s (Contains qs) (c.kind, seen) → AreNeeded s qs now')
-    → IsAsking s pairs own seen old now' others
-asking_new s pairs own seen old now rest c others now' i split f has same table more at needed =
-    let g = subst (λ (r : List Spawn). IsAsking s pairs own seen old now r) split f in
-    let there = child_there now' now' i (c.kind, seen) (more_itself now') at in
+    → IsAsking s pairs own seen old now' others children'
+asking_new s pairs own seen old now rest c others now' i children children' split f put has same table more at needed =
+    let g = subst (λ (r : List Spawn). IsAsking s pairs own seen old now r children) split f in
+    let last : Contains children' i = subst (λ (z : List ℕ). Contains z i) (sym put) (Contains-append_right children (i ∷ []) i (Contains-here i i [] refl)) in
+    let there : IsHeard now' children' (c.kind, seen) = (i, last, at) in
     record {
       table = table;
       more = more_twice old now now' g.more more;
       listed = λ x in_others. g.listed x (Contains-behind x c others in_others);
-      asked = λ j in_child. elim (g.asked j in_child) [
+      heard = λ j in_child. elim (g.heard j in_child) [
         | inl left ↦ elim (kinds_from-cases own c others j left) [
-          | inl here ↦ inr (subst (λ z. Contains (map pair_of now') (z, seen)) (sym here) there)
+          | inl here ↦ inr (subst (λ z. IsHeard now' children' (z, seen)) (sym here) there)
           | inr later ↦ inl later
         ]
-        | inr known ↦ inr (pairs_more now now' more (j, seen) known)
+        | inr known ↦
+            let among : Contains children' known.0 = subst (λ (z : List ℕ). Contains z known.0) (sym put) (Contains-append_left children (i ∷ []) known.0 known.1) in
+            inr (known.0, among, still_at now now' known.0 (j, seen) more known.2)
       ];
       needed = λ qs all asks. needed qs (g.needed qs all asks) (asks (c.kind, seen) (spawn_asks s own seen c (g.listed c (Contains-here c c others refl)) has same));
     }
 
-pub asking_old : (s : System) (pairs : ℕ) (own seen : List ℕ) (old now : List Entry) (rest : List Spawn) (c : Spawn) (others : List Spawn) → rest ≡ c ∷ others
-    → IsAsking s pairs own seen old now rest → has_class c.needs own ≡ false → IsAsking s pairs own seen old now others
-asking_old s pairs own seen old now rest c others split f none =
-    let g = subst (λ (r : List Spawn). IsAsking s pairs own seen old now r) split f in
+pub asking_old : (s : System) (pairs : ℕ) (own seen : List ℕ) (old now : List Entry) (rest : List Spawn) (c : Spawn) (others : List Spawn) (children : List ℕ) → rest ≡ c ∷ others
+    → IsAsking s pairs own seen old now rest children → has_class c.needs own ≡ false → IsAsking s pairs own seen old now others children
+asking_old s pairs own seen old now rest c others children split f none =
+    let g = subst (λ (r : List Spawn). IsAsking s pairs own seen old now r children) split f in
     record {
       table = g.table;
       more = g.more;
       listed = λ x in_others. g.listed x (Contains-behind x c others in_others);
-      asked = λ j in_child. elim (g.asked j in_child) [ inl left ↦ inl (kinds_from-none own c others j none left) | inr known ↦ inr known ];
+      heard = λ j in_child. elim (g.heard j in_child) [ inl left ↦ inl (kinds_from-none own c others j none left) | inr known ↦ inr known ];
       needed = g.needed;
     }
 
@@ -161,14 +178,14 @@ pub given_all : (s : System) (k : ℕ) (own seen : List ℕ) (rest : List Spawn)
 given_all s k own seen [] next start none same so_far = so_far ∙ ap (λ (z : List ℕ). union_of start (given_from s k own z s.child)) same
 given_all s k own seen (c ∷ rest) next start none same so_far = absurd (omega arith)
 
--- all that is asked stands in the table, when nothing is left
-pub asked_all : (s : System) (own seen : List ℕ) (now : List Entry) (rest : List Spawn) → length rest ≡ 0 → seen ≡ visible_in s own
-    → ((j : ℕ) → Contains (kinds_from own s.child) j → Contains (kinds_from own rest) j ⊎ Contains (map pair_of now) (j, seen)) → (r : Pair) → Asks s own r → Contains (map pair_of now) r
-asked_all s own seen now [] none same asked r asks = elim (asked r.0 asks.0) [
+-- all that is asked stands at one of the places, when nothing is left
+pub heard_all : (s : System) (own seen : List ℕ) (now : List Entry) (rest : List Spawn) (children : List ℕ) → length rest ≡ 0 → seen ≡ visible_in s own
+    → ((j : ℕ) → Contains (kinds_from own s.child) j → Contains (kinds_from own rest) j ⊎ IsHeard now children (j, seen)) → (r : Pair) → Asks s own r → IsHeard now children r
+heard_all s own seen now [] children none same heard r asks = elim (heard r.0 asks.0) [
   | inl left ↦ absurd (Contains-none r.0 left)
-  | inr there ↦ subst (λ (z : List ℕ). Contains (map pair_of now) (r.0, z)) (same ∙ sym asks.1) there
+  | inr there ↦ subst (λ (z : List ℕ). IsHeard now children (r.0, z)) (same ∙ sym asks.1) there
 ]
-asked_all s own seen now (c ∷ rest) none same asked r asks = absurd (omega arith)
+heard_all s own seen now (c ∷ rest) children none same heard r asks = absurd (omega arith)
 
 -- what the label of an entry asks is needed
 pub asks_needed : (s : System) (qs : List Pair) (entries : List Entry) (i k : ℕ) (own : List ℕ) → IsSomeAnd (slice_get entries i) (λ e. own ≡ labels s (pair_of e) k) → AreNeeded s qs entries
@@ -202,11 +219,11 @@ own_is s pairs entries i k x own table at read is =
     (is ∙ ap (λ (z : Entry). set_of (atoms_by k z.firsts.items)) here ∙ label_is s e.0 k (table.up_to e.0 (Contains-at entries i e.0 e.1)) (subst (λ o. IsDone o k) (sym e.2) (omega arith)))
 
 -- a round is worked out
-pub round_done : (s : System) (pairs : ℕ) (start mid new : List Entry) (i k : ℕ) (own next : List ℕ) (firsts : List First) → IsTable s pairs mid → IsMore start mid
+pub round_done : (s : System) (pairs : ℕ) (start mid new : List Entry) (i k : ℕ) (own next : List ℕ) (firsts : List First) (children : List ℕ) → IsTable s pairs mid → IsMore start mid
     → IsSomeAnd (slice_get start i) (λ e. e.rounds ≡ Some k) → IsSomeAnd (slice_get start i) (λ e. own ≡ labels s (pair_of e) k) → IsSomeAnd (slice_get start i) (λ e. next ≡ labels s (pair_of e) (suc k))
-    → ((r : Pair) → Asks s own r → Contains (map pair_of mid) r) → firsts ≡ fresh_of own (k + 1) next → IsNoted mid new i k firsts
+    → ((r : Pair) → Asks s own r → IsHeard mid children r) → firsts ≡ fresh_of own (k + 1) next → IsNoted mid new i k firsts children
     → IsStep s pairs mid new × IsSomeAnd (slice_get new i) (λ x. IsDone x.rounds (suc k))
-round_done s pairs start mid new i k own next firsts table more rounds is_own is_next asks fresh noted =
+round_done s pairs start mid new i k own next firsts children table more rounds is_own is_next heard fresh noted =
     let e = some_at (λ e. e.rounds ≡ Some k) (slice_get start i) rounds in
     let own_e : own ≡ labels s (pair_of e.0) k = and_at (λ e. own ≡ labels s (pair_of e) k) (slice_get start i) e.0 e.1 is_own in
     let next_e : next ≡ labels s (pair_of e.0) (suc k) = and_at (λ e. next ≡ labels s (pair_of e) (suc k)) (slice_get start i) e.0 e.1 is_next in
@@ -217,7 +234,8 @@ round_done s pairs start mid new i k own next firsts table more rounds is_own is
     let all : firsts ≡ fresh_of (labels s (pair_of y.0) k) (suc k) (labels s (pair_of y.0) (suc k)) =
     fresh ∙ ap (λ n. fresh_of own n next) one ∙ ap (λ z. fresh_of z (suc k) next) own_y ∙ ap (λ z. fresh_of (labels s (pair_of y.0) k) (suc k) z) next_y in
     let done : IsDone y.0.rounds k = y.2.rounds k (subst (λ o. IsDone o k) (sym e.2) (omega arith)) in
-    noted_step s pairs mid new i k firsts y.0 table y.1 all (λ r asked. asks r (subst (λ (z : List ℕ). Asks s z r) (sym own_y) asked)) done (noted y.0 y.1)
+    let heard_y : (r : Pair) → Asks s (labels s (pair_of y.0) k) r → IsHeard mid children r = λ r asked. heard r (subst (λ (z : List ℕ). Asks s z r) (sym own_y) asked) in
+    noted_step s pairs mid new i k firsts children y.0 table y.1 all (λ r asked. heard_there mid children r (heard_y r asked)) heard_y done (noted y.0 y.1)
 
 pub round_lost : (s : System) (pairs : ℕ) (start mid new : List Entry) (i k : ℕ) → IsTable s pairs mid → IsMore start mid → IsSomeAnd (slice_get start i) (λ e. e.rounds ≡ Some k)
     → IsUntouched mid new i → IsStep s pairs mid new
@@ -231,12 +249,6 @@ needed_same s qs old new same needed q there = needed q (subst (λ (z : List Pai
 
 pub within_of : {X : Type 0} (P : X → Type 0) (xs : List X) (i : ℕ) → IsSomeAnd (slice_get xs i) P → i < length xs
 within_of P xs i at = let x = some_at P (slice_get xs i) at in at-within xs i x.0 x.1
-
-pub still_at : (old new : List Entry) (i : ℕ) (q : Pair) → IsMore old new → IsSomeAnd (slice_get old i) (λ e. pair_of e ≡ q) → IsSomeAnd (slice_get new i) (λ e. pair_of e ≡ q)
-still_at old new i q more at =
-    let e = some_at (λ e. pair_of e ≡ q) (slice_get old i) at in
-    let y = later_at old new i e.0 more e.1 in
-    subst (λ o. IsSomeAnd o (λ e. pair_of e ≡ q)) (sym y.1) (y.2.pair ∙ e.2)
 
 -- a label of an entry is one of its entry later, and was one before
 pub own_later : (s : System) (old new : List Entry) (i k : ℕ) (label : List ℕ) → IsMore old new → IsSomeAnd (slice_get old i) (λ e. label ≡ labels s (pair_of e) k)

@@ -1,5 +1,5 @@
 -- What the table says, and what it says after one step of filling it.
-use Rattle.std.proofs.Common.{◌≡◌, ◌≢◌, ◌⊎◌, ◌↔◌, ℕ, zero, suc, ◌+◌, ◌<◌, ◌≤◌, true, false, not, nat_le, List, [], ◌∷◌, ◌++◌, map, length, set, get_or, Option, Some, None, slice_get, IsSomeAnd, Result, Ok, Err, OnOk, OnErr, Contains, refl, sym, ap, ◌∙◌, inl, inr, arith, subst, length-append}
+use Rattle.std.proofs.Common.{◌≡◌, ◌≢◌, ◌⊎◌, ℕ, zero, suc, ◌<◌, ◌≤◌, true, false, not, nat_le, List, [], ◌∷◌, ◌++◌, map, length, set, get_or, Option, Some, None, slice_get, IsSomeAnd, Result, Ok, Err, OnOk, OnErr, Contains, refl, sym, ap, ◌∙◌, inl, inr, arith, subst, length-append}
 use Rattle.std.specs.List.{filter}
 use Rattle.std.proofs.lemmas.Bool.{cases_Bool, cases_lt, cases_order, both_ways, le-leb, leb-true}
 use Rattle.std.proofs.lemmas.List.{map-append, length-map}
@@ -19,7 +19,7 @@ use Rattle.simple_core.proofs.RestLemmas.{first_is}
 use Rattle.simple_core.proofs.PairLemmas.{different_push, one_more}
 use Rattle.need_table.specs.declared.entries.First.{First}
 use Rattle.need_table.specs.declared.entries.Entry.{Entry}
-use Rattle.need_table.specs.Tables.{pair_of, atoms_by, fresh_of, labels, IsDone, IsUpTo, IsTable, IsKept, IsMore, NotedAt, IsUntouched, AreNeeded}
+use Rattle.need_table.specs.Tables.{pair_of, atoms_by, fresh_of, labels, last_after, IsDone, IsHeard, IsUpTo, IsTable, IsKept, IsMore, NotedAt, IsUntouched, AreNeeded}
 use Rattle.need_table.proofs.TableLemmas.{Contains-at, at-Contains}
 
 le_test : (m n : ℕ) → m ≤ n → nat_le m n ≡ true
@@ -68,8 +68,8 @@ is-fresh_of own round next a there new =
     Contains-map (λ (a : ℕ). let g : First = record { atom = a; round = round } in g) (filter (λ a. not (has_class a own)) next) a (Contains-filter (λ a. not (has_class a own)) next a there (ap not new))
 
 -- a new pair, in round 0
-pub first_up : (s : System) (e : Entry) → e.rounds ≡ Some 0 → e.firsts.items ≡ fresh_of [] 0 (kind_label s e.kind) → IsUpTo s e
-first_up s e at firsts = record {
+pub first_up : (s : System) (e : Entry) → e.rounds ≡ Some 0 → e.last ≡ 0 → e.firsts.items ≡ fresh_of [] 0 (kind_label s e.kind) → IsUpTo s e
+first_up s e at none firsts = record {
   right = λ f there.
       let of = fresh_of-is [] 0 (kind_label s e.kind) f (subst (λ (z : List First). Contains z f) firsts there) in (
         subst (λ o. IsDone o f.round) (sym at) (omega (arith, of.2)),
@@ -80,12 +80,29 @@ first_up s e at firsts = record {
       let none : k ≡ 0 = omega arith in
       let start : Contains (grown s 0 e.kind e.parent) a = subst (λ z. Contains (grown s z e.kind e.parent) a) none there in
       (record { atom = a; round = 0 }, subst (λ (z : List First). Contains z (record { atom = a; round = 0 })) (sym firsts) (is-fresh_of [] 0 (kind_label s e.kind) a (set_of-is (kind_label s e.kind) a start) refl), refl);
+  latest = λ f there. let of = fresh_of-is [] 0 (kind_label s e.kind) f (subst (λ (z : List First). Contains z f) firsts there) in omega (arith, of.2, none);
+  brought = λ some. absurd (some none);
 }
+
+-- the last round that brought an atom
+last_covers : (last k : ℕ) (new : List First) (n : ℕ) → n ≤ last → n ≤ k → n ≤ last_after last k new
+last_covers last k [] n le le' = le
+last_covers last k (f ∷ fs) n le le' = omega arith
+
+last_new : (last k : ℕ) (new : List First) (f : First) → Contains new f → f.round ≡ suc k → f.round ≤ last_after last k new
+last_new last k [] f there is = absurd (Contains-none f there)
+last_new last k (g ∷ fs) f there is = omega (arith, is)
+
+last_brought : (last k : ℕ) (new old : List First) → ((f : First) → Contains new f → f.round ≡ suc k) → (last ≢ 0 → (f : First) × Contains old f × (f.round ≡ last))
+    → last_after last k new ≢ 0 → (f : First) × Contains (old ++ new) f × (f.round ≡ last_after last k new)
+last_brought last k [] old is was some = let f = was some in (f.0, Contains-append_left old [] f.0 f.1, f.2)
+last_brought last k (g ∷ fs) old is was some = (g, Contains-append_right old (g ∷ fs) g (Contains-here g g fs refl), is g (Contains-here g g fs refl))
 
 -- one round more
 pub next_up : (s : System) (e e' : Entry) (k : ℕ) → IsUpTo s e → e.rounds ≡ Some k → pair_of e' ≡ pair_of e → e'.rounds ≡ Some (suc k)
-    → e'.firsts.items ≡ e.firsts.items ++ fresh_of (labels s (pair_of e) k) (suc k) (labels s (pair_of e) (suc k)) → IsUpTo s e'
-next_up s e e' k up at pair at' firsts =
+    → e'.firsts.items ≡ e.firsts.items ++ fresh_of (labels s (pair_of e) k) (suc k) (labels s (pair_of e) (suc k))
+    → e'.last ≡ last_after e.last k (fresh_of (labels s (pair_of e) k) (suc k) (labels s (pair_of e) (suc k))) → IsUpTo s e'
+next_up s e e' k up at pair at' firsts last =
     let own = labels s (pair_of e) k in
     let next = labels s (pair_of e) (suc k) in
     let new = fresh_of own (suc k) next in
@@ -118,6 +135,15 @@ next_up s e e' k up at pair at' firsts =
                   (record { atom = a; round = suc k }, subst (λ (z : List First). Contains z (record { atom = a; round = suc k })) (sym firsts) (Contains-append_right e.firsts.items new (record { atom = a; round = suc k }) (is-fresh_of own (suc k) next a in_next none)), refl)
             ]
           ];
+      latest = λ f there. subst (λ n. f.round ≤ n) (sym last) (elim (Contains-append_cases e.firsts.items new f (subst (λ (z : List First). Contains z f) firsts there)) [
+        | inl old ↦
+            let le : f.round ≤ k = subst (λ o. IsDone o f.round) at (up.right f old).0 in
+            last_covers e.last k new f.round (up.latest f old) le
+        | inr late ↦ last_new e.last k new f late (fresh_of-is own (suc k) next f late).2
+      ]);
+      brought = λ some.
+          let f = last_brought e.last k new e.firsts.items (λ f late. (fresh_of-is own (suc k) next f late).2) up.brought (λ none. some (last ∙ none)) in
+          (f.0, subst (λ (z : List First). Contains z f.0) (sym firsts) f.1, f.2 ∙ sym last);
     }
 
 -- an entry in another's place, and one behind all
@@ -139,7 +165,7 @@ set-length [] i y = refl
 set-length (x ∷ xs) zero y = refl
 set-length (x ∷ xs) (suc i) y = ap suc (set-length xs i y)
 
-set-here : {X : Type 0} (xs : List X) (i : ℕ) (x y : X) → slice_get xs i ≡ Some x → slice_get (set xs i y) i ≡ Some y
+pub set-here : {X : Type 0} (xs : List X) (i : ℕ) (x y : X) → slice_get xs i ≡ Some x → slice_get (set xs i y) i ≡ Some y
 set-here [] i x y at = cc
 set-here (z ∷ xs) zero x y at = refl
 set-here (z ∷ xs) (suc i) x y at = set-here xs i x y at
@@ -160,17 +186,33 @@ pub push-last : {X : Type 0} (xs : List X) (y : X) → slice_get (xs ++ y ∷ []
 push-last [] y = refl
 push-last (x ∷ xs) y = push-last xs y
 
+-- the same places have the pairs
+heard_set : (entries : List Entry) (i : ℕ) (e e' : Entry) (children : List ℕ) (r : Pair) → slice_get entries i ≡ Some e → pair_of e' ≡ pair_of e → IsHeard entries children r → IsHeard (set entries i e') children r
+heard_set entries i e e' children r at pair (j, among, there) = (
+  j,
+  among,
+  elim (cases_order j i) [
+    | inl same ↦
+        let here : IsSomeAnd (Some e) (λ c. pair_of c ≡ r) = subst (λ o. IsSomeAnd o (λ c. pair_of c ≡ r)) (ap (slice_get entries) same ∙ at) there in
+        subst (λ o. IsSomeAnd o (λ c. pair_of c ≡ r)) (sym (ap (slice_get (set entries i e')) same ∙ set-here entries i e e' at)) (pair ∙ here)
+    | inr (inl less) ↦ subst (λ o. IsSomeAnd o (λ c. pair_of c ≡ r)) (sym (set-other entries i j e' (λ e. omega arith))) there
+    | inr (inr more) ↦ subst (λ o. IsSomeAnd o (λ c. pair_of c ≡ r)) (sym (set-other entries i j e' (λ e. omega arith))) there
+  ],
+)
+
 -- the table with one round more of an entry
 pub table_set : (s : System) (pairs : ℕ) (entries : List Entry) (i : ℕ) (e e' : Entry) (k : ℕ) → IsTable s pairs entries → slice_get entries i ≡ Some e
     → e.rounds ≡ Some k → pair_of e' ≡ pair_of e → e'.rounds ≡ Some (suc k)
     → e'.firsts.items ≡ e.firsts.items ++ fresh_of (labels s (pair_of e) k) (suc k) (labels s (pair_of e) (suc k))
-    → ((r : Pair) → Asks s (labels s (pair_of e) k) r → Contains (map pair_of entries) r) → IsTable s pairs (set entries i e')
-table_set s pairs entries i e e' k table at rounds pair rounds' firsts asks =
+    → e'.last ≡ last_after e.last k (fresh_of (labels s (pair_of e) k) (suc k) (labels s (pair_of e) (suc k)))
+    → ((r : Pair) → Asks s (labels s (pair_of e) k) r → Contains (map pair_of entries) r)
+    → ((r : Pair) → Asks s (labels s (pair_of e) k) r → IsHeard entries e'.children.items r) → IsTable s pairs (set entries i e')
+table_set s pairs entries i e e' k table at rounds pair rounds' firsts last asks heard =
     let same = set-alike pair_of entries i e e' at pair in
     record {
       sound = table.sound;
       up_to = λ x there. elim (set-Contains entries i e' x there) [
-        | inl new ↦ subst (λ (z : Entry). IsUpTo s z) (sym new) (next_up s e e' k (table.up_to e (Contains-at entries i e at)) rounds pair rounds' firsts)
+        | inl new ↦ subst (λ (z : Entry). IsUpTo s z) (sym new) (next_up s e e' k (table.up_to e (Contains-at entries i e at)) rounds pair rounds' firsts last)
         | inr old ↦ table.up_to x old
       ];
       asked = λ x there m r done asked. subst (λ (z : List Pair). Contains z r) (sym same) (elim (set-Contains entries i e' x there) [
@@ -183,6 +225,14 @@ table_set s pairs entries i e e' k table at rounds pair rounds' firsts asks =
               | inr late ↦ let last : m ≡ k = omega arith in asks r (subst (λ z. Asks s (labels s (pair_of e) z) r) last asked')
             ]
       ]);
+      heard = λ x there m r at_m asked. elim (set-Contains entries i e' x there) [
+        | inr old ↦ heard_set entries i e e' x.children.items r at pair (table.heard x old m r at_m asked)
+        | inl new ↦
+            let last : m ≡ k = let both : Some (suc m) ≡ Some (suc k) = sym at_m ∙ ap (λ (z : Entry). z.rounds) new ∙ rounds' in cc in
+            let asked' : Asks s (labels s (pair_of e) m) r = subst (λ (q : Pair). Asks s (labels s q m) r) (ap pair_of new ∙ pair) asked in
+            subst (λ (z : Entry). IsHeard (set entries i e') z.children.items r) (sym new)
+            (heard_set entries i e e' e'.children.items r at pair (heard r (subst (λ z. Asks s (labels s (pair_of e) z) r) last asked')))
+      ];
       different = subst AreDifferent (sym same) table.different;
       few = let few = table.few in omega (arith, set-length entries i e');
     }
@@ -246,16 +296,26 @@ more_push entries e = record {
   longer = omega (arith, length-append entries (e ∷ []));
 }
 
+heard_push : (entries : List Entry) (e : Entry) (children : List ℕ) (r : Pair) → IsHeard entries children r → IsHeard (entries ++ e ∷ []) children r
+heard_push entries e children r (j, among, there) = (
+  j,
+  among,
+  elim (slice_get entries j) as (λ o. slice_get entries j ≡ o → IsSomeAnd o (λ c. pair_of c ≡ r) → IsSomeAnd (slice_get (entries ++ e ∷ []) j) (λ c. pair_of c ≡ r)) [
+    | None ↦ λ at none. absurd none
+    | Some c ↦ λ at is. subst (λ o. IsSomeAnd o (λ c. pair_of c ≡ r)) (sym (push-at entries e j c at)) is
+  ] refl there,
+)
+
 pub table_push : (s : System) (pairs : ℕ) (entries : List Entry) (e : Entry) → IsTable s pairs entries → length entries < pairs → (Contains (map pair_of entries) (pair_of e) → ⊥)
-    → e.rounds ≡ Some 0 → e.firsts.items ≡ fresh_of [] 0 (kind_label s e.kind) → IsTable s pairs (entries ++ e ∷ [])
-table_push s pairs entries e table room new rounds firsts =
+    → e.rounds ≡ Some 0 → e.last ≡ 0 → e.firsts.items ≡ fresh_of [] 0 (kind_label s e.kind) → IsTable s pairs (entries ++ e ∷ [])
+table_push s pairs entries e table room new rounds start firsts =
     let same = map-append pair_of entries (e ∷ []) in
     record {
       sound = table.sound;
       up_to = λ x there. elim (Contains-append_cases entries (e ∷ []) x there) [
         | inl old ↦ table.up_to x old
         | inr last ↦ elim ((Contains-cons x e []).0 last) [
-          | inl here ↦ subst (λ (z : Entry). IsUpTo s z) (sym here) (first_up s e rounds firsts)
+          | inl here ↦ subst (λ (z : Entry). IsUpTo s z) (sym here) (first_up s e rounds start firsts)
           | inr none ↦ absurd (Contains-none x none)
         ]
       ];
@@ -266,6 +326,13 @@ table_push s pairs entries e table room new rounds firsts =
           | inr none ↦ absurd (Contains-none x none)
         ]
       ]);
+      heard = λ x there m r at_m asked. elim (Contains-append_cases entries (e ∷ []) x there) [
+        | inl old ↦ heard_push entries e x.children.items r (table.heard x old m r at_m asked)
+        | inr last ↦ elim ((Contains-cons x e []).0 last) [
+          | inl here ↦ let never : Some (suc m) ≡ Some 0 = sym at_m ∙ ap (λ (z : Entry). z.rounds) here ∙ rounds in cc
+          | inr none ↦ absurd (Contains-none x none)
+        ]
+      ];
       different = subst AreDifferent (sym same) (different_push (map pair_of entries) (pair_of e) table.different new);
       few = omega (arith, length-append entries (e ∷ []));
     }
@@ -287,9 +354,9 @@ pub record IsPushed (s : System) (pairs : ℕ) (old new : List Entry) (q : Pair)
   pub needed : (qs : List Pair) → AreNeeded s qs old → Needed s (Contains qs) q → AreNeeded s qs new
 
 pub pushed : (s : System) (pairs : ℕ) (old new : List Entry) (q : Pair) (e : Entry) → IsTable s pairs old → length old < pairs → (Contains (map pair_of old) q → ⊥)
-    → pair_of e ≡ q → e.rounds ≡ Some 0 → e.firsts.items ≡ fresh_of [] 0 (kind_label s q.0) → new ≡ old ++ e ∷ [] → IsPushed s pairs old new q
-pushed s pairs old new q e table room absent pair rounds firsts is = subst (λ (z : List Entry). IsPushed s pairs old z q) (sym is) (record {
-  table = table_push s pairs old e table room (λ there. absent (subst (λ z. Contains (map pair_of old) z) pair there)) rounds
+    → pair_of e ≡ q → e.rounds ≡ Some 0 → e.last ≡ 0 → e.firsts.items ≡ fresh_of [] 0 (kind_label s q.0) → new ≡ old ++ e ∷ [] → IsPushed s pairs old new q
+pushed s pairs old new q e table room absent pair rounds last firsts is = subst (λ (z : List Entry). IsPushed s pairs old z q) (sym is) (record {
+  table = table_push s pairs old e table room (λ there. absent (subst (λ z. Contains (map pair_of old) z) pair there)) rounds last
       (subst (λ (z : Pair). e.firsts.items ≡ fresh_of [] 0 (kind_label s z.0)) (sym pair) firsts);
   more = more_push old e;
   place = subst (λ o. IsSomeAnd o (λ e. pair_of e ≡ q)) (sym (push-last old e)) pair;
@@ -312,24 +379,28 @@ read_at (y ∷ xs) zero x d at = let same : y ≡ x = cc in same
 read_at (y ∷ xs) (suc i) x d at = read_at xs i x d at
 
 -- an entry that only looks another
-up_same : (s : System) (e e' : Entry) → IsUpTo s e → pair_of e' ≡ pair_of e → e'.rounds ≡ e.rounds → e'.firsts.items ≡ e.firsts.items → IsUpTo s e'
-up_same s e e' up pair rounds firsts = record {
+up_same : (s : System) (e e' : Entry) → IsUpTo s e → pair_of e' ≡ pair_of e → e'.rounds ≡ e.rounds → e'.firsts.items ≡ e.firsts.items → e'.last ≡ e.last → IsUpTo s e'
+up_same s e e' up pair rounds firsts last = record {
   right = λ f there.
       let was = up.right f (subst (λ (z : List First). Contains z f) firsts there) in
       (subst (λ o. IsDone o f.round) (sym rounds) was.0, subst (λ (q : Pair). IsFirst (labels s q) f.atom (Some f.round)) (sym pair) was.1);
   whole = λ k a done there.
       let f = up.whole k a (subst (λ o. IsDone o k) rounds done) (subst (λ (q : Pair). Contains (labels s q k) a) pair there) in
       (f.0, subst (λ (z : List First). Contains z f.0) (sym firsts) f.1, f.2);
+  latest = λ f there. subst (λ n. f.round ≤ n) (sym last) (up.latest f (subst (λ (z : List First). Contains z f) firsts there));
+  brought = λ some.
+      let f = up.brought (λ none. some (last ∙ none)) in
+      (f.0, subst (λ (z : List First). Contains z f.0) (sym firsts) f.1, f.2 ∙ sym last);
 }
 
 pub table_same : (s : System) (pairs : ℕ) (entries : List Entry) (i : ℕ) (e e' : Entry) → IsTable s pairs entries → slice_get entries i ≡ Some e
-    → pair_of e' ≡ pair_of e → e'.rounds ≡ e.rounds → e'.firsts.items ≡ e.firsts.items → IsTable s pairs (set entries i e')
-table_same s pairs entries i e e' table at pair rounds firsts =
+    → pair_of e' ≡ pair_of e → e'.rounds ≡ e.rounds → e'.firsts.items ≡ e.firsts.items → e'.last ≡ e.last → e'.children.items ≡ e.children.items → IsTable s pairs (set entries i e')
+table_same s pairs entries i e e' table at pair rounds firsts last children =
     let same = set-alike pair_of entries i e e' at pair in
     record {
       sound = table.sound;
       up_to = λ x there. elim (set-Contains entries i e' x there) [
-        | inl new ↦ subst (λ (z : Entry). IsUpTo s z) (sym new) (up_same s e e' (table.up_to e (Contains-at entries i e at)) pair rounds firsts)
+        | inl new ↦ subst (λ (z : Entry). IsUpTo s z) (sym new) (up_same s e e' (table.up_to e (Contains-at entries i e at)) pair rounds firsts last)
         | inr old ↦ table.up_to x old
       ];
       asked = λ x there m r done asked. subst (λ (z : List Pair). Contains z r) (sym same) (elim (set-Contains entries i e' x there) [
@@ -337,6 +408,13 @@ table_same s pairs entries i e e' table at pair rounds firsts =
         | inl new ↦ table.asked e (Contains-at entries i e at) m r (subst (λ o. IsDone o (suc m)) (ap (λ (z : Entry). z.rounds) new ∙ rounds) done)
             (subst (λ (q : Pair). Asks s (labels s q m) r) (ap pair_of new ∙ pair) asked)
       ]);
+      heard = λ x there m r at_m asked. elim (set-Contains entries i e' x there) [
+        | inr old ↦ heard_set entries i e e' x.children.items r at pair (table.heard x old m r at_m asked)
+        | inl new ↦
+            subst (λ (z : List ℕ). IsHeard (set entries i e') z r) (sym (ap (λ (z : Entry). z.children.items) new ∙ children))
+            (heard_set entries i e e' e.children.items r at pair
+            (table.heard e (Contains-at entries i e at) m r (sym rounds ∙ sym (ap (λ (z : Entry). z.rounds) new) ∙ at_m) (subst (λ (q : Pair). Asks s (labels s q m) r) (ap pair_of new ∙ pair) asked)))
+      ];
       different = subst AreDifferent (sym same) table.different;
       few = let few = table.few in omega (arith, set-length entries i e');
     }
@@ -356,25 +434,26 @@ pub record IsStep (s : System) (pairs : ℕ) (old new : List Entry) : Type 0 whe
   pub more : IsMore old new
   pub same : map pair_of new ≡ map pair_of old
 
-pub noted_step : (s : System) (pairs : ℕ) (old new : List Entry) (i : ℕ) (k : ℕ) (firsts : List First) (e : Entry) → IsTable s pairs old → slice_get old i ≡ Some e
+pub noted_step : (s : System) (pairs : ℕ) (old new : List Entry) (i : ℕ) (k : ℕ) (firsts : List First) (children : List ℕ) (e : Entry) → IsTable s pairs old → slice_get old i ≡ Some e
     → firsts ≡ fresh_of (labels s (pair_of e) k) (suc k) (labels s (pair_of e) (suc k))
-    → ((r : Pair) → Asks s (labels s (pair_of e) k) r → Contains (map pair_of old) r) → IsDone e.rounds k
-    → NotedAt old new i k firsts e → IsStep s pairs old new × IsSomeAnd (slice_get new i) (λ x. IsDone x.rounds (suc k))
-noted_step s pairs old new i k firsts e table at fresh asks done (inl (e', is, rounds, pair, rounds', firsts')) =
+    → ((r : Pair) → Asks s (labels s (pair_of e) k) r → Contains (map pair_of old) r) → ((r : Pair) → Asks s (labels s (pair_of e) k) r → IsHeard old children r) → IsDone e.rounds k
+    → NotedAt old new i k firsts children e → IsStep s pairs old new × IsSomeAnd (slice_get new i) (λ x. IsDone x.rounds (suc k))
+noted_step s pairs old new i k firsts children e table at fresh asks heard done (inl (e', is, rounds, pair, rounds', firsts', last', children')) =
     let kept : IsKept e e' = record {
       pair = pair;
       rounds = λ m done. let le : m ≤ k = subst (λ o. IsDone o m) rounds done in subst (λ o. IsDone o m) (sym rounds') (omega arith);
       at_rest = λ rest. let never : Some k ≡ None = sym rounds ∙ rest in cc;
     } in (
       record {
-        table = subst (λ (z : List Entry). IsTable s pairs z) (sym is) (table_set s pairs old i e e' k table at rounds pair rounds' (firsts' ∙ ap (λ z. e.firsts.items ++ z) fresh) asks);
+        table = subst (λ (z : List Entry). IsTable s pairs z) (sym is) (table_set s pairs old i e e' k table at rounds pair rounds' (firsts' ∙ ap (λ z. e.firsts.items ++ z) fresh)
+            (last' ∙ ap (last_after e.last k) fresh) asks (λ r asked. subst (λ (z : List ℕ). IsHeard old z r) (sym children') (heard r asked)));
         more = subst (λ (z : List Entry). IsMore old z) (sym is) (more_set old i e e' at kept);
         same = ap (map pair_of) is ∙ set-alike pair_of old i e e' at pair;
       },
       subst (λ (z : List Entry). IsSomeAnd (slice_get z i) (λ x. IsDone x.rounds (suc k))) (sym is)
           (subst (λ o. IsSomeAnd o (λ x. IsDone x.rounds (suc k))) (sym (set-here old i e e' at)) (subst (λ o. IsDone o (suc k)) (sym rounds') (omega arith))),
     )
-noted_step s pairs old new i k firsts e table at fresh asks done (inr (is, other)) = (
+noted_step s pairs old new i k firsts children e table at fresh asks heard done (inr (is, other)) = (
   record {
     table = subst (λ (z : List Entry). IsTable s pairs z) (sym is) table;
     more = subst (λ (z : List Entry). IsMore old z) (sym is) (more_itself old);
@@ -386,9 +465,9 @@ noted_step s pairs old new i k firsts e table at fresh asks done (inr (is, other
 
 pub untouched_step : (s : System) (pairs : ℕ) (old new : List Entry) (i : ℕ) (e : Entry) → IsTable s pairs old → slice_get old i ≡ Some e → IsUntouched old new i → IsStep s pairs old new
 untouched_step s pairs old new i e table at touch =
-    let (e', is, some, pair, rounds, firsts) = touch e at in
+    let (e', is, some, pair, rounds, firsts, last, children) = touch e at in
     record {
-      table = subst (λ (z : List Entry). IsTable s pairs z) (sym is) (table_same s pairs old i e e' table at pair rounds firsts);
+      table = subst (λ (z : List Entry). IsTable s pairs z) (sym is) (table_same s pairs old i e e' table at pair rounds firsts last children);
       more = subst (λ (z : List Entry). IsMore old z) (sym is) (more_set old i e e' at (record {
         pair = pair;
         rounds = λ m done. subst (λ o. IsDone o m) (sym rounds) done;

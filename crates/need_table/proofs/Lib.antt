@@ -5,3 +5,4 @@ pub mod ChildLemmas
 pub mod BoundLemmas
 pub mod SettleLemmas
 pub mod PlainLemmas
+pub mod QuietLemmas

@@ -1,5 +1,5 @@
 -- Words lead to different nodes, and go on leading there.
-use Rattle.std.proofs.Common.{◌≡◌, ◌⊎◌, ℕ, zero, suc, ◌+◌, ◌<◌, ◌≤◌, ◌==◌, ◌&&◌, ◌||◌, eqb, ltb, not, cond, if◌then◌else◌, Bool, true, false, List, [], ◌∷◌, ◌++◌, map, length, take, drop, get_or, position, Option, Some, None, Result, Ok, Err, OnOk, OnErr, option_map, option_and_then, IsNone, IfSome, IsSomeAnd, ◌↔◌, slice_get, Contains, refl, sym, ap, ◌∙◌, inl, inr, arith, subst}
+use Rattle.std.proofs.Common.{◌≡◌, ℕ, zero, suc, ◌+◌, ◌<◌, ◌==◌, ◌&&◌, ◌||◌, eqb, ltb, not, cond, if◌then◌else◌, Bool, true, false, List, [], ◌∷◌, ◌++◌, map, length, set, take, drop, get_or, position, Option, Some, None, Result, Ok, Err, OnOk, OnErr, option_map, option_and_then, IsNone, IfSome, IsSomeAnd, ◌↔◌, slice_get, Contains, refl, sym, ap, ◌∙◌, inl, inr, arith, subst}
 use Rattle.std.specs.List.{list_any, position_or_len}
 use Rattle.std.proofs.lemmas.Bool.{cases_Bool, cases_lt, lt-ltb, le-ltb, cond-true, cond-false, and_parts, eqb-true, eq-eqb, both_ways}
 use Rattle.std.proofs.lemmas.List.{take-map, map-append, length-map}
@@ -10,7 +10,7 @@ use Rattle.need_table.specs.declared.entries.First.{First}
 use Rattle.need_table.specs.declared.entries.Entry.{Entry}
 use Rattle.need_table.specs.declared.places.Places.{Places}
 use Rattle.need_table.specs.Places.{place_in, step_in, walk, end_in, AreAt}
-use Rattle.need_table.specs.Tables.{pair_of, rested, IsNoted, IsUntouched}
+use Rattle.need_table.specs.Tables.{pair_of, rested, passed, IsNoted, IsUntouched}
 use Rattle.need_table.proofs.TableLemmas.{Contains-at, at-within}
 use Rattle.need_table.proofs.FillLemmas.{set-alike}
 use Rattle.need_table.proofs.ChildLemmas.{at_of}
@@ -295,19 +295,24 @@ found_none qs q None found none = (λ _. none refl, λ _. refl)
 found_none qs q (Some i) found none = (λ is there. cc, λ absent. absurd (absent (Contains-at qs i q found)))
 
 -- the pairs of entries that were noted, or couldn't be
-pub pairs_noted : (old new : List Entry) (i k : ℕ) (firsts : List First) → i < length old → IsNoted old new i k firsts → map pair_of new ≡ map pair_of old
-pairs_noted old new i k firsts within noted =
+pub pairs_noted : (old new : List Entry) (i k : ℕ) (firsts : List First) (children : List ℕ) → i < length old → IsNoted old new i k firsts children → map pair_of new ≡ map pair_of old
+pairs_noted old new i k firsts children within noted =
     let e = at_of old i within in
     elim (noted e.0 e.1) [
-      | inl (e', is, rounds, pair, next, firsts) ↦ ap (map pair_of) is ∙ set-alike pair_of old i e.0 e' e.1 pair
+      | inl (e', is, rounds, pair, next, firsts, last, children) ↦ ap (map pair_of) is ∙ set-alike pair_of old i e.0 e' e.1 pair
       | inr (is, other) ↦ ap (map pair_of) is
     ]
 
 pub pairs_untouched : (old new : List Entry) (i : ℕ) → i < length old → IsUntouched old new i → map pair_of new ≡ map pair_of old
 pairs_untouched old new i within touch =
     let e = at_of old i within in
-    let (e', is, some, pair, rounds, firsts) = touch e.0 e.1 in
+    let (e', is, some, pair, rounds, firsts, last, children) = touch e.0 e.1 in
     ap (map pair_of) is ∙ set-alike pair_of old i e.0 e' e.1 pair
+
+pub pairs_passed : (old new : List Entry) (i k : ℕ) → i < length old → ((e : Entry) → slice_get old i ≡ Some e → new ≡ set old i (passed k e)) → map pair_of new ≡ map pair_of old
+pairs_passed old new i k within is =
+    let e = at_of old i within in
+    ap (map pair_of) (is e.0 e.1) ∙ set-alike pair_of old i e.0 (passed k e.0) e.1 refl
 
 pub pairs_rested : (entries : List Entry) → map pair_of (map rested entries) ≡ map pair_of entries
 pairs_rested [] = refl
@@ -316,9 +321,9 @@ pairs_rested (e ∷ entries) = ap (λ z. pair_of e ∷ z) (pairs_rested entries)
 pub at_same : (p : Places) (qs rs : List Pair) → rs ≡ qs → AreAt p qs → AreAt p rs
 at_same p qs rs same at = subst (λ (z : List Pair). AreAt p z) (sym same) at
 
-pub pairs_either : {T E : Type 0} (r : Result T E) (old new : List Entry) (i k : ℕ) (firsts : List First) → i < length old → OnOk r (IsNoted old new i k firsts) → OnErr r (IsUntouched old new i) → map pair_of new ≡ map pair_of old
-pairs_either (Ok x) old new i k firsts within ok err = pairs_noted old new i k firsts within ok
-pairs_either (Err e) old new i k firsts within ok err = pairs_untouched old new i within err
+pub pairs_either : {T E : Type 0} (r : Result T E) (old new : List Entry) (i k : ℕ) (firsts : List First) (children : List ℕ) → i < length old → OnOk r (IsNoted old new i k firsts children) → OnErr r (IsUntouched old new i) → map pair_of new ≡ map pair_of old
+pairs_either (Ok x) old new i k firsts children within ok err = pairs_noted old new i k firsts children within ok
+pairs_either (Err e) old new i k firsts children within ok err = pairs_untouched old new i within err
 
 -- more steps, and the same ends
 pub at_later : (old new : Places) → ((n : ℕ) (xs : List ℕ) (m : ℕ) → walk old.steps.keys n xs ≡ Some m → walk new.steps.keys n xs ≡ Some m) → new.ends.keys ≡ old.ends.keys → (qs : List Pair) → AreAt old qs → AreAt new qs

@@ -1,5 +1,5 @@
 -- From a table that is worked out to one at rest.
-use Rattle.std.proofs.Common.{◌≡◌, ◌≢◌, ◌⊎◌, ℕ, zero, suc, eqb, ◌+◌, ◌-◌, ◌*◌, ◌<◌, ◌≤◌, true, false, List, [], ◌∷◌, ◌++◌, map, length, set, take, drop, get_or, Option, Some, None, slice_get, IsSomeAnd, IfSome, Contains, refl, sym, ap, ◌∙◌, inl, inr, arith, subst}
+use Rattle.std.proofs.Common.{◌≡◌, ◌≢◌, ℕ, zero, suc, eqb, ◌+◌, ◌<◌, ◌≤◌, false, List, [], ◌∷◌, ◌++◌, map, length, set, take, drop, get_or, Option, Some, None, slice_get, IsSomeAnd, IfSome, Contains, refl, sym, ap, ◌∙◌, inl, inr, arith, subst}
 use Rattle.std.proofs.lemmas.Bool.{cases_lt, both_ways, eq-eqb, eqb-true, cases_Bool}
 use Rattle.std.proofs.lemmas.List.{length-map}
 use Rattle.tp_base.proofs.ClassLemmas.{same_members}
@@ -9,7 +9,6 @@ use Rattle.simple_core.specs.Labels.{set_of}
 use Rattle.simple_core.specs.Rounds.{grown, IsRest, IsFirst}
 use Rattle.simple_core.proofs.Members.{among_all}
 use Rattle.simple_core.proofs.RoundLemmas.{set_of-is, is-set_of, set_of-rises, grown-rises, grown-later}
-use Rattle.tp_base.specs.declared.atoms.TheConstants.{MOST_ATOMS}
 use Rattle.simple_core.specs.declared.system.System.{System}
 use Rattle.simple_core.specs.Pairs.{Pair}
 use Rattle.need_table.specs.declared.entries.First.{First}
@@ -18,7 +17,8 @@ use Rattle.need_table.specs.Tables.{pair_of, labels, round_in, IsDone, IsUpTo, I
 use Rattle.need_table.proofs.TableLemmas.{Contains-at, at-Contains, at-within}
 use Rattle.need_table.proofs.FillLemmas.{later_at, read_at}
 use Rattle.need_table.proofs.ChildLemmas.{at_of, and_at, some_at}
-use Rattle.need_table.proofs.BoundLemmas.{done_before, later_is, later_none, quiet_rest, rounds_few, table_rested}
+use Rattle.need_table.proofs.BoundLemmas.{done_before, rounds_few}
+use Rattle.need_table.proofs.QuietLemmas.{table_rested}
 
 rest_in : (old : List Entry) (i : ℕ) (d : Entry) → i < length old
     → set (map rested (take i old) ++ drop i old) i (rested (get_or (map rested (take i old) ++ drop i old) i d)) ≡ map rested (take (i + 1) old) ++ drop (i + 1) old
@@ -27,6 +27,16 @@ rest_in (x ∷ xs) zero d less = refl
 rest_in (x ∷ xs) (suc i) d less =
     subst (λ n. rested x ∷ set (map rested (take i xs) ++ drop i xs) i (rested (get_or (map rested (take i xs) ++ drop i xs) i d)) ≡ map rested (take n (x ∷ xs)) ++ drop n (x ∷ xs)) {x = suc (i + 1)} (omega arith)
     (ap (λ z. rested x ∷ z) (rest_in xs i d (omega arith)))
+
+-- those below the first are at rest
+pub rest_start : (old : List Entry) (first : ℕ) → ((j : ℕ) (e : Entry) → j < first → slice_get old j ≡ Some e → e.rounds ≡ None) → old ≡ map rested (take first old) ++ drop first old
+rest_start [] zero resting = refl
+rest_start [] (suc n) resting = refl
+rest_start (x ∷ xs) zero resting = refl
+rest_start (x ∷ xs) (suc n) resting =
+    let none = resting 0 x (omega arith) refl in
+    let rest = rest_start xs n (λ j e less at. resting (suc j) e (omega arith) at) in
+    λ i. record { kind = x.kind; parent = x.parent; firsts = x.firsts; last = x.last; children = x.children; rounds = none i } ∷ rest i
 
 pub rest_step : (now old : List Entry) (i : ℕ) (d : Entry) → now ≡ map rested (take i old) ++ drop i old → i < length old
     → set now i (rested (get_or now i d)) ≡ map rested (take (i + 1) old) ++ drop (i + 1) old
@@ -122,7 +132,7 @@ more_rested entries = record {
     rested_at (e ∷ es) (suc i) x at = rested_at es i x at
 
     same_rested : (x : Entry) → x.rounds ≡ None → rested x ≡ x
-    same_rested x none = λ i. record { kind = x.kind; parent = x.parent; firsts = x.firsts; rounds = sym none i }
+    same_rested x none = λ i. record { kind = x.kind; parent = x.parent; firsts = x.firsts; last = x.last; children = x.children; rounds = sym none i }
 
 -- the table at rest, after a round without news
 pub record IsSettled (s : System) (pairs : ℕ) (old new : List Entry) : Type 0 where
@@ -131,20 +141,21 @@ pub record IsSettled (s : System) (pairs : ℕ) (old new : List Entry) : Type 0 
   pub same : map pair_of new ≡ map pair_of old
   pub more : IsMore old new
 
-pub settled : (s : System) (pairs : ℕ) (entries new : List Entry) (t : ℕ) → IsTable s pairs entries → 0 < t → AllDone entries t → has_later t entries ≡ false → new ≡ map rested entries → IsSettled s pairs entries new
-settled s pairs entries new zero table some done quiet is = absurd (omega arith)
-settled s pairs entries new (suc k) table some done quiet is =
-    let rest = quiet_rest s pairs entries table k done (λ e f there in_e same. let less = later_none (suc k) entries quiet e f there in_e in absurd (omega arith)) in
-    let all = table_rested s pairs entries k table done rest in
+pub settled : (s : System) (pairs : ℕ) (entries new : List Entry) (first t : ℕ) → IsTable s pairs entries → 0 < t → AllDone entries t
+    → ((j : ℕ) (e : Entry) → j < first → slice_get entries j ≡ Some e → e.rounds ≡ None) → has_later first t entries ≡ false → new ≡ map rested entries → IsSettled s pairs entries new
+settled s pairs entries new first zero table some done resting quiet is = absurd (omega arith)
+settled s pairs entries new first (suc k) table some done resting quiet is =
+    let all = table_rested s pairs entries first k table done resting quiet in
     subst (λ (z : List Entry). IsSettled s pairs entries z) (sym is) (record { table = all.0; at_rest = all.1; same = all.2; more = more_rested entries })
 
--- while there is news, the next round is within the bound
-pub next_few : (s : System) (pairs : ℕ) (entries : List Entry) (t : ℕ) → IsTable s pairs entries → AllDone entries t → has_later t entries ≡ true → t ≤ pairs * MOST_ATOMS
-next_few s pairs entries t table done later =
-    let news = later_is t entries later in
-    let few = rounds_few s pairs entries table t done news.0 news.1 news.2 news.3 news.4 in
-    let room = table.few in
-    omega arith
+-- the entries below a place are at rest still
+pub still_resting : (old new : List Entry) (first : ℕ) → IsMore old new → first ≤ length old → AllRest old → (j : ℕ) (e : Entry) → j < first → slice_get new j ≡ Some e → e.rounds ≡ None
+still_resting old new first more within rest j e less at =
+    let x = at_of old j (omega arith) in
+    let none = rest x.0 (Contains-at old j x.0 x.1) in
+    let y = later_at old new j x.0 more x.1 in
+    let same : y.0 ≡ e = let both : Some y.0 ≡ Some e = sym y.1 ∙ at in cc in
+    sym (ap (λ (z : Entry). z.rounds) same) ∙ ap (λ (z : Entry). z.rounds) (y.2.at_rest none) ∙ none
 
 -- the entries that were there before, where all were at rest
 pub old_ones : (old new : List Entry) → AllRest old → IsMore old new → take (length old) new ≡ old

@@ -3,7 +3,7 @@
 --     step_in steps n x    the node to which it leads
 --     walk steps n xs      the node to which the numbers lead from n, the last first
 --     AreAt p qs           p has the pairs qs, each at its place
-use Rattle.std.specs.Prelude.{◌≡◌, ◌==◌, ◌&&◌, ℕ, suc, ◌+◌, List, [], ◌∷◌, map, Option, Some, None, option_map, option_and_then, if◌then◌else◌}
+use Rattle.std.specs.Prelude.{◌≡◌, ◌==◌, ◌&&◌, ℕ, suc, List, [], ◌∷◌, map, Option, Some, None, option_map, option_and_then, if◌then◌else◌}
 use Rattle.simple_core.specs.Pairs.{Pair}
 use Rattle.need_table.specs.declared.places.Places.{Places}
 

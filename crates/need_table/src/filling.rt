@@ -6,11 +6,12 @@ ghost use Rattle.simple_core.specs.Systems.{kind_label};
 ghost use Rattle.simple_core.specs.Labels.{given_by_links, visible_in, labels_below};
 ghost use Rattle.simple_core.specs.Rounds.{grown};
 ghost use Rattle.simple_core.specs.Pairs.{Pair, Asks, Needed, HasMore};
-ghost use Rattle.need_table.specs.Tables.{pair_of, labels, fresh_of, IsDone, AreUpTo, AllDone, IsTable, IsMore, IsNoted, IsUntouched, AreNeeded};
+ghost use Rattle.need_table.specs.Tables.{pair_of, labels, fresh_of, IsDone, IsHeard, AreUpTo, AllDone, IsTable, IsMore, IsNoted, IsUntouched, AreNeeded};
 
 use crate::entries::{Entry, fresh, is_at, label_by};
 use crate::pair_table::Table;
-use simple_core::{GainFault, System, add_by_links, add_by_rules};
+use crate::rules::add_by_rules;
+use simple_core::{GainFault, System, add_by_links};
 use std::alloc::Global;
 use tp_base::{ClassSet, NoMemory};
 
@@ -24,6 +25,7 @@ fn first_entry(
     requires { kind < length system.now.kinds }
     ensures pair { IfOk result (λ e. pair_of e ≡ (kind, parent.now)) }
     ensures rounds { IfOk result (λ e. e.rounds ≡ Some 0) }
+    ensures last { IfOk result (λ e. e.last ≡ 0) }
     ensures firsts { IfOk result (λ e. e.firsts.items ≡ fresh_of [] 0 (kind_label system.now kind)) }
 {
     let label = &system.kinds.items()[kind as usize].label;
@@ -33,6 +35,8 @@ fn first_entry(
         kind,
         parent: parent.copy()?,
         firsts,
+        last: 0,
+        children: Vec::new(alloc),
         rounds: Some(0),
     })
 }
@@ -70,7 +74,7 @@ pub(crate) fn place_of(
     }
 }
 
-// Adds the pairs that a label asks, where they are new.
+// Where the pairs stand that a label asks. Those that are new are added.
 fn ask_all(
     alloc: Global,
     system: &System,
@@ -78,24 +82,26 @@ fn ask_all(
     pairs: u32,
     own: &ClassSet,
     seen: &ClassSet,
-) -> Result<(), GainFault>
+) -> Result<Vec<usize>, GainFault>
     requires seen { seen.now ≡ visible_in system.now own.now }
     requires table { IsTable system.now pairs table.old }
     ensures table { IsTable system.now pairs table.new }
     ensures more { IsMore table.old table.new }
-    ensures asked { OnOk result ((r : Pair) → Asks system.now own.now r → Contains (map pair_of table.new) r) }
+    ensures heard { IfOk result (λ v. (r : Pair) → Asks system.now own.now r → IsHeard table.new v.items r) }
     ensures needed { (qs : List Pair) → AreNeeded system.now qs table.old → ((r : Pair) → Asks system.now own.now r → Needed system.now (Contains qs) r) → AreNeeded system.now qs table.new }
     ensures spent { result ≡ Err GainFault.Spent → (qs : List Pair) → AreNeeded system.now qs table.old → ((r : Pair) → Asks system.now own.now r → Needed system.now (Contains qs) r)
         → HasMore (Needed system.now (Contains qs)) pairs }
 {
+    let mut children = Vec::new(alloc);
     let mut rest = system.child.items();
     'spawns: while let Some((spawn, others)) = rest.split_first() {
         if own.has(spawn.needs) {
-            place_of(alloc, system, table, pairs, spawn.kind, seen)?;
+            let place = place_of(alloc, system, table, pairs, spawn.kind, seen)?;
+            children.push(place)?;
         }
         rest = others;
     }
-    Ok(())
+    Ok(children)
 }
 
 // Adds what a child of the kind gives in round k to the label of its parent.
@@ -200,12 +206,12 @@ pub(crate) fn step(
     let own = label_by(alloc, &table.entry(i).firsts, k)?;
     let mut seen = own.copy()?;
     seen.cut(&system.visible);
-    ask_all(alloc, system, table, pairs, &own, &seen)?;
+    let children = ask_all(alloc, system, table, pairs, &own, &seen)?;
     if table.len() != before {
         return Ok(());
     }
     let next = next_label(alloc, system, table, i, k, &own, &seen)?;
     let new = fresh(alloc, &own, &next, k + 1)?;
-    table.note(i, k, &new)?;
+    table.note(i, k, &new, children)?;
     Ok(())
 }

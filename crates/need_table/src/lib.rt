@@ -6,7 +6,9 @@ mod entries;
 mod filling;
 mod pair_table;
 mod places;
+mod rules;
 mod settling;
 mod table;
+mod turning;
 
 pub use table::PlainSummaries;

@@ -1,8 +1,9 @@
 //! The entries of the table.
-ghost use Rattle.std.specs.Prelude.{◌≡◌, ◌↔◌, ◌<◌, ◌^◌, ◌∷◌, ◌++◌, [], map, take, length, slice_get, get_or, Contains, IsNone, IfSome, IsSomeAnd, OnOk, OnErr};
-ghost use Rattle.need_table.specs.Tables.{pair_of, rested, IsNoted, IsUntouched};
+ghost use Rattle.std.specs.Prelude.{◌≡◌, ◌↔◌, ◌≤◌, ◌<◌, ◌^◌, ◌∷◌, ◌++◌, [], ℕ, None, Some, map, take, set, length, slice_get, get_or, Contains, IsNone, IfSome, IsSomeAnd, OnOk, OnErr};
+ghost use Rattle.need_table.specs.declared.entries.Entry.{Entry};
+ghost use Rattle.need_table.specs.Tables.{pair_of, rested, passed, IsNoted, IsUntouched};
 
-use crate::entries::{Entry, First, is_at};
+use crate::entries::{Entry, First, is_at, last_after};
 use crate::places::Places;
 use std::alloc::Global;
 use std::marker::Model;
@@ -89,21 +90,38 @@ impl Table {
         }
     }
 
-    /// Notes what is new in the round after k at an entry, unless that was done.
-    pub(crate) fn note(&mut self, i: usize, k: u64, new: &[First]) -> Result<(), NoMemory>
+    /// Notes what is new in the round after k at an entry, and where what it asks stands, unless that was done.
+    pub(crate) fn note(
+        &mut self,
+        i: usize,
+        k: u64,
+        new: &[First],
+        children: Vec<usize>,
+    ) -> Result<(), NoMemory>
         requires place { i < length self.old }
         requires round { k < 2 ^ 62 }
-        ensures ok { OnOk result (IsNoted self.old self.new i k new.now) }
+        ensures ok { OnOk result (IsNoted self.old self.new i k new.now children.items) }
         ensures err { OnErr result (IsUntouched self.old self.new i) }
     {
-        note(&mut self.entries, i, k, new)
+        note(&mut self.entries, i, k, new, children)
     }
 
-    /// Sets all entries at rest.
-    pub(crate) fn rest_all(&mut self)
+    /// Notes that nothing is new at an entry in the round after k.
+    pub(crate) fn pass(&mut self, i: usize, k: u64)
+        requires place { i < length self.old }
+        requires round { k < 2 ^ 62 }
+        ensures { (e : Entry) → slice_get self.old i ≡ Some e → self.new ≡ set self.old i (passed k e) }
+    {
+        pass(&mut self.entries, i, k);
+    }
+
+    /// Sets all entries at rest. Those before this place are so already.
+    pub(crate) fn rest_all(&mut self, first: usize)
+        requires within { first ≤ length self.old }
+        requires at_rest { (j : ℕ) (e : Entry) → j < first → slice_get self.old j ≡ Some e → e.rounds ≡ None }
         ensures { self.new ≡ map rested self.old }
     {
-        rest_all(&mut self.entries);
+        rest_all(&mut self.entries, first);
     }
 
     /// Forgets the entries from this place on.
@@ -116,25 +134,45 @@ impl Table {
 }
 
 // Notes what is new in the round after k, unless that was done.
-fn note(entries: &mut Vec<Entry>, i: usize, k: u64, new: &[First]) -> Result<(), NoMemory>
+fn note(
+    entries: &mut Vec<Entry>,
+    i: usize,
+    k: u64,
+    new: &[First],
+    children: Vec<usize>,
+) -> Result<(), NoMemory>
     requires place { i < length entries.old.items }
     requires round { k < 2 ^ 62 }
-    ensures ok { OnOk result (IsNoted entries.old.items entries.new.items i k new.now) }
+    ensures ok { OnOk result (IsNoted entries.old.items entries.new.items i k new.now children.items) }
     ensures err { OnErr result (IsUntouched entries.old.items entries.new.items i) }
 {
     if is_at(&entries[i], k) {
         let entry = &mut entries[i];
         entry.firsts.extend_from_slice(new)?;
+        let last = last_after(entry.last, k, new);
+        entry.last = last;
+        entry.children = children;
         entry.rounds = Some(k + 1);
     }
     Ok(())
 }
 
-// Sets all entries at rest.
-fn rest_all(entries: &mut Vec<Entry>)
+// Notes one round more than k.
+fn pass(entries: &mut Vec<Entry>, i: usize, k: u64)
+    requires place { i < length entries.old.items }
+    requires round { k < 2 ^ 62 }
+    ensures { (e : Entry) → slice_get entries.old.items i ≡ Some e → entries.new.items ≡ set entries.old.items i (passed k e) }
+{
+    entries[i].rounds = Some(k + 1);
+}
+
+// Sets all entries at rest. Those before this place are so already.
+fn rest_all(entries: &mut Vec<Entry>, first: usize)
+    requires within { first ≤ length entries.old.items }
+    requires at_rest { (j : ℕ) (e : Entry) → j < first → slice_get entries.old.items j ≡ Some e → e.rounds ≡ None }
     ensures { entries.new.items ≡ map rested entries.old.items }
 {
-    let mut i = 0;
+    let mut i = first;
     'entries: while i < entries.len() {
         entries[i].rounds = None;
         i += 1;

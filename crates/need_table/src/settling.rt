@@ -1,28 +1,14 @@
 //! From a question to a table at rest.
-ghost use Rattle.std.specs.Prelude.{◌≡◌, ◌≤◌, ◌<◌, ◌^◌, ℕ, suc, List, map, length, slice_get, nat_le, Contains, IsSomeAnd, IfOk, OnOk, OnErr};
-ghost use Rattle.std.specs.List.{list_any};
+ghost use Rattle.std.specs.Prelude.{◌≡◌, ◌≤◌, ◌<◌, ◌^◌, ℕ, suc, List, map, length, slice_get, Contains, IsSomeAnd, IfOk, OnOk, OnErr};
 ghost use Rattle.simple_core.specs.Pairs.{Pair, Needed, HasMore};
-ghost use Rattle.need_table.specs.Tables.{pair_of, IsTable, IsMore, AreNeeded, AllDone, AreDoneBelow, AllRest, has_later};
+ghost use Rattle.need_table.specs.Tables.{pair_of, IsTable, IsMore, AreNeeded, AllDone, AreDoneBelow, AllRest};
 
-use crate::entries::{Entry, First};
-use crate::filling::{place_of, step};
+use crate::filling::place_of;
 use crate::pair_table::Table;
+use crate::turning::{has_later, turn};
 use simple_core::{GainFault, System};
 use std::alloc::Global;
 use tp_base::ClassSet;
-
-fn has_later_in(firsts: &[First], round: u64) -> bool
-    ensures { result ≡ list_any (λ f. nat_le round f.round) firsts.now }
-{
-    firsts.iter().any(|f| round <= f.round)
-}
-
-// Whether some atom came first in this round or later.
-fn is_later(entries: &[Entry], round: u64) -> bool
-    ensures { result ≡ has_later round entries.now }
-{
-    entries.iter().any(|e| has_later_in(&e.firsts, round))
-}
 
 // One round more than k for the entries from this place on, as far as nothing new is asked.
 fn sweep(
@@ -47,13 +33,13 @@ fn sweep(
 {
     let mut i = first;
     'entries: while i < before {
-        step(alloc, system, table, pairs, i, k, before)?;
+        turn(alloc, system, table, pairs, i, k, before)?;
         i += 1;
     }
     Ok(())
 }
 
-// The rounds up to this one for the entries from this place on, as far as nothing new is asked.
+// The rounds up to this one for the entries from this place on, until something new is asked.
 fn sweeps(
     alloc: Global,
     system: &System,
@@ -77,6 +63,9 @@ fn sweeps(
     let mut k = 0;
     'rounds: while k < round {
         sweep(alloc, system, table, pairs, first, k, before)?;
+        if table.len() != before {
+            return Ok(());
+        }
         k += 1;
     }
     Ok(())
@@ -168,8 +157,8 @@ pub(crate) fn fill(
     'rounds: loop {
         work_all(alloc, system, table, pairs, first, k)?;
         k += 1;
-        if !is_later(table.entries(), k) {
-            table.rest_all();
+        if !has_later(table.entries(), first, k) {
+            table.rest_all(first);
             return Ok(place);
         }
     }

@@ -1,4 +1,4 @@
-use Rattle.std.proofs.Common.{◌≡◌, List, map, Contains, sym, subst, arith}
+use Rattle.std.proofs.Common.{List, map, Contains, sym, subst, arith}
 use Rattle.need_table.specs.declared.entries.Entry.{Entry}
 use Rattle.need_table.specs.Tables.{pair_of, IsTable, AllRest}
 use Rattle.need_table.proofs.FillLemmas.{pairs_more}

@@ -1,4 +1,3 @@
-use Rattle.std.proofs.Common.{◌∙◌}
 use Rattle.need_table.proofs.SettleLemmas.{first_known}
 use Rattle.need_table.proofs.asking.first_at.Goals as goal
 

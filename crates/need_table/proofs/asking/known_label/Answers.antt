@@ -1,4 +1,4 @@
-use Rattle.std.proofs.Common.{◌≡◌, ℕ, List, map, sym, ap, ◌∙◌, subst}
+use Rattle.std.proofs.Common.{ℕ, List, map, sym, ap, ◌∙◌, subst}
 use Rattle.simple_core.specs.Labels.{set_of}
 use Rattle.simple_core.specs.Rounds.{IsRest}
 use Rattle.need_table.specs.declared.entries.First.{First}

@@ -1,4 +1,4 @@
-use Rattle.std.proofs.Common.{◌≡◌, ◌∷◌, sym, ◌∙◌}
+use Rattle.std.proofs.Common.{sym, ◌∙◌}
 use Rattle.tp_base.specs.Classes.{union_of}
 use Rattle.need_table.specs.Tables.{given_from}
 use Rattle.need_table.proofs.ChildLemmas.{first_rest, spawn_asks, listed_next, listed_others, given_next, given_past, given_all}

@@ -1,9 +1,12 @@
-use Rattle.std.proofs.Common.{◌≡◌, ◌<◌, length, set, ap, ◌∙◌, arith}
+use Rattle.std.proofs.Common.{◌<◌, length, set, refl, ap, ◌∙◌, arith}
 use Rattle.need_table.specs.declared.entries.Entry.{Entry}
 use Rattle.need_table.specs.Tables.{rested}
 use Rattle.need_table.proofs.FillLemmas.{set-length}
-use Rattle.need_table.proofs.SettleLemmas.{rest_step, rested_all}
+use Rattle.need_table.proofs.SettleLemmas.{rest_start, rest_step, rested_all}
 use Rattle.need_table.proofs.pair_table.rest_all.Goals as goal
+
+pub entries-init : goal.entries-init
+entries-init c = record { so_far = rest_start c.args.entries.now.items c.args.first c.requires.at_rest; same = refl; within = c.requires.within }
 
 pub entries-preserved : goal.entries-preserved
 entries-preserved c =

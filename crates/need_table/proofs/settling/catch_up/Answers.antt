@@ -1,4 +1,4 @@
-use Rattle.std.proofs.Common.{◌≡◌, arith}
+use Rattle.std.proofs.Common.{arith}
 use Rattle.need_table.proofs.FillLemmas.{more_itself, more_twice}
 use Rattle.need_table.proofs.SettleLemmas.{below_kept}
 use Rattle.need_table.proofs.settling.catch_up.Goals as goal

@@ -1,4 +1,4 @@
-use Rattle.std.proofs.Common.{◌≡◌, ◌-◌, List, length}
+use Rattle.std.proofs.Common.{◌-◌, List, length}
 use Rattle.simple_core.specs.Pairs.{Pair}
 use Rattle.need_table.specs.Tables.{IsTable, IsMore, AreNeeded}
 use Rattle.need_table.proofs.settling.catch_up.Given as goal

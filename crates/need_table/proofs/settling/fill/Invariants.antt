@@ -1,4 +1,4 @@
-use Rattle.std.proofs.Common.{◌≡◌, ◌-◌, ◌+◌, ◌*◌, ◌<◌, ◌≤◌, ℕ, List, Contains}
+use Rattle.std.proofs.Common.{◌-◌, ◌+◌, ◌*◌, ◌≤◌, List, Contains}
 use Rattle.tp_base.specs.declared.atoms.TheConstants.{MOST_ATOMS}
 use Rattle.simple_core.specs.Pairs.{Pair, Needed}
 use Rattle.need_table.specs.Tables.{IsTable, IsMore, AreNeeded, AllDone}

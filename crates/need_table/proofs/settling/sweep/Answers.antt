@@ -12,23 +12,23 @@ entries-init c = record {
   needed = λ qs all. all;
 }
 
-pub step-requires-clause-place : goal.step-requires-clause-place
-step-requires-clause-place c = omega (arith, c.entries-test.true, c.entries.invariant.before)
+pub turn-requires-clause-place : goal.turn-requires-clause-place
+turn-requires-clause-place c = omega (arith, c.entries-test.true, c.entries.invariant.before)
 
-pub step-requires-clause-done : goal.step-requires-clause-done
-step-requires-clause-done c = λ same. (c.entries.invariant.so_far same).0
+pub turn-requires-clause-done : goal.turn-requires-clause-done
+turn-requires-clause-done c = λ same. (c.entries.invariant.so_far same).0
 
-pub returns-in_err-step-clause-more : goal.returns-in_err-step-clause-more
-returns-in_err-step-clause-more c = more_twice c.args.table.now c.entries.table c.step.new.table c.entries.invariant.more c.step.ensures.more
+pub returns-in_err-turn-clause-more : goal.returns-in_err-turn-clause-more
+returns-in_err-turn-clause-more c = more_twice c.args.table.now c.entries.table c.turn.new.table c.entries.invariant.more c.turn.ensures.more
 
 pub entries-preserved : goal.entries-preserved
 entries-preserved c = record {
-  table = c.step.ensures.table;
-  more = more_twice c.args.table.now c.entries.table c.step.new.table c.entries.invariant.more c.step.ensures.more;
-  before = omega (arith, c.entries.invariant.before, c.step.ensures.more.longer);
-  so_far = sweep_next c.entries.table c.step.new.table c.entries.i c.args.k c.args.before c.step.ensures.more c.entries.invariant.before
-      (omega (arith, c.entries-test.true, c.entries.invariant.before)) c.entries.invariant.so_far c.in_ok-step.ensures.done;
-  needed = λ qs all. c.step.ensures.needed qs (c.entries.invariant.needed qs all);
+  table = c.turn.ensures.table;
+  more = more_twice c.args.table.now c.entries.table c.turn.new.table c.entries.invariant.more c.turn.ensures.more;
+  before = omega (arith, c.entries.invariant.before, c.turn.ensures.more.longer);
+  so_far = sweep_next c.entries.table c.turn.new.table c.entries.i c.args.k c.args.before c.turn.ensures.more c.entries.invariant.before
+      (omega (arith, c.entries-test.true, c.entries.invariant.before)) c.entries.invariant.so_far c.in_ok-turn.ensures.done;
+  needed = λ qs all. c.turn.ensures.needed qs (c.entries.invariant.needed qs all);
 }
 
 pub returns-clause-done : goal.returns-clause-done

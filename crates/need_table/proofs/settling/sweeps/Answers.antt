@@ -30,3 +30,9 @@ rounds-preserved c = record {
 
 pub returns-clause-done : goal.returns-clause-done
 returns-clause-done c = λ same. all_less c.rounds.table c.rounds.k c.args.round (omega (arith, c.rounds-test.false)) (c.rounds.invariant.so_far same)
+
+pub returns-then-len-before-clause-more : goal.returns-then-len-before-clause-more
+returns-then-len-before-clause-more c = more_twice c.args.table.now c.rounds.table c.sweep.new.table c.rounds.invariant.more c.sweep.ensures.more
+
+pub returns-then-len-before-clause-done : goal.returns-then-len-before-clause-done
+returns-then-len-before-clause-done c = λ same. absurd (omega (arith, c.if-len-before.true, c.len.ensures, same))

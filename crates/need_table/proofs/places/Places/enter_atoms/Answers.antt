@@ -1,4 +1,4 @@
-use Rattle.std.proofs.Common.{◌≡◌, ◌-◌, sym, ap, ◌∙◌, drop, arith}
+use Rattle.std.proofs.Common.{◌-◌, sym, ap, ◌∙◌, drop, arith}
 use Rattle.need_table.specs.Places.{step_in}
 use Rattle.need_table.proofs.PlaceLemmas.{walk_at}
 use Rattle.need_table.proofs.places.Places.enter_atoms.Goals as goal

@@ -1,4 +1,4 @@
-use Rattle.std.proofs.Common.{◌≡◌, List, ◌∷◌, map, Some, ap, ◌∙◌}
+use Rattle.std.proofs.Common.{◌≡◌, List, map, Some, ap, ◌∙◌}
 use Rattle.simple_core.specs.Pairs.{Pair}
 use Rattle.need_table.specs.Places.{end_in, AreAt}
 use Rattle.need_table.proofs.FillLemmas.{on_err}

@@ -1,4 +1,3 @@
-use Rattle.std.proofs.Common.{◌≡◌}
 use Rattle.need_table.proofs.PlainLemmas.{rest_asks_all}
 use Rattle.need_table.proofs.table.PlainSummariesSummaries.first_round.Goals as goal
 
