@@ -10,7 +10,7 @@ pub mod EndLemmas
 mod NoteLemmas
 mod RoundLemmas
 mod OneCellLemmas
-mod AskLemmas
+pub mod AskLemmas
 mod HistoryMapLemmas
 mod SameLemmas
 mod TableLemmas
