@@ -15,5 +15,6 @@ mod AnswerLemmas
 mod LoopLemmas
 mod ShownLemmas
 mod DecisionLemmas
+mod AgreementLemmas
 mod OutcomeLemmas
 mod Examples

@@ -13,10 +13,10 @@ use Rattle.proof_check.specs.declared.unfolded.Unfolded.{Unfolded}
 use Rattle.proof_maker.specs.Needs.{IsCanonical, UsesMore}
 use Rattle.usage_report.specs.Answers.{Answer, used, used_unshown, unused, skipped, spent}
 use Rattle.simple_core.specs.declared.system.System.{System}
-use Rattle.simple_core.specs.Pairs.{Asked, Needed, HasMore}
 use Rattle.class_adding.specs.ClosedPages.{ClosedPage, IsClosedPage}
 use Rattle.judge.specs.declared.limits.Limits.{Limits}
 use Rattle.judge.specs.Answers.{count_of, IsShown, spent_answers}
+use Rattle.judge.specs.Spending.{MaySpend, HasToSpend}
 
 -- the atoms of the items behind this one
 abbrev pub atoms_behind : Outcome → List ℕ → List ℕ
@@ -63,8 +63,8 @@ module _ (s : System) (page : LabelTree) (limits : Limits) where
     AreSaid (i ∷ items) seen [] = ⊥
     AreSaid (i ∷ items) seen (a ∷ answers) = IsSaidOf i.outcome seen a × AreSaid items (atoms_behind i.outcome seen) answers
 
--- by the closed page, or spent where it needs more than so many pairs
-abbrev pub AreBySeen : System → List ℕ → LabelTree → List Item → Limits → List Answer → Type 0
-AreBySeen s seen page items limits answers =
-    ((c : ClosedPage) × IsClosedPage s page c × AreSaid s page limits c.labels.label items seen answers × (¬ HasMore (Needed s (Asked s page)) limits.pairs))
-    ⊎ ((answers ≡ spent_answers items) × HasMore (Needed s (Asked s page)) limits.pairs)
+-- by the closed page, or spent where there wasn't room enough, in the plain table or in diagrams
+abbrev pub AreBySeen : Bool → System → List ℕ → LabelTree → List Item → Limits → List Answer → Type 0
+AreBySeen plain s seen page items limits answers =
+    ((c : ClosedPage) × IsClosedPage s page c × AreSaid s page limits c.labels.label items seen answers × (¬ HasToSpend plain s page limits))
+    ⊎ ((answers ≡ spent_answers items) × MaySpend plain s page limits)

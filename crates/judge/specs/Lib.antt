@@ -4,5 +4,6 @@ pub mod Faults
 pub mod Grounds
 pub mod Losses
 pub mod Outcomes
+pub mod Spending
 pub mod TheSystem
 pub mod Witnesses

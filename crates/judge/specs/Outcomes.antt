@@ -2,8 +2,7 @@
 --     AreGiven      the atoms of the page, the sheet and the statements are of that table, and the statements are few enough
 --     IsFault       why there are no answers
 --     IsWithin      the system is within its limits
---     NeedsMore     the closed page needs more than so many pairs of a kind and a parent's label
---     IsJudged      answers that are right, or that say of each selector that too many pairs were needed
+--     IsJudged      answers that are right, or that say of each selector that there wasn't room enough to find out
 use Rattle.std.specs.Prelude.{◌≡◌, ◌⊎◌, ℕ, ◌+◌, ◌<◌, ◌≤◌, List, length, map}
 use Rattle.std.specs.List.{sum_by}
 use Rattle.tp_base.specs.declared.atoms.TheConstants.{MOST_ATOMS}
@@ -12,7 +11,6 @@ use Rattle.jq_sem.specs.Statements.{Statement}
 use Rattle.css_read.specs.Sheets.{Item}
 use Rattle.usage_report.specs.Answers.{Answer}
 use Rattle.simple_core.specs.declared.system.TheConstants.{MOST_KINDS}
-use Rattle.simple_core.specs.Pairs.{Asked, Needed, HasMore}
 use Rattle.guard_sem.specs.OfSelectors.{of_selector}
 use Rattle.rule_translate.specs.Translation.{rules_of}
 use Rattle.guard_simplify.specs.declared.simplified.TheConstants.{MOST_VISIBLE, MOST_RULES}
@@ -20,6 +18,7 @@ use Rattle.guard_simplify.specs.Auxiliaries.{tops_of, auxiliaries}
 use Rattle.judge.specs.declared.limits.Limits.{Limits}
 use Rattle.judge.specs.declared.limits.JudgeFault.{JudgeFault}
 use Rattle.judge.specs.declared.limits.JudgeFault.TheVariants.{TooManyAtoms, TooManyVisible, Memory}
+use Rattle.judge.specs.Spending.{MaySpend, HasToSpend}
 use Rattle.judge.specs.TheSystem.{the_system, IsOverTable}
 use Rattle.judge.specs.Answers.{judged_in, AreAnswers, spent_answers}
 
@@ -48,9 +47,7 @@ module _ (stmts : List Statement) (items : List Item) (n : ℕ) where
   abbrev pub IsWithin : Type 0
   IsWithin = (count_atoms ≤ MOST_ATOMS) × (count_visible ≤ MOST_VISIBLE)
 
-  abbrev pub NeedsMore : LabelTree → ℕ → Type 0
-  NeedsMore page pairs = HasMore (Needed (the_system stmts (judged_in items) n) (Asked (the_system stmts (judged_in items) n) page)) pairs
-
   abbrev pub IsJudged : LabelTree → Limits → List Answer → Type 0
   IsJudged page limits answers =
-      (AreAnswers stmts (judged_in items) n page limits items answers × (¬ NeedsMore page limits.pairs)) ⊎ ((answers ≡ spent_answers items) × NeedsMore page limits.pairs)
+      (AreAnswers stmts (judged_in items) n page limits items answers × (¬ HasToSpend limits.plain (the_system stmts (judged_in items) n) page limits))
+      ⊎ ((answers ≡ spent_answers items) × MaySpend limits.plain (the_system stmts (judged_in items) n) page limits)

@@ -1,13 +1,15 @@
-//! The closed page, within a limit of pairs.
-ghost use Rattle.std.specs.Prelude.{◌≡◌, [], None, Contains, IfOk, OnOk, IsErrOf};
+//! The closed page, within a limit of pairs or by diagrams.
+ghost use Rattle.std.specs.Prelude.{◌≡◌, ◌<◌, [], None, All, length, Contains, IfOk, OnOk, IsErrOf};
 ghost use Rattle.simple_core.specs.Systems.{IsSound};
 ghost use Rattle.simple_core.specs.Pairs.{Pair, Asked, Needed, HasMore};
 ghost use Rattle.class_adding.specs.ClosedPages.{IsClosedPage};
 
 use class_adding::{Closed, close_page};
 use need_table::PlainSummaries;
+use saturation::SharedSummaries;
 use simple_core::{GainFault, System};
 use std::alloc::Global;
+use tp_base::NoMemory;
 use tree_sem::Tree;
 
 /// Closes the page by a table of at most so many pairs, which has none yet, where it needs no more. It costs what `close_page` costs
@@ -35,4 +37,24 @@ pub(crate) fn close_within(
         return Err(GainFault::Memory);
     }
     closing
+}
+
+/// Closes the page by diagrams. It costs what `close_page` costs over them.
+pub(crate) fn close_shared(
+    alloc: Global,
+    page: &Tree,
+    system: &System,
+    sums: &mut SharedSummaries,
+) -> Result<Closed, NoMemory>
+    requires sound { IsSound system.now }
+    requires made { sums.old ≡ system.now }
+    ensures closed { IfOk result (λ c. IsClosedPage system.now page.now c) }
+    ensures made { sums.new ≡ system.now }
+    ensures known { OnOk result ((q : Pair) → Asked system.now page.now q → (q.0 < length sums.new.kinds) × All (Contains sums.new.visible) q.1) }
+{
+    match close_page(alloc, page, system, sums) {
+        Ok(closed) => Ok(closed),
+        // Diagrams are never spent once they are built.
+        Err(_) => Err(NoMemory),
+    }
 }

@@ -3,13 +3,15 @@ ghost use Rattle.std.specs.Prelude.{◌≡◌, ◌↔◌, length, map, Contains}
 ghost use Rattle.sel_core.specs.Views.{selector_of};
 ghost use Rattle.jq_sem.specs.Views.{statements_of};
 ghost use Rattle.jq_sem.specs.Reachability.{Reaches};
+ghost use Rattle.css_read.specs.Views.{item_of};
 ghost use Rattle.usage_report.specs.Views.{answer_of};
-ghost use Rattle.judge.specs.Answers.{IsAnswerFor};
+ghost use Rattle.judge.specs.Answers.{judged_in, IsAnswerFor, AreAnswers};
 ghost use Rattle.judge.specs.Losses.{ReachesWithLosses};
 ghost use Rattle.judge.specs.TheSystem.{IsJudgeable, IsOverTable, IsSeenAtRoot};
 ghost use Rattle.judge.specs.Witnesses.{IsProofFor, IsWitness};
 
 use crate::limits::Limits;
+use css_read::Sheet;
 use jq_sem::Stmt;
 use proof_core::Proof;
 use sel_core::Selector;
@@ -65,4 +67,23 @@ pub fn one_answer(
     requires answer { IsAnswerFor (statements_of stmts.now) (map selector_of sheet.now) (length atoms.now) page.now limits.now (selector_of selector.now) (answer_of answer.now) }
     requires other { IsAnswerFor (statements_of stmts.now) (map selector_of sheet.now) (length atoms.now) page.now limits.now (selector_of selector.now) (answer_of other.now) }
     ensures { answer_of answer.now ≡ answer_of other.now }
+{}
+
+/// What is said of a sheet rests neither on where summaries are held nor on their room: a table of pairs and diagrams say the
+/// same, where each has room enough.
+pub fn engines_agree(
+    page: &Tree,
+    sheet: &Sheet,
+    stmts: &[Stmt],
+    atoms: &AtomTable,
+    limits: &Limits,
+    other: &Limits,
+    answers: &[Answer],
+    others: &[Answer],
+)
+    requires entries { limits.now.entries ≡ other.now.entries }
+    requires list { limits.now.list ≡ other.now.list }
+    requires answers { AreAnswers (statements_of stmts.now) (judged_in (map item_of sheet.now.items)) (length atoms.now) page.now limits.now (map item_of sheet.now.items) (map answer_of answers.now) }
+    requires others { AreAnswers (statements_of stmts.now) (judged_in (map item_of sheet.now.items)) (length atoms.now) page.now other.now (map item_of sheet.now.items) (map answer_of others.now) }
+    ensures { map answer_of answers.now ≡ map answer_of others.now }
 {}

@@ -3,6 +3,7 @@
 
 mod answering;
 mod closing;
+mod engines;
 mod judging;
 mod laws;
 mod limits;
@@ -10,5 +11,7 @@ mod proving;
 mod simplifying;
 
 pub use judging::judge;
-pub use laws::{losses_reach_nothing_more, one_answer, proof_shows, reached_at_root};
+pub use laws::{
+    engines_agree, losses_reach_nothing_more, one_answer, proof_shows, reached_at_root,
+};
 pub use limits::{JudgeFault, Limits, MOST_LISTED};

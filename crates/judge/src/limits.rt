@@ -5,15 +5,14 @@ use tp_base::NoMemory;
 /// How many steps can be listed at most.
 pub const MOST_LISTED: u32 = 1_000_000;
 
-/// How much may be worked out, and how much is listed. `plain` and `nodes` have no effect yet: summaries are always held in
-/// the plain table.
+/// How much may be worked out, and how much is listed.
 #[derive(Clone, Copy, Debug, PartialEq, Eq)]
 pub struct Limits {
     /// Whether summaries are held in a table of pairs, in place of diagrams.
     pub plain: bool,
-    /// How many pairs of a kind and a parent's label the table may need.
+    /// How many pairs of a kind and a parent's label the table may need. Without `plain` it changes nothing.
     pub pairs: u32,
-    /// How many branches the diagrams may need.
+    /// How many branches the diagrams may need. With `plain` it changes nothing.
     pub nodes: u32,
     /// How many entries one proof may have.
     pub entries: u32,

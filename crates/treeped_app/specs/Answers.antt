@@ -13,7 +13,7 @@ use Rattle.proof_maker.specs.Needs.{UsesMore}
 use Rattle.usage_report.specs.Answers.{Answer, used, used_unshown, unused, skipped, spent}
 use Rattle.judge.specs.declared.limits.Limits.{Limits}
 use Rattle.judge.specs.Answers.{judged_in, IsUsed}
-use Rattle.judge.specs.Outcomes.{NeedsMore}
+use Rattle.judge.specs.Spending.{MaySpend}
 use Rattle.judge.specs.TheSystem.{the_system, seen_atom}
 
 abbrev pub default_limits : Limits
@@ -24,9 +24,9 @@ module _ (t : LabelTree) (stmts : List Statement) (items : List sheets.Item) (n 
   abbrev pub IsUnshown : Selector → Type 0
   IsUnshown s = Reaches t stmts s × UsesMore (the_system stmts (judged_in items) n) t (seen_atom stmts (judged_in items) n s) default_limits.entries
 
-  -- closing the page needs more pairs than there may be
+  -- up to some round, what is calculated to judge the page has more branches of diagrams than there may be
   abbrev pub IsSpent : Type 0
-  IsSpent = NeedsMore stmts items n t default_limits.pairs
+  IsSpent = MaySpend default_limits.plain (the_system stmts (judged_in items) n) t default_limits
 
   -- A selector that is used has a proof whose steps are legal from the page and end at a match.
   abbrev pub IsRightFor : Selector → Answer → Type 0

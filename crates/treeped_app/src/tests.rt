@@ -355,9 +355,29 @@ fn counts_without_listing(rt: HostRuntime) -> Result<(), Fail> {
     Ok(())
 }
 
-/// Boxes of 32 classes that can stand in each other in any order: more pairs are needed than there may be.
+/// What is said of 32 boxes that can stand in each other in any order.
+fn boxes_report(alloc: Global, all: &[u8]) -> Result<Vec<u8>, AllocError> {
+    let lines =
+        b"#:1 used 2 .c# .z\n  # at #:11 on /1/0\n  33 at 33:11 on /1/0/0\n  match /1/0/0/0\n";
+    let mut report = numbered(alloc, b"treeped 1\n", (lines, 32), b"33:1 used 33 ")?;
+    report.extend_from_slice(all)?;
+    report.push(b'\n')?;
+    let mut path = Vec::from_slice(alloc, b"/1/0")?;
+    for number in 1..=33 {
+        put_numbered(&mut report, b"  # at #:11 on ", number)?;
+        report.extend_from_slice(&path)?;
+        report.push(b'\n')?;
+        path.extend_from_slice(b"/0")?;
+    }
+    report.extend_from_slice(b"  match ")?;
+    report.extend_from_slice(&path)?;
+    report.push(b'\n')?;
+    Ok(report)
+}
+
+/// A table would need a pair for each set of the 32 classes; the diagrams have room.
 #[test]
-fn spends_the_pairs(rt: HostRuntime) -> Result<(), Fail> {
+fn four_billion_labels(rt: HostRuntime) -> Result<(), Fail> {
     let alloc = rt.alloc();
     let page = Vec::from_slice(alloc, b"<div class=\"box\"></div>")?;
     let all = numbered(alloc, b"", (b".c# ", 32), b".z")?;
@@ -370,16 +390,9 @@ fn spends_the_pairs(rt: HostRuntime) -> Result<(), Fail> {
         (boxes, 32),
         b"$('.box').append('<i class=\"z\"></i>');",
     )?;
-    let mut report = numbered(
-        alloc,
-        b"treeped 1\n",
-        (b"#:1 spent .c# .z\n", 32),
-        b"33:1 spent ",
-    )?;
-    report.extend_from_slice(&all)?;
-    report.push(b'\n')?;
+    let report = boxes_report(alloc, &all)?;
     let wanted = Wanted {
-        code: 7,
+        code: 0,
         out: Some(&report),
         err: "",
     };

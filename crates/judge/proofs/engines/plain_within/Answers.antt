@@ -1,6 +1,6 @@
 use Rattle.std.proofs.Common.{◌≡◌, Err, inl, inr, rules}
 use Rattle.simple_core.specs.declared.summaries.GainFault.TheVariants.{Spent}
-use Rattle.judge.proofs.judging.answers_within.Goals as goal
+use Rattle.judge.proofs.engines.plain_within.Goals as goal
 
 pub returns-in_ok-answers-in-Ok-clause-answers : goal.returns-in_ok-answers-in-Ok-clause-answers
 returns-in_ok-answers-in-Ok-clause-answers c = inl (c.in-Ok.closed, c.in-Ok.ensures.closed, c.in_ok-answers-in-Ok.ensures, c.in-Ok.ensures.few)

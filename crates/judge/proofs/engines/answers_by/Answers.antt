@@ -2,7 +2,7 @@ use Rattle.std.proofs.Common.{ℕ, List, map, IfOk, subst}
 use Rattle.css_read.specs.Views.{item_of}
 use Rattle.usage_report.specs.Views.{answer_of}
 use Rattle.judge.specs.BySeen.{AreSaid}
-use Rattle.judge.proofs.judging.answers_by.Goals as goal
+use Rattle.judge.proofs.engines.answers_by.Goals as goal
 
 pub all_answers-requires : goal.all_answers-requires
 all_answers-requires g c = record {
