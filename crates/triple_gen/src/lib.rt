@@ -1,0 +1,8 @@
+//! A triple of files in any size, to measure with: boxes in a ring, each of which gets the next one as a child, again and again.
+#![tactic(auto)]
+
+mod texts;
+mod triple;
+
+pub use texts::Text;
+pub use triple::{MOST_BOXES, Triple, generate};
