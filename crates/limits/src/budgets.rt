@@ -1,0 +1,40 @@
+//! The budgets of a run.
+ghost use Rattle.std.specs.Prelude.{◌≡◌};
+ghost use Rattle.limits.specs.Budgets as spec;
+
+/// The most pairs that can be asked for.
+pub const MOST_PAIRS: u32 = 10_000_000;
+/// The most branches.
+pub const MOST_NODES: u32 = 67_108_864;
+/// The most entries of a proof.
+pub const MOST_ENTRIES: u32 = 10_000_000;
+/// The most steps of a listed trace.
+pub const MOST_LIST: u32 = 4_000;
+
+/// How much may be worked out, and how much is listed.
+#[derive(Clone, Copy, Debug, PartialEq, Eq)]
+pub struct Limits {
+    /// Whether summaries are held in a table of pairs, in place of diagrams.
+    pub plain: bool,
+    /// How many pairs of a kind and a parent's label the table may need.
+    pub pairs: u32,
+    /// How many branches the diagrams may need.
+    pub nodes: u32,
+    /// How many entries one proof may have.
+    pub entries: u32,
+    /// How many steps a trace has at most that is listed.
+    pub list: u32,
+}
+
+/// The limits of a run that asks for none.
+pub fn standard() -> Limits
+    ensures { result ≡ spec.standard }
+{
+    Limits {
+        plain: false,
+        pairs: 50_000,
+        nodes: 4_194_304,
+        entries: 100_000,
+        list: 1_000,
+    }
+}

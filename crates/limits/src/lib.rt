@@ -1,0 +1,6 @@
+//! How much a run may work out, and how much it lists.
+#![tactic(auto)]
+
+mod budgets;
+
+pub use budgets::{Limits, MOST_ENTRIES, MOST_LIST, MOST_NODES, MOST_PAIRS, standard};
