@@ -1,0 +1,4 @@
+pub mod Parts
+pub mod Orders
+pub mod Command
+pub mod Says

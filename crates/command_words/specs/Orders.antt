@@ -1,0 +1,133 @@
+-- What a command line orders.
+--     order_of ws           the order that the words give, where they are of the command's form
+use Rattle.std.specs.Prelude.{ℕ, ◌==◌, ◌&&◌, if◌then◌else◌, nat_le, Bool, true, false, not, List, [], ◌∷◌, length, Option, Some, None, is_some, option_map, option_and_then}
+use Rattle.std.specs.List.{list_any, list_all}
+use Rattle.std.specs.Option.{option_map_or}
+use Rattle.std.specs.Str.{bytes_eq}
+use Rattle.std.specs.Str.Parse.{digits_value}
+use Rattle.limits.specs.declared.budgets.Limits.{Limits}
+use Rattle.limits.specs.declared.budgets.TheConstants.{MOST_PAIRS, MOST_NODES, MOST_ENTRIES, MOST_LIST}
+use Rattle.limits.specs.Budgets.{standard}
+use Rattle.triple_gen.specs.declared.triple.TheConstants.{MOST_BOXES}
+use Rattle.command_words.specs.declared.numbers.TheConstants.{MOST_DIGITS}
+use Rattle.command_words.specs.declared.words.Order.{Order}
+use Rattle.command_words.specs.Parts.{Text, Key, pairs, nodes, entries, list, gen, key_name, Part, plain, given, name, anything, reading}
+
+-- ---- each option stands at most once
+
+abbrev pub is_same : Part → Part → Bool
+is_same plain plain = true
+is_same plain (given k v) = false
+is_same plain (name x) = false
+is_same (given k v) plain = false
+is_same (given k v) (given j w) = bytes_eq (key_name j) (key_name k)
+is_same (given k v) (name x) = false
+is_same (name x) p = false
+
+-- these stood before
+abbrev pub are_once : List Part → List Part → Bool
+are_once seen [] = true
+are_once seen (p ∷ ps) = not (list_any (is_same p) seen) && are_once (p ∷ seen) ps
+
+-- ---- values
+
+abbrev pub least : Key → ℕ
+least pairs = 1
+least nodes = 1
+least entries = 1
+least list = 0
+least gen = 0
+
+abbrev pub most : Key → ℕ
+most pairs = MOST_PAIRS
+most nodes = MOST_NODES
+most entries = MOST_ENTRIES
+most list = MOST_LIST
+most gen = MOST_BOXES
+
+abbrev pub is_digit : ℕ → Bool
+is_digit c = nat_le 48 c && nat_le c 57
+
+-- decimal digits, at least one and not too many
+abbrev pub is_number : Text → Bool
+is_number v = nat_le 1 (length v) && (nat_le (length v) MOST_DIGITS && list_all is_digit v)
+
+abbrev pub number : Text → ℕ
+number v = digits_value 10 v
+
+abbrev pub is_between : ℕ → ℕ → Text → Bool
+is_between low high v = is_number v && (nat_le low (number v) && nat_le (number v) high)
+
+-- ---- what the parts say
+
+abbrev pub says_plain : List Part → Bool
+says_plain = list_any (is_same plain)
+
+abbrev pub value_after : Key → Part → Option Text → Option Text
+value_after k plain o = o
+value_after k (given j v) o = if bytes_eq (key_name j) (key_name k) then Some v else o
+value_after k (name x) o = o
+
+-- the value of an option, if it is given
+abbrev pub value_from : Key → List Part → Option Text → Option Text
+value_from k [] o = o
+value_from k (p ∷ ps) o = value_from k ps (value_after k p o)
+
+abbrev pub value_in : Key → List Part → Option Text
+value_in k ps = value_from k ps None
+
+abbrev pub names_in : List Part → List Text
+names_in [] = []
+names_in (plain ∷ ps) = names_in ps
+names_in (given k v ∷ ps) = names_in ps
+names_in (name x ∷ ps) = x ∷ names_in ps
+
+-- ---- the order
+
+abbrev pub three : List Text → Option (Text × Text × Text)
+three (a ∷ b ∷ c ∷ []) = Some (a, b, c)
+three other = None
+
+-- three names, or none with a size
+abbrev pub are_named : List Part → Bool
+are_named ps = if is_some (value_in gen ps) then length (names_in ps) == 0 else length (names_in ps) == 3
+
+abbrev pub number_or : Key → ℕ → List Part → ℕ
+number_or k default ps = option_map_or number (value_in k ps) default
+
+-- the value of each option is a number in its range
+abbrev pub is_good : List Part → Key → Bool
+is_good ps k = option_map_or (is_between (least k) (most k)) (value_in k ps) true
+
+abbrev pub limits_by : List Part → Limits
+limits_by ps = record {
+  plain = says_plain ps;
+  pairs = number_or pairs standard.pairs ps;
+  nodes = number_or nodes standard.nodes ps;
+  entries = number_or entries standard.entries ps;
+  list = number_or list standard.list ps;
+}
+
+abbrev pub order_by : List Part → Order
+order_by ps = record { files = three (names_in ps); size = option_map number (value_in gen ps); limits = limits_by ps }
+
+abbrev pub are_good : List Part → Bool
+are_good ps = is_good ps pairs && (is_good ps nodes && (is_good ps entries && is_good ps list))
+
+abbrev pub is_well : List Part → Bool
+is_well ps = are_good ps && (is_good ps gen && are_named ps)
+
+abbrev pub order_of : List Text → Option Order
+order_of ws = option_and_then (λ ps. if are_once [] ps && is_well ps then Some (order_by ps) else None) (reading anything ws)
+
+-- ---- as the code reads them
+
+abbrev pub value_or : ℕ → ℕ → ℕ → Option Text → Option ℕ
+value_or low high default None = Some default
+value_or low high default (Some v) = if is_between low high v then Some (number v) else None
+
+abbrev pub limits_if : List Part → Option Limits
+limits_if ps = if are_good ps then Some (limits_by ps) else None
+
+abbrev pub size_if : List Part → Option (Option ℕ)
+size_if ps = if is_good ps gen then Some (option_map number (value_in gen ps)) else None
