@@ -1,13 +1,15 @@
 -- What every order has.
-use Rattle.std.proofs.Common.{◌≡◌, ◌&&◌, ◌≤◌, ◌==◌, true, false, not, if◌then◌else◌, nat_le, List, [], ◌∷◌, length, Option, Some, None, is_some, refl, subst, arith}
+use Rattle.std.proofs.Common.{◌≡◌, ◌&&◌, ◌≤◌, ◌==◌, ℕ, true, false, not, if◌then◌else◌, nat_le, List, [], ◌∷◌, length, Option, Some, None, is_some, refl, subst, arith}
 use Rattle.std.specs.Prelude.{option_and_then, option_map, IfSome}
 use Rattle.std.specs.Option.{option_map_or}
 use Rattle.std.proofs.lemmas.Bool.{leb-true, eqb-true}
 use Rattle.std.proofs.lemmas.Option.{none-some}
+use Rattle.limits.specs.declared.budgets.TheConstants.{MOST_PAIRS, MOST_NODES, MOST_ENTRIES, MOST_LIST}
+use Rattle.limits.specs.Budgets.{standard, IsInRange}
 use Rattle.triple_gen.specs.declared.triple.TheConstants.{MOST_BOXES}
 use Rattle.command_words.specs.declared.words.Order.{Order}
-use Rattle.command_words.specs.Parts.{Text, Part, gen, anything, reading}
-use Rattle.command_words.specs.Orders.{are_once, is_number, is_good, are_good, are_named, is_well, is_between, number, value_in, names_in, three, order_by, order_of}
+use Rattle.command_words.specs.Parts.{Text, Part, pairs, nodes, entries, list, gen, anything, reading}
+use Rattle.command_words.specs.Orders.{are_once, is_number, is_good, are_good, are_named, is_well, is_between, number, value_in, names_in, three, limits_by, order_by, order_of}
 use Rattle.command_words.proofs.NumberLemmas.{both}
 use Rattle.command_words.proofs.ReadLemmas.{some_if}
 
@@ -60,3 +62,29 @@ few ws o is =
     let ps = from.parts in
     let good : is_good ps gen ≡ true = (both (is_good ps gen) (are_named ps) (both (are_good ps) (is_good ps gen && are_named ps) from.is_well).1).0 in
     subst (λ (z : Order). IfSome z.size (λ n. n ≤ MOST_BOXES)) from.same (few_there (value_in gen ps) ps refl good)
+
+-- a value that is well, or a default that is, is in its range
+in_its_range : (low high default : ℕ) (o : Option Text) → low ≤ default → default ≤ high → option_map_or (is_between low high) o true ≡ true
+    → (low ≤ option_map_or number o default) × (option_map_or number o default ≤ high)
+in_its_range low high default None least most good = (least, most)
+in_its_range low high default (Some v) least most good =
+    let is = both (nat_le low (number v)) (nat_le (number v) high) (both (is_number v) _ good).1 in
+    (leb-true low (number v) is.0, leb-true (number v) high is.1)
+
+limits_in_range : (ps : List Part) → are_good ps ≡ true → IsInRange (limits_by ps)
+limits_in_range ps good =
+    let p = both (is_good ps pairs) (is_good ps nodes && (is_good ps entries && is_good ps list)) good in
+    let n = both (is_good ps nodes) (is_good ps entries && is_good ps list) p.1 in
+    let e = both (is_good ps entries) (is_good ps list) n.1 in
+    let of_pairs = in_its_range 1 MOST_PAIRS standard.pairs (value_in pairs ps) (omega arith) (omega arith) p.0 in
+    let of_nodes = in_its_range 1 MOST_NODES standard.nodes (value_in nodes ps) (omega arith) (omega arith) n.0 in
+    let of_entries = in_its_range 1 MOST_ENTRIES standard.entries (value_in entries ps) (omega arith) (omega arith) e.0 in
+    let of_list = in_its_range 0 MOST_LIST standard.list (value_in list ps) (omega arith) (omega arith) e.1 in
+    record { pairs_least = of_pairs.0; pairs = of_pairs.1; nodes_least = of_nodes.0; nodes = of_nodes.1; entries_least = of_entries.0; entries = of_entries.1; list = of_list.1 }
+
+pub in_range : (ws : List Text) (o : Order) → order_of ws ≡ Some o → IsInRange o.limits
+in_range ws o is =
+    let from = from_parts ws o is in
+    let ps = from.parts in
+    let good : are_good ps ≡ true = (both (are_good ps) (is_good ps gen && are_named ps) from.is_well).0 in
+    subst (λ (z : Order). IsInRange z.limits) from.same (limits_in_range ps good)

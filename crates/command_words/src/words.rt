@@ -1,6 +1,7 @@
 //! What a command line orders.
 ghost use Rattle.std.specs.Prelude.{◌≡◌, ◌≤◌, if◌then◌else◌, is_some, not, IfSome, None, Some, List, map, IfOk, IsErrOf, string_bytes, true, false};
 ghost use Rattle.triple_gen.specs.declared.triple.TheConstants.{MOST_BOXES};
+ghost use Rattle.limits.specs.Budgets.{IsInRange};
 ghost use Rattle.command_words.specs.Parts.{Part};
 ghost use Rattle.command_words.specs.Orders as spec;
 ghost use Rattle.command_words.specs.Says.{Says};
@@ -135,6 +136,7 @@ pub fn read_words(alloc: Global, words: &[String]) -> Result<Order, WordsFault>
     ensures words { IsErrOf result WordsFault.Words → spec.order_of (map string_bytes words.now) ≡ None }
     ensures one { IfOk result (λ o. is_some o.files ≡ not (is_some o.size)) }
     ensures few { IfOk result (λ o. IfSome o.size (λ n. n ≤ MOST_BOXES)) }
+    ensures in_range { IfOk result (λ o. IsInRange o.limits) }
 {
     let command = command(alloc)?;
     match command.try_get_matches_from(words) {

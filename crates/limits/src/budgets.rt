@@ -28,7 +28,8 @@ pub struct Limits {
 
 /// The limits of a run that asks for none.
 pub fn standard() -> Limits
-    ensures { result ≡ spec.standard }
+    ensures standard { result ≡ spec.standard }
+    ensures in_range { spec.IsInRange result }
 {
     Limits {
         plain: false,

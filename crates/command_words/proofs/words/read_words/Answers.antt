@@ -5,7 +5,7 @@ use Rattle.clap.specs.Simple.{app_of}
 use Rattle.clap.specs.Values.{kind_of}
 use Rattle.clap.specs.declared.error.kind.ErrorKind.TheVariants.{OutOfMemory}
 use Rattle.command_words.proofs.WordLemmas.{are_taken, are_refused, all_spelt}
-use Rattle.command_words.proofs.LawLemmas.{one, few}
+use Rattle.command_words.proofs.LawLemmas.{one, few, in_range}
 use Rattle.command_words.proofs.words.read_words.Goals as goal
 
 pub returns-in-Ok-clause-order : goal.returns-in-Ok-clause-order
@@ -18,6 +18,9 @@ returns-in-Ok-clause-one c = IfOk-weaker c.ordered.result _ _ (λ o h. one (map 
 
 pub returns-in-Ok-clause-few : goal.returns-in-Ok-clause-few
 returns-in-Ok-clause-few c = IfOk-weaker c.ordered.result _ _ (λ o h. few (map string_bytes c.args.words.now) o h) (returns-in-Ok-clause-order c)
+
+pub returns-in-Ok-clause-in_range : goal.returns-in-Ok-clause-in_range
+returns-in-Ok-clause-in_range c = IfOk-weaker c.ordered.result _ _ (λ o h. in_range (map string_bytes c.args.words.now) o h) (returns-in-Ok-clause-order c)
 
 pub returns-in-Ok-clause-words : goal.returns-in-Ok-clause-words
 returns-in-Ok-clause-words c = λ err.
