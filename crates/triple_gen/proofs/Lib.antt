@@ -1,3 +1,4 @@
 pub mod LineLemmas
 pub mod RingLemmas
+pub mod SizeLemmas
 mod Rows

@@ -34,6 +34,12 @@ impl Text {
         &self.items
     }
 
+    pub fn into_items(self) -> Vec<u8>
+        ensures { result.items ≡ self }
+    {
+        self.items
+    }
+
     pub(crate) fn empty(alloc: Global) -> Self
         ensures { result ≡ [] }
     {

@@ -1,5 +1,6 @@
 //! The triple of a ring of boxes.
-ghost use Rattle.std.specs.Prelude.{◌≡◌, ◌≤◌, ◌<◌, IfOk};
+ghost use Rattle.std.specs.Prelude.{◌≡◌, ◌≤◌, ◌<◌, length, IfOk};
+ghost use Rattle.tp_base.specs.declared.places.TheConstants.{MOST_BYTES};
 ghost use Rattle.triple_gen.specs.Ring as spec;
 
 use crate::texts::Text;
@@ -24,6 +25,9 @@ pub fn generate(alloc: Global, n: u32) -> Result<Triple, NoMemory>
     ensures page { IfOk result (λ t. t.page ≡ spec.page n) }
     ensures sheet { IfOk result (λ t. t.sheet ≡ spec.sheet n) }
     ensures script { IfOk result (λ t. t.script ≡ spec.script n) }
+    ensures small_page { IfOk result (λ t. length t.page ≤ MOST_BYTES) }
+    ensures small_sheet { IfOk result (λ t. length t.sheet ≤ MOST_BYTES) }
+    ensures small_script { IfOk result (λ t. length t.script ≤ MOST_BYTES) }
 {
     let page = page(alloc, n)?;
     let sheet = sheet(alloc, n)?;
