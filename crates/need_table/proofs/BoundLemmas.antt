@@ -1,9 +1,7 @@
 -- How many rounds there can be: each round before the last brings an atom that an entry didn't have.
-use Rattle.std.proofs.Common.{◌≡◌, ◌≢◌, ◌⊎◌, ℕ, zero, suc, ◌*◌, ◌<◌, ◌≤◌, List, [], ◌∷◌, ◌++◌, map, length, Option, Some, None, slice_get, Bool, true, false, option_map, unwrap_or, All, Contains, refl, sym, ap, ◌∙◌, inl, inr, arith, subst, length-append}
+use Rattle.std.proofs.Common.{◌≡◌, ◌≢◌, ◌⊎◌, ℕ, zero, suc, ◌*◌, ◌<◌, ◌≤◌, List, [], ◌∷◌, ◌++◌, map, length, Option, Some, None, slice_get, option_map, unwrap_or, All, Contains, refl, sym, ap, ◌∙◌, inl, inr, arith, subst, length-append}
 use Rattle.std.proofs.Math.Nat.{suc-mul}
-use Rattle.std.specs.List.{list_any}
-use Rattle.std.proofs.lemmas.Bool.{cases_lt, cases_order, both_ways}
-use Rattle.std.proofs.lemmas.List.Folds.{list_any_at}
+use Rattle.std.proofs.lemmas.Bool.{cases_lt, cases_order}
 use Rattle.std.proofs.lemmas.List.Elements.{All-contains, All-head, Contains-append_left, Contains-append_right}
 use Rattle.tp_base.specs.declared.atoms.TheConstants.{MOST_ATOMS}
 use Rattle.tp_base.proofs.ClassLemmas.{same_members}
@@ -207,14 +205,3 @@ module _ (s : System) (pairs : ℕ) (entries : List Entry) (table : IsTable s pa
             let early = no_later r rest e f there in_e in
             absurd (omega arith)
       ]
-
--- what a test of a list says
-pub any_of : {X : Type 0} (p : X → Bool) (xs : List X) → list_any p xs ≡ true → (x : X) × Contains xs x × (p x ≡ true)
-any_of p [] h = cc
-any_of p (x ∷ xs) h = elim (p x) as (λ b. p x ≡ b → list_any p (x ∷ xs) ≡ true → (y : _) × Contains (x ∷ xs) y × (p y ≡ true)) [
-  | true ↦ λ e h. (x, Contains-here x x xs refl, e)
-  | false ↦ λ e h. let rest = any_of p xs (rw e at h) in (rest.0, Contains-behind rest.0 x xs rest.1, rest.2)
-] refl h
-
-pub none_of : {X : Type 0} (p : X → Bool) (xs : List X) → list_any p xs ≡ false → (x : X) → Contains xs x → p x ≡ true → ⊥
-none_of p xs h x (i, within, at) pass = both_ways (list_any p xs) h (list_any_at p xs i x within (ap p at ∙ pass))

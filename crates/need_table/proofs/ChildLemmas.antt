@@ -1,7 +1,7 @@
 -- What a child gives, and what is left to look at.
 use Rattle.std.proofs.Common.{◌≡◌, ◌⊎◌, ℕ, zero, suc, ◌+◌, ◌<◌, true, false, List, [], ◌∷◌, ◌++◌, map, length, fold, get_or, Option, Some, None, slice_get, IsSomeAnd, Contains, if◌then◌else◌, refl, sym, ap, ◌∙◌, inl, inr, arith, subst}
 use Rattle.std.specs.List.{filter, flat_map, IsFirstAndRest}
-use Rattle.std.proofs.lemmas.List.Elements.{Contains-append_left, Contains-append_right}
+use Rattle.std.proofs.lemmas.List.Elements.{Contains-append_left, Contains-append_right, Contains-append_cases}
 use Rattle.std.proofs.lemmas.List.Sums.{fold-append}
 use Rattle.tp_base.specs.Classes.{has_class, with_class, union_of}
 use Rattle.tp_base.proofs.ClassLemmas.{Contains-has_class}
@@ -17,9 +17,10 @@ use Rattle.simple_core.specs.Pairs.{Pair, Asks, Needed, further}
 use Rattle.simple_core.proofs.LabelLemmas.{is-kinds_at}
 use Rattle.need_table.specs.declared.entries.First.{First}
 use Rattle.need_table.specs.declared.entries.Entry.{Entry}
-use Rattle.need_table.specs.Tables.{pair_of, atoms_by, fresh_of, IsNoted, IsUntouched, labels, IsDone, IsHeard, AreUpTo, AllDone, IsTable, IsMore, AreNeeded, kinds_from, given_from}
+use Rattle.need_table.specs.Tables.{pair_of, atoms_by, fresh_of, IsNoted, IsUntouched, labels, IsDone, IsHeard, IsTable, IsMore, AreNeeded, kinds_from, given_from}
 use Rattle.need_table.proofs.TableLemmas.{Contains-at, at-within}
-use Rattle.need_table.proofs.FillLemmas.{label_is, later_at, read_at, more_itself, more_twice, IsStep, noted_step, untouched_step}
+use Rattle.need_table.specs.Agendas.{AreKnown, IsAppended}
+use Rattle.need_table.proofs.FillLemmas.{label_is, up_known, appended_twice, later_at, read_at, more_itself, more_twice, IsStep, noted_step, untouched_step}
 
 pub at_of : {X : Type 0} (xs : List X) (i : ℕ) → i < length xs → (x : X) × (slice_get xs i ≡ Some x)
 at_of [] i less = absurd (omega arith)
@@ -32,6 +33,9 @@ some_at P (Some x) h = (x, refl, h)
 
 pub and_at : {X : Type 0} (P : X → Type 0) (o : Option X) (x : X) → o ≡ Some x → IsSomeAnd o P → P x
 and_at P o x at h = subst (λ z. IsSomeAnd z P) at h
+
+pub within_of : {X : Type 0} (P : X → Type 0) (xs : List X) (i : ℕ) → IsSomeAnd (slice_get xs i) P → i < length xs
+within_of P xs i at = let x = some_at P (slice_get xs i) at in at-within xs i x.0 x.1
 
 pub child_there : (old new : List Entry) (i : ℕ) (q : Pair) → IsMore old new → IsSomeAnd (slice_get old i) (λ e. pair_of e ≡ q) → Contains (map pair_of new) q
 child_there old new i q more at =
@@ -49,26 +53,13 @@ still_at old new i q more at =
 pub heard_there : (entries : List Entry) (children : List ℕ) (r : Pair) → IsHeard entries children r → Contains (map pair_of entries) r
 heard_there entries children r (j, among, at) = child_there entries entries j r (more_itself entries) at
 
-pub heard_more : (old new : List Entry) (children : List ℕ) (r : Pair) → IsMore old new → IsHeard old children r → IsHeard new children r
-heard_more old new children r more (j, among, at) = (j, among, still_at old new j r more at)
-
-pub child_label : (s : System) (old new : List Entry) (i k : ℕ) (q : Pair) (x : Entry) → AreUpTo s new → IsMore old new
-    → IsSomeAnd (slice_get old i) (λ e. pair_of e ≡ q) → IsSomeAnd (slice_get new i) (λ e. IsDone e.rounds k) → x ≡ get_or new i x → set_of (atoms_by k x.firsts.items) ≡ grown s k q.0 q.1
-child_label s old new i k q x up more at done read =
-    let e = some_at (λ e. pair_of e ≡ q) (slice_get old i) at in
-    let y = later_at old new i e.0 more e.1 in
-    let here : x ≡ y.0 = read ∙ read_at new i y.0 x y.1 in
-    let done_y : IsDone y.0.rounds k = and_at (λ e. IsDone e.rounds k) (slice_get new i) y.0 y.1 done in
-    ap (λ (z : Entry). set_of (atoms_by k z.firsts.items)) here ∙ label_is s y.0 k (up y.0 (Contains-at new i y.0 y.1)) done_y
-    ∙ ap (λ (z : Pair). grown s k z.0 z.1) (y.2.pair ∙ e.2)
-
--- the same, where all entries are worked out so far
-pub child_at : (s : System) (entries : List Entry) (i k : ℕ) (q : Pair) (x : Entry) → AreUpTo s entries → AllDone entries k → IsSomeAnd (slice_get entries i) (λ e. pair_of e ≡ q) → x ≡ get_or entries i x
+-- the label of a child, in a round that is known
+pub child_at : (s : System) (entries : List Entry) (i k : ℕ) (q : Pair) (x : Entry) → AreKnown s k entries → IsSomeAnd (slice_get entries i) (λ e. pair_of e ≡ q) → x ≡ get_or entries i x
     → set_of (atoms_by k x.firsts.items) ≡ grown s k q.0 q.1
-child_at s entries i k q x up done at read =
+child_at s entries i k q x known at read =
     let e = some_at (λ e. pair_of e ≡ q) (slice_get entries i) at in
-    child_label s entries entries i k q x up (more_itself entries) at
-    (subst (λ o. IsSomeAnd o (λ y. IsDone y.rounds k)) (sym e.1) (done e.0 (Contains-at entries i e.0 e.1))) read
+    let here : x ≡ e.0 = read ∙ read_at entries i e.0 x e.1 in
+    ap (λ (z : Entry). set_of (atoms_by k z.firsts.items)) here ∙ label_is s e.0 k (known e.0 (Contains-at entries i e.0 e.1)) ∙ ap (λ (z : Pair). grown s k z.0 z.1) e.2
 
 -- the label of the next round, by three unions
 pub next_is : (s : System) (parent own : List ℕ) (below : List (List ℕ))
@@ -110,6 +101,8 @@ pub record IsAsking (s : System) (pairs : ℕ) (own seen : List ℕ) (old now : 
   pub more : IsMore old now
   pub listed : (c : Spawn) → Contains rest c → Contains s.child c
   pub heard : (j : ℕ) → Contains (kinds_from own s.child) j → Contains (kinds_from own rest) j ⊎ IsHeard now children (j, seen)
+  pub inside : (j : ℕ) → Contains children j → j < length now
+  pub appended : IsAppended old now
   pub needed : (qs : List Pair) → AreNeeded s qs old → ((r : Pair) → Asks s own r → Needed s (Contains qs) r) → AreNeeded s qs now
 
 -- a rule of the list whose atom is there asks its pair
@@ -118,10 +111,10 @@ spawn_asks s own seen c listed has same =
     (is-kinds_at s own c.kind (record { spawn = c; listed = listed; needs = Contains-has_class c.needs own has; kind = refl }), same)
 
 pub asking_new : (s : System) (pairs : ℕ) (own seen : List ℕ) (old now : List Entry) (rest : List Spawn) (c : Spawn) (others : List Spawn) (now' : List Entry) (i : ℕ) (children children' : List ℕ) → rest ≡ c ∷ others
-    → IsAsking s pairs own seen old now rest children → children' ≡ children ++ i ∷ [] → has_class c.needs own ≡ true → seen ≡ visible_in s own → IsTable s pairs now' → IsMore now now' → IsSomeAnd (slice_get now' i) (λ e. pair_of e ≡ (c.kind, seen))
+    → IsAsking s pairs own seen old now rest children → children' ≡ children ++ i ∷ [] → has_class c.needs own ≡ true → seen ≡ visible_in s own → IsTable s pairs now' → IsMore now now' → IsAppended now now' → IsSomeAnd (slice_get now' i) (λ e. pair_of e ≡ (c.kind, seen))
     → ((qs : List Pair) → AreNeeded s qs now → Needed s (Contains qs) (c.kind, seen) → AreNeeded s qs now')
     → IsAsking s pairs own seen old now' others children'
-asking_new s pairs own seen old now rest c others now' i children children' split f put has same table more at needed =
+asking_new s pairs own seen old now rest c others now' i children children' split f put has same table more appended at needed =
     let g = subst (λ (r : List Spawn). IsAsking s pairs own seen old now r children) split f in
     let last : Contains children' i = subst (λ (z : List ℕ). Contains z i) (sym put) (Contains-append_right children (i ∷ []) i (Contains-here i i [] refl)) in
     let there : IsHeard now' children' (c.kind, seen) = (i, last, at) in
@@ -138,6 +131,14 @@ asking_new s pairs own seen old now rest c others now' i children children' spli
             let among : Contains children' known.0 = subst (λ (z : List ℕ). Contains z known.0) (sym put) (Contains-append_left children (i ∷ []) known.0 known.1) in
             inr (known.0, among, still_at now now' known.0 (j, seen) more known.2)
       ];
+      inside = λ j there. elim (Contains-append_cases children (i ∷ []) j (subst (λ (z : List ℕ). Contains z j) put there)) [
+        | inl old ↦ let longer = more.longer in let less = g.inside j old in omega arith
+        | inr new ↦ elim ((Contains-cons j i []).0 new) [
+          | inl here ↦ subst (λ z. z < length now') (sym here) (within_of (λ e. pair_of e ≡ (c.kind, seen)) now' i at)
+          | inr none ↦ absurd (Contains-none j none)
+        ]
+      ];
+      appended = appended_twice old now now' g.appended appended;
       needed = λ qs all asks. needed qs (g.needed qs all asks) (asks (c.kind, seen) (spawn_asks s own seen c (g.listed c (Contains-here c c others refl)) has same));
     }
 
@@ -150,6 +151,8 @@ asking_old s pairs own seen old now rest c others children split f none =
       more = g.more;
       listed = λ x in_others. g.listed x (Contains-behind x c others in_others);
       heard = λ j in_child. elim (g.heard j in_child) [ inl left ↦ inl (kinds_from-none own c others j none left) | inr known ↦ inr known ];
+      inside = g.inside;
+      appended = g.appended;
       needed = g.needed;
     }
 
@@ -216,7 +219,7 @@ own_is s pairs entries i k x own table at read is =
     let e = some_at (λ e. e.rounds ≡ Some k) (slice_get entries i) at in
     let here : x ≡ e.0 = read ∙ read_at entries i e.0 x e.1 in
     subst (λ o. IsSomeAnd o (λ e. own ≡ labels s (pair_of e) k)) (sym e.1)
-    (is ∙ ap (λ (z : Entry). set_of (atoms_by k z.firsts.items)) here ∙ label_is s e.0 k (table.up_to e.0 (Contains-at entries i e.0 e.1)) (subst (λ o. IsDone o k) (sym e.2) (omega arith)))
+    (is ∙ ap (λ (z : Entry). set_of (atoms_by k z.firsts.items)) here ∙ label_is s e.0 k (up_known s e.0 k (table.up_to e.0 (Contains-at entries i e.0 e.1)) e.2))
 
 -- a round is worked out
 pub round_done : (s : System) (pairs : ℕ) (start mid new : List Entry) (i k : ℕ) (own next : List ℕ) (firsts : List First) (children : List ℕ) → IsTable s pairs mid → IsMore start mid
@@ -246,31 +249,3 @@ round_lost s pairs start mid new i k table more rounds touch =
 
 pub needed_same : (s : System) (qs : List Pair) (old new : List Entry) → map pair_of new ≡ map pair_of old → AreNeeded s qs old → AreNeeded s qs new
 needed_same s qs old new same needed q there = needed q (subst (λ (z : List Pair). Contains z q) same there)
-
-pub within_of : {X : Type 0} (P : X → Type 0) (xs : List X) (i : ℕ) → IsSomeAnd (slice_get xs i) P → i < length xs
-within_of P xs i at = let x = some_at P (slice_get xs i) at in at-within xs i x.0 x.1
-
--- a label of an entry is one of its entry later, and was one before
-pub own_later : (s : System) (old new : List Entry) (i k : ℕ) (label : List ℕ) → IsMore old new → IsSomeAnd (slice_get old i) (λ e. label ≡ labels s (pair_of e) k)
-    → IsSomeAnd (slice_get new i) (λ e. label ≡ labels s (pair_of e) k)
-own_later s old new i k label more at =
-    let e = some_at (λ e. label ≡ labels s (pair_of e) k) (slice_get old i) at in
-    let y = later_at old new i e.0 more e.1 in
-    subst (λ o. IsSomeAnd o (λ e. label ≡ labels s (pair_of e) k)) (sym y.1) (e.2 ∙ ap (λ (q : Pair). labels s q k) (sym y.2.pair))
-
-pub own_before : (s : System) (P : Entry → Type 0) (old new : List Entry) (i k : ℕ) (label : List ℕ) → IsMore old new → IsSomeAnd (slice_get old i) P
-    → IsSomeAnd (slice_get new i) (λ e. label ≡ labels s (pair_of e) k) → IsSomeAnd (slice_get old i) (λ e. label ≡ labels s (pair_of e) k)
-own_before s P old new i k label more there at =
-    let e = some_at P (slice_get old i) there in
-    let y = later_at old new i e.0 more e.1 in
-    let is = and_at (λ e. label ≡ labels s (pair_of e) k) (slice_get new i) y.0 y.1 at in
-    subst (λ o. IsSomeAnd o (λ e. label ≡ labels s (pair_of e) k)) (sym e.1) (is ∙ ap (λ (q : Pair). labels s q k) y.2.pair)
-
--- the entry whose next round is worked out, and its label so far
-pub step_own : (s : System) (pairs : ℕ) (entries : List Entry) (i k : ℕ) (x y : Entry) (own : List ℕ) → IsTable s pairs entries → i < length entries → x ≡ get_or entries i x → x.rounds ≡ Some k
-    → y ≡ get_or entries i y → own ≡ set_of (atoms_by k y.firsts.items) → IsSomeAnd (slice_get entries i) (λ e. e.rounds ≡ Some k) × IsSomeAnd (slice_get entries i) (λ e. own ≡ labels s (pair_of e) k)
-step_own s pairs entries i k x y own table within read_x rounds read_y is =
-    let e = at_of entries i within in
-    let here : x ≡ e.0 = read_x ∙ read_at entries i e.0 x e.1 in
-    let place : IsSomeAnd (slice_get entries i) (λ e. e.rounds ≡ Some k) = subst (λ (o : Option Entry). IsSomeAnd o (λ e. e.rounds ≡ Some k)) (sym e.1) (ap (λ (z : Entry). z.rounds) (sym here) ∙ rounds) in
-    (place, own_is s pairs entries i k y own table place read_y is)

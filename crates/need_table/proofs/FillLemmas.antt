@@ -2,7 +2,7 @@
 use Rattle.std.proofs.Common.{◌≡◌, ◌≢◌, ◌⊎◌, ℕ, zero, suc, ◌<◌, ◌≤◌, true, false, not, nat_le, List, [], ◌∷◌, ◌++◌, map, length, set, get_or, Option, Some, None, slice_get, IsSomeAnd, Result, Ok, Err, OnOk, OnErr, Contains, refl, sym, ap, ◌∙◌, inl, inr, arith, subst, length-append}
 use Rattle.std.specs.List.{filter}
 use Rattle.std.proofs.lemmas.Bool.{cases_Bool, cases_lt, cases_order, both_ways, le-leb, leb-true}
-use Rattle.std.proofs.lemmas.List.{map-append, length-map}
+use Rattle.std.proofs.lemmas.List.{map-append, length-map, append_assoc, append-nil}
 use Rattle.std.proofs.lemmas.List.Elements.{Contains-append_left, Contains-append_right, Contains-append_cases}
 use Rattle.tp_base.specs.Classes.{has_class}
 use Rattle.tp_base.proofs.ClassLemmas.{same_members, has_class-Contains, Contains-has_class}
@@ -19,7 +19,8 @@ use Rattle.simple_core.proofs.RestLemmas.{first_is}
 use Rattle.simple_core.proofs.PairLemmas.{different_push, one_more}
 use Rattle.need_table.specs.declared.entries.First.{First}
 use Rattle.need_table.specs.declared.entries.Entry.{Entry}
-use Rattle.need_table.specs.Tables.{pair_of, atoms_by, fresh_of, labels, last_after, IsDone, IsHeard, IsUpTo, IsTable, IsKept, IsMore, NotedAt, IsUntouched, AreNeeded}
+use Rattle.need_table.specs.Tables.{pair_of, atoms_by, fresh_of, labels, IsDone, IsHeard, IsUpTo, IsTable, IsKept, IsMore, NotedAt, IsUntouched, AreNeeded}
+use Rattle.need_table.specs.Agendas.{IsKnown, IsAppended}
 use Rattle.need_table.proofs.TableLemmas.{Contains-at, at-Contains}
 
 le_test : (m n : ℕ) → m ≤ n → nat_le m n ≡ true
@@ -38,23 +39,30 @@ is-atoms_by : (k : ℕ) (firsts : List First) (f : First) → Contains firsts f 
 is-atoms_by k firsts f there le =
     Contains-map (λ (f : First). f.atom) (filter (λ (f : First). nat_le f.round k) firsts) f (Contains-filter (λ (f : First). nat_le f.round k) firsts f there (le_test f.round k le))
 
--- the label of a round that was worked out
-pub label_is : (s : System) (e : Entry) (k : ℕ) → IsUpTo s e → IsDone e.rounds k → set_of (atoms_by k e.firsts.items) ≡ grown s k e.kind e.parent
-label_is s e k up done =
+-- the label of a round that is known
+pub label_is : (s : System) (e : Entry) (k : ℕ) → IsKnown s k e → set_of (atoms_by k e.firsts.items) ≡ grown s k e.kind e.parent
+label_is s e k known =
     let atoms = atoms_by k e.firsts.items in
     let label = grown s k e.kind e.parent in
     same_members (set_of atoms) label (set_of-rises atoms) (grown-rises s k e.kind e.parent)
     (among_all (set_of atoms) label (λ a there.
     let of = atoms_by-is k e.firsts.items a (set_of-is atoms a there) in
-    let first = up.right of.0 of.1 in
-    subst (λ z. Contains label z) of.3 (grown-later s e.kind e.parent of.0.round k of.2 of.0.atom first.1.0)))
+    let first = known.first of.0 of.1 in
+    subst (λ z. Contains label z) of.3 (grown-later s e.kind e.parent of.0.round k of.2 of.0.atom first.0)))
     (among_all label (set_of atoms) (λ a there.
-    let f = up.whole k a done there in
-    let first = up.right f.0 f.1 in
-    let le = (first_is (labels s (pair_of e)) (grown-one_more s e.kind e.parent) f.0.atom f.0.round first.1 k).0 (subst (λ z. Contains label z) (sym f.2) there) in
+    let f = known.whole k a (omega arith) there in
+    let first = known.first f.0 f.1 in
+    let le = (first_is (labels s (pair_of e)) (grown-one_more s e.kind e.parent) f.0.atom f.0.round first k).0 (subst (λ z. Contains label z) (sym f.2) there) in
     is-set_of atoms a (subst (λ z. Contains atoms z) f.2 (is-atoms_by k e.firsts.items f.0 f.1 le))))
 
-fresh_of-is : (own : List ℕ) (round : ℕ) (next : List ℕ) (f : First) → Contains (fresh_of own round next) f → Contains next f.atom × (Contains own f.atom → ⊥) × (f.round ≡ round)
+-- the rounds that were worked out are known
+pub up_known : (s : System) (e : Entry) (k : ℕ) → IsUpTo s e → e.rounds ≡ Some k → IsKnown s k e
+up_known s e k up rounds = record {
+  first = λ f there. (up.right f there).1;
+  whole = λ m a le in_m. up.whole m a (subst (λ o. IsDone o m) (sym rounds) le) in_m;
+}
+
+pub fresh_of-is : (own : List ℕ) (round : ℕ) (next : List ℕ) (f : First) → Contains (fresh_of own round next) f → Contains next f.atom × (Contains own f.atom → ⊥) × (f.round ≡ round)
 fresh_of-is own round next f there =
     let of = map-Contains (λ (a : ℕ). let g : First = record { atom = a; round = round } in g) (filter (λ a. not (has_class a own)) next) f there in
     let kept = filter-Contains (λ a. not (has_class a own)) next of.0 of.1 in (
@@ -68,8 +76,8 @@ is-fresh_of own round next a there new =
     Contains-map (λ (a : ℕ). let g : First = record { atom = a; round = round } in g) (filter (λ a. not (has_class a own)) next) a (Contains-filter (λ a. not (has_class a own)) next a there (ap not new))
 
 -- a new pair, in round 0
-pub first_up : (s : System) (e : Entry) → e.rounds ≡ Some 0 → e.last ≡ 0 → e.firsts.items ≡ fresh_of [] 0 (kind_label s e.kind) → IsUpTo s e
-first_up s e at none firsts = record {
+pub first_up : (s : System) (e : Entry) → e.rounds ≡ Some 0 → e.firsts.items ≡ fresh_of [] 0 (kind_label s e.kind) → IsUpTo s e
+first_up s e at firsts = record {
   right = λ f there.
       let of = fresh_of-is [] 0 (kind_label s e.kind) f (subst (λ (z : List First). Contains z f) firsts there) in (
         subst (λ o. IsDone o f.round) (sym at) (omega (arith, of.2)),
@@ -80,29 +88,12 @@ first_up s e at none firsts = record {
       let none : k ≡ 0 = omega arith in
       let start : Contains (grown s 0 e.kind e.parent) a = subst (λ z. Contains (grown s z e.kind e.parent) a) none there in
       (record { atom = a; round = 0 }, subst (λ (z : List First). Contains z (record { atom = a; round = 0 })) (sym firsts) (is-fresh_of [] 0 (kind_label s e.kind) a (set_of-is (kind_label s e.kind) a start) refl), refl);
-  latest = λ f there. let of = fresh_of-is [] 0 (kind_label s e.kind) f (subst (λ (z : List First). Contains z f) firsts there) in omega (arith, of.2, none);
-  brought = λ some. absurd (some none);
 }
-
--- the last round that brought an atom
-last_covers : (last k : ℕ) (new : List First) (n : ℕ) → n ≤ last → n ≤ k → n ≤ last_after last k new
-last_covers last k [] n le le' = le
-last_covers last k (f ∷ fs) n le le' = omega arith
-
-last_new : (last k : ℕ) (new : List First) (f : First) → Contains new f → f.round ≡ suc k → f.round ≤ last_after last k new
-last_new last k [] f there is = absurd (Contains-none f there)
-last_new last k (g ∷ fs) f there is = omega (arith, is)
-
-last_brought : (last k : ℕ) (new old : List First) → ((f : First) → Contains new f → f.round ≡ suc k) → (last ≢ 0 → (f : First) × Contains old f × (f.round ≡ last))
-    → last_after last k new ≢ 0 → (f : First) × Contains (old ++ new) f × (f.round ≡ last_after last k new)
-last_brought last k [] old is was some = let f = was some in (f.0, Contains-append_left old [] f.0 f.1, f.2)
-last_brought last k (g ∷ fs) old is was some = (g, Contains-append_right old (g ∷ fs) g (Contains-here g g fs refl), is g (Contains-here g g fs refl))
 
 -- one round more
 pub next_up : (s : System) (e e' : Entry) (k : ℕ) → IsUpTo s e → e.rounds ≡ Some k → pair_of e' ≡ pair_of e → e'.rounds ≡ Some (suc k)
-    → e'.firsts.items ≡ e.firsts.items ++ fresh_of (labels s (pair_of e) k) (suc k) (labels s (pair_of e) (suc k))
-    → e'.last ≡ last_after e.last k (fresh_of (labels s (pair_of e) k) (suc k) (labels s (pair_of e) (suc k))) → IsUpTo s e'
-next_up s e e' k up at pair at' firsts last =
+    → e'.firsts.items ≡ e.firsts.items ++ fresh_of (labels s (pair_of e) k) (suc k) (labels s (pair_of e) (suc k)) → IsUpTo s e'
+next_up s e e' k up at pair at' firsts =
     let own = labels s (pair_of e) k in
     let next = labels s (pair_of e) (suc k) in
     let new = fresh_of own (suc k) next in
@@ -135,19 +126,10 @@ next_up s e e' k up at pair at' firsts last =
                   (record { atom = a; round = suc k }, subst (λ (z : List First). Contains z (record { atom = a; round = suc k })) (sym firsts) (Contains-append_right e.firsts.items new (record { atom = a; round = suc k }) (is-fresh_of own (suc k) next a in_next none)), refl)
             ]
           ];
-      latest = λ f there. subst (λ n. f.round ≤ n) (sym last) (elim (Contains-append_cases e.firsts.items new f (subst (λ (z : List First). Contains z f) firsts there)) [
-        | inl old ↦
-            let le : f.round ≤ k = subst (λ o. IsDone o f.round) at (up.right f old).0 in
-            last_covers e.last k new f.round (up.latest f old) le
-        | inr late ↦ last_new e.last k new f late (fresh_of-is own (suc k) next f late).2
-      ]);
-      brought = λ some.
-          let f = last_brought e.last k new e.firsts.items (λ f late. (fresh_of-is own (suc k) next f late).2) up.brought (λ none. some (last ∙ none)) in
-          (f.0, subst (λ (z : List First). Contains z f.0) (sym firsts) f.1, f.2 ∙ sym last);
     }
 
 -- an entry in another's place, and one behind all
-set-Contains : {X : Type 0} (xs : List X) (i : ℕ) (y x : X) → Contains (set xs i y) x → (x ≡ y) ⊎ Contains xs x
+pub set-Contains : {X : Type 0} (xs : List X) (i : ℕ) (y x : X) → Contains (set xs i y) x → (x ≡ y) ⊎ Contains xs x
 set-Contains [] i y x there = absurd (Contains-none x there)
 set-Contains (z ∷ xs) zero y x there = elim ((Contains-cons x y xs).0 there) [ inl here ↦ inl here | inr behind ↦ inr (Contains-behind x z xs behind) ]
 set-Contains (z ∷ xs) (suc i) y x there = elim ((Contains-cons x z (set xs i y)).0 there) [
@@ -170,7 +152,7 @@ set-here [] i x y at = cc
 set-here (z ∷ xs) zero x y at = refl
 set-here (z ∷ xs) (suc i) x y at = set-here xs i x y at
 
-set-other : {X : Type 0} (xs : List X) (i j : ℕ) (y : X) → j ≢ i → slice_get (set xs i y) j ≡ slice_get xs j
+pub set-other : {X : Type 0} (xs : List X) (i j : ℕ) (y : X) → j ≢ i → slice_get (set xs i y) j ≡ slice_get xs j
 set-other [] i j y other = refl
 set-other (x ∷ xs) zero zero y other = absurd (other refl)
 set-other (x ∷ xs) zero (suc j) y other = refl
@@ -187,7 +169,7 @@ push-last [] y = refl
 push-last (x ∷ xs) y = push-last xs y
 
 -- the same places have the pairs
-heard_set : (entries : List Entry) (i : ℕ) (e e' : Entry) (children : List ℕ) (r : Pair) → slice_get entries i ≡ Some e → pair_of e' ≡ pair_of e → IsHeard entries children r → IsHeard (set entries i e') children r
+pub heard_set : (entries : List Entry) (i : ℕ) (e e' : Entry) (children : List ℕ) (r : Pair) → slice_get entries i ≡ Some e → pair_of e' ≡ pair_of e → IsHeard entries children r → IsHeard (set entries i e') children r
 heard_set entries i e e' children r at pair (j, among, there) = (
   j,
   among,
@@ -204,15 +186,14 @@ heard_set entries i e e' children r at pair (j, among, there) = (
 pub table_set : (s : System) (pairs : ℕ) (entries : List Entry) (i : ℕ) (e e' : Entry) (k : ℕ) → IsTable s pairs entries → slice_get entries i ≡ Some e
     → e.rounds ≡ Some k → pair_of e' ≡ pair_of e → e'.rounds ≡ Some (suc k)
     → e'.firsts.items ≡ e.firsts.items ++ fresh_of (labels s (pair_of e) k) (suc k) (labels s (pair_of e) (suc k))
-    → e'.last ≡ last_after e.last k (fresh_of (labels s (pair_of e) k) (suc k) (labels s (pair_of e) (suc k)))
     → ((r : Pair) → Asks s (labels s (pair_of e) k) r → Contains (map pair_of entries) r)
     → ((r : Pair) → Asks s (labels s (pair_of e) k) r → IsHeard entries e'.children.items r) → IsTable s pairs (set entries i e')
-table_set s pairs entries i e e' k table at rounds pair rounds' firsts last asks heard =
+table_set s pairs entries i e e' k table at rounds pair rounds' firsts asks heard =
     let same = set-alike pair_of entries i e e' at pair in
     record {
       sound = table.sound;
       up_to = λ x there. elim (set-Contains entries i e' x there) [
-        | inl new ↦ subst (λ (z : Entry). IsUpTo s z) (sym new) (next_up s e e' k (table.up_to e (Contains-at entries i e at)) rounds pair rounds' firsts last)
+        | inl new ↦ subst (λ (z : Entry). IsUpTo s z) (sym new) (next_up s e e' k (table.up_to e (Contains-at entries i e at)) rounds pair rounds' firsts)
         | inr old ↦ table.up_to x old
       ];
       asked = λ x there m r done asked. subst (λ (z : List Pair). Contains z r) (sym same) (elim (set-Contains entries i e' x there) [
@@ -307,15 +288,15 @@ heard_push entries e children r (j, among, there) = (
 )
 
 pub table_push : (s : System) (pairs : ℕ) (entries : List Entry) (e : Entry) → IsTable s pairs entries → length entries < pairs → (Contains (map pair_of entries) (pair_of e) → ⊥)
-    → e.rounds ≡ Some 0 → e.last ≡ 0 → e.firsts.items ≡ fresh_of [] 0 (kind_label s e.kind) → IsTable s pairs (entries ++ e ∷ [])
-table_push s pairs entries e table room new rounds start firsts =
+    → e.rounds ≡ Some 0 → e.firsts.items ≡ fresh_of [] 0 (kind_label s e.kind) → IsTable s pairs (entries ++ e ∷ [])
+table_push s pairs entries e table room new rounds firsts =
     let same = map-append pair_of entries (e ∷ []) in
     record {
       sound = table.sound;
       up_to = λ x there. elim (Contains-append_cases entries (e ∷ []) x there) [
         | inl old ↦ table.up_to x old
         | inr last ↦ elim ((Contains-cons x e []).0 last) [
-          | inl here ↦ subst (λ (z : Entry). IsUpTo s z) (sym here) (first_up s e rounds start firsts)
+          | inl here ↦ subst (λ (z : Entry). IsUpTo s z) (sym here) (first_up s e rounds firsts)
           | inr none ↦ absurd (Contains-none x none)
         ]
       ];
@@ -337,6 +318,17 @@ table_push s pairs entries e table room new rounds start firsts =
       few = omega (arith, length-append entries (e ∷ []));
     }
 
+-- new entries behind all
+pub appended_none : (entries : List Entry) → IsAppended entries entries
+appended_none entries = ([], sym (append-nil entries), λ e there. absurd (Contains-none e there))
+
+pub appended_twice : (a b c : List Entry) → IsAppended a b → IsAppended b c → IsAppended a c
+appended_twice a b c (xs, is, start) (ys, is', start') = (
+  xs ++ ys,
+  is' ∙ ap (λ z. z ++ ys) is ∙ append_assoc a xs ys,
+  λ e there. elim (Contains-append_cases xs ys e there) [ inl one ↦ start e one | inr two ↦ start' e two ],
+)
+
 pub needed_push : (s : System) (qs : List Pair) (entries : List Entry) (e : Entry) → AreNeeded s qs entries → Needed s (Contains qs) (pair_of e) → AreNeeded s qs (entries ++ e ∷ [])
 needed_push s qs entries e all one q there = elim (Contains-append_cases (map pair_of entries) (pair_of e ∷ []) q (subst (λ (z : List Pair). Contains z q) (map-append pair_of entries (e ∷ [])) there)) [
   | inl old ↦ all q old
@@ -351,15 +343,24 @@ pub record IsPushed (s : System) (pairs : ℕ) (old new : List Entry) (q : Pair)
   pub table : IsTable s pairs new
   pub more : IsMore old new
   pub place : IsSomeAnd (slice_get new (length old)) (λ e. pair_of e ≡ q)
+  pub appended : IsAppended old new
   pub needed : (qs : List Pair) → AreNeeded s qs old → Needed s (Contains qs) q → AreNeeded s qs new
 
 pub pushed : (s : System) (pairs : ℕ) (old new : List Entry) (q : Pair) (e : Entry) → IsTable s pairs old → length old < pairs → (Contains (map pair_of old) q → ⊥)
-    → pair_of e ≡ q → e.rounds ≡ Some 0 → e.last ≡ 0 → e.firsts.items ≡ fresh_of [] 0 (kind_label s q.0) → new ≡ old ++ e ∷ [] → IsPushed s pairs old new q
-pushed s pairs old new q e table room absent pair rounds last firsts is = subst (λ (z : List Entry). IsPushed s pairs old z q) (sym is) (record {
-  table = table_push s pairs old e table room (λ there. absent (subst (λ z. Contains (map pair_of old) z) pair there)) rounds last
+    → pair_of e ≡ q → e.rounds ≡ Some 0 → e.children.items ≡ [] → e.firsts.items ≡ fresh_of [] 0 (kind_label s q.0) → new ≡ old ++ e ∷ [] → IsPushed s pairs old new q
+pushed s pairs old new q e table room absent pair rounds none firsts is = subst (λ (z : List Entry). IsPushed s pairs old z q) (sym is) (record {
+  table = table_push s pairs old e table room (λ there. absent (subst (λ z. Contains (map pair_of old) z) pair there)) rounds
       (subst (λ (z : Pair). e.firsts.items ≡ fresh_of [] 0 (kind_label s z.0)) (sym pair) firsts);
   more = more_push old e;
   place = subst (λ o. IsSomeAnd o (λ e. pair_of e ≡ q)) (sym (push-last old e)) pair;
+  appended = (
+    e ∷ [],
+    refl,
+    λ x there. elim ((Contains-cons x e []).0 there) [
+      | inl here ↦ (ap (λ (z : Entry). z.rounds) here ∙ rounds, ap (λ (z : Entry). z.children.items) here ∙ none)
+      | inr never ↦ absurd (Contains-none x never)
+    ],
+  );
   needed = λ qs all one. needed_push s qs old e all (subst (Needed s (Contains qs)) (sym pair) one);
 })
 
@@ -379,28 +380,24 @@ read_at (y ∷ xs) zero x d at = let same : y ≡ x = cc in same
 read_at (y ∷ xs) (suc i) x d at = read_at xs i x d at
 
 -- an entry that only looks another
-up_same : (s : System) (e e' : Entry) → IsUpTo s e → pair_of e' ≡ pair_of e → e'.rounds ≡ e.rounds → e'.firsts.items ≡ e.firsts.items → e'.last ≡ e.last → IsUpTo s e'
-up_same s e e' up pair rounds firsts last = record {
+up_same : (s : System) (e e' : Entry) → IsUpTo s e → pair_of e' ≡ pair_of e → e'.rounds ≡ e.rounds → e'.firsts.items ≡ e.firsts.items → IsUpTo s e'
+up_same s e e' up pair rounds firsts = record {
   right = λ f there.
       let was = up.right f (subst (λ (z : List First). Contains z f) firsts there) in
       (subst (λ o. IsDone o f.round) (sym rounds) was.0, subst (λ (q : Pair). IsFirst (labels s q) f.atom (Some f.round)) (sym pair) was.1);
   whole = λ k a done there.
       let f = up.whole k a (subst (λ o. IsDone o k) rounds done) (subst (λ (q : Pair). Contains (labels s q k) a) pair there) in
       (f.0, subst (λ (z : List First). Contains z f.0) (sym firsts) f.1, f.2);
-  latest = λ f there. subst (λ n. f.round ≤ n) (sym last) (up.latest f (subst (λ (z : List First). Contains z f) firsts there));
-  brought = λ some.
-      let f = up.brought (λ none. some (last ∙ none)) in
-      (f.0, subst (λ (z : List First). Contains z f.0) (sym firsts) f.1, f.2 ∙ sym last);
 }
 
 pub table_same : (s : System) (pairs : ℕ) (entries : List Entry) (i : ℕ) (e e' : Entry) → IsTable s pairs entries → slice_get entries i ≡ Some e
-    → pair_of e' ≡ pair_of e → e'.rounds ≡ e.rounds → e'.firsts.items ≡ e.firsts.items → e'.last ≡ e.last → e'.children.items ≡ e.children.items → IsTable s pairs (set entries i e')
-table_same s pairs entries i e e' table at pair rounds firsts last children =
+    → pair_of e' ≡ pair_of e → e'.rounds ≡ e.rounds → e'.firsts.items ≡ e.firsts.items → e'.children.items ≡ e.children.items → IsTable s pairs (set entries i e')
+table_same s pairs entries i e e' table at pair rounds firsts children =
     let same = set-alike pair_of entries i e e' at pair in
     record {
       sound = table.sound;
       up_to = λ x there. elim (set-Contains entries i e' x there) [
-        | inl new ↦ subst (λ (z : Entry). IsUpTo s z) (sym new) (up_same s e e' (table.up_to e (Contains-at entries i e at)) pair rounds firsts last)
+        | inl new ↦ subst (λ (z : Entry). IsUpTo s z) (sym new) (up_same s e e' (table.up_to e (Contains-at entries i e at)) pair rounds firsts)
         | inr old ↦ table.up_to x old
       ];
       asked = λ x there m r done asked. subst (λ (z : List Pair). Contains z r) (sym same) (elim (set-Contains entries i e' x there) [
@@ -438,7 +435,7 @@ pub noted_step : (s : System) (pairs : ℕ) (old new : List Entry) (i : ℕ) (k 
     → firsts ≡ fresh_of (labels s (pair_of e) k) (suc k) (labels s (pair_of e) (suc k))
     → ((r : Pair) → Asks s (labels s (pair_of e) k) r → Contains (map pair_of old) r) → ((r : Pair) → Asks s (labels s (pair_of e) k) r → IsHeard old children r) → IsDone e.rounds k
     → NotedAt old new i k firsts children e → IsStep s pairs old new × IsSomeAnd (slice_get new i) (λ x. IsDone x.rounds (suc k))
-noted_step s pairs old new i k firsts children e table at fresh asks heard done (inl (e', is, rounds, pair, rounds', firsts', last', children')) =
+noted_step s pairs old new i k firsts children e table at fresh asks heard done (inl (e', is, rounds, pair, rounds', firsts', children')) =
     let kept : IsKept e e' = record {
       pair = pair;
       rounds = λ m done. let le : m ≤ k = subst (λ o. IsDone o m) rounds done in subst (λ o. IsDone o m) (sym rounds') (omega arith);
@@ -446,7 +443,7 @@ noted_step s pairs old new i k firsts children e table at fresh asks heard done 
     } in (
       record {
         table = subst (λ (z : List Entry). IsTable s pairs z) (sym is) (table_set s pairs old i e e' k table at rounds pair rounds' (firsts' ∙ ap (λ z. e.firsts.items ++ z) fresh)
-            (last' ∙ ap (last_after e.last k) fresh) asks (λ r asked. subst (λ (z : List ℕ). IsHeard old z r) (sym children') (heard r asked)));
+            asks (λ r asked. subst (λ (z : List ℕ). IsHeard old z r) (sym children') (heard r asked)));
         more = subst (λ (z : List Entry). IsMore old z) (sym is) (more_set old i e e' at kept);
         same = ap (map pair_of) is ∙ set-alike pair_of old i e e' at pair;
       },
@@ -465,9 +462,9 @@ noted_step s pairs old new i k firsts children e table at fresh asks heard done 
 
 pub untouched_step : (s : System) (pairs : ℕ) (old new : List Entry) (i : ℕ) (e : Entry) → IsTable s pairs old → slice_get old i ≡ Some e → IsUntouched old new i → IsStep s pairs old new
 untouched_step s pairs old new i e table at touch =
-    let (e', is, some, pair, rounds, firsts, last, children) = touch e at in
+    let (e', is, some, pair, rounds, firsts, children) = touch e at in
     record {
-      table = subst (λ (z : List Entry). IsTable s pairs z) (sym is) (table_same s pairs old i e e' table at pair rounds firsts last children);
+      table = subst (λ (z : List Entry). IsTable s pairs z) (sym is) (table_same s pairs old i e e' table at pair rounds firsts children);
       more = subst (λ (z : List Entry). IsMore old z) (sym is) (more_set old i e e' at (record {
         pair = pair;
         rounds = λ m done. subst (λ o. IsDone o m) (sym rounds) done;

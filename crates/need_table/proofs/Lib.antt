@@ -5,4 +5,7 @@ pub mod ChildLemmas
 pub mod BoundLemmas
 pub mod SettleLemmas
 pub mod PlainLemmas
-pub mod QuietLemmas
+mod RowLemmas
+mod AgendaLemmas
+mod GoingLemmas
+mod StepLemmas

@@ -10,7 +10,7 @@ use Rattle.need_table.specs.declared.entries.First.{First}
 use Rattle.need_table.specs.declared.entries.Entry.{Entry}
 use Rattle.need_table.specs.declared.places.Places.{Places}
 use Rattle.need_table.specs.Places.{place_in, step_in, walk, end_in, AreAt}
-use Rattle.need_table.specs.Tables.{pair_of, rested, passed, IsNoted, IsUntouched}
+use Rattle.need_table.specs.Tables.{pair_of, rested, raised, IsNoted, IsUntouched}
 use Rattle.need_table.proofs.TableLemmas.{Contains-at, at-within}
 use Rattle.need_table.proofs.FillLemmas.{set-alike}
 use Rattle.need_table.proofs.ChildLemmas.{at_of}
@@ -299,20 +299,20 @@ pub pairs_noted : (old new : List Entry) (i k : ℕ) (firsts : List First) (chil
 pairs_noted old new i k firsts children within noted =
     let e = at_of old i within in
     elim (noted e.0 e.1) [
-      | inl (e', is, rounds, pair, next, firsts, last, children) ↦ ap (map pair_of) is ∙ set-alike pair_of old i e.0 e' e.1 pair
+      | inl (e', is, rounds, pair, next, firsts, children) ↦ ap (map pair_of) is ∙ set-alike pair_of old i e.0 e' e.1 pair
       | inr (is, other) ↦ ap (map pair_of) is
     ]
 
 pub pairs_untouched : (old new : List Entry) (i : ℕ) → i < length old → IsUntouched old new i → map pair_of new ≡ map pair_of old
 pairs_untouched old new i within touch =
     let e = at_of old i within in
-    let (e', is, some, pair, rounds, firsts, last, children) = touch e.0 e.1 in
+    let (e', is, some, pair, rounds, firsts, children) = touch e.0 e.1 in
     ap (map pair_of) is ∙ set-alike pair_of old i e.0 e' e.1 pair
 
-pub pairs_passed : (old new : List Entry) (i k : ℕ) → i < length old → ((e : Entry) → slice_get old i ≡ Some e → new ≡ set old i (passed k e)) → map pair_of new ≡ map pair_of old
-pairs_passed old new i k within is =
+pub pairs_raised : (old new : List Entry) (i k : ℕ) → i < length old → ((e : Entry) → slice_get old i ≡ Some e → new ≡ set old i (raised k e)) → map pair_of new ≡ map pair_of old
+pairs_raised old new i k within is =
     let e = at_of old i within in
-    ap (map pair_of) (is e.0 e.1) ∙ set-alike pair_of old i e.0 (passed k e.0) e.1 refl
+    ap (map pair_of) (is e.0 e.1) ∙ set-alike pair_of old i e.0 (raised k e.0) e.1 refl
 
 pub pairs_rested : (entries : List Entry) → map pair_of (map rested entries) ≡ map pair_of entries
 pairs_rested [] = refl

@@ -1,6 +1,6 @@
 -- From a table that is worked out to one at rest.
-use Rattle.std.proofs.Common.{◌≡◌, ◌≢◌, ℕ, zero, suc, eqb, ◌+◌, ◌<◌, ◌≤◌, false, List, [], ◌∷◌, ◌++◌, map, length, set, take, drop, get_or, Option, Some, None, slice_get, IsSomeAnd, IfSome, Contains, refl, sym, ap, ◌∙◌, inl, inr, arith, subst}
-use Rattle.std.proofs.lemmas.Bool.{cases_lt, both_ways, eq-eqb, eqb-true, cases_Bool}
+use Rattle.std.proofs.Common.{◌≡◌, ◌≢◌, ℕ, zero, suc, eqb, ◌+◌, ◌<◌, ◌≤◌, List, [], ◌∷◌, ◌++◌, map, length, set, take, drop, get_or, Option, Some, None, slice_get, IsSomeAnd, IfSome, Contains, refl, sym, ap, ◌∙◌, inl, inr, arith, subst}
+use Rattle.std.proofs.lemmas.Bool.{both_ways, eq-eqb, eqb-true, cases_Bool}
 use Rattle.std.proofs.lemmas.List.{length-map}
 use Rattle.tp_base.proofs.ClassLemmas.{same_members}
 use Rattle.tp_base.proofs.Rising.{Contains-here, Contains-behind, Contains-cons, Contains-none}
@@ -13,12 +13,15 @@ use Rattle.simple_core.specs.declared.system.System.{System}
 use Rattle.simple_core.specs.Pairs.{Pair}
 use Rattle.need_table.specs.declared.entries.First.{First}
 use Rattle.need_table.specs.declared.entries.Entry.{Entry}
-use Rattle.need_table.specs.Tables.{pair_of, labels, round_in, IsDone, IsUpTo, IsTable, IsMore, IsKept, AllDone, AreDoneBelow, AllRest, has_later, rested}
-use Rattle.need_table.proofs.TableLemmas.{Contains-at, at-Contains, at-within}
+use Rattle.need_table.specs.declared.agenda.Agenda.{Agenda}
+use Rattle.need_table.specs.Rows.{row_in}
+use Rattle.need_table.specs.Agendas.{IsGoing}
+use Rattle.need_table.specs.Tables.{pair_of, labels, round_in, IsDone, IsUpTo, IsTable, IsMore, IsKept, AllRest, rested}
+use Rattle.need_table.proofs.TableLemmas.{Contains-at}
 use Rattle.need_table.proofs.FillLemmas.{later_at, read_at}
-use Rattle.need_table.proofs.ChildLemmas.{at_of, and_at, some_at}
-use Rattle.need_table.proofs.BoundLemmas.{done_before, rounds_few}
-use Rattle.need_table.proofs.QuietLemmas.{table_rested}
+use Rattle.need_table.proofs.ChildLemmas.{some_at}
+use Rattle.need_table.proofs.BoundLemmas.{rounds_few}
+use Rattle.need_table.proofs.GoingLemmas.{table_rested}
 
 rest_in : (old : List Entry) (i : ℕ) (d : Entry) → i < length old
     → set (map rested (take i old) ++ drop i old) i (rested (get_or (map rested (take i old) ++ drop i old) i d)) ≡ map rested (take (i + 1) old) ++ drop (i + 1) old
@@ -36,7 +39,7 @@ rest_start (x ∷ xs) zero resting = refl
 rest_start (x ∷ xs) (suc n) resting =
     let none = resting 0 x (omega arith) refl in
     let rest = rest_start xs n (λ j e less at. resting (suc j) e (omega arith) at) in
-    λ i. record { kind = x.kind; parent = x.parent; firsts = x.firsts; last = x.last; children = x.children; rounds = none i } ∷ rest i
+    λ i. record { kind = x.kind; parent = x.parent; firsts = x.firsts; children = x.children; rounds = none i } ∷ rest i
 
 pub rest_step : (now old : List Entry) (i : ℕ) (d : Entry) → now ≡ map rested (take i old) ++ drop i old → i < length old
     → set now i (rested (get_or now i d)) ≡ map rested (take (i + 1) old) ++ drop (i + 1) old
@@ -50,71 +53,6 @@ rested_in (x ∷ xs) (suc i) le = ap (λ z. rested x ∷ z) (rested_in xs i (ome
 
 pub rested_all : (now old : List Entry) (i : ℕ) → length old ≤ i → now ≡ map rested (take i old) ++ drop i old → now ≡ map rested old
 rested_all now old i le is = is ∙ rested_in old i le
-
--- one entry more is worked out
-pub done_more : (old new : List Entry) (i r : ℕ) → IsMore old new → i < length old → ((j : ℕ) (e : Entry) → j < i → slice_get old j ≡ Some e → IsDone e.rounds r)
-    → IsSomeAnd (slice_get new i) (λ e. IsDone e.rounds r) → (j : ℕ) (e : Entry) → j < i + 1 → slice_get new j ≡ Some e → IsDone e.rounds r
-done_more old new i r more within done here j e less at = elim (cases_lt j i) [
-  | inl early ↦
-      let x = at_of old j (omega arith) in
-      let y = later_at old new j x.0 more x.1 in
-      let same : y.0 ≡ e = let both : Some y.0 ≡ Some e = sym y.1 ∙ at in cc in
-      subst (λ (z : Entry). IsDone z.rounds r) same (y.2.rounds r (done j x.0 early x.1))
-  | inr late ↦
-      let same : j ≡ i = omega arith in
-      and_at (λ e. IsDone e.rounds r) (slice_get new i) e (subst (λ z. slice_get new z ≡ Some e) same at) here
-]
-
-pub all_done : (entries : List Entry) (i r : ℕ) → length entries ≤ i → ((j : ℕ) (e : Entry) → j < i → slice_get entries j ≡ Some e → IsDone e.rounds r) → AllDone entries r
-all_done entries i r le done e there =
-    let at = at-Contains entries e there in
-    let within = at-within entries at.0 e at.1 in
-    done at.0 e (omega arith) at.1
-
--- all were worked out up to round 0
-pub start_done : (entries : List Entry) → AllDone entries 0
-start_done entries e there = zero_done e.rounds
-  where
-    zero_done : (o : Option ℕ) → IsDone o 0
-    zero_done None = tt
-    zero_done (Some n) = omega arith
-
-pub all_less : (entries : List Entry) (r r' : ℕ) → r' ≤ r → AllDone entries r → AllDone entries r'
-all_less entries r r' le all e there = done_before e.rounds r r' le (all e there)
-
--- an entry at a place that was there before is worked out as far
-pub below_kept : (old new : List Entry) (first r r' : ℕ) → IsMore old new → first ≤ length old → r' ≤ r → AreDoneBelow first old r → AreDoneBelow first new r'
-below_kept old new first r r' more within le below j e less at =
-    let x = at_of old j (omega arith) in
-    let y = later_at old new j x.0 more x.1 in
-    let same : y.0 ≡ e = let both : Some y.0 ≡ Some e = sym y.1 ∙ at in cc in
-    subst (λ (z : Entry). IsDone z.rounds r') same (done_before y.0.rounds r r' le (y.2.rounds r (below j x.0 less x.1)))
-
-pub all_below : (entries : List Entry) (first r : ℕ) → AllDone entries r → AreDoneBelow first entries r
-all_below entries first r all j e less at = all e (Contains-at entries j e at)
-
-pub rest_below : (old : List Entry) (first r : ℕ) → AllRest old → AreDoneBelow first old r
-rest_below old first r rest j e less at = subst (λ o. IsDone o r) (sym (rest e (Contains-at old j e at))) tt
-
--- all are worked out as far as before, where there are no more
-pub done_kept : (old new : List Entry) (r : ℕ) → IsMore old new → length new ≡ length old → AllDone old r → AllDone new r
-done_kept old new r more same all e there =
-    let at = at-Contains new e there in
-    let within = at-within new at.0 e at.1 in
-    below_kept old new (length old) r r more (omega arith) (omega arith) (all_below old (length old) r all) at.0 e (omega arith) at.1
-
--- one entry more has the next round, if there are still no more than `before`
-pub sweep_next : (old new : List Entry) (i k before : ℕ) → IsMore old new → before ≤ length old → i < length old → (length old ≡ before → AllDone old k × AreDoneBelow i old (suc k))
-    → (length new ≡ before → IsSomeAnd (slice_get new i) (λ e. IsDone e.rounds (suc k))) → length new ≡ before → AllDone new k × AreDoneBelow (i + 1) new (suc k)
-sweep_next old new i k before more le within so_far here same =
-    let longer = more.longer in
-    let was : length old ≡ before = omega arith in
-    let so = so_far was in
-    (done_kept old new k more (omega arith) so.0, done_more old new i (suc k) more within so.1 (here same))
-
--- the same round, written in another way
-pub next_done : (entries : List Entry) (k : ℕ) → AllDone entries (suc k) → AllDone entries (k + 1)
-next_done entries k all = let one : suc k ≡ k + 1 = omega arith in subst (AllDone entries) one all
 
 more_rested : (entries : List Entry) → IsMore entries (map rested entries)
 more_rested entries = record {
@@ -132,30 +70,19 @@ more_rested entries = record {
     rested_at (e ∷ es) (suc i) x at = rested_at es i x at
 
     same_rested : (x : Entry) → x.rounds ≡ None → rested x ≡ x
-    same_rested x none = λ i. record { kind = x.kind; parent = x.parent; firsts = x.firsts; last = x.last; children = x.children; rounds = sym none i }
+    same_rested x none = λ i. record { kind = x.kind; parent = x.parent; firsts = x.firsts; children = x.children; rounds = sym none i }
 
--- the table at rest, after a round without news
+-- the table at rest
 pub record IsSettled (s : System) (pairs : ℕ) (old new : List Entry) : Type 0 where
   pub table : IsTable s pairs new
   pub at_rest : AllRest new
   pub same : map pair_of new ≡ map pair_of old
   pub more : IsMore old new
 
-pub settled : (s : System) (pairs : ℕ) (entries new : List Entry) (first t : ℕ) → IsTable s pairs entries → 0 < t → AllDone entries t
-    → ((j : ℕ) (e : Entry) → j < first → slice_get entries j ≡ Some e → e.rounds ≡ None) → has_later first t entries ≡ false → new ≡ map rested entries → IsSettled s pairs entries new
-settled s pairs entries new first zero table some done resting quiet is = absurd (omega arith)
-settled s pairs entries new first (suc k) table some done resting quiet is =
-    let all = table_rested s pairs entries first k table done resting quiet in
+pub settled : (s : System) (pairs : ℕ) (entries new : List Entry) (g : Agenda) → IsGoing s pairs entries g → ((q : ℕ) → row_in g.due q ≡ []) → new ≡ map rested entries → IsSettled s pairs entries new
+settled s pairs entries new g go nothing is =
+    let all = table_rested s pairs entries g go nothing in
     subst (λ (z : List Entry). IsSettled s pairs entries z) (sym is) (record { table = all.0; at_rest = all.1; same = all.2; more = more_rested entries })
-
--- the entries below a place are at rest still
-pub still_resting : (old new : List Entry) (first : ℕ) → IsMore old new → first ≤ length old → AllRest old → (j : ℕ) (e : Entry) → j < first → slice_get new j ≡ Some e → e.rounds ≡ None
-still_resting old new first more within rest j e less at =
-    let x = at_of old j (omega arith) in
-    let none = rest x.0 (Contains-at old j x.0 x.1) in
-    let y = later_at old new j x.0 more x.1 in
-    let same : y.0 ≡ e = let both : Some y.0 ≡ Some e = sym y.1 ∙ at in cc in
-    sym (ap (λ (z : Entry). z.rounds) same) ∙ ap (λ (z : Entry). z.rounds) (y.2.at_rest none) ∙ none
 
 -- the entries that were there before, where all were at rest
 pub old_ones : (old new : List Entry) → AllRest old → IsMore old new → take (length old) new ≡ old

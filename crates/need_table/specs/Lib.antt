@@ -1,4 +1,6 @@
+pub mod Agendas
 pub mod Places
 pub mod PlainTables
 pub mod PlainViews
+pub mod Rows
 pub mod Tables

@@ -1,6 +1,6 @@
 -- The table of pairs, while it is filled.
-use Rattle.std.specs.Prelude.{◌≡◌, ◌≢◌, ◌⊎◌, ◌++◌, ◌||◌, set, drop, ◌≤◌, ◌<◌, ℕ, suc, List, [], ◌∷◌, map, length, not, nat_le, Bool, false, Option, Some, None, Contains, IsSomeAnd, slice_get, ◌==◌, if◌then◌else◌}
-use Rattle.std.specs.List.{filter, flat_map, list_any}
+use Rattle.std.specs.Prelude.{◌≡◌, ◌≢◌, ◌⊎◌, ◌++◌, set, ◌≤◌, ℕ, suc, List, [], ◌∷◌, map, length, not, nat_le, Option, Some, None, Contains, IsSomeAnd, slice_get, ◌==◌, if◌then◌else◌}
+use Rattle.std.specs.List.{filter, flat_map}
 use Rattle.tp_base.specs.Classes.{has_class}
 use Rattle.simple_core.specs.declared.system.System.{System}
 use Rattle.simple_core.specs.declared.rules.Spawn.{Spawn}
@@ -30,12 +30,10 @@ abbrev pub IsDone : Option ℕ → ℕ → Type 0
 IsDone None k = Unit {0}
 IsDone (Some n) k = k ≤ n
 
--- each atom that the label has in a round that was worked out is there once, with its first round; `last` is the last of these
+-- each atom that the label has in a round that was worked out is there, with its first round
 pub record IsUpTo (s : System) (e : Entry) : Type 0 where
   pub right : (f : First) → Contains e.firsts.items f → IsDone e.rounds f.round × IsFirst (labels s (pair_of e)) f.atom (Some f.round)
   pub whole : (k a : ℕ) → IsDone e.rounds k → Contains (labels s (pair_of e) k) a → (f : First) × Contains e.firsts.items f × (f.atom ≡ a)
-  pub latest : (f : First) → Contains e.firsts.items f → f.round ≤ e.last
-  pub brought : e.last ≢ 0 → (f : First) × Contains e.firsts.items f × (f.round ≡ e.last)
 
 abbrev pub AreUpTo : System → List Entry → Type 0
 AreUpTo s entries = (e : Entry) → Contains entries e → IsUpTo s e
@@ -64,27 +62,22 @@ pub record IsMore (old new : List Entry) : Type 0 where
   pub kept : (i : ℕ) (e : Entry) → slice_get old i ≡ Some e → IsSomeAnd (slice_get new i) (IsKept e)
   pub longer : length old ≤ length new
 
--- the last round that brought an atom, where the round after k brought these
-abbrev pub last_after : ℕ → ℕ → List First → ℕ
-last_after last k [] = last
-last_after last k (f ∷ fs) = suc k
-
 -- the entry at i got the atoms new and the places that it asks, if k was its last round; then it has one round more
 abbrev pub NotedAt : List Entry → List Entry → ℕ → ℕ → List First → List ℕ → Entry → Type 0
 NotedAt old new i k firsts children e = ((e' : Entry) × (new ≡ set old i e') × (e.rounds ≡ Some k) × (pair_of e' ≡ pair_of e) × (e'.rounds ≡ Some (suc k)) × (e'.firsts.items ≡ e.firsts.items ++ firsts)
-    × (e'.last ≡ last_after e.last k firsts) × (e'.children.items ≡ children)) ⊎ ((new ≡ old) × (e.rounds ≢ Some k))
+    × (e'.children.items ≡ children)) ⊎ ((new ≡ old) × (e.rounds ≢ Some k))
 
 abbrev pub IsNoted : List Entry → List Entry → ℕ → ℕ → List First → List ℕ → Type 0
 IsNoted old new i k firsts children = (e : Entry) → slice_get old i ≡ Some e → NotedAt old new i k firsts children e
 
--- the entry with one round more than k, and nothing new
-abbrev pub passed : ℕ → Entry → Entry
-passed k e = record e { rounds = Some (suc k) }
+-- the entry, worked out up to the round k
+abbrev pub raised : ℕ → Entry → Entry
+raised k e = record e { rounds = Some k }
 
 -- nothing that counts is another at i, where a round was to be noted
 abbrev pub IsUntouched : List Entry → List Entry → ℕ → Type 0
 IsUntouched old new i = (e : Entry) → slice_get old i ≡ Some e → (e' : Entry) × (new ≡ set old i e') × (e.rounds ≢ None) × (pair_of e' ≡ pair_of e) × (e'.rounds ≡ e.rounds) × (e'.firsts.items ≡ e.firsts.items)
-    × (e'.last ≡ e.last) × (e'.children.items ≡ e.children.items)
+    × (e'.children.items ≡ e.children.items)
 
 -- each pair of the table is needed for those of qs
 abbrev pub AreNeeded : System → List Pair → List Entry → Type 0
@@ -101,25 +94,8 @@ given_from s k own seen spawns = flat_map (given_by_links s.down) (map (λ j. gr
 abbrev pub AllDone : List Entry → ℕ → Type 0
 AllDone entries t = (e : Entry) → Contains entries e → IsDone e.rounds t
 
--- the same, for the entries before a place
-abbrev pub AreDoneBelow : ℕ → List Entry → ℕ → Type 0
-AreDoneBelow first entries t = (j : ℕ) (e : Entry) → j < first → slice_get entries j ≡ Some e → IsDone e.rounds t
-
 abbrev pub AllRest : List Entry → Type 0
 AllRest entries = (e : Entry) → Contains entries e → e.rounds ≡ None
-
--- whether the entry got an atom in this round or later
-abbrev pub is_late : ℕ → Option Entry → Bool
-is_late k None = false
-is_late k (Some e) = nat_le k e.last
-
--- whether it, or one that it asks, did
-abbrev pub has_news : ℕ → List Entry → Entry → Bool
-has_news k entries e = nat_le k e.last || list_any (λ j. is_late k (slice_get entries j)) e.children.items
-
--- the same, for some entry from a place on
-abbrev pub has_later : ℕ → ℕ → List Entry → Bool
-has_later first k entries = list_any (has_news k entries) (drop first entries)
 
 -- the entry, at rest
 abbrev pub rested : Entry → Entry

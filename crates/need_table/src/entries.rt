@@ -1,8 +1,8 @@
 //! One pair of the table, and its label in each round so far.
-ghost use Rattle.std.specs.Prelude.{◌≡◌, ◌↔◌, ◌<◌, ◌^◌, [], ◌∷◌, Some, IfOk, IsTrue};
+ghost use Rattle.std.specs.Prelude.{◌≡◌, ◌↔◌, [], ◌∷◌, Some, IfOk, IsTrue};
 ghost use Rattle.tp_base.specs.Classes.{has_class};
 ghost use Rattle.simple_core.specs.Labels.{set_of};
-ghost use Rattle.need_table.specs.Tables.{atoms_by, fresh_of, last_after};
+ghost use Rattle.need_table.specs.Tables.{atoms_by, fresh_of};
 
 use std::alloc::Global;
 use tp_base::{Atom, ClassSet, NoMemory};
@@ -14,14 +14,13 @@ pub(crate) struct First {
     pub(crate) round: u64,
 }
 
-/// A pair. `rounds` is the last round for which it was worked out, and `None` where it has come to rest; `last` is the last one
-/// that brought an atom, and `children` has the places of the pairs that its label asks.
+/// A pair. `rounds` is the last round for which it was worked out, and `None` where it has come to rest; `children` has the
+/// places of the pairs that its label asks.
 #[derive(Drop)]
 pub(crate) struct Entry {
     pub(crate) kind: u32,
     pub(crate) parent: ClassSet,
     pub(crate) firsts: Vec<First>,
-    pub(crate) last: u64,
     pub(crate) children: Vec<usize>,
     pub(crate) rounds: Option<u64>,
 }
@@ -60,17 +59,6 @@ pub(crate) fn fresh(
         i += 1;
     }
     Ok(new)
-}
-
-/// The last round that brought an atom, where the round after k brought these.
-pub(crate) fn last_after(last: u64, k: u64, new: &[First]) -> u64
-    requires { k < 2 ^ 62 }
-    ensures { result ≡ last_after last k new.now }
-{
-    match new.first() {
-        Some(_) => k + 1,
-        None => last,
-    }
 }
 
 /// Whether this is the last round of the entry.

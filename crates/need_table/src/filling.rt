@@ -1,14 +1,17 @@
-//! One step of filling the table: an entry gets one round more.
-ghost use Rattle.std.specs.Prelude.{◌≡◌, ◌↔◌, ◌≤◌, ◌<◌, ◌^◌, IsTrue, ℕ, suc, List, [], map, length, slice_get, Some, None, Contains, IsSomeAnd, IfOk, OnOk, OnErr};
+//! One round more of an entry: what it asks, and what it gets.
+ghost use Rattle.std.specs.Prelude.{◌≡◌, ◌+◌, ◌↔◌, ◌≤◌, ◌<◌, ◌^◌, IsTrue, ℕ, suc, List, [], map, length, slice_get, Some, None, Contains, IsSomeAnd, IfOk, OnOk, OnErr};
 ghost use Rattle.tp_base.specs.Classes.{union_of};
 ghost use Rattle.std.specs.List.{flat_map};
 ghost use Rattle.simple_core.specs.Systems.{kind_label};
 ghost use Rattle.simple_core.specs.Labels.{given_by_links, visible_in, labels_below};
 ghost use Rattle.simple_core.specs.Rounds.{grown};
 ghost use Rattle.simple_core.specs.Pairs.{Pair, Asks, Needed, HasMore};
-ghost use Rattle.need_table.specs.Tables.{pair_of, labels, fresh_of, IsDone, IsHeard, AreUpTo, AllDone, IsTable, IsMore, IsNoted, IsUntouched, AreNeeded};
+ghost use Rattle.need_table.specs.Tables.{pair_of, labels, fresh_of, IsDone, IsHeard, IsTable, IsMore, AreNeeded};
+ghost use Rattle.need_table.specs.Rows.{IsEmptyBelow, AreSameBelow};
+ghost use Rattle.need_table.specs.Agendas.{AreKnown, IsAppended, IsGoing};
 
-use crate::entries::{Entry, fresh, is_at, label_by};
+use crate::agenda::{Agenda, listen, tell};
+use crate::entries::{Entry, fresh, label_by};
 use crate::pair_table::Table;
 use crate::rules::add_by_rules;
 use simple_core::{GainFault, System, add_by_links};
@@ -25,7 +28,7 @@ fn first_entry(
     requires { kind < length system.now.kinds }
     ensures pair { IfOk result (λ e. pair_of e ≡ (kind, parent.now)) }
     ensures rounds { IfOk result (λ e. e.rounds ≡ Some 0) }
-    ensures last { IfOk result (λ e. e.last ≡ 0) }
+    ensures children { IfOk result (λ e. e.children.items ≡ []) }
     ensures firsts { IfOk result (λ e. e.firsts.items ≡ fresh_of [] 0 (kind_label system.now kind)) }
 {
     let label = &system.kinds.items()[kind as usize].label;
@@ -35,7 +38,6 @@ fn first_entry(
         kind,
         parent: parent.copy()?,
         firsts,
-        last: 0,
         children: Vec::new(alloc),
         rounds: Some(0),
     })
@@ -56,6 +58,7 @@ pub(crate) fn place_of(
     ensures more { IsMore table.old table.new }
     ensures place { IfOk result (λ i. IsSomeAnd (slice_get table.new i) (λ e. pair_of e ≡ (kind, parent.now))) }
     ensures within { IfOk result (λ i. i < length table.new) }
+    ensures appended { OnOk result (IsAppended table.old table.new) }
     ensures needed { (qs : List Pair) → AreNeeded system.now qs table.old → Needed system.now (Contains qs) (kind, parent.now) → AreNeeded system.now qs table.new }
     ensures spent { result ≡ Err GainFault.Spent → (qs : List Pair) → AreNeeded system.now qs table.old → Needed system.now (Contains qs) (kind, parent.now)
         → HasMore (Needed system.now (Contains qs)) pairs }
@@ -88,6 +91,8 @@ fn ask_all(
     ensures table { IsTable system.now pairs table.new }
     ensures more { IsMore table.old table.new }
     ensures heard { IfOk result (λ v. (r : Pair) → Asks system.now own.now r → IsHeard table.new v.items r) }
+    ensures inside { IfOk result (λ v. (j : ℕ) → Contains v.items j → j < length table.new) }
+    ensures appended { OnOk result (IsAppended table.old table.new) }
     ensures needed { (qs : List Pair) → AreNeeded system.now qs table.old → ((r : Pair) → Asks system.now own.now r → Needed system.now (Contains qs) r) → AreNeeded system.now qs table.new }
     ensures spent { result ≡ Err GainFault.Spent → (qs : List Pair) → AreNeeded system.now qs table.old → ((r : Pair) → Asks system.now own.now r → Needed system.now (Contains qs) r)
         → HasMore (Needed system.now (Contains qs)) pairs }
@@ -114,8 +119,7 @@ fn add_child(
     seen: &ClassSet,
     next: &mut ClassSet,
 ) -> Result<(), NoMemory>
-    requires up_to { AreUpTo system.now table.now }
-    requires done { AllDone table.now k }
+    requires labels { AreKnown system.now k table.now }
     requires known { Contains (map pair_of table.now) (kind, seen.now) }
     ensures { OnOk result (next.new ≡ union_of next.old (given_by_links system.now.down (grown system.now k kind seen.now))) }
 {
@@ -139,8 +143,7 @@ fn add_children(
     next: &mut ClassSet,
 ) -> Result<(), NoMemory>
     requires seen { seen.now ≡ visible_in system.now own.now }
-    requires up_to { AreUpTo system.now table.now }
-    requires done { AllDone table.now k }
+    requires labels { AreKnown system.now k table.now }
     requires asked { (r : Pair) → Asks system.now own.now r → Contains (map pair_of table.now) r }
     ensures { OnOk result (next.new ≡ union_of next.old (flat_map (given_by_links system.now.down) (labels_below system.now (grown system.now k) own.now))) }
 {
@@ -166,8 +169,7 @@ fn next_label(
 ) -> Result<ClassSet, NoMemory>
     requires own { IsSomeAnd (slice_get table.now i) (λ e. own.now ≡ labels system.now (pair_of e) k) }
     requires seen { seen.now ≡ visible_in system.now own.now }
-    requires up_to { AreUpTo system.now table.now }
-    requires done { AllDone table.now k }
+    requires labels { AreKnown system.now k table.now }
     requires asked { (r : Pair) → Asks system.now own.now r → Contains (map pair_of table.now) r }
     ensures { IfOk result (λ n. IsSomeAnd (slice_get table.now i) (λ e. n ≡ labels system.now (pair_of e) (suc k))) }
 {
@@ -178,40 +180,83 @@ fn next_label(
     Ok(next)
 }
 
-/// Gives an entry one round more, if it stands in round k, and what it asks is there already: then there are no more
-/// than `before` entries afterwards.
-pub(crate) fn step(
+/// What an entry asks in its last round: its label, what its children see of it, and where they stand.
+#[derive(Drop)]
+pub(crate) struct Asked {
+    own: ClassSet,
+    seen: ClassSet,
+    children: Vec<usize>,
+}
+
+/// What the entry asks in the round k, its last one. Pairs that are new are added.
+pub(crate) fn asked_by(
     alloc: Global,
     system: &System,
     table: &mut Table,
     pairs: u32,
     i: usize,
     k: u64,
-    before: usize,
-) -> Result<(), GainFault>
-    requires place { i < length table.old }
-    requires round { k < 2 ^ 62 }
+) -> Result<Asked, GainFault>
+    requires rounds { IsSomeAnd (slice_get table.old i) (λ e. e.rounds ≡ Some k) }
     requires table { IsTable system.now pairs table.old }
-    requires before { before ≤ length table.old }
-    requires done { length table.old ≡ before → AllDone table.old k }
-    ensures table { IsTable system.now pairs table.new }
+    ensures table { OnOk result (IsTable system.now pairs table.new) }
     ensures more { IsMore table.old table.new }
-    ensures done { OnOk result (length table.new ≡ before → IsSomeAnd (slice_get table.new i) (λ e. IsDone e.rounds (suc k))) }
-    ensures needed { (qs : List Pair) → AreNeeded system.now qs table.old → AreNeeded system.now qs table.new }
+    ensures appended { OnOk result (IsAppended table.old table.new) }
+    ensures asked { IfOk result (λ a. IsSomeAnd (slice_get table.old i) (λ e. a.own ≡ labels system.now (pair_of e) k)) }
+    ensures seen { IfOk result (λ a. a.seen ≡ visible_in system.now a.own) }
+    ensures heard { IfOk result (λ a. (r : Pair) → Asks system.now a.own r → IsHeard table.new a.children.items r) }
+    ensures inside { IfOk result (λ a. (j : ℕ) → Contains a.children.items j → j < length table.new) }
+    ensures needed { OnOk result ((qs : List Pair) → AreNeeded system.now qs table.old → AreNeeded system.now qs table.new) }
     ensures spent { result ≡ Err GainFault.Spent → (qs : List Pair) → AreNeeded system.now qs table.old → HasMore (Needed system.now (Contains qs)) pairs }
 {
-    if !is_at(table.entry(i), k) {
-        return Ok(());
-    }
     let own = label_by(alloc, &table.entry(i).firsts, k)?;
     let mut seen = own.copy()?;
     seen.cut(&system.visible);
     let children = ask_all(alloc, system, table, pairs, &own, &seen)?;
-    if table.len() != before {
-        return Ok(());
-    }
-    let next = next_label(alloc, system, table, i, k, &own, &seen)?;
-    let new = fresh(alloc, &own, &next, k + 1)?;
-    table.note(i, k, &new, children)?;
+    Ok(Asked {
+        own,
+        seen,
+        children,
+    })
+}
+
+/// Gives an entry one round more than k, its last one, and tells those whom that concerns.
+pub(crate) fn step(
+    alloc: Global,
+    system: &System,
+    table: &mut Table,
+    agenda: &mut Agenda,
+    pairs: u32,
+    i: usize,
+    k: u64,
+    asked: Asked,
+) -> Result<(), NoMemory>
+    requires round { k + 1 < 2 ^ 64 }
+    requires going { IsGoing system.now pairs table.old agenda.old }
+    requires early { IsEmptyBelow k agenda.old.due }
+    requires rounds { IsSomeAnd (slice_get table.old i) (λ e. e.rounds ≡ Some k) }
+    requires asked { IsSomeAnd (slice_get table.old i) (λ e. asked.own ≡ labels system.now (pair_of e) k) }
+    requires seen { asked.seen ≡ visible_in system.now asked.own }
+    requires heard { (r : Pair) → Asks system.now asked.own r → IsHeard table.old asked.children.items r }
+    requires inside { (j : ℕ) → Contains asked.children.items j → j < length table.old }
+    ensures going { OnOk result (IsGoing system.now pairs table.new agenda.new) }
+    ensures more { IsMore table.old table.new }
+    ensures same { OnOk result (map pair_of table.new ≡ map pair_of table.old) }
+    ensures rows { OnOk result (AreSameBelow (suc k) agenda.old.due agenda.new.due) }
+    ensures done { OnOk result (IsSomeAnd (slice_get table.new i) (λ e. IsDone e.rounds (suc k))) }
+{
+    let _pairs = pairs;
+    let next = next_label(alloc, system, table, i, k, &asked.own, &asked.seen)?;
+    let new = fresh(alloc, &asked.own, &next, k + 1)?;
+    let first = agenda.first;
+    listen(
+        &mut agenda.askers,
+        first,
+        i,
+        &table.entry(i).children,
+        &asked.children,
+    )?;
+    table.note(i, k, &new, asked.children)?;
+    tell(table.entries(), agenda, i, k, &new)?;
     Ok(())
 }

@@ -1,11 +1,13 @@
 //! A table of what is known of pairs, pair by pair.
 #![tactic(auto)]
 
+mod agenda;
 mod asking;
 mod entries;
 mod filling;
 mod pair_table;
 mod places;
+mod rows;
 mod rules;
 mod settling;
 mod table;

@@ -1,9 +1,9 @@
 //! The entries of the table.
-ghost use Rattle.std.specs.Prelude.{◌≡◌, ◌↔◌, ◌≤◌, ◌<◌, ◌^◌, ◌∷◌, ◌++◌, [], ℕ, None, Some, map, take, set, length, slice_get, get_or, Contains, IsNone, IfSome, IsSomeAnd, OnOk, OnErr};
+ghost use Rattle.std.specs.Prelude.{◌≡◌, ◌↔◌, ◌+◌, ◌≤◌, ◌<◌, ◌^◌, ◌∷◌, ◌++◌, [], ℕ, None, Some, map, take, set, length, slice_get, get_or, Contains, IsNone, IfSome, IsSomeAnd, OnOk, OnErr};
 ghost use Rattle.need_table.specs.declared.entries.Entry.{Entry};
-ghost use Rattle.need_table.specs.Tables.{pair_of, rested, passed, IsNoted, IsUntouched};
+ghost use Rattle.need_table.specs.Tables.{pair_of, rested, raised, IsNoted, IsUntouched};
 
-use crate::entries::{Entry, First, is_at, last_after};
+use crate::entries::{Entry, First, is_at};
 use crate::places::Places;
 use std::alloc::Global;
 use std::marker::Model;
@@ -99,20 +99,19 @@ impl Table {
         children: Vec<usize>,
     ) -> Result<(), NoMemory>
         requires place { i < length self.old }
-        requires round { k < 2 ^ 62 }
+        requires round { k + 1 < 2 ^ 64 }
         ensures ok { OnOk result (IsNoted self.old self.new i k new.now children.items) }
         ensures err { OnErr result (IsUntouched self.old self.new i) }
     {
         note(&mut self.entries, i, k, new, children)
     }
 
-    /// Notes that nothing is new at an entry in the round after k.
-    pub(crate) fn pass(&mut self, i: usize, k: u64)
-        requires place { i < length self.old }
-        requires round { k < 2 ^ 62 }
-        ensures { (e : Entry) → slice_get self.old i ≡ Some e → self.new ≡ set self.old i (passed k e) }
+    /// Notes that nothing is new at an entry up to the round k.
+    pub(crate) fn raise(&mut self, i: usize, k: u64)
+        requires { i < length self.old }
+        ensures { (e : Entry) → slice_get self.old i ≡ Some e → self.new ≡ set self.old i (raised k e) }
     {
-        pass(&mut self.entries, i, k);
+        raise(&mut self.entries, i, k);
     }
 
     /// Sets all entries at rest. Those before this place are so already.
@@ -142,28 +141,25 @@ fn note(
     children: Vec<usize>,
 ) -> Result<(), NoMemory>
     requires place { i < length entries.old.items }
-    requires round { k < 2 ^ 62 }
+    requires round { k + 1 < 2 ^ 64 }
     ensures ok { OnOk result (IsNoted entries.old.items entries.new.items i k new.now children.items) }
     ensures err { OnErr result (IsUntouched entries.old.items entries.new.items i) }
 {
     if is_at(&entries[i], k) {
         let entry = &mut entries[i];
         entry.firsts.extend_from_slice(new)?;
-        let last = last_after(entry.last, k, new);
-        entry.last = last;
         entry.children = children;
         entry.rounds = Some(k + 1);
     }
     Ok(())
 }
 
-// Notes one round more than k.
-fn pass(entries: &mut Vec<Entry>, i: usize, k: u64)
-    requires place { i < length entries.old.items }
-    requires round { k < 2 ^ 62 }
-    ensures { (e : Entry) → slice_get entries.old.items i ≡ Some e → entries.new.items ≡ set entries.old.items i (passed k e) }
+// Notes that nothing is new up to the round k.
+fn raise(entries: &mut Vec<Entry>, i: usize, k: u64)
+    requires { i < length entries.old.items }
+    ensures { (e : Entry) → slice_get entries.old.items i ≡ Some e → entries.new.items ≡ set entries.old.items i (raised k e) }
 {
-    entries[i].rounds = Some(k + 1);
+    entries[i].rounds = Some(k);
 }
 
 // Sets all entries at rest. Those before this place are so already.

@@ -19,7 +19,10 @@ struct Question {
     parent: ClassSet,
 }
 
-/// A table of pairs, at most so many. It answers what it knows, and works out what it doesn't.
+/// A table of pairs, at most so many. It answers what it knows, and works out what it doesn't. A new pair has a turn, and then one
+/// in each round after one in which its label, or one that it asks or asked, got an atom. A turn costs a look at each rule of the
+/// system, at the atoms of its label and of those that it asks, and at each pair that asks it. Where it asks new pairs, it waits for
+/// them and is made again, which costs a step for each round so far besides.
 #[derive(Drop)]
 pub struct PlainSummaries {
     system: System,

@@ -1,7 +1,7 @@
 use Rattle.std.proofs.Common.{◌≡◌, ◌<◌, map, length, slice_get, IsSomeAnd, Contains, refl, subst, arith}
 use Rattle.simple_core.specs.Pairs.{Pair}
 use Rattle.need_table.specs.Tables.{pair_of}
-use Rattle.need_table.proofs.FillLemmas.{IsPushed, pushed, full}
+use Rattle.need_table.proofs.FillLemmas.{IsPushed, pushed, full, appended_none}
 use Rattle.need_table.proofs.filling.place_of.Goals.{In-None, In_ok-push-in-None}
 use Rattle.need_table.proofs.filling.place_of.Goals as goal
 
@@ -13,7 +13,7 @@ stands c =
     let room : length c.args.table.now < c.args.pairs = omega (arith, c.if-place-pairs.false, c.len-place.ensures) in
     pushed c.args.system.now c.args.pairs c.args.table.now c.push.new.self (c.args.kind, c.args.parent.now) c.in_ok-entry-in-None.entry
     c.requires.table room (c.in-None.ensures.none.0 refl)
-    c.in_ok-entry-in-None.ensures.pair c.in_ok-entry-in-None.ensures.rounds c.in_ok-entry-in-None.ensures.last c.in_ok-entry-in-None.ensures.firsts c.in_ok-push-in-None.ensures.ok
+    c.in_ok-entry-in-None.ensures.pair c.in_ok-entry-in-None.ensures.rounds c.in_ok-entry-in-None.ensures.children c.in_ok-entry-in-None.ensures.firsts c.in_ok-push-in-None.ensures.ok
 
 pub returns-then-place-pairs-clause-spent : goal.returns-then-place-pairs-clause-spent
 returns-then-place-pairs-clause-spent c = λ is qs needed one.
@@ -36,3 +36,9 @@ returns-in_ok-push-in-None-clause-needed c = (stands (goal.at.returns-in_ok-push
 
 pub push-requires : goal.push-requires
 push-requires c = λ there. c.in-None.ensures.none.0 refl (subst (λ (q : Pair). Contains (map pair_of c.args.table.now) q) c.in_ok-entry-in-None.ensures.pair there)
+
+pub returns-in_ok-push-in-None-clause-appended : goal.returns-in_ok-push-in-None-clause-appended
+returns-in_ok-push-in-None-clause-appended c = (stands (goal.at.returns-in_ok-push-in-None-clause-appended c).In_ok-push-in-None).appended
+
+pub returns-in-Some-clause-appended : goal.returns-in-Some-clause-appended
+returns-in-Some-clause-appended c = appended_none c.args.table.now

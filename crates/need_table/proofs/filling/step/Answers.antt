@@ -1,127 +1,62 @@
-use Rattle.std.proofs.Common.{◌≡◌, suc, Some, Err, length, ap, ◌∙◌, arith, rules}
-use Rattle.simple_core.specs.declared.summaries.GainFault.TheVariants.{Spent}
-use Rattle.simple_core.specs.Labels.{set_of}
-use Rattle.need_table.specs.Tables.{atoms_by}
-use Rattle.need_table.proofs.FillLemmas.{more_twice}
-use Rattle.need_table.proofs.ChildLemmas.{step_own, asks_needed, own_later, own_before, round_done, round_lost, needed_same, heard_there}
-use Rattle.need_table.proofs.SettleLemmas.{done_kept}
+use Rattle.std.proofs.Common.{◌≡◌, ℕ, List, Contains, Some, slice_get, length, ap, ◌∙◌, sym, subst, arith}
+use Rattle.need_table.specs.declared.entries.First.{First}
+use Rattle.need_table.proofs.FillLemmas.{more_itself}
+use Rattle.need_table.proofs.ChildLemmas.{within_of, heard_there, round_done, round_lost}
+use Rattle.need_table.proofs.GoingLemmas.{known}
+use Rattle.need_table.proofs.StepLemmas.{listening, stepped}
 use Rattle.need_table.proofs.filling.step.Goals as goal
 
-pub returns-in_err-children-clause-needed : goal.returns-in_err-children-clause-needed
-returns-in_err-children-clause-needed c =
-    λ qs all.
-    let at = step_own c.args.system.now c.args.pairs c.args.table.now c.args.i c.args.k c.entry.result.now c.entry-2.result.now c.in_ok-own.own c.requires.table c.requires.place c.entry.ensures (c.is_at.ensures.0 c.if-not-is_at.false) c.entry-2.ensures
-    (c.in_ok-own.ensures ∙ ap (λ z. set_of (atoms_by c.args.k z)) c.deref.ensures.value) in
-    c.ask_all.ensures.needed qs all (asks_needed c.args.system.now qs c.args.table.now c.args.i c.args.k c.in_ok-own.own at.1 all)
-
-pub returns-in_err-children-clause-spent : goal.returns-in_err-children-clause-spent
-returns-in_err-children-clause-spent c =
-    λ is qs all.
-    let at = step_own c.args.system.now c.args.pairs c.args.table.now c.args.i c.args.k c.entry.result.now c.entry-2.result.now c.in_ok-own.own c.requires.table c.requires.place c.entry.ensures (c.is_at.ensures.0 c.if-not-is_at.false) c.entry-2.ensures
-    (c.in_ok-own.ensures ∙ ap (λ z. set_of (atoms_by c.args.k z)) c.deref.ensures.value) in
-    let spent : c.ask_all.result ≡ Err Spent = search rules in
-    c.ask_all.ensures.spent spent qs all (asks_needed c.args.system.now qs c.args.table.now c.args.i c.args.k c.in_ok-own.own at.1 all)
-
-pub returns-then-len-before-clause-needed : goal.returns-then-len-before-clause-needed
-returns-then-len-before-clause-needed c =
-    λ qs all.
-    let at = step_own c.args.system.now c.args.pairs c.args.table.now c.args.i c.args.k c.entry.result.now c.entry-2.result.now c.in_ok-own.own c.requires.table c.requires.place c.entry.ensures (c.is_at.ensures.0 c.if-not-is_at.false) c.entry-2.ensures
-    (c.in_ok-own.ensures ∙ ap (λ z. set_of (atoms_by c.args.k z)) c.deref.ensures.value) in
-    c.in_ok-children.ensures.needed qs all (asks_needed c.args.system.now qs c.args.table.now c.args.i c.args.k c.in_ok-own.own at.1 all)
-
-pub next_label-requires-clause-own : goal.next_label-requires-clause-own
-next_label-requires-clause-own c =
-    let at = step_own c.args.system.now c.args.pairs c.args.table.now c.args.i c.args.k c.entry.result.now c.entry-2.result.now c.in_ok-own.own c.requires.table c.requires.place c.entry.ensures (c.is_at.ensures.0 c.if-not-is_at.false) c.entry-2.ensures
-    (c.in_ok-own.ensures ∙ ap (λ z. set_of (atoms_by c.args.k z)) c.deref.ensures.value) in
-    own_later c.args.system.now c.args.table.now c.ask_all.new.table c.args.i c.args.k c.in_ok-own.own c.in_ok-children.ensures.more at.1
-
-pub next_label-requires-clause-up_to : goal.next_label-requires-clause-up_to
-next_label-requires-clause-up_to c =
-    c.in_ok-children.ensures.table.up_to
-
-pub next_label-requires-clause-done : goal.next_label-requires-clause-done
-next_label-requires-clause-done c =
-    let same : length c.ask_all.new.table ≡ c.args.before = omega (arith, c.if-len-before.false, c.len.ensures) in
-    done_kept c.args.table.now c.ask_all.new.table c.args.k c.in_ok-children.ensures.more (omega (arith, same, c.requires.before, c.in_ok-children.ensures.more.longer))
-    (c.requires.done (omega (arith, same, c.requires.before, c.in_ok-children.ensures.more.longer)))
+pub next_label-requires-clause-labels : goal.next_label-requires-clause-labels
+next_label-requires-clause-labels c = known c.args.system.now c.args.pairs c.args.table.now c.args.agenda.now c.requires.going c.args.k c.requires.early
 
 pub next_label-requires-clause-asked : goal.next_label-requires-clause-asked
-next_label-requires-clause-asked c =
-    λ r asks. heard_there c.ask_all.new.table c.in_ok-children.children.items r (c.in_ok-children.ensures.heard r asks)
+next_label-requires-clause-asked c = λ r asks. heard_there c.args.table.now c.args.asked.children.items r (c.requires.heard r asks)
 
-pub returns-in_err-next-clause-needed : goal.returns-in_err-next-clause-needed
-returns-in_err-next-clause-needed c =
-    λ qs all.
-    let at = step_own c.args.system.now c.args.pairs c.args.table.now c.args.i c.args.k c.entry.result.now c.entry-2.result.now c.in_ok-own.own c.requires.table c.requires.place c.entry.ensures (c.is_at.ensures.0 c.if-not-is_at.false) c.entry-2.ensures
-    (c.in_ok-own.ensures ∙ ap (λ z. set_of (atoms_by c.args.k z)) c.deref.ensures.value) in
-    c.in_ok-children.ensures.needed qs all (asks_needed c.args.system.now qs c.args.table.now c.args.i c.args.k c.in_ok-own.own at.1 all)
+pub entry-requires : goal.entry-requires
+entry-requires c = within_of (λ e. e.rounds ≡ Some c.args.k) c.args.table.now c.args.i c.requires.rounds
 
-pub returns-in_err-new-clause-needed : goal.returns-in_err-new-clause-needed
-returns-in_err-new-clause-needed c =
-    λ qs all.
-    let at = step_own c.args.system.now c.args.pairs c.args.table.now c.args.i c.args.k c.entry.result.now c.entry-2.result.now c.in_ok-own.own c.requires.table c.requires.place c.entry.ensures (c.is_at.ensures.0 c.if-not-is_at.false) c.entry-2.ensures
-    (c.in_ok-own.ensures ∙ ap (λ z. set_of (atoms_by c.args.k z)) c.deref.ensures.value) in
-    c.in_ok-children.ensures.needed qs all (asks_needed c.args.system.now qs c.args.table.now c.args.i c.args.k c.in_ok-own.own at.1 all)
+pub listen-requires : goal.listen-requires
+listen-requires c = λ j child le. listening c.args.system.now c.args.pairs c.args.table.now c.args.agenda.now c.args.i c.args.k c.entry.result.now c.deref.result.now j c.requires.going c.requires.rounds c.entry.ensures c.deref.ensures.value child le
 
-pub returns-in_err-note-clause-table : goal.returns-in_err-note-clause-table
-returns-in_err-note-clause-table c =
-    let at = step_own c.args.system.now c.args.pairs c.args.table.now c.args.i c.args.k c.entry.result.now c.entry-2.result.now c.in_ok-own.own c.requires.table c.requires.place c.entry.ensures (c.is_at.ensures.0 c.if-not-is_at.false) c.entry-2.ensures
-    (c.in_ok-own.ensures ∙ ap (λ z. set_of (atoms_by c.args.k z)) c.deref.ensures.value) in
-    let step = round_lost c.args.system.now c.args.pairs c.args.table.now c.ask_all.new.table c.note.new.self c.args.i c.args.k c.in_ok-children.ensures.table c.in_ok-children.ensures.more at.0 c.in_err-note.ensures.err in
-    step.table
+pub note-requires-clause-place : goal.note-requires-clause-place
+note-requires-clause-place c = within_of (λ e. e.rounds ≡ Some c.args.k) c.args.table.now c.args.i c.requires.rounds
 
 pub returns-in_err-note-clause-more : goal.returns-in_err-note-clause-more
-returns-in_err-note-clause-more c =
-    let at = step_own c.args.system.now c.args.pairs c.args.table.now c.args.i c.args.k c.entry.result.now c.entry-2.result.now c.in_ok-own.own c.requires.table c.requires.place c.entry.ensures (c.is_at.ensures.0 c.if-not-is_at.false) c.entry-2.ensures
-    (c.in_ok-own.ensures ∙ ap (λ z. set_of (atoms_by c.args.k z)) c.deref.ensures.value) in
-    let step = round_lost c.args.system.now c.args.pairs c.args.table.now c.ask_all.new.table c.note.new.self c.args.i c.args.k c.in_ok-children.ensures.table c.in_ok-children.ensures.more at.0 c.in_err-note.ensures.err in
-    more_twice c.args.table.now c.ask_all.new.table c.note.new.self c.in_ok-children.ensures.more step.more
+returns-in_err-note-clause-more c = (round_lost c.args.system.now c.args.pairs c.args.table.now c.args.table.now c.note.new.self c.args.i c.args.k c.requires.going.table (more_itself c.args.table.now) c.requires.rounds c.in_err-note.ensures.err).more
 
-pub returns-in_err-note-clause-needed : goal.returns-in_err-note-clause-needed
-returns-in_err-note-clause-needed c =
-    λ qs all.
-    let at = step_own c.args.system.now c.args.pairs c.args.table.now c.args.i c.args.k c.entry.result.now c.entry-2.result.now c.in_ok-own.own c.requires.table c.requires.place c.entry.ensures (c.is_at.ensures.0 c.if-not-is_at.false) c.entry-2.ensures
-    (c.in_ok-own.ensures ∙ ap (λ z. set_of (atoms_by c.args.k z)) c.deref.ensures.value) in
-    let step = round_lost c.args.system.now c.args.pairs c.args.table.now c.ask_all.new.table c.note.new.self c.args.i c.args.k c.in_ok-children.ensures.table c.in_ok-children.ensures.more at.0 c.in_err-note.ensures.err in
-    needed_same c.args.system.now qs c.ask_all.new.table c.note.new.self step.same (c.in_ok-children.ensures.needed qs all (asks_needed c.args.system.now qs c.args.table.now c.args.i c.args.k c.in_ok-own.own at.1 all))
+pub tell-requires-clause-place : goal.tell-requires-clause-place
+tell-requires-clause-place c =
+    let step = round_done c.args.system.now c.args.pairs c.args.table.now c.args.table.now c.note.new.self c.args.i c.args.k c.args.asked.own c.in_ok-next.next c.deref-3.result.now c.args.asked.children.items c.requires.going.table
+    (more_itself c.args.table.now) c.requires.rounds c.requires.asked c.in_ok-next.ensures c.requires.heard (c.deref-3.ensures.value ∙ c.in_ok-new.ensures) c.in_ok-note.ensures.ok in
+    let longer = step.0.more.longer in
+    let less = within_of (λ e. e.rounds ≡ Some c.args.k) c.args.table.now c.args.i c.requires.rounds in
+    omega (arith, ap length c.entries.ensures)
 
-pub returns-clause-table : goal.returns-clause-table
-returns-clause-table c =
-    let at = step_own c.args.system.now c.args.pairs c.args.table.now c.args.i c.args.k c.entry.result.now c.entry-2.result.now c.in_ok-own.own c.requires.table c.requires.place c.entry.ensures (c.is_at.ensures.0 c.if-not-is_at.false) c.entry-2.ensures
-    (c.in_ok-own.ensures ∙ ap (λ z. set_of (atoms_by c.args.k z)) c.deref.ensures.value) in
-    let next = own_before c.args.system.now (λ e. e.rounds ≡ Some c.args.k) c.args.table.now c.ask_all.new.table c.args.i (suc c.args.k) c.in_ok-next.next c.in_ok-children.ensures.more at.0
-    c.in_ok-next.ensures in
-    let step = round_done c.args.system.now c.args.pairs c.args.table.now c.ask_all.new.table c.note.new.self c.args.i c.args.k c.in_ok-own.own c.in_ok-next.next c.deref-2.result.now c.in_ok-children.children.items
-    c.in_ok-children.ensures.table c.in_ok-children.ensures.more at.0 at.1 next c.in_ok-children.ensures.heard (c.deref-2.ensures.value ∙ c.in_ok-new.ensures) c.in_ok-note.ensures.ok in
-    step.0.table
+pub returns-in_err-tell-clause-more : goal.returns-in_err-tell-clause-more
+returns-in_err-tell-clause-more c =
+    (round_done c.args.system.now c.args.pairs c.args.table.now c.args.table.now c.note.new.self c.args.i c.args.k c.args.asked.own c.in_ok-next.next c.deref-3.result.now c.args.asked.children.items c.requires.going.table
+    (more_itself c.args.table.now) c.requires.rounds c.requires.asked c.in_ok-next.ensures c.requires.heard (c.deref-3.ensures.value ∙ c.in_ok-new.ensures) c.in_ok-note.ensures.ok).0.more
+
+pub returns-clause-going : goal.returns-clause-going
+returns-clause-going c =
+    stepped c.args.system.now c.args.pairs c.args.table.now c.note.new.self c.args.agenda.now c.tell.new.agenda c.listen.new.askers c.args.i c.args.k c.args.asked.own c.in_ok-next.next c.deref-3.result.now
+    c.args.asked.children.items c.requires.going c.requires.rounds c.requires.asked c.in_ok-next.ensures c.requires.heard c.requires.inside (c.deref-3.ensures.value ∙ c.in_ok-new.ensures) c.in_ok-note.ensures.ok
+    c.tell.ensures.first c.tell.ensures.kept c.in_ok-tell.ensures.more c.in_ok-listen.ensures.more
+    (λ f there. c.in_ok-tell.ensures.own f (subst (λ (z : List First). Contains z f) (c.deref-3.ensures.value ∙ sym c.deref-4.ensures.value) there))
+    (λ f there a asks. c.in_ok-tell.ensures.askers f (subst (λ (z : List First). Contains z f) (c.deref-3.ensures.value ∙ sym c.deref-4.ensures.value) there) a asks) (λ j child le. c.in_ok-listen.ensures.heard j (subst (λ (z : List ℕ). Contains z j) (sym c.deref-2.ensures.value) child) le)
+    (λ e j c' f at child at_j there le. c.in_ok-tell.ensures.children e j c' f (ap (λ z. slice_get z c.args.i) c.entries.ensures ∙ at) child (ap (λ z. slice_get z j) c.entries.ensures ∙ at_j) there le)
 
 pub returns-clause-more : goal.returns-clause-more
 returns-clause-more c =
-    let at = step_own c.args.system.now c.args.pairs c.args.table.now c.args.i c.args.k c.entry.result.now c.entry-2.result.now c.in_ok-own.own c.requires.table c.requires.place c.entry.ensures (c.is_at.ensures.0 c.if-not-is_at.false) c.entry-2.ensures
-    (c.in_ok-own.ensures ∙ ap (λ z. set_of (atoms_by c.args.k z)) c.deref.ensures.value) in
-    let next = own_before c.args.system.now (λ e. e.rounds ≡ Some c.args.k) c.args.table.now c.ask_all.new.table c.args.i (suc c.args.k) c.in_ok-next.next c.in_ok-children.ensures.more at.0
-    c.in_ok-next.ensures in
-    let step = round_done c.args.system.now c.args.pairs c.args.table.now c.ask_all.new.table c.note.new.self c.args.i c.args.k c.in_ok-own.own c.in_ok-next.next c.deref-2.result.now c.in_ok-children.children.items
-    c.in_ok-children.ensures.table c.in_ok-children.ensures.more at.0 at.1 next c.in_ok-children.ensures.heard (c.deref-2.ensures.value ∙ c.in_ok-new.ensures) c.in_ok-note.ensures.ok in
-    more_twice c.args.table.now c.ask_all.new.table c.note.new.self c.in_ok-children.ensures.more step.0.more
+    (round_done c.args.system.now c.args.pairs c.args.table.now c.args.table.now c.note.new.self c.args.i c.args.k c.args.asked.own c.in_ok-next.next c.deref-3.result.now c.args.asked.children.items c.requires.going.table
+    (more_itself c.args.table.now) c.requires.rounds c.requires.asked c.in_ok-next.ensures c.requires.heard (c.deref-3.ensures.value ∙ c.in_ok-new.ensures) c.in_ok-note.ensures.ok).0.more
+
+pub returns-clause-same : goal.returns-clause-same
+returns-clause-same c =
+    (round_done c.args.system.now c.args.pairs c.args.table.now c.args.table.now c.note.new.self c.args.i c.args.k c.args.asked.own c.in_ok-next.next c.deref-3.result.now c.args.asked.children.items c.requires.going.table
+    (more_itself c.args.table.now) c.requires.rounds c.requires.asked c.in_ok-next.ensures c.requires.heard (c.deref-3.ensures.value ∙ c.in_ok-new.ensures) c.in_ok-note.ensures.ok).0.same
 
 pub returns-clause-done : goal.returns-clause-done
 returns-clause-done c =
-    let at = step_own c.args.system.now c.args.pairs c.args.table.now c.args.i c.args.k c.entry.result.now c.entry-2.result.now c.in_ok-own.own c.requires.table c.requires.place c.entry.ensures (c.is_at.ensures.0 c.if-not-is_at.false) c.entry-2.ensures
-    (c.in_ok-own.ensures ∙ ap (λ z. set_of (atoms_by c.args.k z)) c.deref.ensures.value) in
-    let next = own_before c.args.system.now (λ e. e.rounds ≡ Some c.args.k) c.args.table.now c.ask_all.new.table c.args.i (suc c.args.k) c.in_ok-next.next c.in_ok-children.ensures.more at.0
-    c.in_ok-next.ensures in
-    let step = round_done c.args.system.now c.args.pairs c.args.table.now c.ask_all.new.table c.note.new.self c.args.i c.args.k c.in_ok-own.own c.in_ok-next.next c.deref-2.result.now c.in_ok-children.children.items
-    c.in_ok-children.ensures.table c.in_ok-children.ensures.more at.0 at.1 next c.in_ok-children.ensures.heard (c.deref-2.ensures.value ∙ c.in_ok-new.ensures) c.in_ok-note.ensures.ok in
-    λ same. step.1
-
-pub returns-clause-needed : goal.returns-clause-needed
-returns-clause-needed c =
-    λ qs all.
-    let at = step_own c.args.system.now c.args.pairs c.args.table.now c.args.i c.args.k c.entry.result.now c.entry-2.result.now c.in_ok-own.own c.requires.table c.requires.place c.entry.ensures (c.is_at.ensures.0 c.if-not-is_at.false) c.entry-2.ensures
-    (c.in_ok-own.ensures ∙ ap (λ z. set_of (atoms_by c.args.k z)) c.deref.ensures.value) in
-    let next = own_before c.args.system.now (λ e. e.rounds ≡ Some c.args.k) c.args.table.now c.ask_all.new.table c.args.i (suc c.args.k) c.in_ok-next.next c.in_ok-children.ensures.more at.0
-    c.in_ok-next.ensures in
-    let step = round_done c.args.system.now c.args.pairs c.args.table.now c.ask_all.new.table c.note.new.self c.args.i c.args.k c.in_ok-own.own c.in_ok-next.next c.deref-2.result.now c.in_ok-children.children.items
-    c.in_ok-children.ensures.table c.in_ok-children.ensures.more at.0 at.1 next c.in_ok-children.ensures.heard (c.deref-2.ensures.value ∙ c.in_ok-new.ensures) c.in_ok-note.ensures.ok in
-    needed_same c.args.system.now qs c.ask_all.new.table c.note.new.self step.0.same (c.in_ok-children.ensures.needed qs all (asks_needed c.args.system.now qs c.args.table.now c.args.i c.args.k c.in_ok-own.own at.1 all))
+    (round_done c.args.system.now c.args.pairs c.args.table.now c.args.table.now c.note.new.self c.args.i c.args.k c.args.asked.own c.in_ok-next.next c.deref-3.result.now c.args.asked.children.items c.requires.going.table
+    (more_itself c.args.table.now) c.requires.rounds c.requires.asked c.in_ok-next.ensures c.requires.heard (c.deref-3.ensures.value ∙ c.in_ok-new.ensures) c.in_ok-note.ensures.ok).1

@@ -1,7 +1,7 @@
 use Rattle.std.proofs.Common.{◌≡◌, ◌++◌, Some, None, refl, sym, ap, inl, inr, ◌∙◌, arith}
 use Rattle.std.proofs.lemmas.Bool.{both_ways}
 use Rattle.need_table.specs.declared.entries.Entry.{Entry}
-use Rattle.need_table.specs.Tables.{pair_of, last_after}
+use Rattle.need_table.specs.Tables.{pair_of}
 use Rattle.need_table.proofs.FillLemmas.{read_at, on_err}
 use Rattle.need_table.proofs.pair_table.note.Goals as goal
 
@@ -10,7 +10,7 @@ returns-in_ok-extend_from_slice-clause-ok c = λ e at.
     let entries = c.args.entries.now.items in
     let here : c.index_mut-entry.result.now ≡ e = c.index_mut-entry.ensures.value ∙ read_at entries c.args.i e c.index_mut-entry.result.now at in
     let rounds : e.rounds ≡ Some c.args.k = ap (λ (x : Entry). x.rounds) (sym (c.index.ensures ∙ read_at entries c.args.i e c.index.result.now at)) ∙ c.is_at.ensures.0 c.if-is_at.true in
-    inl (_, refl, rounds, ap pair_of here, ap Some (omega arith), c.in_ok-extend_from_slice.ensures.items ∙ ap (λ (x : Entry). x.firsts.items ++ c.args.new.now) here, c.last_after-last.ensures ∙ ap (λ (x : Entry). last_after x.last c.args.k c.args.new.now) here, refl)
+    inl (_, refl, rounds, ap pair_of here, ap Some (omega arith), c.in_ok-extend_from_slice.ensures.items ∙ ap (λ (x : Entry). x.firsts.items ++ c.args.new.now) here, refl)
 
 pub returns-else-is_at-clause-ok : goal.returns-else-is_at-clause-ok
 returns-else-is_at-clause-ok c = λ e at.
@@ -22,4 +22,4 @@ returns-in_err-extend_from_slice-clause-err c = on_err _ c.from_residual.result 
     let entries = c.args.entries.now.items in
     let here : c.index_mut-entry.result.now ≡ e = c.index_mut-entry.ensures.value ∙ read_at entries c.args.i e c.index_mut-entry.result.now at in
     let rounds : e.rounds ≡ Some c.args.k = ap (λ (x : Entry). x.rounds) (sym (c.index.ensures ∙ read_at entries c.args.i e c.index.result.now at)) ∙ c.is_at.ensures.0 c.if-is_at.true in
-    (_, refl, λ none. let never : Some c.args.k ≡ None = sym rounds ∙ none in cc, ap pair_of here, ap (λ (x : Entry). x.rounds) here, c.in_err-extend_from_slice.ensures.items ∙ ap (λ (x : Entry). x.firsts.items) here, ap (λ (x : Entry). x.last) here, ap (λ (x : Entry). x.children.items) here))
+    (_, refl, λ none. let never : Some c.args.k ≡ None = sym rounds ∙ none in cc, ap pair_of here, ap (λ (x : Entry). x.rounds) here, c.in_err-extend_from_slice.ensures.items ∙ ap (λ (x : Entry). x.firsts.items) here, ap (λ (x : Entry). x.children.items) here))

@@ -1,0 +1,200 @@
+//! What is to be done, while the table is filled.
+ghost use Rattle.std.specs.Prelude.{◌≡◌, ◌≢◌, ◌≤◌, ◌<◌, ◌-◌, ◌+◌, ◌^◌, ℕ, [], Contains, length, Some, slice_get, IfSome, IsSomeAnd, OnOk};
+ghost use Rattle.need_table.specs.declared.entries.First.{First};
+ghost use Rattle.need_table.specs.declared.entries.Entry.{Entry};
+ghost use Rattle.need_table.specs.Rows.{row_in, IsRicher, AreSameBelow, IsDue};
+
+use crate::entries::{Entry, First};
+use crate::rows::Rows;
+use std::alloc::Global;
+use tp_base::NoMemory;
+
+/// What is to be done for the entries from `first` on. `due` has places by rounds: the entry is to be worked out for the round
+/// after. `askers` has the places of those that ask an entry, by its place, counted from `first`.
+#[derive(Drop)]
+pub(crate) struct Agenda {
+    pub(crate) first: usize,
+    pub(crate) due: Rows,
+    pub(crate) askers: Rows,
+}
+
+impl Agenda {
+    /// Nothing yet, for the entries from this place on.
+    pub(crate) fn new(alloc: Global, first: usize) -> Agenda
+        ensures first { result.first ≡ first }
+        ensures due { result.due ≡ [] }
+        ensures askers { result.askers ≡ [] }
+    {
+        Agenda {
+            first,
+            due: Rows::new(alloc),
+            askers: Rows::new(alloc),
+        }
+    }
+}
+
+/// Makes the entries at these places due in round 0.
+pub(crate) fn start(due: &mut Rows, from: usize, to: usize) -> Result<(), NoMemory>
+    ensures started { OnOk result ((i : ℕ) → from ≤ i → i < to → Contains (row_in due.new 0) i) }
+    ensures more { OnOk result (IsRicher due.old due.new) }
+{
+    let mut i = from;
+    'places: while i < to {
+        due.add(0, i)?;
+        i += 1;
+    }
+    Ok(())
+}
+
+/// Makes the entries at these places due in the round k.
+pub(crate) fn wake(due: &mut Rows, places: &[usize], k: usize) -> Result<(), NoMemory>
+    ensures woken { OnOk result ((i : ℕ) → Contains places.now i → Contains (row_in due.new k) i) }
+    ensures more { OnOk result (IsRicher due.old due.new) }
+    ensures same { OnOk result (AreSameBelow k due.old due.new) }
+{
+    let mut rest = places;
+    'places: while let Some((place, others)) = rest.split_first() {
+        due.add(k, *place)?;
+        rest = others;
+    }
+    Ok(())
+}
+
+/// Notes that the entry at i asks those at the places `new`, where it asked those of `old` before. Linear in these.
+pub(crate) fn listen(
+    askers: &mut Rows,
+    first: usize,
+    i: usize,
+    old: &[usize],
+    new: &[usize],
+) -> Result<(), NoMemory>
+    requires { (j : ℕ) → Contains old.now j → first ≤ j → Contains (row_in askers.old (j - first)) i }
+    ensures heard { OnOk result ((j : ℕ) → Contains new.now j → first ≤ j → Contains (row_in askers.new (j - first)) i) }
+    ensures more { OnOk result (IsRicher askers.old askers.new) }
+{
+    let mut known = 0;
+    let mut rest = new;
+    'places: while let Some((j, others)) = rest.split_first() {
+        known = listen_at(askers, first, i, old, known, *j)?;
+        rest = others;
+    }
+    Ok(())
+}
+
+// The same for one place. The places of `old` before `known` were found among the new ones.
+fn listen_at(
+    askers: &mut Rows,
+    first: usize,
+    i: usize,
+    old: &[usize],
+    known: usize,
+    j: usize,
+) -> Result<usize, NoMemory>
+    requires { (j : ℕ) → Contains old.now j → first ≤ j → Contains (row_in askers.old (j - first)) i }
+    ensures heard { OnOk result (first ≤ j → Contains (row_in askers.new (j - first)) i) }
+    ensures more { OnOk result (IsRicher askers.old askers.new) }
+{
+    if let Some(place) = old.get(known)
+        && *place == j
+    {
+        return Ok(known + 1);
+    }
+    if j >= first {
+        askers.add(j - first, i)?;
+    }
+    Ok(known)
+}
+
+// The first round from this one on that brought an atom.
+fn next_round(firsts: &[First], from: u64) -> Option<u64>
+    ensures within { IfSome result (λ w. from ≤ w) }
+    ensures least { (f : First) → Contains firsts.now f → from ≤ f.round → IsSomeAnd result (λ w. w ≤ f.round) }
+{
+    let mut least: Option<u64> = None;
+    let mut rest = firsts;
+    'firsts: while let Some((first, others)) = rest.split_first() {
+        least = sooner(least, first.round, from);
+        rest = others;
+    }
+    least
+}
+
+// The sooner of two rounds, where the second counts from this one on.
+fn sooner(least: Option<u64>, round: u64, from: u64) -> Option<u64>
+    requires { IfSome least (λ w. from ≤ w) }
+    ensures within { IfSome result (λ w. from ≤ w) }
+    ensures old { IfSome least (λ w. IsSomeAnd result (λ v. v ≤ w)) }
+    ensures new { from ≤ round → IsSomeAnd result (λ v. v ≤ round) }
+{
+    if round < from {
+        return least;
+    }
+    match least {
+        Some(w) if w <= round => Some(w),
+        _ => Some(round),
+    }
+}
+
+// The same, of the entry at a place.
+fn next_at(entries: &[Entry], j: usize, from: u64) -> Option<u64>
+    ensures within { IfSome result (λ w. from ≤ w) }
+    ensures least { (c : Entry) (f : First) → slice_get entries.now j ≡ Some c → Contains c.firsts.items f → from ≤ f.round → IsSomeAnd result (λ w. w ≤ f.round) }
+{
+    match entries.get(j) {
+        Some(entry) => next_round(&entry.firsts, from),
+        None => None,
+    }
+}
+
+/// Makes the entry at i due where one at these places has an atom from this round on. Linear in their atoms.
+pub(crate) fn expect(
+    entries: &[Entry],
+    due: &mut Rows,
+    i: usize,
+    from: u64,
+    children: &[usize],
+) -> Result<(), NoMemory>
+    ensures due { OnOk result ((j : ℕ) (c : Entry) (f : First) → Contains children.now j → slice_get entries.now j ≡ Some c → Contains c.firsts.items f → from ≤ f.round → IsDue due.new i from f.round) }
+    ensures more { OnOk result (IsRicher due.old due.new) }
+    ensures same { OnOk result (AreSameBelow from due.old due.new) }
+{
+    let mut rest = children;
+    'places: while let Some((j, others)) = rest.split_first() {
+        if let Some(w) = next_at(entries, *j, from) {
+            due.add(w as usize, i)?;
+        }
+        rest = others;
+    }
+    Ok(())
+}
+
+/// Makes due whom it concerns that the entry at i has the round after k now, and got these atoms in it: those that ask it and
+/// itself, for these, and itself for what its children got since.
+pub(crate) fn tell(
+    entries: &[Entry],
+    agenda: &mut Agenda,
+    i: usize,
+    k: u64,
+    new: &[First],
+) -> Result<(), NoMemory>
+    requires place { i < length entries.now }
+    requires first { agenda.old.first ≤ i }
+    requires round { k + 1 < 2 ^ 64 }
+    ensures children { OnOk result ((e : Entry) (j : ℕ) (c : Entry) (f : First) → slice_get entries.now i ≡ Some e → Contains e.children.items j → slice_get entries.now j ≡ Some c → Contains c.firsts.items f → k + 1 ≤ f.round → IsDue agenda.new.due i (k + 1) f.round) }
+    ensures askers { OnOk result ((f : First) → Contains new.now f → (a : ℕ) → Contains (row_in agenda.old.askers (i - agenda.old.first)) a → Contains (row_in agenda.new.due (k + 1)) a) }
+    ensures own { OnOk result ((f : First) → Contains new.now f → Contains (row_in agenda.new.due (k + 1)) i) }
+    ensures more { OnOk result (IsRicher agenda.old.due agenda.new.due) }
+    ensures same { OnOk result (AreSameBelow (k + 1) agenda.old.due agenda.new.due) }
+    ensures first { agenda.new.first ≡ agenda.old.first }
+    ensures kept { agenda.new.askers ≡ agenda.old.askers }
+{
+    expect(entries, &mut agenda.due, i, k + 1, &entries[i].children)?;
+    if new.is_empty() {
+        return Ok(());
+    }
+    let round = k as usize + 1;
+    let row = i - agenda.first;
+    wake(&mut agenda.due, agenda.askers.row(row), round)?;
+    agenda.due.add(round, i)?;
+    Ok(())
+}
