@@ -1,7 +1,7 @@
 -- Rules found by the atoms that they look at.
-use Rattle.std.proofs.Common.{◌≡◌, ◌≢◌, ◌⊎◌, ◌==◌, Bool, true, false, ℕ, zero, suc, ◌+◌, ◌-◌, ◌<◌, List, [], ◌∷◌, ◌++◌, take, length, get_or, slice_get, Option, Some, None, option_map, unwrap_or, All, Contains, refl, sym, ap, ◌∙◌, inl, inr, arith, subst}
+use Rattle.std.proofs.Common.{◌≡◌, ◌≢◌, ◌⊎◌, Bool, true, false, ℕ, zero, suc, ◌+◌, ◌<◌, List, [], ◌∷◌, ◌++◌, take, length, get_or, slice_get, Option, Some, None, option_map, unwrap_or, Contains, refl, sym, ap, ◌∙◌, inl, inr, arith, subst}
 use Rattle.std.specs.List.Sorted.{IsStrictlyIncreasing}
-use Rattle.std.proofs.lemmas.Bool.{cases_order, cases_Bool, both_ways, eq-eqb, and_from}
+use Rattle.std.proofs.lemmas.Bool.{cases_order, and_from}
 use Rattle.std.proofs.lemmas.List.{take_more, length-take-le, append_assoc}
 use Rattle.std.proofs.lemmas.Grind.{flat_map-append}
 use Rattle.std.proofs.lemmas.List.Folds.{list_all_at, list_all_more}
@@ -17,9 +17,10 @@ use Rattle.simple_core.specs.declared.rules.Local.{Local}
 use Rattle.simple_core.specs.declared.rules.Link.{Link}
 use Rattle.simple_core.specs.declared.rules.Spawn.{Spawn}
 use Rattle.simple_core.specs.Labels.{given_by_rules, given_by_links}
-use Rattle.simple_core.proofs.Members.{flat_map-Contains, Contains-flat_map, all_among_each}
+use Rattle.simple_core.proofs.Members.{flat_map-Contains, Contains-flat_map}
 use Rattle.simple_core.proofs.LabelLemmas.{IsByRule, given_by_rules-is, is-given_by_rules, given_by_links-is, is-given_by_links, kinds_at-is, is-kinds_at}
-use Rattle.class_adding.specs.Indexes.{row_of, IsNoted, IsIndex, needs_key, AreLocalsAt, AreLinksAt, AreSpawnsAt, at_place, at_row, by_label, given_in, to_of, kind_of, AreKinds}
+use Rattle.class_adding.specs.Fresh.{IsMore, AreMet}
+use Rattle.class_adding.specs.Indexes.{row_of, IsNoted, IsIndex, AreNeedsNoted, IsRuleNoted, AreLocalsAt, AreLinksAt, AreSpawnsAt, at_place, at_row, by_label, given_in, to_of, kind_of, AreKinds}
 
 -- unions with the same members are one
 pub union_of-same : (start xs ys : List ℕ) → IsStrictlyIncreasing start → ((y : ℕ) → Contains xs y → Contains ys y) → ((y : ℕ) → Contains ys y → Contains xs y) → union_of start xs ≡ union_of start ys
@@ -116,7 +117,7 @@ pub kinds_end : {X : Type 0} (f : X → List ℕ) (rules : List X) (next start r
 kinds_end f rules next start [] row none same = sym (join_end next) ∙ same
 kinds_end f rules next start (p ∷ rest) row none same = absurd (omega arith)
 
-take_next : {X : Type 0} (xs : List X) (i : ℕ) (a : X) → slice_get xs i ≡ Some a → take (i + 1) xs ≡ take i xs ++ a ∷ []
+pub take_next : {X : Type 0} (xs : List X) (i : ℕ) (a : X) → slice_get xs i ≡ Some a → take (i + 1) xs ≡ take i xs ++ a ∷ []
 take_next xs i a at = take_more xs i a (slice_get_within xs i a at) ∙ (λ n. take i xs ++ get_or_from_slice_get xs i a a at n ∷ [])
 
 by_label-more : {X : Type 0} (f : X → List ℕ) (rules : List X) (rows : List (List ℕ)) (at : ℕ → ℕ) (label : List ℕ) (i a : ℕ) → slice_get label i ≡ Some a
@@ -206,43 +207,119 @@ given_in-is rules label r y listed there =
 is-given_in : (rules : List Local) (label : List ℕ) (y : ℕ) (by : IsByRule rules label y) → Contains (given_in label by.rule) y
 is-given_in rules label y by = is-given_by_rules (by.rule ∷ []) label y (record { rule = by.rule; listed = Contains-here by.rule by.rule [] refl; needs = by.needs; gives = by.gives })
 
--- what a rule needs last is there, where all that it needs is
-positive : (n : ℕ) → (n == 0) ≡ false → 0 < n
-positive n other = elim (cases_order n 0) [
-  | inl same ↦ absurd (both_ways (n == 0) other (eq-eqb n 0 same))
-  | inr (inl less) ↦ absurd (omega (arith, less))
-  | inr (inr more) ↦ more
-]
+-- the rules found at a key give nothing but what the rules give
+at_row-is : (rules : List Local) (label row : List ℕ) (y : ℕ) → Contains (at_row (given_in label) rules row) y → Contains (given_by_rules rules label) y
+at_row-is rules label row y there =
+    let of = flat_map-Contains (at_place (given_in label) rules) row y there in
+    elim (slice_get rules of.0) as (λ (o : Option Local). slice_get rules of.0 ≡ o → Contains (unwrap_or (option_map (given_in label) o) []) y → Contains (given_by_rules rules label) y) [
+      | None ↦ λ e h. absurd (Contains-none y h)
+      | Some r ↦ λ e h. given_in-is rules label r y (listed_at rules of.0 r e) h
+    ] refl of.2
 
-last_need : (needs label : List ℕ) → All (Contains label) needs → (needs_key needs ≡ 0) ⊎ ((a : ℕ) × Contains label a × (needs_key needs ≡ a + 1))
-last_need needs label all = elim (cases_Bool (length needs == 0)) [
-  | inl none ↦ inl (rw none refl)
-  | inr some ↦
-      let long = positive (length needs) some in
-      let a = get_or needs (length needs - 1) 0 in
-      inr (a, all_among_each needs label all a (Contains-get_or needs (length needs - 1) 0 (omega (arith, long))), rw some refl)
-]
+is-at_row : (rules : List Local) (rows : List (List ℕ)) (label : List ℕ) (key i : ℕ) (r : Local) (y : ℕ) → Contains (row_of rows key) i → slice_get rules i ≡ Some r → Contains (given_in label r) y → Contains (at_row (given_in label) rules (row_of rows key)) y
+is-at_row rules rows label key i r y in_row at given =
+    Contains-flat_map (at_place (given_in label) rules) (row_of rows key) i y in_row (subst (λ (z : List ℕ). Contains z y) (sym (place_is (given_in label) rules i r at)) given)
 
-pub ruled : (rules : List Local) (rows : List (List ℕ)) (label start first next row : List ℕ) → AreLocalsAt rules rows → IsStrictlyIncreasing start → row ≡ row_of rows 0 → first ≡ union_of start (at_row (given_in label) rules row)
-    → next ≡ union_of first (by_label (given_in label) rules rows (λ a. a + 1) label) → next ≡ union_of start (given_by_rules rules label)
-ruled rules rows label start first next row index up at_first is_first is_next =
-    let key : Local → ℕ = λ r. needs_key r.needs in
+pub ruled : (rules : List Local) (rows : List (List ℕ)) (label fresh start first next row : List ℕ) → AreLocalsAt rules rows → AreMet rules label fresh → row ≡ row_of rows 0 → first ≡ union_of start (at_row (given_in label) rules row)
+    → next ≡ union_of first (by_label (given_in label) rules rows (λ a. a + 1) fresh) → IsMore label (given_by_rules rules label) start next
+ruled rules rows label fresh start first next row index met at_first is_first is_next =
     let f = given_in label in
     let xs = at_row f rules (row_of rows 0) in
-    let ys = by_label f rules rows (λ a. a + 1) label in
-    is_next ∙ ap (λ z. union_of z ys) (is_first ∙ ap (λ z. union_of start (at_row f rules z)) at_first)
-    ∙ sym (fold-append (λ (zs : List ℕ) (y : ℕ). with_class y zs) start xs ys)
-    ∙ union_of-same start (xs ++ ys) (given_by_rules rules label) up
-    (λ y there. elim (Contains-append_cases xs ys y there) [
-      | inl free ↦ let x = row-is f key rules rows index 0 y free in given_in-is rules label x.0 y x.1 x.3
-      | inr found ↦ let of = label-is f key rules rows index (λ a. a + 1) label y found in given_in-is rules label of.2 y of.3 of.5
-    ])
-    (λ y there.
+    let ys = by_label f rules rows (λ a. a + 1) fresh in
+    let both : next ≡ union_of start (xs ++ ys) = is_next ∙ ap (λ z. union_of z ys) (is_first ∙ ap (λ z. union_of start (at_row f rules z)) at_first)
+    ∙ sym (fold-append (λ (zs : List ℕ) (y : ℕ). with_class y zs) start xs ys) in
+    let right : (y : ℕ) → Contains (xs ++ ys) y → Contains (given_by_rules rules label) y = λ y there. elim (Contains-append_cases xs ys y there) [
+      | inl free ↦ at_row-is rules label (row_of rows 0) y free
+      | inr found ↦ let of = flat_map-Contains (λ a. at_row f rules (row_of rows (a + 1))) fresh y found in at_row-is rules label (row_of rows (of.0 + 1)) y of.2
+    ] in
+    let whole : (y : ℕ) → Contains (given_by_rules rules label) y → Contains label y ⊎ Contains (xs ++ ys) y = λ y there.
     let by = given_by_rules-is rules label y there in
-    elim (last_need by.rule.needs label by.needs) [
-      | inl free ↦ Contains-append_left xs ys y (is-row f key rules rows index by.rule 0 y by.listed free (is-given_in rules label y by))
-      | inr last ↦ Contains-append_right xs ys y (is-label f key rules rows index (λ a. a + 1) label by.rule last.0 y last.1 by.listed last.2 (is-given_in rules label y by))
-    ])
+    let place = by.listed in
+    let at : slice_get rules place.0 ≡ Some by.rule = slice_get-get_or rules place.0 by.rule place.1 ∙ ap Some place.2 in
+    let given = is-given_in rules label y by in
+    elim (met by.rule by.listed by.needs) [
+      | inl known ↦ inl (subst (Contains label) by.gives known)
+      | inr (inl free) ↦ inr (Contains-append_left xs ys y (is-at_row rules rows label 0 place.0 by.rule y (index.free place.0 by.rule at free) at given))
+      | inr (inr new) ↦ inr (Contains-append_right xs ys y (Contains-flat_map (λ a. at_row f rules (row_of rows (a + 1))) fresh new.0 y new.2
+          (is-at_row rules rows label (new.0 + 1) place.0 by.rule y (index.each place.0 by.rule new.0 at new.1) at given)))
+    ] in
+    subst (λ (z : List ℕ). IsMore label (given_by_rules rules label) start z) (sym both) (record {
+      kept = λ y there. (Contains-union_of start (xs ++ ys) y).1 (inl there);
+      right = λ y there. elim ((Contains-union_of start (xs ++ ys) y).0 there) [ inl old ↦ inl old | inr new ↦ inr (right y new) ];
+      whole = λ y there. elim (whole y there) [ inl known ↦ inl known | inr new ↦ inr ((Contains-union_of start (xs ++ ys) y).1 (inr new)) ];
+    })
+
+-- ---- making the index of rules
+
+pub locals_none : (rows : List (List ℕ)) → AreLocalsAt [] rows
+locals_none rows = record {
+  free = λ i r at none. let never : None ≡ Some r = at in cc;
+  each = λ i r a at needs. let never : None ≡ Some r = at in cc;
+}
+
+pub locals_more : (rules : List Local) (i : ℕ) (r : Local) (old new : List (List ℕ)) → i < length rules → r ≡ get_or rules i r → AreLocalsAt (take i rules) old → IsRuleNoted old new r.needs i → AreLocalsAt (take (i + 1) rules) new
+locals_more rules i r old new less at before noted =
+    let longer : take (i + 1) rules ≡ take i rules ++ r ∷ [] = take_more rules i r less ∙ (λ n. take i rules ++ sym at n ∷ []) in
+    let long : length (take i rules) ≡ i = length-take-le i rules (omega (arith, less)) in
+    subst (λ (xs : List Local). AreLocalsAt xs new) (sym longer) (record {
+      free = λ j x at_j none. elim (last_at (take i rules) r j x at_j) [
+        | inl old_one ↦ noted.noted.kept 0 j (before.free j x old_one none)
+        | inr last ↦ subst (λ z. Contains (row_of new 0) z) (sym (last.0 ∙ long)) (noted.free (sym (ap (λ (z : Local). z.needs) last.1) ∙ none))
+      ];
+      each = λ j x a at_j needs. elim (last_at (take i rules) r j x at_j) [
+        | inl old_one ↦ noted.noted.kept (a + 1) j (before.each j x a old_one needs)
+        | inr last ↦ subst (λ z. Contains (row_of new (a + 1)) z) (sym (last.0 ∙ long)) (noted.noted.each a (subst (λ (z : Local). Contains z.needs a) last.1 needs))
+      ];
+    })
+
+-- the place of one rule, at each atom that it needs
+pub needs_none : (rows : List (List ℕ)) (place : ℕ) → AreNeedsNoted rows rows [] place
+needs_none rows place = record { kept = λ k i h. h; each = λ a there. absurd (Contains-none a there) }
+
+pub needs_more : (start old new : List (List ℕ)) (needs : List ℕ) (place i a key : ℕ) → slice_get needs i ≡ Some a → key ≡ a + 1 → AreNeedsNoted start old (take i needs) place → IsNoted old new key place → AreNeedsNoted start new (take (i + 1) needs) place
+needs_more start old new needs place i a key at is so_far noted =
+    let here : Contains (row_of new key) place = subst (λ (z : List ℕ). Contains z place) (sym noted.here) (Contains-append_right (row_of old key) (place ∷ []) place (Contains-here place place [] refl)) in
+    subst (λ (z : List ℕ). AreNeedsNoted start new z place) (sym (take_next needs i a at)) (record {
+      kept = λ k j there. noted_kept old new key place noted k j (so_far.kept k j there);
+      each = λ x there. elim (Contains-append_cases (take i needs) (a ∷ []) x there) [
+        | inl before ↦ noted_kept old new key place noted (x + 1) place (so_far.each x before)
+        | inr last ↦ elim ((Contains-cons x a []).0 last) [
+          | inl same ↦ subst (λ z. Contains (row_of new z) place) (is ∙ ap (λ z. z + 1) (sym same)) here
+          | inr none ↦ absurd (Contains-none x none)
+        ]
+      ];
+    })
+
+pub rule_free : (old new : List (List ℕ)) (needs : List ℕ) (place key : ℕ) → needs ≡ [] → key ≡ 0 → IsNoted old new key place → IsRuleNoted old new needs place
+rule_free old new needs place key none zero_key noted = record {
+  noted = record { kept = noted_kept old new key place noted; each = λ a there. absurd (Contains-none a (subst (λ (z : List ℕ). Contains z a) none there)) };
+  free = λ e. subst (λ z. Contains (row_of new z) place) zero_key (subst (λ (z : List ℕ). Contains z place) (sym noted.here) (Contains-append_right (row_of old key) (place ∷ []) place (Contains-here place place [] refl)));
+}
+
+pub rule_needs : (old new : List (List ℕ)) (needs : List ℕ) (place n : ℕ) → n ≡ length needs → (n ≡ 0 → ⊥) → AreNeedsNoted old new needs place → IsRuleNoted old new needs place
+rule_needs old new needs place n is some noted = record { noted = noted; free = λ e. absurd (some (is ∙ ap (λ (z : List ℕ). length z) e)) }
+
+pub no_needs : (needs : List ℕ) (n : ℕ) → n ≡ length needs → n ≡ 0 → needs ≡ []
+no_needs [] n is none = refl
+no_needs (a ∷ needs) n is none = absurd (omega arith)
+
+-- ---- what asks something else
+
+pub quiet_more : (P : ℕ → Type 0) (xs : List ℕ) (i a : ℕ) → slice_get xs i ≡ Some a → ((x : ℕ) → Contains (take i xs) x → P x → ⊥) → (P a → ⊥) → (x : ℕ) → Contains (take (i + 1) xs) x → P x → ⊥
+quiet_more P xs i a at so_far now x there is =
+    elim (Contains-append_cases (take i xs) (a ∷ []) x (subst (λ (z : List ℕ). Contains z x) (take_next xs i a at) there)) [
+      | inl before ↦ so_far x before is
+      | inr last ↦ elim ((Contains-cons x a []).0 last) [ inl same ↦ now (subst P same is) | inr none ↦ absurd (Contains-none x none) ]
+    ]
+
+pub no_spawn : (spawns : List Spawn) (rows : List (List ℕ)) (a n key : ℕ) → AreSpawnsAt spawns rows → key ≡ a → n ≡ length (row_of rows key) → n ≡ 0 → (c : Spawn) → Contains spawns c → c.needs ≢ a
+no_spawn spawns rows a n key index is long none c (i, within, at) needs =
+    let listed : slice_get spawns i ≡ Some c = slice_get-get_or spawns i c within ∙ ap Some at in
+    let in_row : Contains (row_of rows key) i = subst (λ z. Contains (row_of rows z) i) (needs ∙ sym is) (index.whole i c listed) in
+    elim (row_of rows key) as (λ (row : List ℕ). length row ≡ 0 → Contains row i → ⊥) [
+      | [] ↦ λ e h. Contains-none i h
+      | x ∷ xs ↦ λ e h. absurd (omega (arith, e))
+    ] (sym long ∙ none) in_row
 
 -- ---- what a rule needs
 

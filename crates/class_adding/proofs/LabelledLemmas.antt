@@ -1,7 +1,5 @@
 -- The labels of a page, by the numbers of its nodes.
 use Rattle.std.proofs.Common.{◌≡◌, ◌≢◌, ℕ, ◌+◌, ◌<◌, ◌≤◌, List, [], ◌∷◌, ◌++◌, length, get_or, set, slice_get, Option, Some, None, IsSome, option_map, unwrap_or, Contains, take, refl, sym, ap, ◌∙◌, inl, inr, arith, subst}
-use Rattle.std.specs.List.{flat_map, range_with_len}
-use Rattle.std.specs.List.Sorted.{IsStrictlyIncreasing}
 use Rattle.std.proofs.lemmas.List.{get_or_past, take_more, length-take-le, length_push, get_or_append_left, get_or_push, get_or_default, get_or-set_same, get_or-set_other}
 use Rattle.std.proofs.lemmas.Bool.{cases_lt, cases_order}
 use Rattle.std.proofs.lemmas.List.Elements.{Contains-get_or, Contains-append_right}
@@ -17,19 +15,16 @@ use Rattle.tree_sem.specs.Actions.{add_classes}
 use Rattle.node_marks.specs.Marks.{path_at}
 use Rattle.class_adding.proofs.NumberLemmas.{one_number}
 use Rattle.class_adding.proofs.CloseLemmas.{label_at-add_classes, label_at-add_classes_other, IsSome-add_classes}
-use Rattle.tree_sem.proofs.PathLemmas.{parent_of-child, child_of_parent}
+use Rattle.tree_sem.proofs.PathLemmas.{parent_of-child}
 use Rattle.tree_sem.specs.Paths.{parent_of}
 use Rattle.tree_sem.proofs.RowLemmas.{node_at-child, tree_of-number}
-use Rattle.tree_sem.proofs.NodeLemmas.{Contains-map, map-Contains, Contains-paths_of, length-paths_of}
+use Rattle.tree_sem.proofs.NodeLemmas.{Contains-paths_of, length-paths_of}
 use Rattle.simple_core.specs.declared.system.System.{System}
 use Rattle.simple_core.specs.Labels.{given_by_links}
-use Rattle.simple_core.proofs.Members.{flat_map-Contains, Contains-flat_map, Contains-range}
-use Rattle.simple_core.proofs.PageRest.{counted_child}
-use Rattle.class_adding.specs.Filling.{label_in, above_in, real_in}
 use Rattle.class_adding.specs.Indexes.{row_of, IsNoted, IsNotedIf, AreByNumber}
-use Rattle.class_adding.specs.Labelled.{IsAbove, AreAllAbove, AreAllLabels, AreRelated, given_at}
+use Rattle.class_adding.specs.Labelled.{IsAbove, AreKids, AreAllAbove, AreAllLabels, AreRelated, given_at}
 use Rattle.class_adding.proofs.PageLookLemmas.{given_none}
-use Rattle.class_adding.proofs.IndexLemmas.{union_of-same, last_at, noted_kept, noted_cases}
+use Rattle.class_adding.proofs.IndexLemmas.{last_at, noted_kept, noted_cases}
 
 -- ---- the numbers of the parents
 
@@ -177,7 +172,7 @@ same_parent p q n m same =
     cc
 
 -- a child in the page has a number below the count
-child_number : (v : List ℕ) (n : ℕ) (t : LabelTree) → IsSome (node_at (v ++ n ∷ []) t) → n < unwrap_or (children_at v t) 0
+pub child_number : (v : List ℕ) (n : ℕ) (t : LabelTree) → IsSome (node_at (v ++ n ∷ []) t) → n < unwrap_or (children_at v t) 0
 child_number v n t is =
     let family = node_at-child v n t is in
     let count : children_at v t ≡ Some (length_of family.0.below) = ap (option_map (λ (s : LabelTree). length_of s.below)) family.2 in
@@ -187,8 +182,8 @@ some_label : (v : List ℕ) (t : LabelTree) (l : List ℕ) → label_at v t ≡ 
 some_label v t l at = elim (node_at v t) as (λ o. option_map (λ (s : LabelTree). s.label) o ≡ Some l → IsSome o) [ None ↦ λ e. cc | Some s ↦ λ e. refl ] at
 
 module _ (u : LabelTree) (nodes : List (List ℕ)) (parents : List (Option ℕ)) (kids own : List (List ℕ)) (is : AreRelated u nodes parents kids own) (i : ℕ) (less : i < length nodes) where
-  pub label_of : (c : ℕ) → c < length nodes → label_in u (get_or nodes c []) ≡ get_or own c []
-  label_of c within = ap (λ o. unwrap_or o []) (is.labels.each c within)
+  pub above_is : IsAbove nodes (get_or nodes i []) (get_or parents i None)
+  above_is = is.above.each i less
 
   kid-is : (c : ℕ) → Contains (row_of kids i) c → (c < length nodes) × (n : ℕ) × (get_or nodes c [] ≡ get_or nodes i [] ++ n ∷ [])
   kid-is c in_row =
@@ -211,49 +206,5 @@ module _ (u : LabelTree) (nodes : List (List ℕ)) (parents : List (Option ℕ))
             subst (λ z. Contains (row_of kids z) c) same (is.below.whole c j e)
       ] listed (is.above.each c within)
 
-  pub real_same : (s : System) (start : List ℕ) → IsStrictlyIncreasing start → union_of start (given_at s own (row_of kids i)) ≡ union_of start (flat_map (given_by_links s.down) (real_in u (get_or nodes i [])))
-  real_same s start up =
-      let v = get_or nodes i [] in
-      let row = row_of kids i in
-      let give = given_by_links s.down in
-      let count = unwrap_or (children_at v u) 0 in
-      let child : ℕ → List ℕ = λ n. label_in u (v ++ n ∷ []) in
-      union_of-same start (given_at s own row) (flat_map give (real_in u v)) up
-      (λ y there.
-      let of = flat_map-Contains (λ c. give (get_or own c [])) row y there in
-      let kid = kid-is of.0 of.1 in
-      let node : IsSome (node_at (v ++ kid.1 ∷ []) u) = subst (λ (z : List ℕ). IsSome (node_at z u)) kid.2 (some_label (get_or nodes of.0 []) u (get_or own of.0 []) (is.labels.each of.0 kid.0)) in
-      let label : get_or own of.0 [] ≡ child kid.1 = sym (label_of of.0 kid.0) ∙ ap (label_in u) kid.2 in
-      Contains-flat_map give (real_in u v) (child kid.1) y
-      (Contains-map child (range_with_len 0 count) kid.1 (Contains-range count kid.1 (child_number v kid.1 u node))) (subst (λ (z : List ℕ). Contains (give z) y) label of.2))
-      (λ y there.
-      let of = flat_map-Contains give (real_in u v) y there in
-      let n = map-Contains child (range_with_len 0 count) of.0 of.1 in
-      let node : IsSome (node_at (v ++ n.0 ∷ []) u) = counted_child v u n.0 n.1 in
-      let found = is.whole (v ++ n.0 ∷ []) node in
-      let at : get_or nodes found.0 [] ≡ v ++ n.0 ∷ [] = get_or_default nodes found.0 [] (v ++ n.0 ∷ []) found.1 ∙ found.2 in
-      let label : of.0 ≡ get_or own found.0 [] = n.2 ∙ ap (label_in u) (sym at) ∙ label_of found.0 found.1 in
-      Contains-flat_map (λ c. give (get_or own c [])) row found.0 y (is-kid found.0 n.0 found.1 at) (subst (λ (z : List ℕ). Contains (give z) y) label of.2))
-
-  -- the label of the parent
-  no_label : (p : List ℕ) → (Contains nodes p → ⊥) → label_in u p ≡ []
-  no_label p none = elim (node_at p u) as (λ o. (IsSome o → Contains nodes p) → unwrap_or (option_map (λ (s : LabelTree). s.label) o) [] ≡ []) [ None ↦ λ h. refl | Some s ↦ λ h. absurd (none (h refl)) ] (is.whole p)
-
-  pub above_none : get_or parents i None ≡ None → [] ≡ above_in u (get_or nodes i [])
-  above_none e =
-      let v = get_or nodes i [] in
-      let h : IsAbove nodes v None = subst (IsAbove nodes v) e (is.above.each i less) in
-      elim (parent_of v) as (λ o. ((p : List ℕ) → o ≡ Some p → (k : ℕ) × (v ≡ p ++ k ∷ [])) → [] ≡ unwrap_or (option_map (label_in u) o) []) [
-        | None ↦ λ up. refl
-        | Some p ↦ λ up. let k = up p refl in sym (no_label p (h p k.0 k.1))
-      ] (λ p e. child_of_parent v p e)
-
-  pub above_within : (j : ℕ) → get_or parents i None ≡ Some j → j < length nodes
-  above_within j e = let h : IsAbove nodes (get_or nodes i []) (Some j) = subst (IsAbove nodes (get_or nodes i [])) e (is.above.each i less) in h.0
-
-  pub above_some : (j : ℕ) (l : List ℕ) → get_or parents i None ≡ Some j → label_at (get_or nodes j []) u ≡ Some l → l ≡ above_in u (get_or nodes i [])
-  above_some j l e at =
-      let v = get_or nodes i [] in
-      let h : IsAbove nodes v (Some j) = subst (IsAbove nodes v) e (is.above.each i less) in
-      let here : label_in u (get_or nodes j []) ≡ l = ap (λ o. unwrap_or o []) at in
-      sym here ∙ ap (λ o. unwrap_or (option_map (label_in u) o) []) (sym (parent_of-child (get_or nodes j []) h.1) ∙ ap parent_of (sym h.2))
+  pub kids_are : AreKids nodes i (row_of kids i)
+  kids_are = record { only = kid-is; whole = is-kid }

@@ -4,7 +4,7 @@
 --     IsIndex key rules rows   each rule's place stands at the rule's key, and nothing else stands anywhere
 --     by_label f rules rows at label   what the rules give that are found at the keys of the label's atoms
 --     AreKinds s own kinds     the kinds that the label adds, in any order
-use Rattle.std.specs.Prelude.{◌≡◌, ◌≢◌, ◌↔◌, ◌==◌, if◌then◌else◌, ℕ, ◌+◌, ◌-◌, List, [], ◌∷◌, ◌++◌, length, get_or, slice_get, Option, Some, None, option_map, unwrap_or, Contains}
+use Rattle.std.specs.Prelude.{◌≡◌, ◌≢◌, ◌↔◌, ℕ, ◌+◌, List, [], ◌∷◌, ◌++◌, get_or, slice_get, Option, Some, None, option_map, unwrap_or, Contains}
 use Rattle.std.specs.List.{flat_map}
 use Rattle.simple_core.specs.declared.system.System.{System}
 use Rattle.simple_core.specs.declared.rules.Local.{Local}
@@ -23,12 +23,20 @@ pub record IsIndex {X : Type 0} (key : X → ℕ) (rules : List X) (rows : List 
   pub whole : (i : ℕ) (x : X) → slice_get rules i ≡ Some x → Contains (row_of rows (key x)) i
   pub only : (k i : ℕ) → Contains (row_of rows k) i → (x : X) × (slice_get rules i ≡ Some x) × (key x ≡ k)
 
--- a rule that needs nothing stands at 0, each other behind the last atom that it needs
-abbrev pub needs_key : List ℕ → ℕ
-needs_key needs = if length needs == 0 then 0 else get_or needs (length needs - 1) 0 + 1
+-- the place was noted at each of these atoms, one more than its number
+pub record AreNeedsNoted (old new : List (List ℕ)) (needs : List ℕ) (place : ℕ) : Type 0 where
+  pub kept : (k i : ℕ) → Contains (row_of old k) i → Contains (row_of new k) i
+  pub each : (a : ℕ) → Contains needs a → Contains (row_of new (a + 1)) place
 
-abbrev pub AreLocalsAt : List Local → List (List ℕ) → Type 0
-AreLocalsAt rules rows = IsIndex (λ (r : Local). needs_key r.needs) rules rows
+-- and at 0, if there is none
+pub record IsRuleNoted (old new : List (List ℕ)) (needs : List ℕ) (place : ℕ) : Type 0 where
+  pub noted : AreNeedsNoted old new needs place
+  pub free : needs ≡ [] → Contains (row_of new 0) place
+
+-- a rule that needs nothing stands at 0, each other behind each atom that it needs
+pub record AreLocalsAt (rules : List Local) (rows : List (List ℕ)) : Type 0 where
+  pub free : (i : ℕ) (r : Local) → slice_get rules i ≡ Some r → r.needs ≡ [] → Contains (row_of rows 0) i
+  pub each : (i : ℕ) (r : Local) (a : ℕ) → slice_get rules i ≡ Some r → Contains r.needs a → Contains (row_of rows (a + 1)) i
 
 abbrev pub AreLinksAt : List Link → List (List ℕ) → Type 0
 AreLinksAt links rows = IsIndex (λ (l : Link). l.from) links rows

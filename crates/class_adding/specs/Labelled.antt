@@ -2,8 +2,9 @@
 --     Labelled               a tree with the labels, and the paths of its nodes
 --     node_of l i            the path of the node with this number
 --     IsAbove nodes v o      o is the number of the parent of the node at v, if the parent is there
+--     AreKids nodes i row    the row has the numbers of the children of the i-th node
 --     AreRelated ..          what is kept of each node belongs to the tree
---     given_at s own row     what the labels with these numbers give to the parent
+--     given_at s sets row    what the sets with these numbers give to the parent
 use Rattle.std.specs.Prelude.{◌≡◌, ℕ, ◌<◌, List, [], ◌∷◌, ◌++◌, Option, Some, None, length, get_or, Contains, IsSome, refl}
 use Rattle.std.specs.Coded.{Coded, code_by, coded×, coded_ℕ, coded_list}
 use Rattle.std.specs.List.{flat_map}
@@ -27,6 +28,11 @@ node_of l i = get_or l.nodes i []
 abbrev pub IsAbove : List (List ℕ) → List ℕ → Option ℕ → Type 0
 IsAbove nodes v None = (p : List ℕ) (n : ℕ) → v ≡ p ++ n ∷ [] → Contains nodes p → ⊥
 IsAbove nodes v (Some j) = (j < length nodes) × (n : ℕ) × (v ≡ get_or nodes j [] ++ n ∷ [])
+
+-- the row has the numbers of the children of the i-th node
+pub record AreKids (nodes : List (List ℕ)) (i : ℕ) (row : List ℕ) : Type 0 where
+  pub only : (c : ℕ) → Contains row c → (c < length nodes) × (n : ℕ) × (get_or nodes c [] ≡ get_or nodes i [] ++ n ∷ [])
+  pub whole : (c n : ℕ) → c < length nodes → get_or nodes c [] ≡ get_or nodes i [] ++ n ∷ [] → Contains row c
 
 -- the first n nodes
 pub record AreAllAbove (nodes : List (List ℕ)) (parents : List (Option ℕ)) (n : ℕ) : Type 0 where

@@ -1,17 +1,19 @@
 //! The rules of a system, found by the atoms that they look at.
-ghost use Rattle.std.specs.Prelude.{◌≡◌, ◌++◌, ◌+◌, IfOk, OnOk};
+ghost use Rattle.std.specs.Prelude.{◌≡◌, ◌≢◌, ◌++◌, ◌+◌, ℕ, Contains, IfOk, OnOk, IsFalse};
 ghost use Rattle.tp_base.specs.Classes.{all_among, union_of};
 ghost use Rattle.simple_core.specs.Labels.{given_by_rules, given_by_links};
+ghost use Rattle.simple_core.specs.declared.rules.Spawn.{Spawn};
+ghost use Rattle.class_adding.specs.Fresh.{IsMore, AreMet, AsksAnew};
 ghost use Rattle.class_adding.specs.Indexes.{row_of, at_place, at_row, by_label, given_in, to_of, kind_of, AreKinds, AreLocalsAt, AreLinksAt, AreSpawnsAt};
 
 use crate::places::Index;
 use simple_core::{Link, Local, Spawn, System};
 use std::alloc::Global;
 use std::marker::Model;
-use tp_base::{ClassSet, NoMemory};
+use tp_base::{Atom, ClassSet, NoMemory};
 
-/// A system, and for each atom the places of the rules that look at it. What a label gives costs a look at the atoms of
-/// the label and at the rules that stand there. A contract sees the system.
+/// A system, and for each atom the places of the rules that look at it. What atoms give costs a look at them and at the
+/// rules that stand there. A contract sees the system.
 #[derive(Drop)]
 pub(crate) struct IndexedSystem<'a> {
     system: &'a System,
@@ -64,11 +66,17 @@ impl<'a> IndexedSystem<'a> {
         &self.system.visible
     }
 
-    /// Adds what a label gives to its own node.
-    pub(crate) fn add_local(&self, label: &ClassSet, next: &mut ClassSet) -> Result<(), NoMemory>
-        ensures { OnOk result (next.new ≡ union_of next.old (given_by_rules self.now.local label.now)) }
+    /// Adds what a label gives to its own node, where what only older atoms give is there.
+    pub(crate) fn add_local(
+        &self,
+        label: &ClassSet,
+        fresh: &ClassSet,
+        next: &mut ClassSet,
+    ) -> Result<(), NoMemory>
+        requires { AreMet self.now.local label.now fresh.now }
+        ensures { OnOk result (IsMore label.now (given_by_rules self.now.local label.now) next.old next.new) }
     {
-        add_by_needs(self.system.local.items(), &self.local, label, next)
+        add_by_needs(self.system.local.items(), &self.local, label, fresh, next)
     }
 
     /// Adds what the label of the parent gives.
@@ -83,6 +91,31 @@ impl<'a> IndexedSystem<'a> {
         ensures { OnOk result (next.new ≡ union_of next.old (given_by_links self.now.down label.now)) }
     {
         add_linked(self.system.down.items(), &self.down, label, next)
+    }
+
+    /// Whether a label that gets these atoms asks something else than before. Linear in them.
+    pub(crate) fn is_asking(&self, fresh: &ClassSet) -> bool
+        ensures { IsFalse result → (a : ℕ) → Contains fresh.now a → ¬ AsksAnew self.now a }
+    {
+        for i in 0..fresh.len() {
+            if self.asks(fresh.at(i)) {
+                return true;
+            }
+        }
+        false
+    }
+
+    fn asks(&self, atom: Atom) -> bool
+        ensures { IsFalse result → ¬ AsksAnew self.now atom }
+    {
+        self.system.visible.has(atom) || self.spawns(atom)
+    }
+
+    // Whether an atom adds a child.
+    fn spawns(&self, atom: Atom) -> bool
+        ensures { IsFalse result → (c : Spawn) → Contains self.now.child c → c.needs ≢ atom }
+    {
+        self.child.of(atom.0 as usize).len() != 0
     }
 
     /// The kinds that a label adds; one may stand there more than once.
@@ -139,17 +172,18 @@ fn add_rules(
     Ok(())
 }
 
-// Adds what the rules give that need an atom of the label last.
-fn add_by_last(
+// Adds what the rules give that need one of these atoms.
+fn add_by_each(
     rules: &[Local],
     index: &Index,
     label: &ClassSet,
+    fresh: &ClassSet,
     next: &mut ClassSet,
 ) -> Result<(), NoMemory>
-    ensures { OnOk result (next.new ≡ union_of next.old (by_label (given_in label.now) rules.now index.now (λ a. a + 1) label.now)) }
+    ensures { OnOk result (next.new ≡ union_of next.old (by_label (given_in label.now) rules.now index.now (λ a. a + 1) fresh.now)) }
 {
-    for i in 0..label.len() {
-        let atom = label.at(i);
+    for i in 0..fresh.len() {
+        let atom = fresh.at(i);
         add_rules(rules, index.of(atom.0 as usize + 1), label, next)?;
     }
     Ok(())
@@ -159,15 +193,15 @@ fn add_by_needs(
     rules: &[Local],
     index: &Index,
     label: &ClassSet,
+    fresh: &ClassSet,
     next: &mut ClassSet,
 ) -> Result<(), NoMemory>
-    requires { AreLocalsAt rules.now index.now }
-    ensures { OnOk result (next.new ≡ union_of next.old (given_by_rules rules.now label.now)) }
+    requires index { AreLocalsAt rules.now index.now }
+    requires met { AreMet rules.now label.now fresh.now }
+    ensures { OnOk result (IsMore label.now (given_by_rules rules.now label.now) next.old next.new) }
 {
-    // Its contract says that a set rises.
-    let _ = next.len();
     add_rules(rules, index.of(0), label, next)?;
-    add_by_last(rules, index, label, next)?;
+    add_by_each(rules, index, label, fresh, next)?;
     Ok(())
 }
 

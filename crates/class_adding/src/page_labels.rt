@@ -1,13 +1,13 @@
 //! The labels of a page, by the numbers of its nodes in the order of the document.
-ghost use Rattle.std.specs.Prelude.{◌≡◌, ◌<◌, ℕ, [], Some, None, length, get_or, unwrap_or, option_copied, IfOk, OnOk, OnErr, IfSome, IsNone, Contains};
+ghost use Rattle.std.specs.Prelude.{◌≡◌, ◌<◌, ℕ, [], Some, None, length, get_or, unwrap_or, option_copied, IfOk, OnOk, OnErr, IfSome, IsSome, IsNone, List, Contains};
 ghost use Rattle.std.specs.List.{flat_map};
 ghost use Rattle.tp_base.specs.Classes.{union_of};
-ghost use Rattle.tree_sem.specs.Trees.{label_at, edit_at};
+ghost use Rattle.tree_sem.specs.Trees.{node_at, label_at, edit_at};
 ghost use Rattle.tree_sem.specs.Order.{paths_of};
 ghost use Rattle.tree_sem.specs.Actions.{add_classes};
 ghost use Rattle.simple_core.specs.Labels.{given_by_links};
 ghost use Rattle.class_adding.specs.Filling.{above_in, real_in};
-ghost use Rattle.class_adding.specs.Labelled.{node_of, IsAbove, AreAllAbove, AreAllLabels, given_at};
+ghost use Rattle.class_adding.specs.Labelled.{node_of, IsAbove, AreKids, AreAllAbove, AreAllLabels, given_at};
 
 use crate::indexed_system::IndexedSystem;
 use crate::nodes::PageNodes;
@@ -94,31 +94,21 @@ impl PageLabels {
         &self.own[number]
     }
 
-    /// The label of a node's parent.
-    pub(crate) fn above(&self, number: usize) -> Option<&ClassSet>
+    /// The number of a node's parent.
+    pub(crate) fn parent(&self, number: usize) -> Option<usize>
         requires { number < length self.now.nodes }
-        ensures { unwrap_or (option_copied result) [] ≡ above_in self.now.labels (node_of self.now number) }
+        ensures { IsAbove self.now.nodes (node_of self.now number) result }
     {
-        match self.parents[number] {
-            Some(parent) => Some(self.own(parent)),
-            None => None,
-        }
+        self.parents[number]
     }
 
-    /// Adds what the labels of a node's children give.
-    pub(crate) fn add_real(
-        &self,
-        system: &IndexedSystem,
-        number: usize,
-        next: &mut ClassSet,
-    ) -> Result<(), NoMemory>
+    /// The numbers of a node's children.
+    pub(crate) fn kids(&self, number: usize) -> &[usize]
         requires { number < length self.now.nodes }
-        ensures { OnOk result (next.new ≡ union_of next.old (flat_map (given_by_links system.now.down) (real_in self.now.labels (node_of self.now number)))) }
+        ensures kids { AreKids self.now.nodes number result.now }
+        ensures whole { (v : List ℕ) → IsSome (node_at v self.now.labels) → Contains self.now.nodes v }
     {
-        // Its contract says that a set rises.
-        let _ = next.len();
-        add_each(system, &self.own, self.kids.of(number), next)?;
-        Ok(())
+        self.kids.of(number)
     }
 
     /// Adds atoms to the label of a node. It costs the node's depth, too.
@@ -188,7 +178,12 @@ fn label_of(page: &Tree, at: &Path) -> Result<ClassSet, NoMemory>
     }
 }
 
-fn all_labels(alloc: Global, page: &Tree, paths: &[Path]) -> Result<Vec<ClassSet>, NoMemory>
+/// The label of each of these nodes, once more.
+pub(crate) fn all_labels(
+    alloc: Global,
+    page: &Tree,
+    paths: &[Path],
+) -> Result<Vec<ClassSet>, NoMemory>
     ensures { IfOk result (λ v. AreAllLabels page.now paths.now v.items (length paths.now)) }
 {
     let mut labels = Vec::new(alloc);
@@ -199,7 +194,7 @@ fn all_labels(alloc: Global, page: &Tree, paths: &[Path]) -> Result<Vec<ClassSet
     Ok(labels)
 }
 
-// Adds what the label of this number gives.
+// Adds what the set with this number gives.
 #[tactic(auto, using(crate::proofs::LabelledLemmas::nothing_past))]
 fn add_one(
     system: &IndexedSystem,
@@ -215,8 +210,8 @@ fn add_one(
     }
 }
 
-// Adds what the labels of these numbers give.
-fn add_each(
+/// Adds what the sets with these numbers give.
+pub(crate) fn add_each(
     system: &IndexedSystem,
     own: &[ClassSet],
     row: &[usize],

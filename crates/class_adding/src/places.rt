@@ -1,6 +1,6 @@
 //! Places in lists of rules, by what the rules look at.
 ghost use Rattle.std.specs.Prelude.{◌≡◌, ◌<◌, ℕ, [], None, length, get_or, IfOk, OnOk};
-ghost use Rattle.class_adding.specs.Indexes.{row_of, needs_key, IsNoted, IsNotedIf, AreLocalsAt, AreLinksAt, AreSpawnsAt, AreByNumber};
+ghost use Rattle.class_adding.specs.Indexes.{row_of, IsNoted, IsNotedIf, IsRuleNoted, AreNeedsNoted, AreLocalsAt, AreLinksAt, AreSpawnsAt, AreByNumber};
 
 use simple_core::{Link, Local, Spawn};
 use std::alloc::Global;
@@ -35,17 +35,6 @@ impl Model for Index {
     ghost view = { λ t. t.rows.items };
 }
 
-// The key of a rule that needs these atoms.
-fn key_by_needs(needs: &ClassSet) -> usize
-    ensures { result ≡ needs_key needs.now }
-{
-    let count = needs.len();
-    if count == 0 {
-        return 0;
-    }
-    needs.at(count - 1).0 as usize + 1
-}
-
 impl Index {
     fn new(alloc: Global) -> Index
         ensures { result ≡ [] }
@@ -55,16 +44,38 @@ impl Index {
         }
     }
 
-    /// Rules by the last atom that they need.
+    /// Rules by each atom that they need, one more than its number; those that need none at 0. Linear in what they need.
     pub(crate) fn of_locals(alloc: Global, rules: &[Local]) -> Result<Index, NoMemory>
         ensures { IfOk result (λ t. AreLocalsAt rules.now t) }
     {
         let mut index = Index::new(alloc);
         for i in 0..rules.len() {
             let rule = &rules[i];
-            index.note(alloc, key_by_needs(&rule.needs), i)?;
+            index.note_rule(alloc, &rule.needs, i)?;
         }
         Ok(index)
+    }
+
+    // Notes a rule's place at each atom that it needs.
+    fn note_rule(&mut self, alloc: Global, needs: &ClassSet, place: usize) -> Result<(), NoMemory>
+        ensures { OnOk result (IsRuleNoted self.old self.new needs.now place) }
+    {
+        if needs.len() == 0 {
+            self.note(alloc, 0, place)?;
+            return Ok(());
+        }
+        self.note_needs(alloc, needs, place)?;
+        Ok(())
+    }
+
+    fn note_needs(&mut self, alloc: Global, needs: &ClassSet, place: usize) -> Result<(), NoMemory>
+        ensures { OnOk result (AreNeedsNoted self.old self.new needs.now place) }
+    {
+        for i in 0..needs.len() {
+            let atom = needs.at(i);
+            self.note(alloc, atom.0 as usize + 1, place)?;
+        }
+        Ok(())
     }
 
     /// Links by the atom that they look at.

@@ -1,5 +1,5 @@
 //! Which nodes a round looks at.
-ghost use Rattle.std.specs.Prelude.{◌≡◌, ℕ, List, map, IfOk};
+ghost use Rattle.std.specs.Prelude.{◌≡◌, ℕ, List, [], map, IfOk};
 ghost use Rattle.tree_sem.specs.Nodes.{IsNode};
 ghost use Rattle.node_marks.specs.Marks.{IsMarked};
 ghost use Rattle.class_adding.specs.Filling.{AreNext, wake_at, wakes_in};
@@ -26,7 +26,8 @@ pub(crate) fn wake_in(wakes: &[Option<u64>], i: usize) -> Option<u64>
     }
 }
 
-fn is_round(wake: Option<u64>, k: u64) -> bool
+/// Whether this is the round.
+pub(crate) fn is_round(wake: Option<u64>, k: u64) -> bool
     ensures { result ≡ wakes_in k wake }
 {
     match wake {
@@ -48,7 +49,8 @@ fn woken_in(alloc: Global, wakes: &[Option<u64>], k: u64) -> Result<Vec<bool>, N
 
 /// Looks at every node.
 pub(crate) fn first_plan(alloc: Global, nodes: &NumberedTree) -> Result<Plan, NoMemory>
-    ensures { IfOk result (λ p. (v : List ℕ) → IsNode nodes.now v → IsMarked nodes.now p.marks v) }
+    ensures marks { IfOk result (λ p. (v : List ℕ) → IsNode nodes.now v → IsMarked nodes.now p.marks v) }
+    ensures wakes { IfOk result (λ p. p.wakes.items ≡ []) }
 {
     Ok(Plan {
         marks: nodes.every_node()?,

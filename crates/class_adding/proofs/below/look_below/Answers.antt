@@ -1,0 +1,26 @@
+use Rattle.simple_core.specs.Labels.{given_by_links, labels_below}
+use Rattle.std.specs.List.{flat_map}
+use Rattle.simple_core.specs.Rounds.{grown}
+use Rattle.simple_core.specs.Pairs.{Asks}
+use Rattle.class_adding.proofs.WentLemmas.{went_start}
+use Rattle.class_adding.proofs.FreshLemmas.{more_none, more_all}
+use Rattle.class_adding.proofs.below.look_below.Goals as goal
+
+pub returns-then-not-is_due-clause-more : goal.returns-then-not-is_due-clause-more
+returns-then-not-is_due-clause-more g c =
+    let quiet = c.if-not-is_due.true in
+    let rested = c.requires.resting (c.is_due.ensures.quiet quiet) (c.is_due.ensures.same quiet) in
+    more_none c.args.own.now (flat_map (given_by_links c.args.system.now.down) (labels_below c.args.system.now (grown c.args.system.now c.args.k) c.args.own.now)) c.args.next.now rested.given
+
+pub returns-then-not-is_due-clause-asleep : goal.returns-then-not-is_due-clause-asleep
+returns-then-not-is_due-clause-asleep g c =
+    let quiet = c.if-not-is_due.true in
+    let rested = c.requires.resting (c.is_due.ensures.quiet quiet) (c.is_due.ensures.same quiet) in
+    rested.asleep
+
+pub returns-then-not-is_due-clause-went : goal.returns-then-not-is_due-clause-went
+returns-then-not-is_due-clause-went g c = went_start c.args.system.now (Asks c.args.system.now c.args.own.now) (g.S.Summaries.known c.args.sums.now) (g.S.Summaries.told c.args.sums.now) (g.S.Summaries.system c.args.sums.now)
+    (g.S.Summaries.spent_on c.args.sums.now) c.requires.tells c.requires.closed c.requires.made
+
+pub returns-clause-more : goal.returns-clause-more
+returns-clause-more g c = more_all c.args.own.now (flat_map (given_by_links c.args.system.now.down) (labels_below c.args.system.now (grown c.args.system.now c.args.k) c.args.own.now)) c.args.next.now c.add_added.new.next c.in_ok-later.ensures.given
