@@ -6,7 +6,7 @@ use Rattle.jq_sem.specs.Statements.{Statement}
 use Rattle.css_read.specs.Sheets.{Outcome, judged, skipped as left_out, Item}
 use Rattle.proof_maker.specs.Needs.{UsesMore}
 use Rattle.usage_report.specs.Answers.{Answer, used, used_unshown, unused, skipped, spent}
-use Rattle.judge.specs.declared.limits.Limits.{Limits}
+use Rattle.limits.specs.declared.budgets.Limits.{Limits}
 use Rattle.judge.specs.TheSystem.{the_system, seen_atom}
 use Rattle.judge.specs.Witnesses.{trace}
 use Rattle.judge.specs.Answers.{IsShown, IsAnswerFor, IsAnswer, AreAnswers}

@@ -12,7 +12,7 @@ use Rattle.css_read.specs.Sheets.{Outcome, judged, skipped as left_out, Item}
 use Rattle.usage_report.specs.Answers.{Answer, used, used_unshown, unused, skipped, spent}
 use Rattle.simple_core.specs.Pages.{IsClosed}
 use Rattle.simple_core.proofs.PageLemmas.{closed_is, is_closed}
-use Rattle.judge.specs.declared.limits.Limits.{Limits}
+use Rattle.limits.specs.declared.budgets.Limits.{Limits}
 use Rattle.judge.specs.TheSystem.{the_system, seen_atom, IsJudgeable}
 use Rattle.judge.specs.Answers.{judged_of, judged_in, IsAnswerFor, IsAnswer, AreAnswers}
 use Rattle.judge.specs.BySeen.{atoms_behind, IsSaidProved, IsSaidWhere, IsSaidOf, AreSaid}

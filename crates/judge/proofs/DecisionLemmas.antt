@@ -10,7 +10,7 @@ use Rattle.proof_maker.specs.Needs.{UsesMore}
 use Rattle.proof_maker.proofs.OneLemmas.{one_canonical}
 use Rattle.proof_maker.proofs.UsedLemmas.{more_entries}
 use Rattle.usage_report.specs.Answers.{Answer, used, used_unshown, unused, skipped, spent}
-use Rattle.judge.specs.declared.limits.Limits.{Limits}
+use Rattle.limits.specs.declared.budgets.Limits.{Limits}
 use Rattle.judge.specs.TheSystem.{the_system, seen_atom}
 use Rattle.judge.specs.Witnesses.{trace}
 use Rattle.judge.specs.Answers.{count_of, IsShown, IsUsed, IsAnswerFor}

@@ -8,7 +8,7 @@ use Rattle.usage_report.specs.declared.answers.Answer as code
 use Rattle.usage_report.specs.Answers.{Answer}
 use Rattle.usage_report.specs.Views.{answer_of}
 use Rattle.simple_core.specs.declared.system.System.{System}
-use Rattle.judge.specs.declared.limits.Limits.{Limits}
+use Rattle.limits.specs.declared.budgets.Limits.{Limits}
 use Rattle.judge.specs.BySeen.{atoms_behind, IsSaidOf, AreSaid}
 
 module _ (s : System) (page : LabelTree) (limits : Limits) (label : List ℕ) (Whole : List Answer → Type 0) where

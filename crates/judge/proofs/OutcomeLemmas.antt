@@ -11,9 +11,9 @@ use Rattle.usage_report.specs.Views.{answer_of}
 use Rattle.simple_core.specs.declared.system.System.{System}
 use Rattle.proof_maker.specs.Forests.{KeepsForests}
 use Rattle.class_adding.specs.ClosedPages.{IsClosedPage}
-use Rattle.judge.specs.declared.limits.Limits.{Limits}
-use Rattle.judge.specs.declared.limits.JudgeFault.{JudgeFault}
-use Rattle.judge.specs.declared.limits.JudgeFault.TheVariants.{Memory}
+use Rattle.limits.specs.declared.budgets.Limits.{Limits}
+use Rattle.judge.specs.declared.faults.JudgeFault.{JudgeFault}
+use Rattle.judge.specs.declared.faults.JudgeFault.TheVariants.{Memory}
 use Rattle.judge.specs.TheSystem.{the_system, seen_atom}
 use Rattle.judge.specs.Answers.{judged_in}
 use Rattle.judge.specs.BySeen.{AreSaid, AreBySeen}

@@ -31,7 +31,7 @@ use Rattle.guard_simplify.proofs.Placing.{there_at}
 use Rattle.jq_sem.specs.Tables.{AreStatementsOver, AreSelectorsOver}
 use Rattle.judge.specs.TheSystem.{the_system, seen_atom, IsJudgeable}
 use Rattle.judge.specs.Answers.{judged_in}
-use Rattle.judge.specs.declared.limits.JudgeFault.{JudgeFault}
+use Rattle.judge.specs.declared.faults.JudgeFault.{JudgeFault}
 use Rattle.judge.specs.Faults.{fault_of, with_own_fault}
 use Rattle.judge.specs.Outcomes.{forest_nodes, AreGiven, count_atoms, count_visible, IsFault, IsWithin}
 use Rattle.judge.proofs.TableLemmas.{rules_are, guards_are}

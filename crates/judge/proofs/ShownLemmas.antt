@@ -10,7 +10,7 @@ use Rattle.proof_core.specs.declared.unfolded.UnfoldFault.TheVariants.{OverLimit
 use Rattle.usage_report.specs.declared.answers.Answer as code
 use Rattle.usage_report.specs.Views.{answer_of}
 use Rattle.simple_core.specs.declared.system.System.{System}
-use Rattle.judge.specs.declared.limits.Limits.{Limits}
+use Rattle.limits.specs.declared.budgets.Limits.{Limits}
 use Rattle.judge.specs.Answers.{IsShown}
 use Rattle.judge.specs.BySeen.{IsSaidProved, IsSaidWhere, IsSaid}
 

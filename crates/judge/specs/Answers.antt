@@ -16,7 +16,7 @@ use Rattle.proof_check.specs.Validity.{MOST_STEPS}
 use Rattle.proof_check.specs.declared.unfolded.Unfolded.{Unfolded}
 use Rattle.proof_maker.specs.Needs.{IsCanonical, UsesMore}
 use Rattle.usage_report.specs.Answers.{Answer, used, used_unshown, unused, skipped, spent}
-use Rattle.judge.specs.declared.limits.Limits.{Limits}
+use Rattle.limits.specs.declared.budgets.Limits.{Limits}
 use Rattle.judge.specs.TheSystem.{the_system, seen_atom}
 use Rattle.judge.specs.Witnesses.{IsProofFor, trace, IsWitness}
 

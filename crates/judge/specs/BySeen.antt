@@ -14,7 +14,7 @@ use Rattle.proof_maker.specs.Needs.{IsCanonical, UsesMore}
 use Rattle.usage_report.specs.Answers.{Answer, used, used_unshown, unused, skipped, spent}
 use Rattle.simple_core.specs.declared.system.System.{System}
 use Rattle.class_adding.specs.ClosedPages.{ClosedPage, IsClosedPage}
-use Rattle.judge.specs.declared.limits.Limits.{Limits}
+use Rattle.limits.specs.declared.budgets.Limits.{Limits}
 use Rattle.judge.specs.Answers.{count_of, IsShown, spent_answers}
 use Rattle.judge.specs.Spending.{MaySpend, HasToSpend}
 

@@ -3,8 +3,8 @@ use Rattle.std.specs.Prelude.{Result, Ok, Err}
 use Rattle.guard_simplify.specs.declared.simplified.Simplified.{Simplified}
 use Rattle.guard_simplify.specs.declared.simplified.SimplifyFault.{SimplifyFault}
 use Rattle.guard_simplify.specs.declared.simplified.SimplifyFault.TheVariants as simplify
-use Rattle.judge.specs.declared.limits.JudgeFault.{JudgeFault}
-use Rattle.judge.specs.declared.limits.JudgeFault.TheVariants.{TooManyAtoms, TooManyVisible, Memory}
+use Rattle.judge.specs.declared.faults.JudgeFault.{JudgeFault}
+use Rattle.judge.specs.declared.faults.JudgeFault.TheVariants.{TooManyAtoms, TooManyVisible, Memory}
 
 abbrev pub fault_of : SimplifyFault → JudgeFault
 fault_of simplify.TooManyAtoms = TooManyAtoms

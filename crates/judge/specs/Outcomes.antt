@@ -15,9 +15,9 @@ use Rattle.guard_sem.specs.OfSelectors.{of_selector}
 use Rattle.rule_translate.specs.Translation.{rules_of}
 use Rattle.guard_simplify.specs.declared.simplified.TheConstants.{MOST_VISIBLE, MOST_RULES}
 use Rattle.guard_simplify.specs.Auxiliaries.{tops_of, auxiliaries}
-use Rattle.judge.specs.declared.limits.Limits.{Limits}
-use Rattle.judge.specs.declared.limits.JudgeFault.{JudgeFault}
-use Rattle.judge.specs.declared.limits.JudgeFault.TheVariants.{TooManyAtoms, TooManyVisible, Memory}
+use Rattle.limits.specs.declared.budgets.Limits.{Limits}
+use Rattle.judge.specs.declared.faults.JudgeFault.{JudgeFault}
+use Rattle.judge.specs.declared.faults.JudgeFault.TheVariants.{TooManyAtoms, TooManyVisible, Memory}
 use Rattle.judge.specs.Spending.{MaySpend, HasToSpend}
 use Rattle.judge.specs.TheSystem.{the_system, IsOverTable}
 use Rattle.judge.specs.Answers.{judged_in, AreAnswers, spent_answers}

@@ -7,7 +7,7 @@ use Rattle.tree_sem.specs.Trees.{LabelTree}
 use Rattle.simple_core.specs.declared.system.System.{System}
 use Rattle.simple_core.specs.Pairs.{Asked, Needed, HasMore}
 use Rattle.saturation.specs.Budgets.{MayBeSpent, HasToBeSpent}
-use Rattle.judge.specs.declared.limits.Limits.{Limits}
+use Rattle.limits.specs.declared.budgets.Limits.{Limits}
 
 abbrev pub NeedsMore : System → LabelTree → ℕ → Type 0
 NeedsMore s page pairs = HasMore (Needed s (Asked s page)) pairs

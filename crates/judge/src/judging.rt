@@ -4,14 +4,15 @@ ghost use Rattle.class_diagrams.specs.declared.refs.TheConstants.{MOST_BRANCHES}
 ghost use Rattle.jq_sem.specs.Views.{statements_of};
 ghost use Rattle.css_read.specs.Views.{item_of};
 ghost use Rattle.usage_report.specs.Views.{answer_of};
-ghost use Rattle.judge.specs.declared.limits.TheConstants.{MOST_LISTED};
+ghost use Rattle.judge.specs.declared.proving.TheConstants.{MOST_LISTED};
 ghost use Rattle.judge.specs.Outcomes.{AreGiven, IsFault, IsWithin, IsJudged};
 
 use crate::engines::answers_of;
-use crate::limits::{JudgeFault, Limits};
+use crate::faults::JudgeFault;
 use crate::simplifying::simplify_all;
 use css_read::Sheet;
 use jq_sem::Stmt;
+use limits::Limits;
 use std::alloc::Global;
 use tp_base::AtomTable;
 use tree_sem::Tree;

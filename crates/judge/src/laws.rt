@@ -10,9 +10,9 @@ ghost use Rattle.judge.specs.Losses.{ReachesWithLosses};
 ghost use Rattle.judge.specs.TheSystem.{IsJudgeable, IsOverTable, IsSeenAtRoot};
 ghost use Rattle.judge.specs.Witnesses.{IsProofFor, IsWitness};
 
-use crate::limits::Limits;
 use css_read::Sheet;
 use jq_sem::Stmt;
+use limits::Limits;
 use proof_core::Proof;
 use sel_core::Selector;
 use tp_base::AtomTable;

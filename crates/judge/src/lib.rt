@@ -4,14 +4,16 @@
 mod answering;
 mod closing;
 mod engines;
+mod faults;
 mod judging;
 mod laws;
-mod limits;
 mod proving;
 mod simplifying;
 
+pub use faults::JudgeFault;
 pub use judging::judge;
 pub use laws::{
     engines_agree, losses_reach_nothing_more, one_answer, proof_shows, reached_at_root,
 };
-pub use limits::{JudgeFault, Limits, MOST_LISTED};
+pub use limits::Limits;
+pub use proving::MOST_LISTED;

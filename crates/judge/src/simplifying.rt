@@ -13,7 +13,7 @@ ghost use Rattle.jq_sem.specs.Tables.{AreStatementsOver, AreSelectorsOver};
 ghost use Rattle.judge.specs.TheSystem.{the_system, seen_atom};
 ghost use Rattle.guard_simplify.specs.declared.simplified.TheConstants.{MOST_RULES};
 
-use crate::limits::JudgeFault;
+use crate::faults::JudgeFault;
 use css_read::{Outcome, SheetItem};
 use guard_sem::{Guard, Rule, of_selector};
 use guard_simplify::{Simplified, SimplifyFault, simplify};

@@ -1,6 +1,6 @@
 ghost use Rattle.std.specs.Prelude.{◌≤◌};
 ghost use Rattle.class_diagrams.specs.declared.refs.TheConstants.{MOST_BRANCHES};
-ghost use Rattle.judge.specs.declared.limits.TheConstants.{MOST_LISTED};
+ghost use Rattle.judge.specs.declared.proving.TheConstants.{MOST_LISTED};
 
 use crate::building::{adding, appending, statements};
 use crate::checks::is_given;
