@@ -1,6 +1,5 @@
 -- What the answers for the items of a sheet come to.
 use Rattle.std.proofs.Common.{◌≡◌, ℕ, suc, List, [], ◌∷◌, length, map, Err, refl, sym, ap, subst, inl, inr}
-use Rattle.tp_base.specs.declared.places.Place.{Place}
 use Rattle.tp_io.specs.Sinks.{AddsPrefix, Rose}
 use Rattle.tree_sem.specs.Trees.{LabelTree}
 use Rattle.css_read.specs.Sheets.{Outcome, judged, skipped as left_out, Item}
@@ -8,23 +7,23 @@ use Rattle.jq_sem.specs.Statements.{Statement}
 use Rattle.usage_report.specs.Answers.{Answer, used, used_unshown, unused, skipped, spent}
 use Rattle.usage_report.specs.declared.faults.ReportFault.{ReportFault}
 use Rattle.usage_report.specs.declared.faults.ReportFault.TheVariants as report_fault
-use Rattle.usage_report.specs.Report.{report}
-use Rattle.judge.specs.declared.limits.Limits.{Limits}
-use Rattle.judge.specs.declared.limits.JudgeFault.{JudgeFault}
-use Rattle.judge.specs.declared.limits.JudgeFault.TheVariants.{TooManyAtoms, TooManyVisible, Memory}
+use Rattle.limits.specs.declared.budgets.Limits.{Limits}
+use Rattle.judge.specs.declared.faults.JudgeFault.{JudgeFault}
+use Rattle.judge.specs.declared.faults.JudgeFault.TheVariants.{TooManyAtoms, TooManyVisible, Memory}
 use Rattle.judge.specs.Answers.{judged_in, IsAnswer, AreAnswers, spent_for, spent_answers}
 use Rattle.judge.specs.Outcomes as judge
-use Rattle.treeped_app.specs.Answers.{default_limits, IsRight, AreRight, IsSpent}
+use Rattle.treeped_app.specs.Answers.{IsRight, AreRight, IsSpent}
+use Rattle.treeped_app.specs.Tasks.{Task}
 use Rattle.treeped_app.specs.Inputs.{IsUnanswered}
 use Rattle.treeped_app.specs.Stops.{judging_stop, stop_of}
 use Rattle.treeped_app.specs.declared.stops.Stop.{Stop}
 use Rattle.treeped_app.specs.declared.stops.Stop.TheVariants as stop
-use Rattle.treeped_app.specs.Runs.{Texts, Inputs, Put, AreAnswersOf, IsJudged, Written}
+use Rattle.treeped_app.specs.Runs.{Texts, Inputs, Put, AreAnswersOf, text_on, Written}
 
 -- ---- right answers
 
-module _ (t : LabelTree) (ss : List Statement) (items : List Item) (n : ℕ) where
-  answer_right : (o : Outcome) (a : Answer) → IsAnswer ss (judged_in items) n t default_limits o a → IsRight t ss items n o a
+module _ (t : LabelTree) (ss : List Statement) (items : List Item) (n : ℕ) (limits : Limits) where
+  answer_right : (o : Outcome) (a : Answer) → IsAnswer ss (judged_in items) n t limits o a → IsRight t ss items n limits o a
   answer_right (judged s) (used proof steps shown) is = is
   answer_right (judged s) used_unshown is = is
   answer_right (judged s) unused is = is
@@ -32,46 +31,45 @@ module _ (t : LabelTree) (ss : List Statement) (items : List Item) (n : ℕ) whe
   answer_right (judged s) spent is = absurd is
   answer_right (left_out cause at) a is = is
 
-  answers_right : (rest : List Item) (answers : List Answer) → AreAnswers ss (judged_in items) n t default_limits rest answers → AreRight t ss items n rest answers
+  answers_right : (rest : List Item) (answers : List Answer) → AreAnswers ss (judged_in items) n t limits rest answers → AreRight t ss items n limits rest answers
   answers_right [] [] are = tt
   answers_right [] (a ∷ answers) are = absurd are
   answers_right (i ∷ rest) [] are = absurd are
   answers_right (i ∷ rest) (a ∷ answers) are = (answer_right i.outcome a are.0, answers_right rest answers are.1)
 
-  one_spent : IsSpent t ss items n → (o : Outcome) → IsRight t ss items n o (spent_for o)
+  one_spent : IsSpent t ss items n limits → (o : Outcome) → IsRight t ss items n limits o (spent_for o)
   one_spent more (judged s) = more
   one_spent more (left_out cause at) = refl
 
-  all_spent : IsSpent t ss items n → (rest : List Item) → AreRight t ss items n rest (spent_answers rest)
+  all_spent : IsSpent t ss items n limits → (rest : List Item) → AreRight t ss items n limits rest (spent_answers rest)
   all_spent more [] = tt
   all_spent more (i ∷ rest) = (one_spent more i.outcome, all_spent more rest)
 
-right_of : (i : Inputs) (answers : List Answer) → judge.IsJudged i.stmts i.sheet.items (length i.names) i.tree default_limits answers → AreRight i.tree i.stmts i.sheet.items (length i.names) i.sheet.items answers
-right_of i answers (inl (are, few)) = answers_right i.tree i.stmts i.sheet.items (length i.names) i.sheet.items answers are
-right_of i answers (inr (by, more)) =
-    subst (λ (xs : List Answer). AreRight i.tree i.stmts i.sheet.items (length i.names) i.sheet.items xs) (sym by) (all_spent i.tree i.stmts i.sheet.items (length i.names) more i.sheet.items)
+right_of : (limits : Limits) (i : Inputs) (answers : List Answer) → judge.IsJudged i.stmts i.sheet.items (length i.names) i.tree limits answers → AreRight i.tree i.stmts i.sheet.items (length i.names) limits i.sheet.items answers
+right_of limits i answers (inl (are, few)) = answers_right i.tree i.stmts i.sheet.items (length i.names) limits i.sheet.items answers are
+right_of limits i answers (inr (by, more)) =
+    subst (λ (xs : List Answer). AreRight i.tree i.stmts i.sheet.items (length i.names) limits i.sheet.items xs) (sym by) (all_spent i.tree i.stmts i.sheet.items (length i.names) limits more i.sheet.items)
 
-pub answers_are : (i : Inputs) (ss : List Statement) (limits : Limits) (answers : List Answer) → ss ≡ i.stmts → limits ≡ default_limits → judge.IsWithin ss i.sheet.items (length i.names)
-    → judge.IsJudged ss i.sheet.items (length i.names) i.tree limits answers → AreAnswersOf i answers
-answers_are i ss limits answers same same' within right =
-    let right' : judge.IsJudged i.stmts i.sheet.items (length i.names) i.tree limits answers = subst (λ (z : List Statement). judge.IsJudged z i.sheet.items (length i.names) i.tree limits answers) same right in
-    let exactly : judge.IsJudged i.stmts i.sheet.items (length i.names) i.tree default_limits answers = subst (λ (z : Limits). judge.IsJudged i.stmts i.sheet.items (length i.names) i.tree z answers) same' right' in
+pub answers_are : (i : Inputs) (ss : List Statement) (limits : Limits) (answers : List Answer) → ss ≡ i.stmts → judge.IsWithin ss i.sheet.items (length i.names) → judge.IsJudged ss i.sheet.items (length i.names) i.tree limits answers
+    → AreAnswersOf limits i answers
+answers_are i ss limits answers same within right =
+    let exactly : judge.IsJudged i.stmts i.sheet.items (length i.names) i.tree limits answers = subst (λ (z : List Statement). judge.IsJudged z i.sheet.items (length i.names) i.tree limits answers) same right in
     record {
-      right = right_of i answers exactly;
+      right = right_of limits i answers exactly;
       within = subst (λ (z : List Statement). judge.IsWithin z i.sheet.items (length i.names)) same within;
       exactly = exactly;
     }
 
 -- ---- one answer for each item
 
-count_right : (t : LabelTree) (ss : List Statement) (items : List Item) (n : ℕ) (rest : List Item) (answers : List Answer) → AreRight t ss items n rest answers → length answers ≡ length rest
-count_right t ss items n [] [] are = refl
-count_right t ss items n [] (a ∷ answers) are = absurd are
-count_right t ss items n (i ∷ rest) [] are = absurd are
-count_right t ss items n (i ∷ rest) (a ∷ answers) are = ap suc (count_right t ss items n rest answers are.1)
+count_right : (t : LabelTree) (ss : List Statement) (items : List Item) (n : ℕ) (limits : Limits) (rest : List Item) (answers : List Answer) → AreRight t ss items n limits rest answers → length answers ≡ length rest
+count_right t ss items n limits [] [] are = refl
+count_right t ss items n limits [] (a ∷ answers) are = absurd are
+count_right t ss items n limits (i ∷ rest) [] are = absurd are
+count_right t ss items n limits (i ∷ rest) (a ∷ answers) are = ap suc (count_right t ss items n limits rest answers are.1)
 
-pub count_of : (i : Inputs) (answers : List Answer) → AreAnswersOf i answers → length answers ≡ length i.sheet.items
-count_of i answers are = count_right i.tree i.stmts i.sheet.items (length i.names) i.sheet.items answers are.right
+pub count_of : (limits : Limits) (i : Inputs) (answers : List Answer) → AreAnswersOf limits i answers → length answers ≡ length i.sheet.items
+count_of limits i answers are = count_right i.tree i.stmts i.sheet.items (length i.names) limits i.sheet.items answers are.right
 
 -- ---- no answers
 
@@ -84,25 +82,18 @@ refused_by_fault i Memory is = tt
 pub refused_by_system : (i : Inputs) (ss : List Statement) (e : JudgeFault) → ss ≡ i.stmts → judge.IsFault ss i.sheet.items (length i.names) e → IsUnanswered i (judging_stop e)
 refused_by_system i ss e same is = refused_by_fault i e (subst (λ (z : List Statement). judge.IsFault z i.sheet.items (length i.names) e) same is)
 
-pub unanswered : (x : Texts) (i : Inputs) (out : Put) (e : Stop) → out.held' ≡ out.held → IsUnanswered i e → Written x i out (Err e)
-unanswered x i out stop.Words same is = absurd is
-unanswered x i out (stop.TooLarge part) same is = absurd is
-unanswered x i out (stop.ReadFault part) same is = absurd is
-unanswered x i out (stop.Unread refusal) same is = absurd is
-unanswered x i out (stop.Judging f) same is = (is, same)
-unanswered x i out stop.WriteFault same is = absurd is
-unanswered x i out stop.NoMemory same is = inl same
+pub unanswered : (t : Task) (x : Texts) (i : Inputs) (out : Put) (e : Stop) → out.held' ≡ out.held → IsUnanswered i e → Written t x i out (Err e)
+unanswered t x i out stop.Words same is = absurd is
+unanswered t x i out (stop.TooLarge part) same is = absurd is
+unanswered t x i out (stop.ReadFault part) same is = absurd is
+unanswered t x i out (stop.Unread refusal) same is = absurd is
+unanswered t x i out (stop.Judging f) same is = (is, same)
+unanswered t x i out stop.WriteFault same is = absurd is
+unanswered t x i out stop.NoMemory same is = inl same
 
--- ---- a report that is not written whole
+-- ---- what is not written whole
 
-pub not_written : (x : Texts) (i : Inputs) (out : Put) (answers : List Answer) (e : ReportFault) (sheet : List ℕ) (places : List Place) (said : List Answer) → AreAnswersOf i answers
-    → sheet ≡ x.sheet → places ≡ map (λ s. s.place) i.stmts → said ≡ answers → AddsPrefix out.held out.held' (report sheet i.names places i.sheet said) → (e ≡ report_fault.Write → Rose out.faults out.faults')
-    → Written x i out (Err (stop_of e))
-not_written x i out answers e sheet places said right same same' same'' prefix rose = by_fault e rose
-  where
-    judged_ : IsJudged x i answers (report sheet i.names places i.sheet said)
-    judged_ = record { answers_are = right; text_is = rw (same, same', same'') refl }
-
-    by_fault : (e : ReportFault) → (e ≡ report_fault.Write → Rose out.faults out.faults') → Written x i out (Err (stop_of e))
-    by_fault report_fault.Write rose = (answers, report sheet i.names places i.sheet said, judged_, prefix, rose refl)
-    by_fault report_fault.Memory rose = inr (answers, report sheet i.names places i.sheet said, judged_, prefix)
+pub not_written : (t : Task) (x : Texts) (i : Inputs) (out : Put) (answers : List Answer) (e : ReportFault) → AreAnswersOf t.limits i answers → AddsPrefix out.held out.held' (text_on t.source x i answers)
+    → (e ≡ report_fault.Write → Rose out.faults out.faults') → Written t x i out (Err (stop_of e))
+not_written t x i out answers report_fault.Write right prefix rose = (answers, text_on t.source x i answers, record { answers_are = right; text_is = refl }, prefix, rose refl)
+not_written t x i out answers report_fault.Memory right prefix rose = inr (answers, text_on t.source x i answers, record { answers_are = right; text_is = refl }, prefix)

@@ -4,3 +4,4 @@ pub mod GivenLemmas
 pub mod LoadingLemmas
 pub mod ReadingLemmas
 pub mod StopLemmas
+pub mod TaskLemmas

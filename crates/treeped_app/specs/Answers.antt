@@ -1,5 +1,4 @@
--- When answers are right, over a table of n names.
---     default_limits       how much may be worked out, and how much is listed
+-- When answers are right, over a table of n names, within limits.
 --     IsRight o a          the answer is right for an item, of what the statements make of the page
 --     AreRight items as    there is a right answer for each item
 --     IsPastBudget         a budget doesn't suffice
@@ -11,26 +10,23 @@ use Rattle.jq_sem.specs.Statements.{Statement}
 use Rattle.jq_sem.specs.Reachability.{Reaches}
 use Rattle.proof_maker.specs.Needs.{UsesMore}
 use Rattle.usage_report.specs.Answers.{Answer, used, used_unshown, unused, skipped, spent}
-use Rattle.judge.specs.declared.limits.Limits.{Limits}
+use Rattle.limits.specs.declared.budgets.Limits.{Limits}
 use Rattle.judge.specs.Answers.{judged_in, IsUsed}
 use Rattle.judge.specs.Spending.{MaySpend}
 use Rattle.judge.specs.TheSystem.{the_system, seen_atom}
 
-abbrev pub default_limits : Limits
-default_limits = record { plain = false; pairs = 50000; nodes = 4194304; entries = 100000; list = 1000 }
-
-module _ (t : LabelTree) (stmts : List Statement) (items : List sheets.Item) (n : ℕ) where
+module _ (t : LabelTree) (stmts : List Statement) (items : List sheets.Item) (n : ℕ) (limits : Limits) where
   -- some legal steps reach the selector, and its proof needs more entries than it may have
   abbrev pub IsUnshown : Selector → Type 0
-  IsUnshown s = Reaches t stmts s × UsesMore (the_system stmts (judged_in items) n) t (seen_atom stmts (judged_in items) n s) default_limits.entries
+  IsUnshown s = Reaches t stmts s × UsesMore (the_system stmts (judged_in items) n) t (seen_atom stmts (judged_in items) n s) limits.entries
 
-  -- up to some round, what is calculated to judge the page has more branches of diagrams than there may be
+  -- closing the page needs more pairs than there may be; or, in diagrams, what is calculated up to some round has more branches
   abbrev pub IsSpent : Type 0
-  IsSpent = MaySpend default_limits.plain (the_system stmts (judged_in items) n) t default_limits
+  IsSpent = MaySpend limits.plain (the_system stmts (judged_in items) n) t limits
 
   -- A selector that is used has a proof whose steps are legal from the page and end at a match.
   abbrev pub IsRightFor : Selector → Answer → Type 0
-  IsRightFor s (used proof steps shown) = IsUsed stmts (judged_in items) n t default_limits s proof steps shown
+  IsRightFor s (used proof steps shown) = IsUsed stmts (judged_in items) n t limits s proof steps shown
   IsRightFor s used_unshown = IsUnshown s
   IsRightFor s unused = ¬ Reaches t stmts s
   IsRightFor s (skipped cause at) = ⊥

@@ -3,24 +3,24 @@
 --     SaysWhy wants err s        the last line of a run without its report is whole
 --     Causes run s               each answer comes where its cause stands, and only there
 use Rattle.std.specs.Prelude.{◌≡◌, ◌≤◌, ◌⊎◌, ℕ, List, [], ◌∷◌, ◌++◌, length, Option, Some, None, Result, Ok, Err}
+use Rattle.tp_io.specs.Files.{Load}
 use Rattle.tp_io.specs.Sinks.{Adds, AddsPrefix, Rose}
 use Rattle.treeped_app.specs.declared.status.Status.{Status}
 use Rattle.treeped_app.specs.declared.status.Status.TheVariants as status
-use Rattle.tp_io.specs.declared.files.TheConstants.{MOST_BYTES}
 use Rattle.treeped_app.specs.declared.refusals.JudgeRefusal.{JudgeRefusal}
 use Rattle.treeped_app.specs.declared.refusals.Part.{Part}
 use Rattle.treeped_app.specs.declared.stops.Stop.{Stop}
 use Rattle.treeped_app.specs.declared.stops.Stop.TheVariants.{Words, TooLarge, ReadFault, Unread, Judging, WriteFault, NoMemory}
 use Rattle.treeped_app.specs.Stops.{line_of, status_of_stop}
-use Rattle.treeped_app.specs.Words.{Names, command}
-use Rattle.treeped_app.specs.Runs.{Put, Run, Ends, Texts, Inputs, IsAccepted, IsRefusedBy, IsJudgeable, IsOverBudget, read_inputs, loads_before, name_of, failed}
+use Rattle.treeped_app.specs.Tasks.{Names, Source, files, ring, Task, command}
+use Rattle.treeped_app.specs.Runs.{Told, Put, Run, Ends, Texts, Fit, ring_texts, Inputs, IsAccepted, IsRefusedBy, IsJudgeable, IsOverBudget, read_inputs, loads_before, name_of, failed}
 
 -- a status that comes with a report
 abbrev pub Reports : Status → Type 0
 Reports s = (s ≡ status.Complete) ⊎ (s ≡ status.Unused) ⊎ (s ≡ status.Budget)
 
--- The words are three names, all three files are read, and the report is whole: it has one right answer for each item of the
--- sheet, in their order, and the status that these answers give.
+-- The words are of the command's form, all three texts are read, and the report is whole: it has one right answer for each item of the
+-- sheet, in their order, and the status that these answers give. On a ring there is one line that counts these answers.
 abbrev pub Headline : Run → Status → Type 0
 Headline r s = Reports s → Ends r (Ok s)
 
@@ -75,36 +75,46 @@ pub record SaysWhy (wants_memory : Type 0) (err : Put) (s : Status) : Type 0 whe
 abbrev pub IsRefusal : Stop → Type 0
 IsRefusal stop = status_of_stop stop ≡ status.Refused
 
--- the last load of the run was that of a part, and failed
-abbrev pub FailedAt : Run → Names → Part → Type 0
-FailedAt r n part = r.loads' ≡ r.loads ++ loads_before part n ++ failed (name_of part n) ∷ []
+-- the last load of the run was that of a part of this source, and failed
+abbrev pub EndsFailed : List Load → List Load → Source → Part → Type 0
+EndsFailed before after (files n) part = after ≡ before ++ loads_before part n ++ failed (name_of part n) ∷ []
+EndsFailed before after (ring k) part = ⊥
 
--- the three names hold these texts, which is told of each
-pub record AreTold (r : Run) (n : Names) (x : Texts) : Type 0 where
-  pub are_names : command r.words ≡ Some n
-  pub page : r.told n.page ≡ Some x.page
-  pub sheet : r.told n.sheet ≡ Some x.sheet
-  pub script : r.told n.script ≡ Some x.script
+abbrev pub FailedAt : Run → Source → Part → Type 0
+FailedAt r source part = EndsFailed r.loads r.loads' source part
 
--- none is past the limit
-pub record Fit (x : Texts) : Type 0 where
-  pub page : length x.page ≤ MOST_BYTES
-  pub sheet : length x.sheet ≤ MOST_BYTES
-  pub script : length x.script ≤ MOST_BYTES
+-- the three names hold these texts, which is told of each; or they are those of a ring
+pub record AreToldOf (told : Told) (n : Names) (x : Texts) : Type 0 where
+  pub page : told n.page ≡ Some x.page
+  pub sheet : told n.sheet ≡ Some x.sheet
+  pub script : told n.script ≡ Some x.script
+
+abbrev pub AreToldFrom : Told → Source → Texts → Type 0
+AreToldFrom told (files n) x = AreToldOf told n x
+AreToldFrom told (ring k) x = x ≡ ring_texts k
+
+pub record AreTold (r : Run) (t : Task) (x : Texts) : Type 0 where
+  pub task : command r.words ≡ Some t
+  pub texts : AreToldFrom r.told t.source x
+
+-- files are within the limit; rings always are
+abbrev pub FitFrom : Source → Texts → Type 0
+FitFrom (files n) x = Fit x
+FitFrom (ring k) x = Unit {0}
 
 -- Each answer comes only where its cause stands, and where a cause stands no other answer comes.
 pub record Causes (r : Run) (err : Put) (s : Status) : Type 0 where
   pub words : s ≡ status.Words → command r.words ≡ None
-  pub no_names : command r.words ≡ None → (s ≡ status.Words) ⊎ Fails err s
+  pub no_task : command r.words ≡ None → (s ≡ status.Words) ⊎ Fails err s
   pub refused : s ≡ status.Refused → (stop : Stop) × IsRefusal stop × Ends r (Err stop) × Adds err.held err.held' (line_of stop)
-  pub not_read : (n : Names) (x : Texts) (stop : Stop) → AreTold r n x → Fit x → read_inputs x ≡ Err stop → (s ≡ status.Refused) ⊎ (s ≡ status.ReadFault) ⊎ Fails err s
-  pub not_judged : (n : Names) (x : Texts) (i : Inputs) (f : JudgeRefusal) → AreTold r n x → Fit x → read_inputs x ≡ Ok i → IsRefusedBy i f → (s ≡ status.Refused) ⊎ (s ≡ status.ReadFault) ⊎ Fails err s
-  pub too_large : (n : Names) (x : Texts) → AreTold r n x → (Fit x → ⊥) → (s ≡ status.Refused) ⊎ (s ≡ status.ReadFault) ⊎ Fails err s
-  pub read_fault : s ≡ status.ReadFault → (n : Names) × (part : Part) × (command r.words ≡ Some n) × FailedAt r n part × Adds err.held err.held' (line_of (ReadFault part))
-  pub failed_load : (n : Names) (part : Part) → FailedAt r n part → (s ≡ status.ReadFault) ⊎ Fails err s
+  pub not_read : (t : Task) (x : Texts) (stop : Stop) → AreTold r t x → FitFrom t.source x → read_inputs x ≡ Err stop → (s ≡ status.Refused) ⊎ (s ≡ status.ReadFault) ⊎ Fails err s
+  pub not_judged : (t : Task) (x : Texts) (i : Inputs) (f : JudgeRefusal) → AreTold r t x → FitFrom t.source x → read_inputs x ≡ Ok i → IsRefusedBy i f → (s ≡ status.Refused) ⊎ (s ≡ status.ReadFault) ⊎ Fails err s
+  pub too_large : (t : Task) (x : Texts) → AreTold r t x → (FitFrom t.source x → ⊥) → (s ≡ status.Refused) ⊎ (s ≡ status.ReadFault) ⊎ Fails err s
+  pub read_fault : s ≡ status.ReadFault → (t : Task) × (part : Part) × (command r.words ≡ Some t) × FailedAt r t.source part × Adds err.held err.held' (line_of (ReadFault part))
+  pub failed_load : (source : Source) (part : Part) → FailedAt r source part → (s ≡ status.ReadFault) ⊎ Fails err s
   pub write_fault : s ≡ status.WriteFault → Rose r.out.faults r.out.faults' ⊎ Rose err.faults err.faults'
-  pub budget : s ≡ status.Budget → (x : Texts) × (i : Inputs) × IsAccepted r x i × IsOverBudget i
-  pub completes : (n : Names) (x : Texts) (i : Inputs) → AreTold r n x → Fit x → read_inputs x ≡ Ok i → IsJudgeable i → ((part : Part) → FailedAt r n part → ⊥) → (Rose r.out.faults r.out.faults' → ⊥) → (Rose err.faults err.faults' → ⊥)
-      → Reports s ⊎ (s ≡ status.NoMemory)
-  pub decides : (n : Names) (x : Texts) (i : Inputs) → AreTold r n x → Fit x → read_inputs x ≡ Ok i → IsJudgeable i → (IsOverBudget i → ⊥) → ((part : Part) → FailedAt r n part → ⊥) → (Rose r.out.faults r.out.faults' → ⊥)
-      → (Rose err.faults err.faults' → ⊥) → (s ≡ status.Complete) ⊎ (s ≡ status.Unused) ⊎ (s ≡ status.NoMemory)
+  pub budget : s ≡ status.Budget → (t : Task) × (x : Texts) × (i : Inputs) × IsAccepted r t x i × IsOverBudget t.limits i
+  pub completes : (t : Task) (x : Texts) (i : Inputs) → AreTold r t x → FitFrom t.source x → read_inputs x ≡ Ok i → IsJudgeable i → ((part : Part) → FailedAt r t.source part → ⊥) → (Rose r.out.faults r.out.faults' → ⊥)
+      → (Rose err.faults err.faults' → ⊥) → Reports s ⊎ (s ≡ status.NoMemory)
+  pub decides : (t : Task) (x : Texts) (i : Inputs) → AreTold r t x → FitFrom t.source x → read_inputs x ≡ Ok i → IsJudgeable i → (IsOverBudget t.limits i → ⊥) → ((part : Part) → FailedAt r t.source part → ⊥)
+      → (Rose r.out.faults r.out.faults' → ⊥) → (Rose err.faults err.faults' → ⊥) → (s ≡ status.Complete) ⊎ (s ≡ status.Unused) ⊎ (s ≡ status.NoMemory)

@@ -4,5 +4,6 @@ pub mod Inputs
 pub mod Refusals
 pub mod Runs
 pub mod Stops
+pub mod Summary
+pub mod Tasks
 pub mod Views
-pub mod Words

@@ -1,6 +1,6 @@
 -- What a run of the command comes to, and why.
 --     read_inputs texts          what reading the three texts gives
---     Loaded ..                  what loading the three files comes to
+--     Loaded ..                  what getting the three texts comes to
 --     Ends ..                    what the run comes to: a report, or why there is none
 use Rattle.std.specs.Prelude.{◌≡◌, ◌⊎◌, ℕ, ◌<◌, ◌≤◌, Bool, true, false, if◌then◌else◌, List, [], ◌∷◌, ◌++◌, length, map, take, Option, Some, None, IfSome, Result, Ok, Err}
 use Rattle.std.specs.List.{list_any}
@@ -25,13 +25,16 @@ use Rattle.jq_words.specs.Words.{Outcome}
 use Rattle.jq_read.specs.Script.{script}
 use Rattle.usage_report.specs.Answers.{Answer, used_unshown, unused, spent}
 use Rattle.usage_report.specs.Report.{report}
-use Rattle.judge.specs.declared.limits.JudgeFault.{JudgeFault}
-use Rattle.judge.specs.declared.limits.JudgeFault.TheVariants as fault
+use Rattle.judge.specs.declared.faults.JudgeFault.{JudgeFault}
+use Rattle.judge.specs.declared.faults.JudgeFault.TheVariants as fault
 use Rattle.judge.specs.Outcomes.{IsFault, IsWithin}
 use Rattle.judge.specs.Outcomes as judge
-use Rattle.treeped_app.specs.Answers.{default_limits, AreRight, IsPastBudget}
+use Rattle.limits.specs.declared.budgets.Limits.{Limits}
+use Rattle.triple_gen.specs.Ring as rings
+use Rattle.treeped_app.specs.Answers.{AreRight, IsPastBudget}
 use Rattle.treeped_app.specs.Refusals.{page_stop, sheet_stop, script_stop}
-use Rattle.treeped_app.specs.Words.{Names, command}
+use Rattle.treeped_app.specs.Summary.{summary}
+use Rattle.treeped_app.specs.Tasks.{Names, Source, files, ring, Task, command}
 
 -- the texts of the three files
 pub record Texts : Type 0 where
@@ -82,14 +85,29 @@ Fits told name = IfSome (told name) (λ bytes. length bytes ≤ MOST_BYTES)
 abbrev pub Exceeds : Told → List ℕ → Type 0
 Exceeds told name = IfSome (told name) (λ bytes. MOST_BYTES < length bytes)
 
--- the three names hold these texts, none of which is past the limit
-pub record AreTexts (told : Told) (n : Names) (x : Texts) : Type 0 where
+-- none is past the limit
+pub record Fit (x : Texts) : Type 0 where
+  pub page : length x.page ≤ MOST_BYTES
+  pub sheet : length x.sheet ≤ MOST_BYTES
+  pub script : length x.script ≤ MOST_BYTES
+
+-- the three names hold these texts
+pub record AreHeld (told : Told) (n : Names) (x : Texts) : Type 0 where
   pub page : Holds told n.page x.page
   pub sheet : Holds told n.sheet x.sheet
   pub script : Holds told n.script x.script
-  pub page_fits : length x.page ≤ MOST_BYTES
-  pub sheet_fits : length x.sheet ≤ MOST_BYTES
-  pub script_fits : length x.script ≤ MOST_BYTES
+
+abbrev pub ring_texts : ℕ → Texts
+ring_texts k = record { page = rings.page k; sheet = rings.sheet k; script = rings.script k }
+
+-- the texts come from this source, and none is past the limit
+abbrev pub AreFrom : Told → Source → Texts → Type 0
+AreFrom told (files n) x = AreHeld told n x
+AreFrom told (ring k) x = x ≡ ring_texts k
+
+pub record AreTexts (told : Told) (source : Source) (x : Texts) : Type 0 where
+  pub from : AreFrom told source x
+  pub fit : Fit x
 
 abbrev pub name_of : Part → Names → List ℕ
 name_of part.Page n = n.page
@@ -109,8 +127,10 @@ loads_before part.Page n = []
 loads_before part.Sheet n = succeeded n.page ∷ []
 loads_before part.Script n = succeeded n.page ∷ succeeded n.sheet ∷ []
 
-abbrev pub all_loads : Names → List Load
-all_loads n = succeeded n.page ∷ succeeded n.sheet ∷ succeeded n.script ∷ []
+-- a ring is not loaded
+abbrev pub all_loads : Source → List Load
+all_loads (files n) = succeeded n.page ∷ succeeded n.sheet ∷ succeeded n.script ∷ []
+all_loads (ring k) = []
 
 -- the files before a part are within the limit
 abbrev pub FitBefore : Told → Names → Part → Type 0
@@ -126,21 +146,21 @@ OneLoaded told name p before after (Err (ReadFault q)) = (q ≡ p) × (after ≡
 OneLoaded told name p before after (Err NoMemory) = after ≡ before
 OneLoaded told name p before after (Err e) = ⊥
 
--- The same for all three, in their order, up to the first that is refused.
-abbrev pub Loaded : Told → Names → List Load → List Load → Result Texts Stop → Type 0
-Loaded told n before after (Ok x) = (after ≡ before ++ all_loads n) × AreTexts told n x
-Loaded told n before after (Err (TooLarge p)) = (after ≡ before ++ loads_before p n ++ succeeded (name_of p n) ∷ []) × FitBefore told n p × Exceeds told (name_of p n)
-Loaded told n before after (Err (ReadFault p)) = (after ≡ before ++ loads_before p n ++ failed (name_of p n) ∷ []) × FitBefore told n p
-Loaded told n before after (Err NoMemory) = (count : ℕ) × (after ≡ before ++ take count (all_loads n))
-Loaded told n before after (Err e) = ⊥
+-- The same for all three, in their order, up to the first that is refused. A ring is written, if there is memory.
+abbrev pub Loaded : Told → Source → List Load → List Load → Result Texts Stop → Type 0
+Loaded told source before after (Ok x) = (after ≡ before ++ all_loads source) × AreTexts told source x
+Loaded told source before after (Err (TooLarge p)) = (n : Names) × (source ≡ files n) × (after ≡ before ++ loads_before p n ++ succeeded (name_of p n) ∷ []) × FitBefore told n p × Exceeds told (name_of p n)
+Loaded told source before after (Err (ReadFault p)) = (n : Names) × (source ≡ files n) × (after ≡ before ++ loads_before p n ++ failed (name_of p n) ∷ []) × FitBefore told n p
+Loaded told source before after (Err NoMemory) = (count : ℕ) × (after ≡ before ++ take count (all_loads source))
+Loaded told source before after (Err e) = ⊥
 
 -- ---- judging
 
 -- One right answer for each item; and as exactly as `judge` decides it, with the proof of each selector that is used.
-pub record AreAnswersOf (i : Inputs) (answers : List Answer) : Type 0 where
-  pub right : AreRight i.tree i.stmts i.sheet.items (length i.names) i.sheet.items answers
+pub record AreAnswersOf (limits : Limits) (i : Inputs) (answers : List Answer) : Type 0 where
+  pub right : AreRight i.tree i.stmts i.sheet.items (length i.names) limits i.sheet.items answers
   pub within : IsWithin i.stmts i.sheet.items (length i.names)
-  pub exactly : judge.IsJudged i.stmts i.sheet.items (length i.names) i.tree default_limits answers
+  pub exactly : judge.IsJudged i.stmts i.sheet.items (length i.names) i.tree limits answers
 
 abbrev pub fault_of : JudgeRefusal → JudgeFault
 fault_of refused.TooManyAtoms = fault.TooManyAtoms
@@ -155,8 +175,8 @@ abbrev pub IsJudgeable : Inputs → Type 0
 IsJudgeable i = IsWithin i.stmts i.sheet.items (length i.names)
 
 -- a budget doesn't suffice for each answer
-abbrev pub IsOverBudget : Inputs → Type 0
-IsOverBudget i = IsPastBudget i.tree i.stmts i.sheet.items (length i.names)
+abbrev pub IsOverBudget : Limits → Inputs → Type 0
+IsOverBudget limits i = IsPastBudget i.tree i.stmts i.sheet.items (length i.names) limits
 
 abbrev pub is_unused : Answer → Bool
 is_unused unused = true
@@ -171,10 +191,15 @@ is_open _ = false
 abbrev pub status_of : List Answer → Status
 status_of answers = if list_any is_open answers then status.Budget else if list_any is_unused answers then status.Unused else status.Complete
 
--- right answers, and the report on them
-pub record IsJudged (x : Texts) (i : Inputs) (answers : List Answer) (text : List ℕ) : Type 0 where
-  pub answers_are : AreAnswersOf i answers
-  pub text_is : text ≡ report x.sheet i.names (map (λ s. s.place) i.stmts) i.sheet answers
+-- what is written of answers: the report on files, or the line on a ring
+abbrev pub text_on : Source → Texts → Inputs → List Answer → List ℕ
+text_on (files n) x i answers = report x.sheet i.names (map (λ s. s.place) i.stmts) i.sheet answers
+text_on (ring k) x i answers = summary k answers
+
+-- right answers, and what is written of them
+pub record IsJudged (t : Task) (x : Texts) (i : Inputs) (answers : List Answer) (text : List ℕ) : Type 0 where
+  pub answers_are : AreAnswersOf t.limits i answers
+  pub text_is : text ≡ text_on t.source x i answers
 
 -- what a sink held, and the count of its faults, before and after
 pub record Put : Type 0 where
@@ -186,13 +211,13 @@ pub record Put : Type 0 where
 abbrev pub put_of : Option (List ℕ) → Option (List ℕ) → ℕ → ℕ → Put
 put_of held held' faults faults' = record { held = held; held' = held'; faults = faults; faults' = faults' }
 
--- what judging and writing the report come to
-abbrev pub Written : Texts → Inputs → Put → Result Status Stop → Type 0
-Written x i out (Ok s) = (answers : List Answer) × (text : List ℕ) × IsJudged x i answers text × Adds out.held out.held' text × (s ≡ status_of answers)
-Written x i out (Err WriteFault) = (answers : List Answer) × (text : List ℕ) × IsJudged x i answers text × AddsPrefix out.held out.held' text × Rose out.faults out.faults'
-Written x i out (Err (Judging f)) = IsRefusedBy i f × (out.held' ≡ out.held)
-Written x i out (Err NoMemory) = (out.held' ≡ out.held) ⊎ ((answers : List Answer) × (text : List ℕ) × IsJudged x i answers text × AddsPrefix out.held out.held' text)
-Written x i out (Err e) = ⊥
+-- what judging and writing come to
+abbrev pub Written : Task → Texts → Inputs → Put → Result Status Stop → Type 0
+Written t x i out (Ok s) = (answers : List Answer) × (text : List ℕ) × IsJudged t x i answers text × Adds out.held out.held' text × (s ≡ status_of answers)
+Written t x i out (Err WriteFault) = (answers : List Answer) × (text : List ℕ) × IsJudged t x i answers text × AddsPrefix out.held out.held' text × Rose out.faults out.faults'
+Written t x i out (Err (Judging f)) = IsRefusedBy i f × (out.held' ≡ out.held)
+Written t x i out (Err NoMemory) = (out.held' ≡ out.held) ⊎ ((answers : List Answer) × (text : List ℕ) × IsJudged t x i answers text × AddsPrefix out.held out.held' text)
+Written t x i out (Err e) = ⊥
 
 -- What is seen of a run: the bytes that are told of the names' files, the words, the loads before and after, and the sink of
 -- the report.
@@ -206,24 +231,24 @@ pub record Run : Type 0 where
 abbrev pub run_of : Told → List (List ℕ) → List Load → List Load → Put → Run
 run_of told words loads loads' out = record { told = told; words = words; loads = loads; loads' = loads'; out = out }
 
--- all three files were loaded and read
-pub record IsAccepted (r : Run) (x : Texts) (i : Inputs) : Type 0 where
-  pub names : Names
-  pub are_names : command r.words ≡ Some names
-  pub loaded : r.loads' ≡ r.loads ++ all_loads names
-  pub texts : AreTexts r.told names x
+-- the words are a task, whose three texts were had and read
+pub record IsAccepted (r : Run) (t : Task) (x : Texts) (i : Inputs) : Type 0 where
+  pub task : command r.words ≡ Some t
+  pub loaded : r.loads' ≡ r.loads ++ all_loads t.source
+  pub texts : AreTexts r.told t.source x
   pub read : read_inputs x ≡ Ok i
 
 -- What a run comes to: a report with its status, or why there is none, or none whole.
 abbrev pub Ends : Run → Result Status Stop → Type 0
-Ends r (Ok s) = (x : Texts) × (i : Inputs) × IsAccepted r x i × Written x i r.out (Ok s)
+Ends r (Ok s) = (t : Task) × (x : Texts) × (i : Inputs) × IsAccepted r t x i × Written t x i r.out (Ok s)
 Ends r (Err Words) = (command r.words ≡ None) × (r.loads' ≡ r.loads) × (r.out.held' ≡ r.out.held)
-Ends r (Err (TooLarge p)) = (n : Names) × (command r.words ≡ Some n) × Loaded r.told n r.loads r.loads' (Err (TooLarge p)) × (r.out.held' ≡ r.out.held)
-Ends r (Err (ReadFault p)) = (n : Names) × (command r.words ≡ Some n) × Loaded r.told n r.loads r.loads' (Err (ReadFault p)) × (r.out.held' ≡ r.out.held)
-Ends r (Err (Unread refusal)) = (n : Names) × (command r.words ≡ Some n) × (x : Texts) × Loaded r.told n r.loads r.loads' (Ok x) × (read_inputs x ≡ Err (Unread refusal)) × (r.out.held' ≡ r.out.held)
-Ends r (Err (Judging f)) = (x : Texts) × (i : Inputs) × IsAccepted r x i × Written x i r.out (Err (Judging f))
-Ends r (Err WriteFault) = (x : Texts) × (i : Inputs) × IsAccepted r x i × Written x i r.out (Err WriteFault)
+Ends r (Err (TooLarge p)) = (t : Task) × (command r.words ≡ Some t) × Loaded r.told t.source r.loads r.loads' (Err (TooLarge p)) × (r.out.held' ≡ r.out.held)
+Ends r (Err (ReadFault p)) = (t : Task) × (command r.words ≡ Some t) × Loaded r.told t.source r.loads r.loads' (Err (ReadFault p)) × (r.out.held' ≡ r.out.held)
+Ends r (Err (Unread refusal)) = (t : Task) × (command r.words ≡ Some t) × (x : Texts) × Loaded r.told t.source r.loads r.loads' (Ok x) × (read_inputs x ≡ Err (Unread refusal)) × (r.out.held' ≡ r.out.held)
+Ends r (Err (Judging f)) = (t : Task) × (x : Texts) × (i : Inputs) × IsAccepted r t x i × Written t x i r.out (Err (Judging f))
+Ends r (Err WriteFault) = (t : Task) × (x : Texts) × (i : Inputs) × IsAccepted r t x i × Written t x i r.out (Err WriteFault)
 Ends r (Err NoMemory) =
-    ((n : Names) × (command r.words ≡ Some n) × Loaded r.told n r.loads r.loads' (Err NoMemory) × (r.out.held' ≡ r.out.held))
-    ⊎ ((n : Names) × (command r.words ≡ Some n) × (x : Texts) × Loaded r.told n r.loads r.loads' (Ok x) × (r.out.held' ≡ r.out.held))
-    ⊎ ((x : Texts) × (i : Inputs) × IsAccepted r x i × Written x i r.out (Err NoMemory))
+    ((r.loads' ≡ r.loads) × (r.out.held' ≡ r.out.held))
+    ⊎ ((t : Task) × (command r.words ≡ Some t) × Loaded r.told t.source r.loads r.loads' (Err NoMemory) × (r.out.held' ≡ r.out.held))
+    ⊎ ((t : Task) × (command r.words ≡ Some t) × (x : Texts) × Loaded r.told t.source r.loads r.loads' (Ok x) × (r.out.held' ≡ r.out.held))
+    ⊎ ((t : Task) × (x : Texts) × (i : Inputs) × IsAccepted r t x i × Written t x i r.out (Err NoMemory))

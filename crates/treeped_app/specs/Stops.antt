@@ -1,10 +1,12 @@
 -- How a run ends without its report, and the line that it says then on standard error.
 use Rattle.std.specs.Prelude.{ℕ, List, [], ◌++◌, codes}
 use Rattle.std.specs.Fmt.{decimal}
+use Rattle.command_words.specs.declared.words.WordsFault.{WordsFault}
+use Rattle.command_words.specs.declared.words.WordsFault.TheVariants as words
 use Rattle.usage_report.specs.declared.faults.ReportFault.{ReportFault}
 use Rattle.usage_report.specs.declared.faults.ReportFault.TheVariants as report
-use Rattle.judge.specs.declared.limits.JudgeFault.{JudgeFault}
-use Rattle.judge.specs.declared.limits.JudgeFault.TheVariants as judge
+use Rattle.judge.specs.declared.faults.JudgeFault.{JudgeFault}
+use Rattle.judge.specs.declared.faults.JudgeFault.TheVariants as judge
 use Rattle.treeped_app.specs.declared.status.Status.{Status}
 use Rattle.treeped_app.specs.declared.status.Status.TheVariants as status
 use Rattle.treeped_app.specs.declared.refusals.Part.{Part}
@@ -35,6 +37,10 @@ status_of_stop (Unread refusal) = status.Refused
 status_of_stop (Judging refusal) = status.Refused
 status_of_stop WriteFault = status.WriteFault
 status_of_stop NoMemory = status.NoMemory
+
+abbrev pub words_stop : WordsFault → Stop
+words_stop words.Words = Words
+words_stop words.Memory = NoMemory
 
 abbrev pub stop_of : ReportFault → Stop
 stop_of report.Write = WriteFault
@@ -87,7 +93,7 @@ judging_text refused.TooManyVisible = codes "too many visible atoms"
 
 -- each line ends with LF
 abbrev pub line_of : Stop → List ℕ
-line_of Words = codes "usage: treeped PAGE SHEET SCRIPT\n"
+line_of Words = codes "usage: treeped [--plain] [--pairs N] [--nodes N] [--entries N] [--list N] PAGE SHEET SCRIPT | --gen N\n"
 line_of (TooLarge part) = codes "treeped: " ++ part_text part ++ codes ": too large\n"
 line_of (ReadFault part) = codes "treeped: " ++ part_text part ++ codes ": read fault\n"
 line_of (Unread refusal) = refusal_line refusal

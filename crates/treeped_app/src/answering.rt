@@ -1,7 +1,7 @@
 //! An answer for each item of a sheet, of whatever was read.
 ghost use Rattle.std.specs.Prelude.{◌≡◌, length, map, IfOk, IfErr, vec_len};
 ghost use Rattle.usage_report.specs.Views.{answer_of};
-ghost use Rattle.treeped_app.specs.Answers as spec;
+ghost use Rattle.limits.specs.Budgets.{IsInRange};
 ghost use Rattle.treeped_app.specs.Inputs.{AreInputs, IsUnanswered, inputs_of};
 ghost use Rattle.treeped_app.specs.Runs.{AreAnswersOf};
 
@@ -11,34 +11,25 @@ use judge::{Limits, judge};
 use std::alloc::Global;
 use usage_report::Answer;
 
-/// How much may be worked out, and how much is listed.
-fn default_limits() -> Limits
-    ensures { result ≡ spec.default_limits }
-{
-    Limits {
-        plain: false,
-        pairs: 50_000,
-        nodes: 4_194_304,
-        entries: 100_000,
-        list: 1_000,
-    }
-}
-
 /// An answer for each item of the sheet, of what the script makes of the page. It costs what `judge` costs.
-pub(crate) fn answers_of(alloc: Global, inputs: &Inputs) -> Result<Vec<Answer>, Stop>
+pub(crate) fn answers_of(
+    alloc: Global,
+    inputs: &Inputs,
+    limits: &Limits,
+) -> Result<Vec<Answer>, Stop>
     requires given { AreInputs (inputs_of inputs.now) }
-    ensures answers { IfOk result (λ answers. AreAnswersOf (inputs_of inputs.now) (map answer_of answers.items)) }
+    requires limits { IsInRange limits.now }
+    ensures answers { IfOk result (λ answers. AreAnswersOf limits.now (inputs_of inputs.now) (map answer_of answers.items)) }
     ensures count { IfOk result (λ answers. vec_len answers ≡ length inputs.now.sheet.items) }
     ensures stop { IfErr result (λ e. IsUnanswered (inputs_of inputs.now) e) }
 {
-    let limits = default_limits();
     let answers = judge(
         alloc,
         &inputs.page,
         &inputs.sheet,
         &inputs.stmts,
         &inputs.atoms,
-        &limits,
+        limits,
     )?;
     Ok(answers)
 }

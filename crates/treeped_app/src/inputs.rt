@@ -1,8 +1,9 @@
-//! The three files: loaded, and read.
+//! The three texts: loaded or generated, and read.
 ghost use Rattle.std.specs.Prelude.{◌≡◌, ◌≤◌, length, IfOk, vec_len};
 ghost use Rattle.tp_io.specs.declared.files.TheConstants.{MOST_BYTES};
 ghost use Rattle.treeped_app.specs.Runs as spec;
 ghost use Rattle.treeped_app.specs.Runs.{OneLoaded, Loaded};
+ghost use Rattle.triple_gen.specs.declared.triple.TheConstants.{MOST_BOXES};
 ghost use Rattle.tree_sem.specs.Nodes.{IsTreeOver};
 ghost use Rattle.sel_core.specs.Results.{IsFront};
 ghost use Rattle.html_subset.specs.Reading as html;
@@ -15,21 +16,24 @@ ghost use Rattle.jq_read.specs.Limits.{AreWithin};
 ghost use Rattle.jq_read.specs.Script.{script};
 ghost use Rattle.treeped_app.specs.Inputs.{AreInputs, IsOpened, IsRead, inputs_of, loaded_text, loaded_texts, texts_of};
 ghost use Rattle.treeped_app.specs.Refusals.{page_stop, sheet_stop};
-ghost use Rattle.treeped_app.specs.Views.{names_of};
+ghost use Rattle.treeped_app.specs.Tasks as task;
+ghost use Rattle.treeped_app.specs.Tasks.{IsFew};
+ghost use Rattle.treeped_app.specs.Views.{names_of, source_of};
 
 use crate::refusals::Part;
+use crate::sources::{Names, Source};
 use crate::stops::{Stop, page_stop, script_stop, sheet_stop};
-use crate::words::Names;
 use css_read::{Sheet, read_sheet};
 use html_subset::read_page;
 use jq_read::read_script;
 use jq_sem::Stmt;
 use std::alloc::Global;
-use tp_base::AtomTable;
+use tp_base::{AtomTable, NoMemory};
 use tp_io::{Files, LoadFault};
 use tree_sem::Tree;
+use triple_gen::generate;
 
-/// The bytes of the three files.
+/// The bytes of the three texts.
 #[derive(Drop)]
 pub(crate) struct Texts {
     pub(crate) page: Vec<u8>,
@@ -37,7 +41,7 @@ pub(crate) struct Texts {
     pub(crate) script: Vec<u8>,
 }
 
-/// What was read of the three files, with their names.
+/// What was read of the three texts, with their names.
 #[derive(Drop)]
 pub(crate) struct Inputs {
     pub(crate) page: Tree,
@@ -46,14 +50,41 @@ pub(crate) struct Inputs {
     pub(crate) atoms: AtomTable,
 }
 
-/// Loads the page, the sheet and the script, in this order.
-pub(crate) fn load_all<F: Files>(
+/// The three texts of a source. What is generated loads nothing.
+pub(crate) fn texts_for<F: Files>(
     alloc: Global,
-    names: &Names<'_>,
+    source: &Source<'_>,
     files: &mut F,
 ) -> Result<Texts, Stop>
-    ensures same_files { F.told files.new ≡ F.told files.old }
-    ensures loaded { Loaded (F.told files.old) (names_of names.now) (F.loads files.old) (F.loads files.new) (loaded_texts result) }
+    requires few { IsFew (source_of source.now) }
+    ensures { Loaded (F.told files.old) (source_of source.now) (F.loads files.old) (F.loads files.new) (loaded_texts result) }
+{
+    match source {
+        Source::Files(names) => load_all(alloc, names, files),
+        Source::Ring(n) => {
+            let texts = ring_texts(alloc, *n)?;
+            Ok(texts)
+        }
+    }
+}
+
+/// The texts of a ring of n boxes. Linear in them.
+fn ring_texts(alloc: Global, n: u32) -> Result<Texts, NoMemory>
+    requires { n ≤ MOST_BOXES }
+    ensures texts { IfOk result (λ x. texts_of x ≡ spec.ring_texts n) }
+    ensures fit { IfOk result (λ x. spec.Fit (texts_of x)) }
+{
+    let triple = generate(alloc, n)?;
+    Ok(Texts {
+        page: triple.page.into_items(),
+        sheet: triple.sheet.into_items(),
+        script: triple.script.into_items(),
+    })
+}
+
+/// Loads the page, the sheet and the script, in this order.
+fn load_all<F: Files>(alloc: Global, names: &Names<'_>, files: &mut F) -> Result<Texts, Stop>
+    ensures { Loaded (F.told files.old) (task.files (names_of names.now)) (F.loads files.old) (F.loads files.new) (loaded_texts result) }
 {
     let page = load(alloc, names.page, Part::Page, files)?;
     let sheet = load(alloc, names.sheet, Part::Sheet, files)?;

@@ -5,18 +5,12 @@ mod answering;
 mod inputs;
 mod refusals;
 mod runs;
+mod sources;
 mod status;
 mod stops;
-mod words;
+mod summaries;
 
 pub use refusals::{Fault, JudgeRefusal, Part, Refusal};
 pub use runs::treeped;
 pub use status::Status;
 pub use stops::Stop;
-
-#[cfg(test)]
-mod rows;
-#[cfg(test)]
-mod sure_runs;
-#[cfg(test)]
-mod tests;

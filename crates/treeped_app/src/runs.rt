@@ -1,27 +1,37 @@
 //! The command itself.
-ghost use Rattle.std.specs.Prelude.{◌≡◌, ◌≤◌, map, string_bytes, vec_len, IfOk};
+ghost use Rattle.std.specs.Prelude.{◌≡◌, ◌≤◌, ℕ, List, Some, length, map, string_bytes, vec_len, IfOk, OnOk, OnErr};
 ghost use Rattle.std.specs.List.{list_any};
 ghost use Rattle.treeped_app.specs.Runs as spec;
 ghost use Rattle.treeped_app.specs.Runs.{Ends, Written, put_of, run_of};
 ghost use Rattle.treeped_app.specs.Inputs.{AreInputs, inputs_of, texts_of};
 ghost use Rattle.treeped_app.specs.Commands.{Headline, IsEnded, SaysWhy, Causes};
+ghost use Rattle.tp_io.specs.Sinks.{Adds, AddsPrefix, Rose};
+ghost use Rattle.limits.specs.Budgets.{IsInRange};
+ghost use Rattle.usage_report.specs.Report.{report};
 ghost use Rattle.usage_report.specs.Views.{answer_of};
+ghost use Rattle.treeped_app.specs.Views as view;
+ghost use Rattle.treeped_app.specs.Tasks.{IsFew, task_by, command};
 ghost use Rattle.jq_sem.specs.Views.{statements_of};
 ghost use Rattle.tp_base.specs.declared.places.TheConstants.{MOST_BYTES};
 
 use crate::answering::answers_of;
-use crate::inputs::{Inputs, Texts, load_all, read_all};
+use crate::inputs::{Inputs, Texts, read_all, texts_for};
+use crate::sources::{Source, source_of};
 use crate::status::Status;
 use crate::stops::{Stop, tell};
-use crate::words::read_words;
+use crate::summaries::write_summary;
+use command_words::read_words;
 use jq_sem::Stmt;
+use limits::Limits;
 use std::alloc::Global;
 use tp_base::{NoMemory, Place};
 use tp_io::{Files, Sink};
-use usage_report::{Answer, write_report};
+use usage_report::{Answer, ReportFault, write_report};
 
 /// Runs the command with the words after the program's name. It loads and reads the page, the sheet and the script that they
-/// name, judges the sheet's selectors and writes the report to `out`; where there is none, or none whole, it says why on `err`.
+/// name, judges the sheet's selectors within the limits that they ask for and writes the report to `out`; with a size it judges a
+/// ring of boxes, loads nothing and writes one line that counts the answers. Where nothing is written, or not the whole, it says
+/// why on `err`.
 pub fn treeped<F: Files, O: Sink, E: Sink>(
     alloc: Global,
     words: &[String],
@@ -50,7 +60,7 @@ pub fn treeped<F: Files, O: Sink, E: Sink>(
     }
 }
 
-/// Loads and reads the three files, judges the selectors and writes the report.
+/// Reads the words, and does what they ask for.
 fn run<F: Files, O: Sink>(
     alloc: Global,
     words: &[String],
@@ -60,26 +70,91 @@ fn run<F: Files, O: Sink>(
     ensures { Ends (run_of (F.told files.old) (map string_bytes words.now) (F.loads files.old) (F.loads files.new)
         (put_of (O.written out.old) (O.written out.new) (O.faults out.old) (O.faults out.new))) result }
 {
-    let names = read_words(words).ok_or(Stop::Words)?;
-    let texts = load_all(alloc, &names, files)?;
-    let inputs = read_all(alloc, &texts)?;
-    report(alloc, &texts, &inputs, out)
+    let order = read_words(alloc, words)?;
+    match source_of(&order) {
+        Some(source) => run_task(alloc, &source, &order.limits, files, out),
+        None => Err(Stop::Words),
+    }
 }
 
-/// Judges the selectors and writes the report.
-#[tactic(auto, using(crate::proofs::AnsweringLemmas::unanswered))]
-fn report<O: Sink>(
+/// Gets and reads the three texts, judges the selectors and writes what is said of them.
+fn run_task<F: Files, O: Sink>(
     alloc: Global,
+    source: &Source<'_>,
+    limits: &Limits,
+    files: &mut F,
+    out: &mut O,
+) -> Result<Status, Stop>
+    requires few { IsFew (view.source_of source.now) }
+    requires limits { IsInRange limits.now }
+    ensures { (words : List (List ℕ)) → command words ≡ Some (task_by (view.source_of source.now) limits.now) → Ends (run_of (F.told files.old) words (F.loads files.old) (F.loads files.new)
+        (put_of (O.written out.old) (O.written out.new) (O.faults out.old) (O.faults out.new))) result }
+{
+    let texts = texts_for(alloc, source, files)?;
+    let inputs = read_all(alloc, &texts)?;
+    answer(alloc, source, &texts, &inputs, limits, out)
+}
+
+/// Judges the selectors and writes what is said of them.
+#[tactic(auto, using(crate::proofs::AnsweringLemmas::unanswered))]
+fn answer<O: Sink>(
+    alloc: Global,
+    source: &Source<'_>,
     texts: &Texts,
     inputs: &Inputs,
+    limits: &Limits,
     out: &mut O,
 ) -> Result<Status, Stop>
     requires in_limit { vec_len texts.now.sheet ≤ MOST_BYTES }
     requires given { AreInputs (inputs_of inputs.now) }
-    ensures { Written (texts_of texts.now) (inputs_of inputs.now)
+    requires limits { IsInRange limits.now }
+    ensures { Written (task_by (view.source_of source.now) limits.now) (texts_of texts.now) (inputs_of inputs.now)
         (put_of (O.written out.old) (O.written out.new) (O.faults out.old) (O.faults out.new)) result }
 {
-    let answers = answers_of(alloc, inputs)?;
+    let answers = answers_of(alloc, inputs, limits)?;
+    write_answers(alloc, source, texts, inputs, &answers, out)?;
+    Ok(status_of(&answers))
+}
+
+/// Writes what is said of answers: the report on files, or the line on a ring.
+fn write_answers<O: Sink>(
+    alloc: Global,
+    source: &Source<'_>,
+    texts: &Texts,
+    inputs: &Inputs,
+    answers: &[Answer],
+    out: &mut O,
+) -> Result<(), ReportFault>
+    requires in_limit { vec_len texts.now.sheet ≤ MOST_BYTES }
+    requires answered { length answers.now ≡ length inputs.now.sheet.items }
+    ensures ok { OnOk result (Adds (O.written out.old) (O.written out.new)
+        (spec.text_on (view.source_of source.now) (texts_of texts.now) (inputs_of inputs.now) (map answer_of answers.now))) }
+    ensures err { OnErr result (AddsPrefix (O.written out.old) (O.written out.new)
+        (spec.text_on (view.source_of source.now) (texts_of texts.now) (inputs_of inputs.now) (map answer_of answers.now))) }
+    ensures write { result ≡ Err ReportFault.Write → Rose (O.faults out.old) (O.faults out.new) }
+{
+    match source {
+        Source::Files(_) => write_files(alloc, texts, inputs, answers, out),
+        Source::Ring(n) => write_summary(alloc, *n, answers, out),
+    }
+}
+
+/// Writes the report on files.
+fn write_files<O: Sink>(
+    alloc: Global,
+    texts: &Texts,
+    inputs: &Inputs,
+    answers: &[Answer],
+    out: &mut O,
+) -> Result<(), ReportFault>
+    requires in_limit { vec_len texts.now.sheet ≤ MOST_BYTES }
+    requires answered { length answers.now ≡ length inputs.now.sheet.items }
+    ensures ok { OnOk result (Adds (O.written out.old) (O.written out.new)
+        (report (texts_of texts.now).sheet (inputs_of inputs.now).names (map (λ s. s.place) (inputs_of inputs.now).stmts) (inputs_of inputs.now).sheet (map answer_of answers.now))) }
+    ensures err { OnErr result (AddsPrefix (O.written out.old) (O.written out.new)
+        (report (texts_of texts.now).sheet (inputs_of inputs.now).names (map (λ s. s.place) (inputs_of inputs.now).stmts) (inputs_of inputs.now).sheet (map answer_of answers.now))) }
+    ensures write { result ≡ Err ReportFault.Write → Rose (O.faults out.old) (O.faults out.new) }
+{
     let places = places_of(alloc, &inputs.stmts)?;
     write_report(
         alloc,
@@ -87,10 +162,9 @@ fn report<O: Sink>(
         &texts.sheet,
         &inputs.atoms,
         &places,
-        &answers,
+        answers,
         out,
-    )?;
-    Ok(status_of(&answers))
+    )
 }
 
 /// The places of the statements, in their order.

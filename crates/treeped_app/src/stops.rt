@@ -10,6 +10,7 @@ ghost use Rattle.treeped_app.specs.Stops as spec;
 
 use crate::refusals::{Fault, JudgeRefusal, Part, Refusal};
 use crate::status::Status;
+use command_words::WordsFault;
 use css_read::SheetFault;
 use html_subset::PageFault;
 use jq_read::ScriptFault;
@@ -40,6 +41,20 @@ impl From<NoMemory> for Stop {
 
     fn from(_error: NoMemory) -> Stop {
         Stop::NoMemory
+    }
+}
+
+impl From<WordsFault> for Stop {
+    ghost use Rattle.std.specs.Prelude.{◌≡◌};
+    ghost use Rattle.treeped_app.specs.Stops.{words_stop};
+
+    ghost from_gives = { λ e f. f ≡ words_stop e };
+
+    fn from(error: WordsFault) -> Stop {
+        match error {
+            WordsFault::Words => Stop::Words,
+            WordsFault::Memory => Stop::NoMemory,
+        }
     }
 }
 
@@ -180,7 +195,9 @@ impl Stop {
         ensures { spec.IsFixed self.now → result.now ≡ spec.line_of self.now }
     {
         match self {
-            Stop::Words => b"usage: treeped PAGE SHEET SCRIPT\n",
+            Stop::Words => {
+                b"usage: treeped [--plain] [--pairs N] [--nodes N] [--entries N] [--list N] PAGE SHEET SCRIPT | --gen N\n"
+            }
             Stop::TooLarge(Part::Page) => b"treeped: page: too large\n",
             Stop::TooLarge(Part::Sheet) => b"treeped: sheet: too large\n",
             Stop::TooLarge(Part::Script) => b"treeped: script: too large\n",

@@ -10,13 +10,14 @@ use Rattle.treeped_app.proofs.answering.answers_of.Goals as goal
 
 pub returns-clause-answers : goal.returns-clause-answers
 returns-clause-answers c =
-    answers_are (inputs_of c.args.inputs.now) (statements_of c.deref.result.now) c.default_limits-limits.result (map answer_of c.in_ok-answers.answers.items) (ap statements_of c.deref.ensures.value)
-    c.default_limits-limits.ensures c.in_ok-answers.ensures.within c.in_ok-answers.ensures.judged
+    answers_are (inputs_of c.args.inputs.now) (statements_of c.deref.result.now) c.args.limits.now (map answer_of c.in_ok-answers.answers.items) (ap statements_of c.deref.ensures.value) c.in_ok-answers.ensures.within
+    c.in_ok-answers.ensures.judged
 
 pub returns-clause-count : goal.returns-clause-count
 returns-clause-count c =
     let answers = c.in_ok-answers.answers in
-    answers.ok.0 ∙ sym (length-map answers.items answer_of) ∙ count_of (inputs_of c.args.inputs.now) (map answer_of answers.items) (returns-clause-answers c) ∙ length-map c.args.inputs.now.sheet.items item_of
+    answers.ok.0 ∙ sym (length-map answers.items answer_of) ∙ count_of c.args.limits.now (inputs_of c.args.inputs.now) (map answer_of answers.items) (returns-clause-answers c)
+    ∙ length-map c.args.inputs.now.sheet.items item_of
 
 pub returns-in_err-answers-clause-stop : goal.returns-in_err-answers-clause-stop
 returns-in_err-answers-clause-stop c =

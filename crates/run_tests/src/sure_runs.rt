@@ -1,9 +1,9 @@
 //! The command where no load and no put fails.
 ghost use Rattle.std.specs.Prelude.{◌≢◌};
 
-use crate::{Status, treeped};
 use std::alloc::Global;
 use tp_io::{SureFiles, SureSink};
+use treeped_app::{Status, treeped};
 
 /// Runs the command over files and sinks that never fail: no fault is answered.
 pub fn sure_run(

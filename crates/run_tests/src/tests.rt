@@ -1,11 +1,11 @@
 //! Whole runs over files and sinks in memory.
-use crate::rows::{CASES, Case, NAMES, OPENS, OWN, OWN_REPORT, REFUSED};
+use crate::rows::{CASES, Case, NAMES, OPENS, OPTIONS, OWN, OWN_REPORT, REFUSED, SHOPS};
 use crate::sure_runs::sure_run;
-use crate::treeped;
 use std::alloc::{AllocError, Global};
 use std::process::Abort;
 use std::test::Fail;
 use tp_io::{MemFiles, MemSink, SureFiles, SureSink};
+use treeped_app::treeped;
 
 /// Scripts that are refused, beside the page with its own class, and what is said of them.
 static SCRIPTS: [(&str, &str); 10] = [
@@ -138,7 +138,7 @@ static LIMITS: [Limit; 12] = [
     },
 ];
 
-fn strings(alloc: Global, texts: &[&str]) -> Result<Vec<String>, AllocError> {
+pub(crate) fn strings(alloc: Global, texts: &[&str]) -> Result<Vec<String>, AllocError> {
     let mut strings = Vec::new(alloc);
     for text in texts {
         strings.push(String::from_str(alloc, text)?)?;
@@ -157,7 +157,7 @@ fn entries(alloc: Global, texts: &[&str]) -> Result<Vec<(String, Vec<u8>)>, Allo
     Ok(entries)
 }
 
-fn run(rt: &impl Abort, alloc: Global, case: &Case) -> Result<(), AllocError> {
+pub(crate) fn run(rt: &impl Abort, alloc: Global, case: &Case<'_>) -> Result<(), AllocError> {
     let words = strings(alloc, case.words)?;
     let mut files = MemFiles::new(
         alloc,
@@ -168,7 +168,7 @@ fn run(rt: &impl Abort, alloc: Global, case: &Case) -> Result<(), AllocError> {
     let mut err = MemSink::new(alloc, Vec::from_slice(alloc, case.errors)?, 100);
     let status = treeped(alloc, &words, &mut files, &mut out, &mut err);
     assert!(rt; status.code() == case.status, "status {status:?}");
-    assert!(rt; out.bytes() == case.out.as_bytes());
+    assert!(rt; out.bytes() == case.out);
     assert!(rt; err.bytes() == case.err.as_bytes());
     Ok(())
 }
@@ -177,6 +177,24 @@ fn run(rt: &impl Abort, alloc: Global, case: &Case) -> Result<(), AllocError> {
 fn runs_in_memory(rt: HostRuntime) -> Result<(), Fail> {
     let alloc = rt.alloc();
     for case in &CASES {
+        run(&rt, alloc, case)?;
+    }
+    Ok(())
+}
+
+#[test]
+fn runs_over_a_shop(rt: HostRuntime) -> Result<(), Fail> {
+    let alloc = rt.alloc();
+    for case in &SHOPS {
+        run(&rt, alloc, case)?;
+    }
+    Ok(())
+}
+
+#[test]
+fn runs_with_options(rt: HostRuntime) -> Result<(), Fail> {
+    let alloc = rt.alloc();
+    for case in &OPTIONS {
         run(&rt, alloc, case)?;
     }
     Ok(())
@@ -197,7 +215,10 @@ fn refuses_scripts(rt: HostRuntime) -> Result<(), Fail> {
 }
 
 /// A piece so many times.
-fn repeated(alloc: Global, (piece, count): (&[u8], usize)) -> Result<Vec<u8>, AllocError> {
+pub(crate) fn repeated(
+    alloc: Global,
+    (piece, count): (&[u8], usize),
+) -> Result<Vec<u8>, AllocError> {
     let mut text = Vec::new(alloc);
     for _ in 0..count {
         text.extend_from_slice(piece)?;
@@ -205,16 +226,17 @@ fn repeated(alloc: Global, (piece, count): (&[u8], usize)) -> Result<Vec<u8>, Al
     Ok(text)
 }
 
-/// What is wanted of a run; a long report isn't compared.
+/// The words of a run and what is wanted of it; a long report isn't compared.
 #[derive(Clone, Copy)]
-struct Wanted<'a> {
-    code: u8,
-    out: Option<&'a [u8]>,
-    err: &'a str,
+pub(crate) struct Wanted<'a> {
+    pub(crate) words: &'a [&'a str],
+    pub(crate) code: u8,
+    pub(crate) out: Option<&'a [u8]>,
+    pub(crate) err: &'a str,
 }
 
 /// Runs the command over these texts.
-fn run_texts(
+pub(crate) fn run_texts(
     rt: &impl Abort,
     alloc: Global,
     page: Vec<u8>,
@@ -222,7 +244,7 @@ fn run_texts(
     script: Vec<u8>,
     wanted: &Wanted<'_>,
 ) -> Result<(), AllocError> {
-    let words = strings(alloc, &NAMES)?;
+    let words = strings(alloc, wanted.words)?;
     let mut entries = Vec::new(alloc);
     entries.push((String::from_str(alloc, "page")?, page))?;
     entries.push((String::from_str(alloc, "sheet")?, sheet))?;
@@ -242,6 +264,7 @@ fn run_limit(rt: &impl Abort, alloc: Global, limit: &Limit) -> Result<(), AllocE
     let sheet = repeated(alloc, limit.sheet)?;
     let script = repeated(alloc, limit.script)?;
     let wanted = Wanted {
+        words: &NAMES,
         code: limit.status,
         out: None,
         err: limit.err,
@@ -284,6 +307,7 @@ fn runs_at_the_limits(rt: HostRuntime) -> Result<(), Fail> {
 /// A run that judging refuses, with this line.
 const fn refused(line: &str) -> Wanted<'_> {
     Wanted {
+        words: &NAMES,
         code: 3,
         out: Some(b""),
         err: line,
@@ -347,6 +371,7 @@ fn counts_without_listing(rt: HostRuntime) -> Result<(), Fail> {
         b"$('.l.d#').parent().addClass('p#');\n$('.r.d#').parent().addClass('q#');\n$('.p#.q#').addClass('d@');\n";
     let script = numbered(alloc, front, (lines, 30), b"")?;
     let wanted = Wanted {
+        words: &NAMES,
         code: 0,
         out: Some(b"treeped 1\n1:1 used 6442450939 .d31\n  not listed\n"),
         err: "",
@@ -375,13 +400,23 @@ fn boxes_report(alloc: Global, all: &[u8]) -> Result<Vec<u8>, AllocError> {
     Ok(report)
 }
 
-/// A table would need a pair for each set of the 32 classes; the diagrams have room.
-#[test]
-fn four_billion_labels(rt: HostRuntime) -> Result<(), Fail> {
-    let alloc = rt.alloc();
+/// What is said of 32 boxes where there isn't room enough.
+fn spent_boxes(alloc: Global, all: &[u8]) -> Result<Vec<u8>, AllocError> {
+    let lines = b"#:1 spent .c# .z\n";
+    let mut report = numbered(alloc, b"treeped 1\n", (lines, 32), b"33:1 spent ")?;
+    report.extend_from_slice(all)?;
+    report.push(b'\n')?;
+    Ok(report)
+}
+
+/// The selector that asks for all 32 boxes.
+fn all_boxes(alloc: Global) -> Result<Vec<u8>, AllocError> {
+    numbered(alloc, b"", (b".c# ", 32), b".z")
+}
+
+fn run_boxes(rt: &impl Abort, alloc: Global, wanted: &Wanted<'_>) -> Result<(), AllocError> {
     let page = Vec::from_slice(alloc, b"<div class=\"box\"></div>")?;
-    let all = numbered(alloc, b"", (b".c# ", 32), b".z")?;
-    let mut sheet = numbered(alloc, b"", (b".c# .z{}\n", 32), &all)?;
+    let mut sheet = numbered(alloc, b"", (b".c# .z{}\n", 32), &all_boxes(alloc)?)?;
     sheet.extend_from_slice(b"{}")?;
     let boxes = b"$('.box').append('<div class=\"box c#\"></div>');\n";
     let script = numbered(
@@ -390,13 +425,38 @@ fn four_billion_labels(rt: HostRuntime) -> Result<(), Fail> {
         (boxes, 32),
         b"$('.box').append('<i class=\"z\"></i>');",
     )?;
+    run_texts(rt, alloc, page, sheet, script, wanted)
+}
+
+/// Few branches, and a table of pairs.
+static SMALL: [[&str; 4]; 2] = [
+    ["--nodes=2", "page", "sheet", "script"],
+    ["--plain", "page", "sheet", "script"],
+];
+
+/// A table would need a pair for each set of the 32 classes; the diagrams have room, if they may have more than a few branches.
+#[test]
+fn four_billion_labels(rt: HostRuntime) -> Result<(), Fail> {
+    let alloc = rt.alloc();
+    let all = all_boxes(alloc)?;
     let report = boxes_report(alloc, &all)?;
     let wanted = Wanted {
+        words: &NAMES,
         code: 0,
         out: Some(&report),
         err: "",
     };
-    run_texts(&rt, alloc, page, sheet, script, &wanted)?;
+    run_boxes(&rt, alloc, &wanted)?;
+    let spent = spent_boxes(alloc, &all)?;
+    for words in &SMALL {
+        let wanted = Wanted {
+            words,
+            code: 7,
+            out: Some(&spent),
+            err: "",
+        };
+        run_boxes(&rt, alloc, &wanted)?;
+    }
     Ok(())
 }
 
@@ -409,7 +469,7 @@ fn runs_where_nothing_fails(rt: HostRuntime) -> Result<(), Fail> {
     let mut err = SureSink::new(alloc);
     let status = sure_run(alloc, &words, &mut files, &mut out, &mut err);
     assert!(rt; status.code() == 0, "status {status:?}");
-    assert!(rt; out.bytes() == OWN_REPORT.as_bytes());
+    assert!(rt; out.bytes() == OWN_REPORT);
     assert!(rt; err.bytes().is_empty());
     Ok(())
 }
