@@ -425,7 +425,7 @@ pub(crate) static SHOPS: [Case<'static>; 7] = [
 ];
 
 /// Runs whose words have options.
-pub(crate) static OPTIONS: [Case<'static>; 13] = [
+pub(crate) static OPTIONS: [Case<'static>; 12] = [
     Case {
         words: &["--plain", "--plain", "page", "sheet", "script"],
         ..NO_WORDS
@@ -453,13 +453,6 @@ pub(crate) static OPTIONS: [Case<'static>; 13] = [
     },
     Case {
         words: &["--plain", "--pairs", "1", "page", "sheet", "script"],
-        texts: INVALID,
-        status: 7,
-        out: b"treeped 1\n1:1 spent form.bad\n",
-        ..PLAIN
-    },
-    Case {
-        words: &["--nodes", "1", "page", "sheet", "script"],
         texts: INVALID,
         status: 7,
         out: b"treeped 1\n1:1 spent form.bad\n",
