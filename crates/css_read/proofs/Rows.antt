@@ -9,7 +9,8 @@ use Rattle.sel_core.specs.declared.faults.Skip.TheVariants.{Sibling, Pseudo, Bad
 use Rattle.sel_core.specs.Bytes.{name_len, begins_name, behind_close, behind_gap}
 use Rattle.sel_core.specs.Grammar.{left_at, is_dropped_element, is_dropped_class, behind_word, behind_dropped, any_part, first_part, name_at, behind_child, behind_space, behind_near, join_at}
 use Rattle.sel_core.specs.Selectors.{simple}
-use Rattle.sel_core.specs.Reading.{with_word, with_join, with_part, first_step, later_step, step, finished, run, read_piece, read_selector}
+use Rattle.sel_core.specs.Syntax.{whole_part, first_item, later_item, item_at, syntax_from, syntax_of}
+use Rattle.sel_core.specs.Reading.{atoms_of, compounds_of, read_syntax, read_piece, read_selector}
 use Rattle.css_read.specs.declared.faults.SheetFault.TheVariants.{NotUtf8, TooManySelectors}
 use Rattle.css_read.specs.declared.sheets.Range.{Range}
 use Rattle.css_read.specs.Units.{behind_string, behind_unit, after_byte, from_first_in}
@@ -145,7 +146,7 @@ dropped_and_skipped : read_whole (codes "a:hover{} a + b{} li:first-child{}")
         rules = range 0 9 ∷ range 10 17 ∷ range 18 34 ∷ [];
       }),
     )
-unfolding add_rules add_rule add_items add_item read_item with_name place_in pieces first_piece more_pieces piece_of solid_len behind_gap read_selector read_piece run finished step later_step first_step with_part with_join with_word join_at behind_near behind_space behind_child name_at first_part any_part behind_dropped behind_word is_dropped_class is_dropped_element left_at rules_of rules_from next_front behind_unit behind_string after_byte from_first_in at_rule style_rule behind_block holds_rules behind_mark name_len begins_name behind_close
+unfolding add_rules add_rule add_items add_item read_item with_name place_in pieces first_piece more_pieces piece_of solid_len behind_gap read_selector read_piece read_syntax compounds_of atoms_of syntax_of syntax_from item_at later_item first_item whole_part join_at behind_near behind_space behind_child name_at first_part any_part behind_dropped behind_word is_dropped_class is_dropped_element left_at rules_of rules_from next_front behind_unit behind_string after_byte from_first_in at_rule style_rule behind_block holds_rules behind_mark name_len begins_name behind_close
 dropped_and_skipped = refl
 
 end_without_compound : read_whole (codes ".a, .b > {},{}")
@@ -156,7 +157,7 @@ end_without_compound : read_whole (codes ".a, .b > {},{}")
         rules = range 0 11 ∷ range 11 14 ∷ [];
       }),
     )
-unfolding add_rules add_rule add_items add_item read_item with_name place_in pieces first_piece more_pieces piece_of solid_len behind_gap read_selector read_piece run finished step later_step first_step with_part with_join with_word join_at behind_near behind_space behind_child name_at first_part any_part behind_dropped behind_word is_dropped_class is_dropped_element left_at rules_of rules_from next_front behind_unit behind_string after_byte from_first_in at_rule style_rule behind_block holds_rules behind_mark name_len begins_name behind_close
+unfolding add_rules add_rule add_items add_item read_item with_name place_in pieces first_piece more_pieces piece_of solid_len behind_gap read_selector read_piece read_syntax compounds_of atoms_of syntax_of syntax_from item_at later_item first_item whole_part join_at behind_near behind_space behind_child name_at first_part any_part behind_dropped behind_word is_dropped_class is_dropped_element left_at rules_of rules_from next_front behind_unit behind_string after_byte from_first_in at_rule style_rule behind_block holds_rules behind_mark name_len begins_name behind_close
 end_without_compound = refl
 
 not_utf8 : read_sheet (97 ∷ 0xC3 ∷ 40 ∷ []) [] ≡ ([], Err (NotUtf8 1))
@@ -164,7 +165,7 @@ unfolding read_sheet utf8_valid_len is_utf8 chars lib.Utf8.encode
 not_utf8 = refl
 
 one_more : add_item (codes "a{}") 7 [] [] (range 0 1) ≡ ((Element, codes "a") ∷ [], Ok (item 0 1 7 (judged (simple (0 ∷ []))) ∷ []))
-unfolding add_rules add_rule add_items add_item read_item with_name place_in pieces first_piece more_pieces piece_of solid_len behind_gap read_selector read_piece run finished step later_step first_step with_part with_join with_word join_at behind_near behind_space behind_child name_at first_part any_part behind_dropped behind_word is_dropped_class is_dropped_element left_at rules_of rules_from next_front behind_unit behind_string after_byte from_first_in at_rule style_rule behind_block holds_rules behind_mark name_len begins_name behind_close
+unfolding add_rules add_rule add_items add_item read_item with_name place_in pieces first_piece more_pieces piece_of solid_len behind_gap read_selector read_piece read_syntax compounds_of atoms_of syntax_of syntax_from item_at later_item first_item whole_part join_at behind_near behind_space behind_child name_at first_part any_part behind_dropped behind_word is_dropped_class is_dropped_element left_at rules_of rules_from next_front behind_unit behind_string after_byte from_first_in at_rule style_rule behind_block holds_rules behind_mark name_len begins_name behind_close
 one_more = refl
 
 one_too_many : add_item (codes "a{}") 7 (replicate 20000 (item 0 0 0 (skipped Bad 0))) [] (range 0 1) ≡ ([], Err (TooManySelectors 0))

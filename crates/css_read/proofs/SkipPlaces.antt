@@ -5,11 +5,15 @@ use Rattle.std.specs.Option.{ok_or}
 use Rattle.tp_base.specs.Names.{Named}
 use Rattle.tp_base.specs.declared.atoms.AtomKind.{AtomKind}
 use Rattle.sel_core.specs.declared.faults.Skip.{Skip}
+use Rattle.sel_core.specs.declared.faults.Skip.TheVariants.{Bad}
 use Rattle.sel_core.specs.declared.faults.SelFault.{SelFault}
 use Rattle.sel_core.specs.declared.faults.SelFault.TheVariants.{Skipped, TooManyAtoms, Memory}
+use Rattle.sel_core.specs.declared.selectors.Compound.{Compound}
 use Rattle.sel_core.specs.declared.selectors.Join.{Join}
 use Rattle.sel_core.specs.Grammar.{Outcome, ◌>>=◌, left_at, Begun, any_part, first_part, Word, name_at, part_of, behind_child, behind_space, behind_near, join_at}
-use Rattle.sel_core.specs.Reading.{Draft, entered, with_word, with_part, first_step, behind_part, later_step, step, finished, Ending, then_read, run, read_piece, read_selector}
+use Rattle.sel_core.specs.Syntax.{Item, part, joined, ended, whole_part, first_item, behind_join, later_item, item_at, finished_after, begun_after, Syntax, with_item, then_syntax, syntax_from, syntax_of}
+use Rattle.sel_core.specs.Reading.{Ending, then_read, placed, atom_of, atoms_of, compounds_of, selector_or, read_syntax, read_piece, read_selector}
+use Rattle.sel_core.specs.Selectors.{Selector}
 
 -- the place of a cause is at most `to`
 unfoldable IsBy : {A : Type 0} → ℕ → Outcome A → Type 0
@@ -53,23 +57,13 @@ part_by : (to : ℕ) (b : Begun) → IsBy to (part_of to b)
 part_by to (None, rest) = read_by to _
 part_by to (Some k, bs) = name_by to k bs
 
-entered_by : (to : ℕ) (o : Option (ℕ × List Named)) → IsBy to (entered o)
-unfolding IsBy
-entered_by to None = tt
-entered_by to (Some e) = tt
+whole_by : (to : ℕ) (b : Begun) → IsBy to (whole_part to b)
+unfolding whole_part
+whole_by to b = chained to (part_of to b) _ (part_by to b) (λ p. read_by to _)
 
-word_by : (to : ℕ) (d : Draft) (w : Option Word) → IsBy to (with_word d w)
-unfolding with_word
-word_by to d None = read_by to _
-word_by to d (Some (k, name)) = chained to (entered _) _ (entered_by to _) (λ e. read_by to _)
-
-with_part_by : (to : ℕ) (d : Draft) (b : Option Begun) (bs : List ℕ) → IsBy to (with_part to d b bs)
-unfolding with_part
-with_part_by to d b bs = chained to (ok_or b _) _ (some_by to b bs bs) (λ x. chained to (part_of to x) _ (part_by to x) (λ p. chained to (with_word d p.0) _ (word_by to d p.0) (λ e. read_by to _)))
-
-first_by : (drops : Bool) (to : ℕ) (d : Draft) (bs : List ℕ) → IsBy to (first_step drops to d bs)
-unfolding first_step
-first_by drops to d bs = chained to (ok_or (first_part drops bs) _) _ (some_by to (first_part drops bs) bs bs) (λ b. chosen to _ _ _ (with_part_by to d (Some b) bs) (cause_by _ to _ _ (omega arith)))
+first_by : (drops : Bool) (to n : ℕ) (bs : List ℕ) → IsBy to (first_item drops to n bs)
+unfolding first_item
+first_by drops to n bs = chained to (ok_or (first_part drops bs) _) _ (some_by to (first_part drops bs) bs bs) (λ b. chosen to _ _ _ (whole_by to b) (cause_by _ to _ _ (omega arith)))
 
 child_by : (to : ℕ) (bs : List ℕ) → IsBy to (behind_child to bs)
 unfolding behind_child
@@ -89,45 +83,94 @@ join_by : (to : ℕ) (bs : List ℕ) → IsBy to (join_at to bs)
 unfolding join_at
 join_by to bs = near_by to _
 
-behind_by : (drops : Bool) (to : ℕ) (d : Draft) (j : Option Join × List ℕ) → IsBy to (behind_part drops to d j)
-behind_by drops to d (Some j, bs) = read_by to _
-behind_by drops to d (None, []) = read_by to _
-behind_by drops to d (None, b ∷ bs) = with_part_by to d (any_part drops (b ∷ bs)) (b ∷ bs)
+behind_by : (drops : Bool) (to : ℕ) (j : Option Join × List ℕ) → IsBy to (behind_join drops to j)
+behind_by drops to (Some j, bs) = read_by to _
+behind_by drops to (None, []) = read_by to _
+behind_by drops to (None, b ∷ bs) = chained to (ok_or (any_part drops (b ∷ bs)) _) _ (some_by to (any_part drops (b ∷ bs)) (b ∷ bs) (b ∷ bs)) (whole_by to)
 
-later_by : (drops : Bool) (to : ℕ) (d : Draft) (bs : List ℕ) → IsBy to (later_step drops to d bs)
-unfolding later_step
-later_by drops to d bs = chained to (join_at to bs) _ (join_by to bs) (behind_by drops to d)
+later_by : (drops : Bool) (to : ℕ) (bs : List ℕ) → IsBy to (later_item drops to bs)
+unfolding later_item
+later_by drops to bs = chained to (join_at to bs) _ (join_by to bs) (behind_by drops to)
 
-step_by : (drops : Bool) (to : ℕ) (d : Draft) (bs : List ℕ) → IsBy to (step drops to d bs)
-unfolding step
-step_by drops to d bs = chosen to _ _ _ (later_by drops to d bs) (first_by drops to d bs)
+item_by : (drops : Bool) (to n : ℕ) (begun : Bool) (bs : List ℕ) → IsBy to (item_at drops to n begun bs)
+unfolding item_at
+item_by drops to n begun bs = chosen to begun _ _ (later_by drops to bs) (first_by drops to n bs)
 
-finished_by : (to : ℕ) (d : Draft) → IsBy to (finished to d)
-unfolding finished
-finished_by to d = chosen to _ _ _ (read_by to _) (cause_by _ to _ _ (omega arith))
+-- ---- a text
 
-then_by : (to : ℕ) (names : List Named) (o : Outcome (Draft × List ℕ)) (f : Draft × List ℕ → Ending) → IsBy to o → ((x : Draft × List ℕ) → IsBy to (f x).1)
-    → IsBy to (then_read names o f).1
+IsFaultBy : ℕ → Option SelFault → Type 0
+IsFaultBy to None = Unit {0}
+IsFaultBy to (Some e) = IsBy {A = Selector} to (Err e)
+
+with_item_by : (to : ℕ) (i : Item) (s : Syntax) → IsFaultBy to s.fault → IsFaultBy to (with_item i s).fault
+with_item_by to (part None) s is = is
+with_item_by to (part (Some w)) s is = is
+with_item_by to (joined j) s is = is
+with_item_by to ended s is = is
+
+then_by : (to : ℕ) (o : Outcome (Item × List ℕ)) (f : Item → List ℕ → Syntax) → IsBy to o → ((i : Item) (rest : List ℕ) → IsFaultBy to (f i rest).fault) → IsFaultBy to (then_syntax o f).fault
+unfolding IsBy IsFaultBy
+then_by to (Ok (i, rest)) f here later = with_item_by to i (f i rest) (later i rest)
+then_by to (Err (Skipped why at)) f here later = here
+then_by to (Err TooManyAtoms) f here later = tt
+then_by to (Err Memory) f here later = tt
+
+end_by : (begun : Bool) (to : ℕ) → IsFaultBy to (if begun then None else Some (Skipped Bad to))
+unfolding IsFaultBy
+end_by true to = tt
+end_by false to = cause_by Selector to Bad to (omega arith)
+
+syntax_by : (drops : Bool) (to n : ℕ) (begun : Bool) (skip : ℕ) (bs : List ℕ) → IsFaultBy to (syntax_from drops to n begun skip bs).fault
+unfolding syntax_from
+syntax_by drops to n begun skip [] = end_by begun to
+syntax_by drops to n begun (suc skip) (b ∷ bs) = syntax_by drops to n begun skip bs
+syntax_by drops to n begun zero (b ∷ bs) =
+    then_by to (item_at drops to n begun (b ∷ bs)) _ (item_by drops to n begun (b ∷ bs)) (λ i rest. syntax_by drops to (finished_after n i) (begun_after begun i) (length bs - length rest) bs)
+
+-- ---- its names
+
+then_read_by : {A B : Type 0} (to : ℕ) (e : Ending A) (f : List Named → A → Ending B) → IsBy to e.1 → ((later : List Named) (x : A) → IsBy to (f later x).1) → IsBy to (then_read e f).1
 unfolding IsBy
-then_by to names (Ok x) f here later = later x
-then_by to names (Err (Skipped why at)) f here later = here
-then_by to names (Err TooManyAtoms) f here later = tt
-then_by to names (Err Memory) f here later = tt
+then_read_by to (names, Ok x) f here later = later names x
+then_read_by to (names, Err (Skipped why at)) f here later = here
+then_read_by to (names, Err TooManyAtoms) f here later = tt
+then_read_by to (names, Err Memory) f here later = tt
 
-run_by : (drops : Bool) (to : ℕ) (d : Draft) (skip : ℕ) (bs : List ℕ) → IsBy to (run drops to d skip bs).1
-unfolding run
-run_by drops to d skip [] = finished_by to d
-run_by drops to d (suc skip) (b ∷ bs) = run_by drops to d skip bs
-run_by drops to d zero (b ∷ bs) =
-    then_by to d.names (step drops to d (b ∷ bs)) _ (step_by drops to d (b ∷ bs)) (λ r. run_by drops to r.0 (length bs - length r.1) bs)
+placed_by : (to : ℕ) (names : List Named) (o : Option (ℕ × List Named)) → IsBy to (placed names o).1
+unfolding IsBy
+placed_by to names None = tt
+placed_by to names (Some e) = tt
 
-selector_by : (text : List ℕ) (from to : ℕ) (names : List Named) → IsBy to (read_selector text from to names).1
-unfolding read_selector read_piece
-selector_by text from to names = run_by true to _ 0 _
+atoms_by : (to : ℕ) (names : List Named) (words : List Word) → IsBy to (atoms_of names words).1
+unfolding atoms_of
+atoms_by to names [] = read_by to _
+atoms_by to names (w ∷ words) = then_read_by to (atom_of names w) _ (placed_by to names _) (λ later a. then_read_by to (atoms_of later words) _ (atoms_by to later words) (λ last atoms. read_by to _))
+
+compounds_by : (to : ℕ) (names : List Named) (cs : List (List Word)) → IsBy to (compounds_of names cs).1
+unfolding compounds_of
+compounds_by to names [] = read_by to _
+compounds_by to names (c ∷ cs) =
+    then_read_by to (atoms_of names c) _ (atoms_by to names c) (λ later atoms. then_read_by to (compounds_of later cs) _ (compounds_by to later cs) (λ last compounds. read_by to _))
+
+-- ---- a selector
+
+selector_by : (to : ℕ) (fault : Option SelFault) (compounds : List Compound) (joins : List Join) → IsFaultBy to fault → IsBy to (selector_or fault compounds joins)
+unfolding IsFaultBy
+selector_by to None compounds joins is = read_by to _
+selector_by to (Some e) compounds joins is = is
+
+read_syntax_by : (to : ℕ) (s : Syntax) (names : List Named) → IsFaultBy to s.fault → IsBy to (read_syntax s names).1
+unfolding read_syntax
+read_syntax_by to s names is =
+    then_read_by to (compounds_of names (s.names ∷ s.others)) _ (compounds_by to names (s.names ∷ s.others)) (λ later compounds. selector_by to s.fault compounds s.joins is)
+
+piece_by : (text : List ℕ) (from to : ℕ) (names : List Named) → IsBy to (read_selector text from to names).1
+unfolding read_selector read_piece syntax_of
+piece_by text from to names = read_syntax_by to _ names (syntax_by true to 0 false 0 _)
 
 skipped_by : (text : List ℕ) (from to : ℕ) (names later : List Named) (why : Skip) (at : ℕ) → read_selector text from to names ≡ (later, Err (Skipped why at)) → at ≤ to
 unfolding IsBy
-skipped_by text from to names later why at read = subst (λ (e : Ending). IsBy to e.1) read (selector_by text from to names)
+skipped_by text from to names later why at read = subst (λ (e : Ending Selector). IsBy to e.1) read (piece_by text from to names)
 
 -- the same of a call that may find no memory
 pub skipped_at : (e : SelFault) (why : Skip) (at : ℕ) (text : List ℕ) (from to : ℕ) (names later : List Named)

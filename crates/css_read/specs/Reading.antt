@@ -9,6 +9,7 @@ use Rattle.std.specs.Str.Lossy.{utf8_valid_len}
 use Rattle.tp_base.specs.Names.{Named}
 use Rattle.sel_core.specs.declared.faults.SelFault.TheVariants as sel
 use Rattle.sel_core.specs.Reading as one
+use Rattle.sel_core.specs.Selectors.{Selector}
 use Rattle.css_read.specs.declared.faults.SheetFault.{SheetFault}
 use Rattle.css_read.specs.declared.faults.SheetFault.TheVariants.{NotUtf8, TooManySelectors, TooManyAtoms, Memory}
 use Rattle.css_read.specs.declared.faults.TheConstants.{MOST_SELECTORS}
@@ -29,7 +30,7 @@ abbrev pub item : ℕ → Range → Outcome → Item
 item rule piece outcome = record { from = piece.from; to = piece.to; rule = rule; outcome = outcome }
 
 -- what a selector of a sheet is, by how it reads
-abbrev pub item_from : ℕ → Range → one.Ending → Ending Item
+abbrev pub item_from : ℕ → Range → one.Ending Selector → Ending Item
 item_from rule piece (names, Ok s) = (names, Ok (item rule piece (judged s)))
 item_from rule piece (names, Err (sel.Skipped why at)) = (names, Ok (item rule piece (skipped why at)))
 item_from rule piece (names, Err sel.TooManyAtoms) = (names, Err (TooManyAtoms piece.from))

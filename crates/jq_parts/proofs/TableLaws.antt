@@ -8,7 +8,8 @@ use Rattle.tp_base.specs.declared.atoms.AtomKind.TheVariants as kind
 use Rattle.tp_base.proofs.ClassLemmas.{Contains-with_class}
 use Rattle.tp_base.proofs.NamesLemmas.{with_name-below, with_name-longer}
 use Rattle.tp_base.proofs.Rising.{All-from_Contains}
-use Rattle.sel_core.specs.Lists.{ListEnding, read_strict_list}
+use Rattle.sel_core.specs.Lists.{read_strict_list}
+use Rattle.sel_core.specs.Reading.{Ending}
 use Rattle.sel_core.specs.Selectors.{Selector}
 use Rattle.html_subset.specs.Elements as tags
 use Rattle.jq_words.specs.declared.faults.ScriptFault.TheVariants.{ComplexArgument}
@@ -20,7 +21,7 @@ use Rattle.jq_parts.proofs.SelectorLaws.{IsListOver, list_over, AreAtoms-more}
 
 -- ---- letters of an argument
 
-with_over : (at m : ℕ) (e : ListEnding) → IsListOver m e → IfOk (with_selectors at e) (λ r. (m ≤ length r.1) × AreSelectorsOver (length r.1) r.0)
+with_over : (at m : ℕ) (e : Ending (List Selector)) → IsListOver m e → IfOk (with_selectors at e) (λ r. (m ≤ length r.1) × AreSelectorsOver (length r.1) r.0)
 with_over at m (later, Ok ss) is = is
 with_over at m (later, Err e) is = tt
 

@@ -6,7 +6,8 @@ use Rattle.sel_core.specs.declared.reading.Draft as code
 use Rattle.sel_core.specs.declared.selectors.Selector.{Selector}
 use Rattle.sel_core.specs.Drafts.{draft_of, IsPaired}
 use Rattle.sel_core.specs.Grammar.{Outcome}
-use Rattle.sel_core.specs.Reading.{Draft, empty_draft, finished, run, Ending, read_piece}
+use Rattle.sel_core.specs.Machine.{Draft, empty_draft, finished, run}
+use Rattle.sel_core.specs.Reading.{Ending, read_piece}
 use Rattle.sel_core.specs.Readable.{IsReadable}
 use Rattle.sel_core.proofs.Sound.{piece_readable}
 use Rattle.sel_core.specs.Results.{Gives, Reads}
@@ -22,10 +23,10 @@ finished_with : (to : ℕ) (d : code.Draft) (names : List Named) → finished to
 unfolding finished
 finished_with to d names = refl
 
-abbrev ending : List Named → Outcome spec.Selector → Ending
+abbrev ending : List Named → Outcome spec.Selector → Ending spec.Selector
 ending names r = (names, r)
 
-pub ends_with : (r : Result Selector SelFault) (drops : Bool) (to : ℕ) (d : code.Draft) (names : List Named) (rest : List ℕ) (read : Ending)
+pub ends_with : (r : Result Selector SelFault) (drops : Bool) (to : ℕ) (d : code.Draft) (names : List Named) (rest : List ℕ) (read : Ending spec.Selector)
     → Gives selector_of r (finished to (draft_of d [])) → run drops to (draft_of d names) 0 rest ≡ read → length rest ≡ 0 → Reads selector_of r names read
 ends_with (Ok s) drops to d names rest read gives is none =
     sym is ∙ ends drops to (draft_of d names) rest none ∙ ap (ending names) (finished_with to d names ∙ gives)

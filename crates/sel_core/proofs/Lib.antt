@@ -8,6 +8,7 @@ pub mod Rests
 pub mod WordLemmas
 pub mod Fronts
 pub mod Steps
+pub mod SameReading
 pub mod Runs
 pub mod Endings
 pub mod Commas

@@ -7,7 +7,7 @@ use Rattle.std.proofs.lemmas.List.Folds.{list_all-append}
 use Rattle.tp_base.specs.Names.{Named, IsDistinct}
 use Rattle.sel_core.specs.Bytes.{in_name}
 use Rattle.sel_core.specs.Selectors as spec
-use Rattle.sel_core.specs.Lists.{from_comma, read_one, more, read_strict_list}
+use Rattle.sel_core.specs.Lists.{from_comma, first_piece, more_pieces, pieces, read_pieces, read_strict_list}
 use Rattle.sel_core.specs.Reading.{read_piece, read_selector}
 use Rattle.sel_core.specs.Readable.{IsType, IsMarked, AreMarked, IsCompound, AreCompounds, IsReadable, ReadsAs}
 use Rattle.sel_core.specs.SelectorText.{atom_text, compound_text, join_text, outer_text, selector_text}
@@ -89,7 +89,7 @@ module _ (names : List Named) where
   plain_selector s r = plain_more (outer_text names s.outer) (compound_text names s.subject) (plain_outer s.outer r.outer) (plain_compound s.subject r.subject)
 
   reads_one : (text : List ℕ) (s : spec.Selector) → from_comma 0 text ≡ [] → read_piece false (length text) text names ≡ (names, Ok s) → read_strict_list text names ≡ (names, Ok (s ∷ []))
-  unfolding read_strict_list read_one more
+  unfolding read_strict_list pieces first_piece more_pieces read_pieces
   reads_one text s end is =
       let all : take (length text - 0) text ≡ text = take_all (length text - 0) text (omega arith) in
       let size : length text - 0 ≡ length text = omega arith in

@@ -14,12 +14,13 @@ use Rattle.sel_core.specs.Selectors as spec
 use Rattle.sel_core.specs.Parts.{join_of, and_then, selector_from}
 use Rattle.sel_core.specs.Bytes.{starts_name, begins_name, behind_gap}
 use Rattle.sel_core.specs.Grammar.{Begun, any_part, first_part, name_at, behind_child, behind_space, behind_near, join_at}
-use Rattle.sel_core.specs.Reading.{Draft, spelled, with_word, with_join, with_part, first_step, step, finished, run, read_piece}
+use Rattle.sel_core.specs.Machine.{Draft, empty_draft, with_word, with_join, with_part, first_step, step, finished, run}
+use Rattle.sel_core.specs.Reading.{spelled, read_piece}
 use Rattle.sel_core.specs.SelectorText.{atom_text, compound_text, join_text, outer_text, selector_text}
 use Rattle.sel_core.specs.Readable.{IsName, IsType, IsMarked, AreMarked, IsCompound, AreCompounds, IsReadable}
 use Rattle.sel_core.proofs.NameLemmas.{IsStart, IsEnd, is_start, not_byte, no_gap, name_begins, or_start, first_of_name, reads_name, behind_front}
 use Rattle.sel_core.proofs.PartLemmas.{selector_from-push}
-use Rattle.sel_core.proofs.Runs.{goes_on}
+use Rattle.sel_core.proofs.Runs.{begins, goes_on}
 use Rattle.sel_core.proofs.Steps.{at_join, at_part}
 
 begins_not : (b : ℕ) (bs : List ℕ) → starts_name b ≡ false → (b == 45) ≡ false → begins_name (b ∷ bs) ≡ false
@@ -261,14 +262,16 @@ module _ (drops : Bool) (to : ℕ) (names : List Named) (distinct : IsDistinct n
 
   -- a selector that is readable, by its text
   pub reads_back : (s : spec.Selector) → IsReadable names s → read_piece drops to (selector_text names s) names ≡ (names, Ok s)
-  unfolding read_piece selector_text
+  unfolding selector_text
   reads_back s r =
       let last : compound_text names s.subject ++ [] ≡ compound_text names s.subject = append-nil (compound_text names s.subject) in
       let start : IsStart (compound_text names s.subject) = subst IsStart last (compound_start s.subject r.subject []) in
       let few : length (parts_of s.outer) < MOST_PARTS = omega (arith, r.few, length-parts_of s.outer) in
       let subject = subst (λ bs. run drops to (at (parts_of s.outer) (joins_of s.outer) [] false) 0 bs ≡ run drops to (at (parts_of s.outer) (joins_of s.outer) s.subject true) 0 []) last
       (reads_compound (parts_of s.outer) (joins_of s.outer) s.subject r.subject [] few refl) in
-      rw (no_gap true (outer_text names s.outer ++ compound_text names s.subject) (outer_start s.outer r.outer (compound_text names s.subject) start))
-      (reads_outer s.outer r.outer (omega (arith, r.few)) (compound_text names s.subject) start ∙ subject
+      let text = outer_text names s.outer ++ compound_text names s.subject in
+      let first = sym (no_gap true text (outer_start s.outer r.outer (compound_text names s.subject) start)) in
+      sym (begins drops to (empty_draft names) names text text refl first)
+      ∙ (reads_outer s.outer r.outer (omega (arith, r.few)) (compound_text names s.subject) start ∙ subject
       ∙ reads_end (parts_of s.outer) (joins_of s.outer) s.subject
       ∙ ap (λ (x : spec.Selector). (names, Ok x)) (selector_from-parts_of s.outer s.subject))

@@ -3,7 +3,9 @@ use Rattle.std.proofs.Common.{◌≡◌, ℕ, zero, suc, ◌-◌, ◌<◌, Bool,
 use Rattle.tp_base.specs.Names.{Named}
 use Rattle.sel_core.specs.declared.faults.SelFault.{SelFault}
 use Rattle.sel_core.specs.Bytes.{IsRest, behind_gap}
-use Rattle.sel_core.specs.Reading.{Draft, empty_draft, step, finished, run, read_piece}
+use Rattle.sel_core.specs.Machine.{Draft, empty_draft, step, finished, run}
+use Rattle.sel_core.specs.Reading.{read_piece}
+use Rattle.sel_core.proofs.SameReading.{same_reading}
 
 skips : (drops : Bool) (to : ℕ) (d : Draft) (n : ℕ) (bs : List ℕ) → run drops to d n bs ≡ run drops to d 0 (drop n bs)
 unfolding run
@@ -31,5 +33,4 @@ ends drops to d [] none = refl
 ends drops to d (b ∷ bs) none = absurd (omega arith)
 
 pub begins : (drops : Bool) (to : ℕ) (d : Draft) (names : List Named) (text rest : List ℕ) → d ≡ empty_draft names → rest ≡ behind_gap true 0 text → run drops to d 0 rest ≡ read_piece drops to text names
-unfolding read_piece
-begins drops to d names text rest first at = rw (first, at) refl
+begins drops to d names text rest first at = rw (first, at) (same_reading drops to text names)

@@ -19,7 +19,9 @@ use Rattle.sel_core.specs.declared.faults.SelFault.TheVariants.{Skipped}
 use Rattle.sel_core.specs.declared.faults.Skip.TheVariants.{Long, Bad}
 use Rattle.std.specs.Option.{ok_or}
 use Rattle.sel_core.specs.Grammar.{Outcome, ◌>>=◌, Begun, Word, any_part, first_part, behind_dropped, left_at, name_at, part_of, join_at}
-use Rattle.sel_core.specs.Reading.{Draft, empty_draft, spelled, entered, with_word, with_join, with_part, first_step, later_step, behind_part, step, finished, run, then_read, Ending, read_piece}
+use Rattle.sel_core.specs.Machine.{Draft, empty_draft, entered, with_word, with_join, with_part, first_step, later_step, behind_part, step, finished, run, then_run}
+use Rattle.sel_core.specs.Reading.{spelled, Ending, read_piece}
+use Rattle.sel_core.proofs.SameReading.{same_reading}
 use Rattle.std.proofs.lemmas.List.{take-append-drop}
 use Rattle.std.proofs.lemmas.List.Elements.{All-weaker, All-append, All-cons, All-nil}
 use Rattle.std.proofs.lemmas.Option.{slice_get_within}
@@ -306,7 +308,7 @@ step_sound drops to d bs r sound ok = step_if d.started drops to d bs r sound re
 
 -- ---- the end
 
-abbrev ending : List Named → Outcome spec.Selector → Ending
+abbrev ending : List Named → Outcome spec.Selector → Ending spec.Selector
 ending names r = (names, r)
 
 finish_if : (started : Bool) (to : ℕ) (d : Draft) (s : spec.Selector) → IsSound d → d.started ≡ started
@@ -319,8 +321,8 @@ finish_if false to d s sound is bad = absurd cc
 finish_readable : (to : ℕ) (d : Draft) (names : List Named) (s : spec.Selector) → IsSound d → ending d.names (finished to d) ≡ ending names (Ok s) → IsReadable names s
 unfolding finished
 finish_readable to d names s sound is =
-    let same : d.names ≡ names = ap (λ (e : Ending). e.0) is in
-    let ok : finished to d ≡ Ok s = ap (λ (e : Ending). e.1) is in
+    let same : d.names ≡ names = ap (λ (e : Ending spec.Selector). e.0) is in
+    let ok : finished to d ≡ Ok s = ap (λ (e : Ending spec.Selector). e.1) is in
     subst (λ n. IsReadable n s) same (finish_if d.started to d s sound refl ok)
 
 run_readable : (drops : Bool) (to : ℕ) (d : Draft) (skip : ℕ) (bs : List ℕ) (names : List Named) (s : spec.Selector) → IsSound d → run drops to d skip bs ≡ ending names (Ok s) → IsReadable names s
@@ -328,16 +330,16 @@ unfolding run
 run_readable drops to d skip [] names s sound is = finish_readable to d names s sound is
 run_readable drops to d (suc skip) (b ∷ bs) names s sound is = run_readable drops to d skip bs names s sound is
 run_readable drops to d zero (b ∷ bs) names s sound is =
-    elim (step drops to d (b ∷ bs)) as (λ o. step drops to d (b ∷ bs) ≡ o → then_read d.names o (λ r. run drops to r.0 (length bs - length r.1) bs) ≡ ending names (Ok s) → IsReadable names s) [
+    elim (step drops to d (b ∷ bs)) as (λ o. step drops to d (b ∷ bs) ≡ o → then_run d.names o (λ r. run drops to r.0 (length bs - length r.1) bs) ≡ ending names (Ok s) → IsReadable names s) [
       | Ok r ↦ λ ok more. run_readable drops to r.0 (length bs - length r.1) bs names s (step_sound drops to d (b ∷ bs) r sound ok) more
-      | Err f ↦ λ ok bad. absurd (let no : Err f ≡ Ok s = ap (λ (e : Ending). e.1) bad in cc)
+      | Err f ↦ λ ok bad. absurd (let no : Err f ≡ Ok s = ap (λ (e : Ending spec.Selector). e.1) bad in cc)
     ] refl is
 
 pub piece_readable : (drops : Bool) (to : ℕ) (text : List ℕ) (before names : List Named) (s : spec.Selector) → read_piece drops to text before ≡ (names, Ok s) → IsReadable names s
-unfolding read_piece AreParts
+unfolding AreParts
 piece_readable drops to text before names s is =
     run_readable drops to (empty_draft before) 0 (behind_gap true 0 text) names s
-    (record { finished = tt; last = tt; paired = refl; fresh = λ no. refl; few = λ yes. absurd cc }) is
+    (record { finished = tt; last = tt; paired = refl; fresh = λ no. refl; few = λ yes. absurd cc }) (same_reading drops to text before ∙ is)
 
 -- ---- in a longer table
 

@@ -3,7 +3,7 @@ use Rattle.std.proofs.Common.{◌≡◌, ℕ, Bool, ◌<◌, List, [], ◌∷◌
 use Rattle.sel_core.specs.declared.faults.SelFault.{SelFault}
 use Rattle.sel_core.specs.declared.selectors.Join.{Join}
 use Rattle.sel_core.specs.Grammar.{any_part, join_at}
-use Rattle.sel_core.specs.Reading.{Draft, with_join, with_part, later_step}
+use Rattle.sel_core.specs.Machine.{Draft, with_join, with_part, later_step}
 
 pub at_join : (drops : Bool) (to : ℕ) (d : Draft) (bs : List ℕ) (j : Join) (rest : List ℕ) → join_at to bs ≡ Ok (Some j, rest) → later_step drops to d bs ≡ Ok (with_join d j, rest)
 unfolding later_step

@@ -5,7 +5,7 @@ use Rattle.tp_base.specs.Names.{Named}
 use Rattle.tp_base.specs.declared.atoms.AtomKind.{AtomKind}
 use Rattle.sel_core.specs.declared.reading.Draft as code
 use Rattle.sel_core.specs.Grammar.{Word}
-use Rattle.sel_core.specs.Reading as spec
+use Rattle.sel_core.specs.Machine as spec
 
 -- the draft, with the names in the table
 abbrev pub draft_of : code.Draft → List Named → spec.Draft

@@ -3,6 +3,7 @@ pub mod Drafts
 pub mod Faults
 pub mod Grammar
 pub mod Lists
+pub mod Machine
 pub mod Parts
 pub mod Places
 pub mod Readable
@@ -10,4 +11,5 @@ pub mod Reading
 pub mod Results
 pub mod SelectorText
 pub mod Selectors
+pub mod Syntax
 pub mod Views

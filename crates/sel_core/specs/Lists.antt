@@ -1,14 +1,16 @@
--- Lists of selectors, of which nothing is dropped.
+-- Lists of selectors, of which nothing is dropped: first the pieces between the commas, and then the selectors that they are, from left to right.
 --     from_comma         the bytes from the next comma on
---     read_one           the selector before it
---     read_strict_list   all of them
-use Rattle.std.specs.Prelude.{ℕ, zero, suc, ◌-◌, ◌==◌, nat_eq, false, if◌then◌else◌, List, [], ◌∷◌, ◌++◌, length, take, drop, codes, Ok, Err}
+--     pieces             what stands between commas
+--     read_pieces        the selectors of pieces
+--     read_strict_list   those of a text
+-- Brackets and strings aren't asked for. Outside comments the byte that opens the first of them is in no selector, so the piece that it stands in is refused
+-- there or before. Up to there this split is the one that leaves commas in brackets and strings alone, and nothing behind is looked at.
+use Rattle.std.specs.Prelude.{ℕ, zero, suc, ◌-◌, ◌==◌, nat_eq, false, if◌then◌else◌, List, [], ◌∷◌, length, take, drop, codes, Ok}
 use Rattle.std.specs.List.{starts_with}
 use Rattle.tp_base.specs.Names.{Named}
 use Rattle.sel_core.specs.Selectors.{Selector}
 use Rattle.sel_core.specs.Bytes.{behind_close}
-use Rattle.sel_core.specs.Grammar.{Outcome}
-use Rattle.sel_core.specs.Reading.{Ending, read_piece}
+use Rattle.sel_core.specs.Reading.{Ending, then_read, read_piece}
 
 -- From the first `,` outside comments on. `skip` bytes are left of a comment.
 unfoldable pub from_comma : ℕ → List ℕ → List ℕ
@@ -18,25 +20,31 @@ from_comma zero (b ∷ bs) =
     if b == 44 then b ∷ bs
     else (if starts_with nat_eq (b ∷ bs) (codes "/*") then from_comma (length bs - length (behind_close (drop 1 bs))) bs else from_comma zero bs)
 
--- the selector before the next comma, in a list of `size` bytes that has these left
-unfoldable pub read_one : ℕ → List ℕ → List Named → Ending
-read_one size bs names = read_piece false (size - length (from_comma 0 bs)) (take (length bs - length (from_comma 0 bs)) bs) names
+-- the text of a piece, and the offset of its end
+pub record Piece : Type 0 where
+  pub to : ℕ
+  pub text : List ℕ
 
--- the names in the table at the end, and what is read
-abbrev pub ListEnding : Type 0
-ListEnding = List Named × Outcome (List Selector)
+-- the one before the next comma, in a list of `size` bytes that has these left
+unfoldable pub first_piece : ℕ → List ℕ → Piece
+first_piece size bs = let rest = from_comma 0 bs in record { to = size - length rest; text = take (length bs - length rest) bs }
 
-abbrev pub then_list : Ending → (List Named → Selector → ListEnding) → ListEnding
-then_list (names, Ok s) f = f names s
-then_list (names, Err e) f = (names, Err e)
+-- one behind each comma, of which these bytes begin with the first; `skip` bytes are left before it
+unfoldable pub more_pieces : ℕ → ℕ → List ℕ → List Piece
+more_pieces size skip [] = []
+more_pieces size (suc skip) (b ∷ bs) = more_pieces size skip bs
+more_pieces size zero (b ∷ bs) = first_piece size bs ∷ more_pieces size (length bs - length (from_comma 0 bs)) bs
 
--- The selectors that were found, and one behind each comma. `skip` bytes are left before the next comma.
-unfoldable pub more : ℕ → List Selector → List Named → ℕ → List ℕ → ListEnding
-more size found names skip [] = (names, Ok found)
-more size found names (suc skip) (b ∷ bs) = more size found names skip bs
-more size found names zero (b ∷ bs) =
-    then_list (read_one size bs names) (λ later s. more size (found ++ s ∷ []) later (length bs - length (from_comma 0 bs)) bs)
+unfoldable pub pieces : List ℕ → List Piece
+pieces text = first_piece (length text) text ∷ more_pieces (length text) 0 (from_comma 0 text)
 
-unfoldable pub read_strict_list : List ℕ → List Named → ListEnding
-read_strict_list text names =
-    then_list (read_one (length text) text names) (λ later s. more (length text) (s ∷ []) later 0 (from_comma 0 text))
+-- the selector of a piece
+abbrev pub read_one : Piece → List Named → Ending Selector
+read_one p names = read_piece false p.to p.text names
+
+unfoldable pub read_pieces : List Piece → List Named → Ending (List Selector)
+read_pieces [] names = (names, Ok [])
+read_pieces (p ∷ ps) names = then_read (read_one p names) (λ later s. then_read (read_pieces ps later) (λ last others. (last, Ok (s ∷ others))))
+
+unfoldable pub read_strict_list : List ℕ → List Named → Ending (List Selector)
+read_strict_list text names = read_pieces (pieces text) names

@@ -1,104 +1,68 @@
--- Reading a selector: part by part, from left to right. Names are entered into the table as they are read.
---     Draft           what was read so far
---     step            one part more, or one join
---     run             all of a text, and the names in the table then
---     read_piece      a selector between white space and comments
-use Rattle.std.specs.Prelude.{ℕ, zero, suc, ◌-◌, nat_lt, slice_range, Bool, true, false, if◌then◌else◌, List, [], ◌∷◌, ◌++◌, length, map, Option, Some, None, Ok, Err}
-use Rattle.std.specs.Option.{ok_or}
+-- Reading a selector: first what its text is by the grammar, and then its names, which are entered into the table from left to right.
+--     atoms_of         the atoms of the names of a compound
+--     compounds_of     the compounds with their atoms
+--     read_piece       a selector between white space and comments
+--     read_selector    the same between two offsets, for a sheet
+use Rattle.std.specs.Prelude.{ℕ, slice_range, Bool, true, List, [], ◌∷◌, map, Option, Some, None, Ok, Err}
 use Rattle.std.specs.Char.{to_ascii_lowercase}
 use Rattle.tp_base.specs.Names.{Named, with_name}
 use Rattle.tp_base.specs.declared.atoms.AtomKind.{AtomKind}
 use Rattle.tp_base.specs.declared.atoms.AtomKind.TheVariants as kind
-use Rattle.sel_core.specs.declared.faults.SelFault.TheVariants.{Skipped, TooManyAtoms}
-use Rattle.sel_core.specs.declared.faults.Skip.TheVariants.{Long, Bad}
-use Rattle.sel_core.specs.declared.faults.TheConstants.{MOST_PARTS}
+use Rattle.sel_core.specs.declared.faults.SelFault.{SelFault}
+use Rattle.sel_core.specs.declared.faults.SelFault.TheVariants.{TooManyAtoms}
 use Rattle.sel_core.specs.declared.selectors.Compound.{Compound}
 use Rattle.sel_core.specs.declared.selectors.Join.{Join}
 use Rattle.sel_core.specs.Selectors.{Selector}
 use Rattle.sel_core.specs.Parts.{selector_from}
-use Rattle.sel_core.specs.Bytes.{behind_gap}
-use Rattle.sel_core.specs.Grammar.{Outcome, ◌>>=◌, left_at, Begun, any_part, first_part, Word, part_of, join_at}
+use Rattle.sel_core.specs.Grammar.{Outcome, Word}
+use Rattle.sel_core.specs.Syntax.{Syntax, syntax_of}
 
--- the names; the finished compounds, each with the join on its right; the atoms of the last compound, and whether it has a part
-pub record Draft : Type 0 where
-  pub names : List Named
-  pub parts : List Compound
-  pub joins : List Join
-  pub atoms : List ℕ
-  pub started : Bool
+-- the names in the table at the end, and what is read
+abbrev pub Ending : Type 0 → Type 0
+Ending A = List Named × Outcome A
 
-abbrev pub empty_draft : List Named → Draft
-empty_draft names = record { names = names; parts = []; joins = []; atoms = []; started = false }
+abbrev pub then_read : {A B : Type 0} → Ending A → (List Named → A → Ending B) → Ending B
+then_read (names, Ok x) f = f names x
+then_read (names, Err e) f = (names, Err e)
+
+-- ---- names
 
 -- type names are lowered
 abbrev pub spelled : AtomKind → List ℕ → List ℕ
 spelled kind.Element name = map to_ascii_lowercase name
 spelled k name = name
 
--- an atom and the names with it, or no room for it
-abbrev pub entered : Option (ℕ × List Named) → Outcome (ℕ × List Named)
-entered None = Err TooManyAtoms
-entered (Some e) = Ok e
+-- an atom and the table with it, or no room for it in the table
+abbrev pub placed : List Named → Option (ℕ × List Named) → Ending ℕ
+placed names None = (names, Err TooManyAtoms)
+placed names (Some e) = (e.1, Ok e.0)
 
--- the draft with one part more
-unfoldable pub with_word : Draft → Option Word → Outcome Draft
-with_word d None = Ok (record d { started = true })
-with_word d (Some (k, name)) = do
-  e ← entered (with_name d.names (k, spelled k name))
-  Ok (record d { names = e.1; atoms = d.atoms ++ e.0 ∷ []; started = true })
+abbrev pub atom_of : List Named → Word → Ending ℕ
+atom_of names (k, name) = placed names (with_name names (k, spelled k name))
 
--- the draft behind a join
-unfoldable pub with_join : Draft → Join → Draft
-with_join d j = record d { parts = d.parts ++ (record { atoms = d.atoms }) ∷ []; joins = d.joins ++ j ∷ []; atoms = []; started = false }
+unfoldable pub atoms_of : List Named → List Word → Ending (List ℕ)
+atoms_of names [] = (names, Ok [])
+atoms_of names (w ∷ words) = then_read (atom_of names w) (λ later a. then_read (atoms_of later words) (λ last atoms. (last, Ok (a ∷ atoms))))
 
--- a part that may begin at these bytes, or the fault
-unfoldable pub with_part : ℕ → Draft → Option Begun → List ℕ → Outcome (Draft × List ℕ)
-with_part to d begun bs = do
-  b ← ok_or begun (left_at to bs bs)
-  p ← part_of to b
-  e ← with_word d p.0
-  Ok (e, p.1)
+unfoldable pub compounds_of : List Named → List (List Word) → Ending (List Compound)
+compounds_of names [] = (names, Ok [])
+compounds_of names (c ∷ cs) =
+    then_read (atoms_of names c) (λ later atoms. then_read (compounds_of later cs) (λ last compounds. (last, Ok ((record { atoms = atoms }) ∷ compounds))))
 
--- the first part of a compound, of which there may be so many
-unfoldable pub first_step : Bool → ℕ → Draft → List ℕ → Outcome (Draft × List ℕ)
-first_step drops to d bs = do
-  b ← ok_or (first_part drops bs) (left_at to bs bs)
-  if nat_lt (length d.parts) MOST_PARTS then with_part to d (Some b) bs else Err (Skipped Long (to - length bs))
+-- ---- selectors
 
--- behind a part
-abbrev pub behind_part : Bool → ℕ → Draft → Option Join × List ℕ → Outcome (Draft × List ℕ)
-behind_part drops to d (Some j, bs) = Ok (with_join d j, bs)
-behind_part drops to d (None, []) = Ok (d, [])
-behind_part drops to d (None, b ∷ bs) = with_part to d (any_part drops (b ∷ bs)) (b ∷ bs)
+-- the selector, where the grammar wasn't left
+abbrev pub selector_or : Option SelFault → List Compound → List Join → Outcome Selector
+selector_or None compounds joins = Ok (selector_from compounds joins)
+selector_or (Some e) compounds joins = Err e
 
-unfoldable pub later_step : Bool → ℕ → Draft → List ℕ → Outcome (Draft × List ℕ)
-later_step drops to d bs = join_at to bs >>= λ j. behind_part drops to d j
-
-unfoldable pub step : Bool → ℕ → Draft → List ℕ → Outcome (Draft × List ℕ)
-step drops to d bs = if d.started then later_step drops to d bs else first_step drops to d bs
-
--- the selector, where a compound isn't wanted any more
-unfoldable pub finished : ℕ → Draft → Outcome Selector
-finished to d = if d.started then Ok (selector_from (d.parts ++ (record { atoms = d.atoms }) ∷ []) d.joins) else Err (Skipped Bad to)
-
--- the names in the table at the end, and what is read
-abbrev pub Ending : Type 0
-Ending = List Named × Outcome Selector
-
-abbrev pub then_read : List Named → Outcome (Draft × List ℕ) → (Draft × List ℕ → Ending) → Ending
-then_read names (Ok x) f = f x
-then_read names (Err e) f = (names, Err e)
-
--- From left to right. `skip` bytes are left of the last part or join.
-unfoldable pub run : Bool → ℕ → Draft → ℕ → List ℕ → Ending
-run drops to d skip [] = (d.names, finished to d)
-run drops to d (suc skip) (b ∷ bs) = run drops to d skip bs
-run drops to d zero (b ∷ bs) = then_read d.names (step drops to d (b ∷ bs)) (λ r. run drops to r.0 (length bs - length r.1) bs)
+unfoldable pub read_syntax : Syntax → List Named → Ending Selector
+read_syntax s names = then_read (compounds_of names (s.names ∷ s.others)) (λ later compounds. (later, selector_or s.fault compounds s.joins))
 
 -- a selector, with white space and comments round it
-unfoldable pub read_piece : Bool → ℕ → List ℕ → List Named → Ending
-read_piece drops to text names = run drops to (empty_draft names) 0 (behind_gap true 0 text)
+unfoldable pub read_piece : Bool → ℕ → List ℕ → List Named → Ending Selector
+read_piece drops to text names = read_syntax (syntax_of drops to text) names
 
 -- the judged form of the selector between two offsets
-unfoldable pub read_selector : List ℕ → ℕ → ℕ → List Named → Ending
+unfoldable pub read_selector : List ℕ → ℕ → ℕ → List Named → Ending Selector
 read_selector text from to names = read_piece true to (slice_range text from to) names

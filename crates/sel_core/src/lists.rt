@@ -33,7 +33,7 @@ fn from_comma(text: &[u8]) -> &[u8]
 }
 
 /// The selector before the next comma, and the text from there on, in a list of `size` bytes.
-#[tactic(auto, unfolding(crate::specs::Lists::read_one))]
+#[tactic(auto, unfolding(crate::specs::Lists::first_piece))]
 fn read_one<'a>(
     alloc: Global,
     size: usize,
@@ -41,7 +41,7 @@ fn read_one<'a>(
     atoms: &mut AtomTable,
 ) -> Result<(Selector, &'a [u8]), SelFault>
     requires { length text.now ≤ size }
-    ensures reads { Reads (λ r. selector_of r.0) result atoms.new (spec.read_one size text.now atoms.old) }
+    ensures reads { Reads (λ r. selector_of r.0) result atoms.new (spec.read_one (spec.first_piece size text.now) atoms.old) }
     ensures readable { IfOk result (λ r. IsReadable atoms.new (selector_of r.0)) }
     ensures behind { IfOk result (λ r. r.1.now ≡ spec.from_comma 0 text.now) }
     ensures rest { IfOk result (λ r. IsRest text.now r.1.now) }

@@ -3,6 +3,7 @@ ghost use Rattle.std.specs.Prelude.{List, ◌≡◌, ◌≢◌, ◌≤◌, ◌<�
 ghost use Rattle.tp_base.specs.Names.{Named, with_name};
 ghost use Rattle.sel_core.specs.Bytes.{IsRest};
 ghost use Rattle.sel_core.specs.Grammar as grammar;
+ghost use Rattle.sel_core.specs.Machine as machine;
 ghost use Rattle.sel_core.specs.Reading as spec;
 ghost use Rattle.sel_core.specs.Readable.{IsReadable};
 ghost use Rattle.sel_core.specs.Results.{Gives, Reads, IsFront};
@@ -34,7 +35,7 @@ fn enter(
     name: &[u8],
     atoms: &mut AtomTable,
 ) -> Result<Atom, SelFault>
-    ensures gives { Gives (λ a. (a, atoms.new)) result (spec.entered (with_name atoms.old (kind, spec.spelled kind name.now))) }
+    ensures gives { Gives (λ a. (a, atoms.new)) result (machine.entered (with_name atoms.old (kind, spec.spelled kind name.now))) }
     ensures same { IfErr result (λ e. e ≢ SelFault.Memory → atoms.new ≡ atoms.old) }
     ensures front { IsFront atoms.old atoms.new }
 {
@@ -50,7 +51,7 @@ fn enter(
 
 #[tactic(auto, using(crate::proofs::Fronts::front_itself))]
 fn intern(kind: AtomKind, name: &[u8], atoms: &mut AtomTable) -> Result<Atom, SelFault>
-    ensures gives { Gives (λ a. (a, atoms.new)) result (spec.entered (with_name atoms.old (kind, name.now))) }
+    ensures gives { Gives (λ a. (a, atoms.new)) result (machine.entered (with_name atoms.old (kind, name.now))) }
     ensures same { IfErr result (λ e. e ≢ SelFault.Memory → atoms.new ≡ atoms.old) }
     ensures front { IsFront atoms.old atoms.new }
 {
@@ -60,7 +61,7 @@ fn intern(kind: AtomKind, name: &[u8], atoms: &mut AtomTable) -> Result<Atom, Se
 
 impl Draft {
     fn new(alloc: Global) -> Self
-        ensures { (names : List Named) → draft_of result names ≡ spec.empty_draft names }
+        ensures { (names : List Named) → draft_of result names ≡ machine.empty_draft names }
     {
         Draft {
             parts: Vec::new(alloc),
@@ -71,10 +72,10 @@ impl Draft {
     }
 
     /// One part more.
-    #[tactic(auto, unfolding(crate::specs::Reading::with_word), using(crate::proofs::Fronts::front_itself))]
+    #[tactic(auto, unfolding(crate::specs::Machine::with_word), using(crate::proofs::Fronts::front_itself))]
     fn add_word(&mut self, word: Option<Word<'_>>, atoms: &mut AtomTable) -> Result<(), SelFault>
         requires paired { IsPaired self.old }
-        ensures gives { Gives (λ _. draft_of self.new atoms.new) result (spec.with_word (draft_of self.old atoms.old) (word_view word.entry)) }
+        ensures gives { Gives (λ _. draft_of self.new atoms.new) result (machine.with_word (draft_of self.old atoms.old) (word_view word.entry)) }
         ensures same { IfErr result (λ e. e ≢ SelFault.Memory → atoms.new ≡ atoms.old) }
         ensures front { IsFront atoms.old atoms.new }
         ensures paired { OnOk result (IsPaired self.new) }
@@ -88,10 +89,10 @@ impl Draft {
     }
 
     /// The compound ends, and a join follows it.
-    #[tactic(auto, unfolding(crate::specs::Reading::with_join))]
+    #[tactic(auto, unfolding(crate::specs::Machine::with_join))]
     fn add_join(&mut self, join: Join) -> Result<(), SelFault>
         requires paired { IsPaired self.old }
-        ensures joined { OnOk result ((names : List Named) → draft_of self.new names ≡ spec.with_join (draft_of self.old names) join) }
+        ensures joined { OnOk result ((names : List Named) → draft_of self.new names ≡ machine.with_join (draft_of self.old names) join) }
         ensures memory { IfErr result (λ e. e ≡ SelFault.Memory) }
         ensures paired { OnOk result (IsPaired self.new) }
     {
@@ -105,7 +106,7 @@ impl Draft {
     }
 
     /// A part that begins, or the fault of the text that doesn't.
-    #[tactic(auto, unfolding(crate::specs::Reading::with_part), using(crate::proofs::Rests::of_rest, crate::proofs::Fronts::front_itself))]
+    #[tactic(auto, unfolding(crate::specs::Machine::with_part), using(crate::proofs::Rests::of_rest, crate::proofs::Fronts::front_itself))]
     fn read_part<'a>(
         &mut self,
         to: usize,
@@ -118,7 +119,7 @@ impl Draft {
         requires shorter { IfSome part (λ b. IsNone b.0 → length b.1.now < length text.now) }
         requires paired { IsPaired self.old }
         ensures gives { Gives (λ r. (draft_of self.new atoms.new, r.now)) result
-            (spec.with_part to (draft_of self.old atoms.old) (option_map (λ b. (b.0, b.1.now)) part.entry) text.now) }
+            (machine.with_part to (draft_of self.old atoms.old) (option_map (λ b. (b.0, b.1.now)) part.entry) text.now) }
         ensures rest { IfOk result (λ r. IsRest text.now r.now) }
         ensures shorter { IfOk result (λ r. length r.now < length text.now) }
         ensures same { IfErr result (λ e. e ≢ SelFault.Memory → atoms.new ≡ atoms.old) }
@@ -132,7 +133,7 @@ impl Draft {
     }
 
     /// The first part of a compound, of which there may be only so many.
-    #[tactic(auto, unfolding(crate::specs::Reading::first_step), using(crate::proofs::Fronts::front_itself))]
+    #[tactic(auto, unfolding(crate::specs::Machine::first_step), using(crate::proofs::Fronts::front_itself))]
     fn first_step<'a>(
         &mut self,
         drops: bool,
@@ -142,7 +143,7 @@ impl Draft {
     ) -> Result<&'a [u8], SelFault>
         requires within { length text.now ≤ to }
         requires paired { IsPaired self.old }
-        ensures gives { Gives (λ r. (draft_of self.new atoms.new, r.now)) result (spec.first_step drops to (draft_of self.old atoms.old) text.now) }
+        ensures gives { Gives (λ r. (draft_of self.new atoms.new, r.now)) result (machine.first_step drops to (draft_of self.old atoms.old) text.now) }
         ensures rest { IfOk result (λ r. IsRest text.now r.now) }
         ensures shorter { IfOk result (λ r. length r.now < length text.now) }
         ensures same { IfErr result (λ e. e ≢ SelFault.Memory → atoms.new ≡ atoms.old) }
@@ -168,7 +169,7 @@ impl Draft {
         requires within { length text.now ≤ to }
         requires some { 0 < length text.now }
         requires paired { IsPaired self.old }
-        ensures gives { Gives (λ r. (draft_of self.new atoms.new, r.now)) result (spec.later_step drops to (draft_of self.old atoms.old) text.now) }
+        ensures gives { Gives (λ r. (draft_of self.new atoms.new, r.now)) result (machine.later_step drops to (draft_of self.old atoms.old) text.now) }
         ensures rest { IfOk result (λ r. IsRest text.now r.now) }
         ensures shorter { IfOk result (λ r. length r.now < length text.now) }
         ensures same { IfErr result (λ e. e ≢ SelFault.Memory → atoms.new ≡ atoms.old) }
@@ -187,7 +188,7 @@ impl Draft {
     }
 
     /// One part or join more: the text behind it.
-    #[tactic(auto, unfolding(crate::specs::Reading::step))]
+    #[tactic(auto, unfolding(crate::specs::Machine::step))]
     fn step<'a>(
         &mut self,
         drops: bool,
@@ -198,7 +199,7 @@ impl Draft {
         requires within { length text.now ≤ to }
         requires some { 0 < length text.now }
         requires paired { IsPaired self.old }
-        ensures gives { Gives (λ r. (draft_of self.new atoms.new, r.now)) result (spec.step drops to (draft_of self.old atoms.old) text.now) }
+        ensures gives { Gives (λ r. (draft_of self.new atoms.new, r.now)) result (machine.step drops to (draft_of self.old atoms.old) text.now) }
         ensures rest { IfOk result (λ r. IsRest text.now r.now) }
         ensures shorter { IfOk result (λ r. length r.now < length text.now) }
         ensures same { IfErr result (λ e. e ≢ SelFault.Memory → atoms.new ≡ atoms.old) }
@@ -213,10 +214,10 @@ impl Draft {
     }
 
     /// The selector, where a compound isn't wanted any more.
-    #[tactic(auto, unfolding(crate::specs::Reading::finished))]
+    #[tactic(auto, unfolding(crate::specs::Machine::finished))]
     fn finish(self, to: usize) -> Result<Selector, SelFault>
         requires { IsPaired self }
-        ensures { Gives selector_of result (spec.finished to (draft_of self [])) }
+        ensures { Gives selector_of result (machine.finished to (draft_of self [])) }
     {
         if !self.started {
             return Err(SelFault::Skipped(Skip::Bad, to));

@@ -1,15 +1,16 @@
 use Rattle.std.proofs.Common.{◌≡◌, length, map, All}
 use Rattle.sel_core.specs.Bytes.{IsRest}
-use Rattle.sel_core.specs.Lists.{more, read_strict_list}
+use Rattle.sel_core.specs.Lists.{read_strict_list}
 use Rattle.sel_core.specs.Readable.{IsReadable}
 use Rattle.sel_core.specs.Results.{IsFront}
 use Rattle.sel_core.specs.Views.{selector_of}
+use Rattle.sel_core.proofs.ListSteps.{more}
 use Rattle.sel_core.proofs.lists.read_strict_list.Given as goal
 
 abbrev pub invariant-commas : goal.invariant-commas
 invariant-commas l = record {
   rest : IsRest l.text l.rest;
-  reads : more (length l.text) (map selector_of l.found.items) l.atoms 0 l.rest ≡ read_strict_list l.text l.fn.atoms;
+  reads : more (length l.text) (map selector_of l.found.items) l.atoms l.rest ≡ read_strict_list l.text l.fn.atoms;
   front : IsFront l.fn.atoms l.atoms;
   readable : All (λ s. IsReadable l.atoms (selector_of s)) l.found.items;
 }

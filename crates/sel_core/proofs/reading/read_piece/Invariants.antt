@@ -1,6 +1,7 @@
 use Rattle.std.proofs.Common.{◌≡◌, ◌≤◌, length}
 use Rattle.sel_core.specs.Drafts.{draft_of}
-use Rattle.sel_core.specs.Reading.{read_piece, run}
+use Rattle.sel_core.specs.Machine.{run}
+use Rattle.sel_core.specs.Reading.{read_piece}
 use Rattle.sel_core.specs.Results.{IsFront}
 use Rattle.sel_core.proofs.reading.read_piece.Given as goal
 
