@@ -1,8 +1,7 @@
 -- A list of selectors that is read has its atoms in the table of names then, and the table only grows.
 --     list_over                         a list
 --     IsStatementOver-more and others   what is over a table is over a longer one
-use Rattle.std.proofs.Common.{◌≡◌, ℕ, zero, suc, ◌+◌, ◌-◌, ◌<◌, ◌≤◌, Bool, true, false, nat_lt, if◌then◌else◌, List, [], ◌∷◌, ◌++◌, length, take, Option, Some, None, Ok, Err, IfOk, refl, ap, arith}
-use Rattle.std.specs.Option.{ok_or}
+use Rattle.std.proofs.Common.{◌≡◌, ℕ, ◌<◌, ◌≤◌, Bool, false, List, [], ◌∷◌, length, Option, Some, None, Ok, Err, IfOk, refl, arith}
 use Rattle.std.proofs.lemmas.List.Elements.{All-weaker}
 use Rattle.tp_base.specs.Names.{Named, with_name}
 use Rattle.tp_base.proofs.NamesLemmas.{with_name-longer}
@@ -14,7 +13,6 @@ use Rattle.sel_core.specs.Syntax.{Syntax, syntax_of}
 use Rattle.sel_core.specs.Reading.{Ending, then_read, spelled, placed, atom_of, atoms_of, compounds_of, selector_or, read_syntax, read_piece}
 use Rattle.sel_core.specs.Lists.{Piece, pieces, read_one, read_pieces, read_strict_list}
 use Rattle.sel_core.specs.Selectors.{Outer, Selector}
-use Rattle.sel_core.specs.declared.selectors.Join.{Join}
 use Rattle.sel_core.proofs.Sound.{piece_readable}
 use Rattle.jq_sem.proofs.ReadableLemmas.{readable_within}
 use Rattle.jq_sem.specs.Statements.{Root, matched, this, Call, find, children, parent, parents, filter, has, add, back, Chain, Statement}

@@ -2,7 +2,6 @@
 use Rattle.std.proofs.Common.{◌≡◌, ℕ, zero, suc, ◌+◌, ◌-◌, Bool, true, false, nat_lt, if◌then◌else◌, List, [], ◌∷◌, ◌++◌, length, Option, None, Some, Ok, Err, refl, ap, ◌∙◌, append_assoc, append-nil, length-append}
 use Rattle.std.specs.Option.{ok_or}
 use Rattle.tp_base.specs.Names.{Named, with_name}
-use Rattle.tp_base.specs.declared.atoms.AtomKind.{AtomKind}
 use Rattle.sel_core.specs.declared.faults.SelFault.{SelFault}
 use Rattle.sel_core.specs.declared.faults.SelFault.TheVariants.{Skipped}
 use Rattle.sel_core.specs.declared.faults.Skip.TheVariants.{Long, Bad}
@@ -14,7 +13,7 @@ use Rattle.sel_core.specs.Parts.{selector_from}
 use Rattle.sel_core.specs.Bytes.{behind_gap}
 use Rattle.sel_core.specs.Grammar.{Outcome, ◌>>=◌, left_at, Begun, any_part, first_part, Word, part_of, join_at}
 use Rattle.sel_core.specs.Syntax.{Item, part, joined, ended, whole_part, first_item, behind_join, later_item, item_at, finished_after, begun_after, Syntax, with_item, nothing, then_syntax, syntax_from, syntax_of}
-use Rattle.sel_core.specs.Reading.{Ending, then_read, spelled, placed, atom_of, atoms_of, compounds_of, selector_or, read_syntax, read_piece}
+use Rattle.sel_core.specs.Reading.{Ending, then_read, spelled, placed, atoms_of, compounds_of, selector_or, read_syntax, read_piece}
 use Rattle.sel_core.specs.Machine.{Draft, empty_draft, entered, with_word, with_join, with_part, first_step, behind_part, later_step, step, finished, then_run, run}
 
 -- ---- a step is an item

@@ -3,8 +3,8 @@
 --     pieces             what stands between commas
 --     read_pieces        the selectors of pieces
 --     read_strict_list   those of a text
--- Brackets and strings aren't asked for. Outside comments the byte that opens the first of them is in no selector, so the piece that it stands in is refused
--- there or before. Up to there this split is the one that leaves commas in brackets and strings alone, and nothing behind is looked at.
+-- A comma in brackets or in a string parts a list, too, and that makes no difference. Outside comments the byte that opens the first bracket or string is in no
+-- selector. So its piece is refused at that byte or before it, with the same cause, place and names wherever the piece ends, and nothing behind it is read.
 use Rattle.std.specs.Prelude.{ℕ, zero, suc, ◌-◌, ◌==◌, nat_eq, false, if◌then◌else◌, List, [], ◌∷◌, length, take, drop, codes, Ok}
 use Rattle.std.specs.List.{starts_with}
 use Rattle.tp_base.specs.Names.{Named}

@@ -1,7 +1,12 @@
--- What a selector's text is by the grammar alone, whatever names there are.
+-- What a selector's text is by the grammar alone, whatever the table of names has.
+--     selector = compound { join compound }
+--     compound = ( type | `*` | part ) { part }
+--     part     = `.` name | `#` name | a pseudo part that is dropped
+--     join     = white space | `>`, with white space round it or none
+-- Comments may stand anywhere but in a name, and end it. From left to right:
 --     Item         what stands next: a part of a compound, a join, or the end
 --     item_at      the next one and the bytes behind it, or why the grammar is left there
---     Syntax       the compounds of a text, the joins between them, and why the text is no selector, if it is none
+--     Syntax       the names of each compound, the joins between compounds, and why the text is no selector, if it is none
 --     syntax_of    those of a text
 use Rattle.std.specs.Prelude.{ℕ, zero, suc, ◌+◌, ◌-◌, nat_lt, Bool, true, false, if◌then◌else◌, List, [], ◌∷◌, length, Option, Some, None, Ok, Err}
 use Rattle.std.specs.Option.{ok_or}
@@ -15,7 +20,7 @@ use Rattle.sel_core.specs.Grammar.{Outcome, ◌>>=◌, left_at, Begun, any_part,
 
 -- ---- items
 
--- a part of a compound, with its name if it has one; a join; or the white space and the comments before the end
+-- a part of a compound, with its name, which `*` and pseudo parts don't have; a join; or the white space and the comments before the end
 pub data Item : Type 0 where
   part : Option Word → Item
   joined : Join → Item
@@ -27,7 +32,7 @@ whole_part to b = do
   p ← part_of to b
   Ok (part p.0, p.1)
 
--- where a compound is wanted: its first part. Before it there are n compounds, and there may be only so many.
+-- where a compound is wanted: its first part, behind n compounds, of which there may be only so many
 unfoldable pub first_item : Bool → ℕ → ℕ → List ℕ → Outcome (Item × List ℕ)
 first_item drops to n bs = do
   b ← ok_or (first_part drops bs) (left_at to bs bs)
