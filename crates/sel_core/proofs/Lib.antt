@@ -18,3 +18,4 @@ pub mod ReadBack
 pub mod Lowered
 pub mod Sound
 pub mod PlainText
+mod Rows
