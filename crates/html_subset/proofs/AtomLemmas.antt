@@ -17,7 +17,7 @@ use Rattle.html_subset.specs.declared.scopes.Scope.TheVariants as within
 use Rattle.html_subset.specs.declared.faults.PageFault.{PageFault}
 use Rattle.html_subset.specs.declared.faults.PageFault.TheVariants.{TooDeep, TooManyNodes}
 use Rattle.html_subset.specs.declared.faults.TheConstants.{MOST_DEPTH, MOST_PAGE_NODES}
-use Rattle.html_subset.specs.Tokens.{Token, text, start, stop, StartTag, tokens}
+use Rattle.html_tokens.specs.Tokens.{Token, text, start, stop, StartTag, tokens}
 use Rattle.html_subset.specs.Elements as of_element
 use Rattle.html_subset.specs.Elements.{kind_of, is_root, is_in_head, is_void, Element, element}
 use Rattle.html_subset.specs.TreeTable.{behind, has_kind, Place, place, opens}

@@ -1,10 +1,11 @@
 -- Adding classes, as a loop does.
-use Rattle.std.proofs.Common.{◌≡◌, ℕ, zero, suc, ◌+◌, ◌-◌, true, false, List, [], ◌∷◌, length, take, drop, Some, Ok, Err, refl, ap, arith}
+use Rattle.std.proofs.Common.{◌≡◌, ℕ, true, false, List, [], ◌∷◌, length, take, drop, Some, Ok, Err, refl, arith}
 use Rattle.tp_base.specs.Names.{Named, with_name}
 use Rattle.tp_base.specs.declared.atoms.AtomKind.TheVariants.{Class}
 use Rattle.html_subset.specs.declared.faults.PageFault.{PageFault}
-use Rattle.html_subset.specs.Bytes.{is_blank}
-use Rattle.html_subset.specs.Elements.{word_len, words_from}
+use Rattle.html_tokens.specs.Bytes.{is_blank}
+use Rattle.html_tokens.specs.Words.{word_len, words_from}
+use Rattle.html_tokens.proofs.WordLemmas.{next_word}
 use Rattle.html_subset.specs.Labels.{Outcome, class_names, and_one, labelled}
 
 -- a label with the classes of a value
@@ -14,25 +15,6 @@ with_value at value label table = labelled at (class_names (Some value)) label t
 pub opened : (at : ℕ) (value label : List ℕ) (table : List Named) → labelled at (class_names (Some value)) label table ≡ with_value at value label table
 unfolding with_value
 opened at value label table = refl
-
-skips : (n : ℕ) (bs : List ℕ) → words_from n bs ≡ words_from 0 (drop n bs)
-unfolding words_from
-skips zero bs = refl
-skips (suc n) [] = refl
-skips (suc n) (b ∷ bs) = skips n bs
-
-pub some_word : (b : ℕ) (bs : List ℕ) → is_blank b ≡ false → word_len (b ∷ bs) ≡ 1 + word_len bs
-some_word b bs is = rw is refl
-
-behind_word : (m n b : ℕ) (bs : List ℕ) → m ≡ 1 + n → words_from (m - 1) bs ≡ words_from 0 (drop m (b ∷ bs))
-behind_word m n b bs more =
-    let whole : m ≡ suc n = omega arith in
-    let less : suc n - 1 ≡ n = omega arith in
-    rw (whole, less) (skips n bs)
-
-next_word : (b : ℕ) (bs : List ℕ) → is_blank b ≡ false → words_from 0 (b ∷ bs) ≡ take (word_len (b ∷ bs)) (b ∷ bs) ∷ words_from 0 (drop (word_len (b ∷ bs)) (b ∷ bs))
-unfolding words_from
-next_word b bs is = rw is (rw is at (ap (λ ws. take (word_len (b ∷ bs)) (b ∷ bs) ∷ ws) (behind_word (word_len (b ∷ bs)) (word_len bs) b bs (some_word b bs is))))
 
 pub blank : (at b : ℕ) (bs label : List ℕ) (table : List Named) → is_blank b ≡ true → with_value at (b ∷ bs) label table ≡ with_value at bs label table
 unfolding with_value words_from

@@ -5,7 +5,7 @@ use Rattle.tree_sem.specs.Trees.{LabelTree}
 use Rattle.tree_sem.specs.declared.forests.Forest.{Forest}
 use Rattle.html_subset.specs.declared.faults.PageFault.{PageFault}
 use Rattle.html_subset.specs.declared.faults.PageFault.TheVariants.{Memory}
-use Rattle.html_subset.specs.Tokens.{Token}
+use Rattle.html_tokens.specs.Tokens.{Token}
 use Rattle.html_subset.specs.Pages.{Ending, page_of, forest_of}
 use Rattle.html_subset.specs.Machine as machine
 use Rattle.html_subset.specs.Machine.{Machine, trees_of}

@@ -1,6 +1,3 @@
-pub mod Rests
-pub mod RawNames
-pub mod AttributeSteps
 pub mod ElementNames
 pub mod Fronts
 pub mod LabelLemmas
@@ -16,5 +13,4 @@ pub mod ReadingSteps
 pub mod EndingLemmas
 pub mod AtomLemmas
 pub mod NamesKept
-mod TokenRows
 mod Rows

@@ -1,6 +1,6 @@
 -- Steps of the machine.
 use Rattle.std.proofs.Common.{◌≡◌, ℕ, List, [], ◌∷◌, None, Ok, Err, refl}
-use Rattle.html_subset.specs.Tokens.{StartTag}
+use Rattle.html_tokens.specs.Tokens.{StartTag}
 use Rattle.html_subset.specs.Labels.{Outcome, ◌>>=◌}
 use Rattle.html_subset.specs.Machine.{Machine, with_open, with_implied, put}
 

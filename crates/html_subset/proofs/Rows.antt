@@ -6,11 +6,12 @@ use Rattle.tp_base.specs.Names.{Named, place_in, with_name}
 use Rattle.tp_base.specs.declared.atoms.AtomKind.TheVariants as kind
 use Rattle.tree_sem.specs.Trees.{no_nodes, node}
 use Rattle.html_subset.specs.declared.faults.PageFault.TheVariants.{TooDeep, TooManyNodes}
-use Rattle.html_subset.specs.Names.{is_raw}
-use Rattle.html_subset.specs.Attributes.{past_blank, quoted, value, behind_equals, attribute, attributes_from, value_of, given}
-use Rattle.html_subset.specs.Markup.{behind_angle, behind_arrow, begins_end_of, behind_raw, begins_markup, behind_text}
-use Rattle.html_subset.specs.Tokens.{Token, start, tag, behind_start, start_tag, end_tag, end_markup, markup, front, tokens_from, tokens}
-use Rattle.html_subset.specs.Elements.{words_from, named_kinds, kind_of}
+use Rattle.html_tokens.specs.Names.{is_raw}
+use Rattle.html_tokens.specs.Attributes.{past_blank, quoted, value, behind_equals, attribute, attributes_from, value_of, given}
+use Rattle.html_tokens.specs.Markup.{behind_angle, behind_arrow, begins_end_of, behind_raw, begins_markup, behind_text}
+use Rattle.html_tokens.specs.Tokens.{Token, start, tag, behind_start, start_tag, end_tag, end_markup, markup, front, tokens_from, tokens}
+use Rattle.html_tokens.specs.Words.{words_from}
+use Rattle.html_subset.specs.Elements.{named_kinds, kind_of}
 use Rattle.html_subset.specs.TreeTable.{behind, closed_by, holder, is_bare, place, opens, closed_at_end}
 use Rattle.html_subset.specs.Growth.{Growth, nothing, more, add, size}
 use Rattle.html_subset.specs.Labels.{Outcome, ◌>>=◌, labelled}

@@ -2,30 +2,16 @@
 --     kinds           the names of each kind
 --     kind_of         the kind of a name
 use Prim.Native.String.{String}
-use Rattle.std.specs.Prelude.{ℕ, zero, suc, ◌-◌, not, Bool, true, false, if◌then◌else◌, List, [], ◌∷◌, map, flat_map, take, codes}
-use Rattle.std.specs.List.{prefix_len}
+use Rattle.std.specs.Prelude.{ℕ, Bool, true, false, if◌then◌else◌, List, [], ◌∷◌, map, flat_map, codes}
 use Rattle.std.specs.Str.{bytes_eq}
 use denote.Enum.Bare.{sameb}
 use Rattle.html_subset.specs.contracts.elements.Kind.{the_type}
 use Rattle.html_subset.specs.declared.elements.Kind.{Kind}
 use Rattle.html_subset.specs.declared.elements.Kind.TheVariants as k
-use Rattle.html_subset.specs.Bytes.{is_blank}
+use Rattle.html_tokens.specs.Words.{words}
 
 abbrev pub is : Kind → Kind → Bool
 is = sameb the_type
-
--- the length of the word that a text begins with
-abbrev pub word_len : List ℕ → ℕ
-word_len bs = prefix_len (λ b. not (is_blank b)) bs
-
--- The words of a text, which white space parts. `skip` bytes are left of the last one.
-unfoldable pub words_from : ℕ → List ℕ → List (List ℕ)
-words_from skip [] = []
-words_from (suc skip) (b ∷ bs) = words_from skip bs
-words_from zero (b ∷ bs) = if is_blank b then words_from 0 bs else take (word_len (b ∷ bs)) (b ∷ bs) ∷ words_from (word_len (b ∷ bs) - 1) bs
-
-abbrev pub words : List ℕ → List (List ℕ)
-words text = words_from 0 text
 
 abbrev pub kinds : List (Kind × String)
 kinds =

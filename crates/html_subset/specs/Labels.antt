@@ -5,7 +5,7 @@ use Rattle.tp_base.specs.Classes.{with_class}
 use Rattle.tp_base.specs.declared.atoms.AtomKind.TheVariants as kind
 use Rattle.html_subset.specs.declared.faults.PageFault.{PageFault}
 use Rattle.html_subset.specs.declared.faults.PageFault.TheVariants.{TooManyAtoms}
-use Rattle.html_subset.specs.Elements.{words}
+use Rattle.html_tokens.specs.Words.{words}
 
 -- what comes of a step, or its fault and the names that are in the table then
 abbrev pub Outcome : Type 0 → Type 0

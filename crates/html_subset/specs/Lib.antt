@@ -1,8 +1,3 @@
-pub mod Bytes
-pub mod Names
-pub mod Attributes
-pub mod Markup
-pub mod Tokens
 pub mod Views
 pub mod Elements
 pub mod TreeTable

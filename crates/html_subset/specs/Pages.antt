@@ -4,7 +4,7 @@ use Rattle.tp_base.specs.Names.{Named}
 use Rattle.tp_base.specs.declared.atoms.AtomKind.TheVariants as kind
 use Rattle.tree_sem.specs.Trees.{no_nodes, node, LabelTree, trees}
 use Rattle.html_subset.specs.declared.faults.PageFault.{PageFault}
-use Rattle.html_subset.specs.Tokens.{Token}
+use Rattle.html_tokens.specs.Tokens.{Token}
 use Rattle.html_subset.specs.Growth.{Growth, nothing, row_of}
 use Rattle.html_subset.specs.Labels.{Outcome, ◌>>=◌, labelled}
 use Rattle.html_subset.specs.Building.{Root, Roots, Document, forest, page, State, run}

@@ -5,7 +5,7 @@ use Rattle.std.specs.Str.Lossy.{utf8_valid_len}
 use Rattle.tp_base.specs.Names.{Named}
 use Rattle.tree_sem.specs.Trees.{LabelTree}
 use Rattle.html_subset.specs.declared.faults.PageFault.TheVariants.{NotUtf8}
-use Rattle.html_subset.specs.Tokens.{tokens}
+use Rattle.html_tokens.specs.Tokens.{tokens}
 use Rattle.html_subset.specs.Pages.{Ending, page_of, forest_of}
 
 -- without a byte order mark at the front

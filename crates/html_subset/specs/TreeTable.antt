@@ -6,7 +6,7 @@ use Rattle.html_subset.specs.declared.elements.Kind.{Kind}
 use Rattle.html_subset.specs.declared.elements.Kind.TheVariants as k
 use Rattle.html_subset.specs.declared.scopes.Scope.{Scope}
 use Rattle.html_subset.specs.declared.scopes.Scope.TheVariants as within
-use Rattle.html_subset.specs.Names.{is_raw}
+use Rattle.html_tokens.specs.Names.{is_raw}
 use Rattle.html_subset.specs.Elements.{is, is_wall, is_void, is_table_part, ends_paragraph, Element}
 
 -- past these nothing is closed

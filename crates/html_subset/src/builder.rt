@@ -3,20 +3,21 @@ ghost use Rattle.std.specs.Prelude.{◌≡◌, ◌≢◌, ◌+◌, ◌-◌, ◌<
 ghost use Rattle.std.specs.List.{list_any};
 ghost use Rattle.tree_sem.specs.Trees.{LabelTree, node_at, edit_at, add_child, count_of};
 ghost use Rattle.tree_sem.specs.Actions.{add_classes};
-ghost use Rattle.html_subset.specs.Bytes.{lowered, is_blank};
+ghost use Rattle.tree_sem.specs.declared.tree_fault.TheConstants.{MOST_NODES};
+ghost use Rattle.html_tokens.specs.Bytes.{lowered, is_blank};
 ghost use Rattle.html_subset.specs.Elements.{kind_of, element};
 ghost use Rattle.html_subset.specs.Building.{bare, unless_given};
 ghost use Rattle.html_subset.specs.Machine as spec;
 ghost use Rattle.html_subset.specs.Builders.{machine_of, paragraphs_left, Stands, IsThere};
 ghost use Rattle.html_subset.specs.Results.{Does, IsFront};
-ghost use Rattle.html_subset.specs.Views.{bytes_of, start_tag_of, token_of, element_of, implied_names, place_of};
+ghost use Rattle.html_tokens.specs.Views.{bytes_of, start_tag_of, token_of};
+ghost use Rattle.html_subset.specs.Views.{element_of, implied_names, place_of};
 
-use crate::bytes::is_blank;
 use crate::elements::{Element, Kind, kind_of};
 use crate::faults::{MOST_DEPTH, MOST_PAGE_NODES, PageFault};
 use crate::labels::{add_given, element_label, node_label};
 use crate::open_elements::{Implied, Place, behind_paragraph, closed_at_end, is_opened, place_for};
-use crate::tokens::{StartTag, Token};
+use html_tokens::{StartTag, Token, is_blank};
 use std::alloc::Global;
 use std::mem::replace;
 use tp_base::{AtomTable, ClassSet, NoMemory, Path};
@@ -109,7 +110,7 @@ fn go_up(at: &mut Path, levels: usize)
 }
 
 fn add_below_root(alloc: Global, tree: &mut Tree, label: ClassSet) -> Result<(), NoMemory>
-    requires { count_of tree.old < 16777216 }
+    requires { count_of tree.old < MOST_NODES }
     ensures { OnOk result (tree.new ≡ add_child label tree.old) }
 {
     match tree.add_child(&Path::root(alloc), label) {
@@ -213,7 +214,7 @@ impl<'a> Builder<'a> {
     #[tactic(auto, unfolding(crate::specs::Machine::grown))]
     fn grow(&mut self, label: ClassSet) -> Result<Option<u32>, NoMemory>
         requires stands { Stands self.old }
-        requires room { self.old.nodes < 100000 }
+        requires room { self.old.nodes < MOST_PAGE_NODES }
         ensures gives { IfOk result (λ step. (table : _) → spec.grown label (machine_of self.old table) ≡ (machine_of self.new table, step)) }
         ensures stands { OnOk result (Stands self.new) }
         ensures there { IfOk result (λ step. IsThere self.new step) }
@@ -471,7 +472,7 @@ impl<'a> Builder<'a> {
     /// Adds a node last below the head.
     fn add_to_head(&mut self, label: ClassSet) -> Result<(), NoMemory>
         requires stands { Stands self.old }
-        requires room { self.old.nodes < 100000 }
+        requires room { self.old.nodes < MOST_PAGE_NODES }
         requires head { IsSome (node_at (0 ∷ []) self.old.tree) }
         ensures gives { OnOk result ((table : _) → spec.with_head_node label (machine_of self.old table) ≡ machine_of self.new table) }
         ensures stands { OnOk result (Stands self.new) }

@@ -1,10 +1,10 @@
 //! Elements by their names: what matters of each for the tree.
 ghost use Rattle.std.specs.Prelude.{◌≡◌, map};
-ghost use Rattle.html_subset.specs.Bytes.{lowered};
+ghost use Rattle.html_tokens.specs.Bytes.{lowered};
 ghost use Rattle.html_subset.specs.Elements as spec;
 ghost use Rattle.html_subset.specs.Views.{element_of};
 
-use crate::bytes::is_same_name;
+use html_tokens::is_same_name;
 
 /// What an element is to the tree. Names that no rule speaks of are `Other`.
 #[derive(Clone, Copy, Debug, PartialEq, Eq)]

@@ -1,17 +1,16 @@
 //! Labels: the names that a tag gives are entered into the table, and their atoms make a node's label.
-ghost use Rattle.std.specs.Prelude.{◌≡◌, ◌≤◌, ◌<◌, [], ◌∷◌, Some, length, take, drop, IfOk, IfErr};
+ghost use Rattle.std.specs.Prelude.{◌≡◌, ◌<◌, [], ◌∷◌, Some, length, take, drop, IfOk, IfErr};
 ghost use Rattle.tp_base.specs.Names.{with_name};
 ghost use Rattle.tp_base.specs.declared.atoms.AtomKind.TheVariants as named;
-ghost use Rattle.html_subset.specs.Bytes.{lowered};
-ghost use Rattle.html_subset.specs.Elements.{word_len};
+ghost use Rattle.html_tokens.specs.Bytes.{lowered};
+ghost use Rattle.html_tokens.specs.Words.{word_len};
 ghost use Rattle.html_subset.specs.Labels as spec;
 ghost use Rattle.html_subset.specs.Building.{node_names};
 ghost use Rattle.html_subset.specs.Results.{Does, IsFront};
-ghost use Rattle.html_subset.specs.Views.{bytes_of, start_tag_of};
+ghost use Rattle.html_tokens.specs.Views.{bytes_of, start_tag_of};
 
-use crate::bytes::is_blank;
 use crate::faults::PageFault;
-use crate::tokens::StartTag;
+use html_tokens::{StartTag, is_blank, word_len};
 use std::alloc::Global;
 use tp_base::{AtomFault, AtomKind, AtomTable, ClassSet};
 
@@ -38,14 +37,6 @@ fn add_name(
     }
 }
 
-/// The length of the word that the text begins with.
-fn word_len(text: &[u8]) -> usize
-    ensures gives { result ≡ word_len text.now }
-    ensures within { result ≤ length text.now }
-{
-    text.iter().take_while(|b| !is_blank(**b)).count()
-}
-
 /// Adds the class that the text begins with, and lends the text behind it.
 #[tactic(auto)]
 fn add_class<'a>(
@@ -67,7 +58,7 @@ fn add_class<'a>(
 }
 
 /// Adds the classes of an attribute's value, which white space parts. Linear in the value, apart from the label.
-#[tactic(auto, using(crate::proofs::ClassSteps::blank, crate::proofs::ClassSteps::goes_on, crate::proofs::ClassSteps::fails, crate::proofs::ClassSteps::ends, crate::proofs::ClassSteps::some_word, crate::proofs::ClassSteps::opened, crate::proofs::Fronts::front_of_front, crate::proofs::Fronts::front_itself))]
+#[tactic(auto, using(crate::proofs::ClassSteps::blank, crate::proofs::ClassSteps::goes_on, crate::proofs::ClassSteps::fails, crate::proofs::ClassSteps::ends, html_tokens::proofs::WordLemmas::some_word, crate::proofs::ClassSteps::opened, crate::proofs::Fronts::front_of_front, crate::proofs::Fronts::front_itself))]
 fn add_classes(
     label: &mut ClassSet,
     value: &[u8],

@@ -2,17 +2,16 @@
 //! innermost last.
 ghost use Rattle.std.specs.Prelude.{◌≡◌, Some, None, length, option_map};
 ghost use Rattle.std.specs.List.{list_any};
-ghost use Rattle.html_subset.specs.Bytes.{lowered};
+ghost use Rattle.html_tokens.specs.Bytes.{lowered};
 ghost use Rattle.html_subset.specs.declared.elements.Kind.TheVariants as k;
 ghost use Rattle.html_subset.specs.declared.scopes.Scope.TheVariants as within;
 ghost use Rattle.html_subset.specs.Elements.{is};
 ghost use Rattle.html_subset.specs.TreeTable as spec;
 ghost use Rattle.html_subset.specs.Views.{element_of, elements_of, implied_names, place_of, counted};
 
-use crate::bytes::is_same_name;
 use crate::elements::{Element, Kind};
-use crate::raw::is_raw;
 use crate::scopes::Scope;
+use html_tokens::{is_raw, is_same_name};
 
 /// What is implied between an element and the one that holds it.
 #[derive(Clone, Copy, Debug, PartialEq, Eq)]

@@ -6,13 +6,13 @@ ghost use Rattle.html_subset.specs.Machine as machine;
 ghost use Rattle.html_subset.specs.Pages.{page_of, forest_of};
 ghost use Rattle.html_subset.specs.Reading as spec;
 ghost use Rattle.html_subset.specs.Results.{Does, IsFront, Reads};
-ghost use Rattle.html_subset.specs.Tokens.{tokens};
-ghost use Rattle.html_subset.specs.Views.{token_of};
+ghost use Rattle.html_tokens.specs.Tokens.{tokens};
+ghost use Rattle.html_tokens.specs.Views.{token_of};
 
 use crate::builder::Builder;
 use crate::faults::PageFault;
-use crate::tokens::{Token, next};
 use bstr::ByteSlice;
+use html_tokens::{Token, next};
 use std::alloc::Global;
 use tp_base::AtomTable;
 use tree_sem::{Forest, Tree};

@@ -1,9 +1,10 @@
 -- The classes of an argument, one by one.
-use Rattle.std.proofs.Common.{◌≡◌, ℕ, zero, suc, ◌+◌, ◌-◌, true, false, List, [], ◌∷◌, length, take, drop, Ok, Err, refl, ap, arith}
+use Rattle.std.proofs.Common.{◌≡◌, ℕ, true, false, List, [], ◌∷◌, length, take, drop, Ok, Err, refl, arith}
 use Rattle.tp_base.specs.Names.{Named, with_name}
 use Rattle.tp_base.specs.declared.atoms.AtomKind.TheVariants.{Class}
-use Rattle.html_subset.specs.Bytes.{is_blank}
-use Rattle.html_subset.specs.Elements.{word_len, words_from, words}
+use Rattle.html_tokens.specs.Bytes.{is_blank}
+use Rattle.html_tokens.specs.Words.{word_len, words_from, words}
+use Rattle.html_tokens.proofs.WordLemmas.{next_word}
 use Rattle.jq_words.specs.declared.faults.ScriptFault.{ScriptFault}
 use Rattle.jq_words.specs.Words.{Outcome}
 use Rattle.jq_parts.specs.Selections.{and_class, with_classes}
@@ -15,25 +16,6 @@ with_value at value set names = with_classes at (words value) set names
 pub opened : (at : ℕ) (value set : List ℕ) (names : List Named) → with_classes at (words value) set names ≡ with_value at value set names
 unfolding with_value
 opened at value set names = refl
-
-skips : (n : ℕ) (bs : List ℕ) → words_from n bs ≡ words_from 0 (drop n bs)
-unfolding words_from
-skips zero bs = refl
-skips (suc n) [] = refl
-skips (suc n) (b ∷ bs) = skips n bs
-
-pub some_word : (b : ℕ) (bs : List ℕ) → is_blank b ≡ false → word_len (b ∷ bs) ≡ 1 + word_len bs
-some_word b bs is = rw is refl
-
-behind_word : (m n b : ℕ) (bs : List ℕ) → m ≡ 1 + n → words_from (m - 1) bs ≡ words_from 0 (drop m (b ∷ bs))
-behind_word m n b bs more =
-    let whole : m ≡ suc n = omega arith in
-    let less : suc n - 1 ≡ n = omega arith in
-    rw (whole, less) (skips n bs)
-
-next_word : (b : ℕ) (bs : List ℕ) → is_blank b ≡ false → words_from 0 (b ∷ bs) ≡ take (word_len (b ∷ bs)) (b ∷ bs) ∷ words_from 0 (drop (word_len (b ∷ bs)) (b ∷ bs))
-unfolding words_from
-next_word b bs is = rw is (rw is at (ap (λ ws. take (word_len (b ∷ bs)) (b ∷ bs) ∷ ws) (behind_word (word_len (b ∷ bs)) (word_len bs) b bs (some_word b bs is))))
 
 pub blank : (at b : ℕ) (bs set : List ℕ) (names : List Named) → is_blank b ≡ true → with_value at (b ∷ bs) set names ≡ with_value at bs set names
 unfolding with_value words_from

@@ -11,7 +11,7 @@ use Rattle.tp_base.proofs.Rising.{All-from_Contains}
 use Rattle.sel_core.specs.Lists.{read_strict_list}
 use Rattle.sel_core.specs.Reading.{Ending}
 use Rattle.sel_core.specs.Selectors.{Selector}
-use Rattle.html_subset.specs.Elements as tags
+use Rattle.html_tokens.specs.Words as tags
 use Rattle.jq_words.specs.declared.faults.ScriptFault.TheVariants.{ComplexArgument}
 use Rattle.jq_words.specs.Words.{Outcome, ◌>>=◌}
 use Rattle.jq_words.specs.Brackets.{is_empty}

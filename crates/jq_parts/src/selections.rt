@@ -1,9 +1,9 @@
 //! The letters of an argument as selectors, as compounds and as classes.
-ghost use Rattle.std.specs.Prelude.{◌≡◌, ◌≢◌, ◌<◌, ◌≤◌, true, false, [], length, take, drop, map, IfOk, IfErr, IfSome, IfNone};
+ghost use Rattle.std.specs.Prelude.{◌≡◌, ◌≢◌, ◌<◌, true, false, [], length, take, drop, map, IfOk, IfErr, IfSome, IfNone};
 ghost use Rattle.std.specs.List.{list_all};
 ghost use Rattle.tp_base.specs.Names.{with_name};
 ghost use Rattle.tp_base.specs.declared.atoms.AtomKind.TheVariants as kind;
-ghost use Rattle.html_subset.specs.Elements.{word_len};
+ghost use Rattle.html_tokens.specs.Words.{word_len};
 ghost use Rattle.jq_sem.specs.Views.{atoms_of};
 ghost use Rattle.sel_core.specs.Results.{IsFront};
 ghost use Rattle.sel_core.specs.Selectors.{simple};
@@ -13,6 +13,7 @@ ghost use Rattle.jq_words.specs.Results.{Finds, Leaves};
 ghost use Rattle.jq_words.specs.declared.faults.ScriptFault.TheVariants.{Memory, ComplexArgument};
 ghost use Rattle.jq_parts.specs.Selections as spec;
 
+use html_tokens::word_len;
 use jq_words::{ScriptFault, is_blank};
 use sel_core::{Compound, SelFault, Selector, read_strict_list};
 use std::alloc::Global;
@@ -89,14 +90,6 @@ pub fn compounds(
     only_compounds(alloc, at, &found)
 }
 
-/// How many bytes of a text come before white space.
-fn word_len(text: &[u8]) -> usize
-    ensures gives { result ≡ word_len text.now }
-    ensures within { result ≤ length text.now }
-{
-    text.iter().take_while(|b| !is_blank(**b)).count()
-}
-
 /// Adds the class that the text begins with, and lends the text behind it.
 #[tactic(auto, using(html_subset::proofs::Fronts::front_grown, html_subset::proofs::Fronts::front_itself))]
 fn add_class<'t>(
@@ -123,7 +116,7 @@ fn add_class<'t>(
 }
 
 /// The classes in the letters of an argument, parted by white space. Linear in the letters but for look-ups.
-#[tactic(auto, using(crate::proofs::ClassSteps::blank, crate::proofs::ClassSteps::goes_on, crate::proofs::ClassSteps::fails, crate::proofs::ClassSteps::ends, crate::proofs::ClassSteps::some_word, crate::proofs::ClassSteps::opened, html_subset::proofs::Fronts::front_of_front, html_subset::proofs::Fronts::front_itself))]
+#[tactic(auto, using(crate::proofs::ClassSteps::blank, crate::proofs::ClassSteps::goes_on, crate::proofs::ClassSteps::fails, crate::proofs::ClassSteps::ends, html_tokens::proofs::WordLemmas::some_word, crate::proofs::ClassSteps::opened, html_subset::proofs::Fronts::front_of_front, html_subset::proofs::Fronts::front_itself))]
 pub fn class_set(
     alloc: Global,
     at: usize,

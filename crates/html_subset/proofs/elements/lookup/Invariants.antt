@@ -1,5 +1,5 @@
 use Rattle.std.proofs.Common.{◌≡◌, map, length}
-use Rattle.html_subset.specs.Bytes.{lowered}
+use Rattle.html_tokens.specs.Bytes.{lowered}
 use Rattle.html_subset.specs.Elements as spec
 use Rattle.html_subset.proofs.elements.lookup.Given as goal
 

@@ -1,5 +1,5 @@
 use Rattle.std.proofs.Common.{◌≡◌, ◌≤◌, length}
-use Rattle.html_subset.specs.Bytes.{lowered}
+use Rattle.html_tokens.specs.Bytes.{lowered}
 use Rattle.html_subset.specs.TreeTable.{behind, has_name}
 use Rattle.html_subset.specs.Views.{elements_of}
 use Rattle.html_subset.proofs.open_elements.behind_name.Given as goal

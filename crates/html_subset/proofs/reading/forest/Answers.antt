@@ -1,7 +1,7 @@
 use Rattle.std.proofs.Common.{length}
 use Rattle.std.proofs.lemmas.Result.{err_from_is_err_and}
 use Rattle.html_subset.specs.Builders.{machine_of}
-use Rattle.html_subset.specs.Tokens.{tokens}
+use Rattle.html_tokens.specs.Tokens.{tokens}
 use Rattle.html_subset.proofs.EndingLemmas.{forest_fails, forest_finished}
 use Rattle.html_subset.proofs.reading.forest.Goals as goal
 

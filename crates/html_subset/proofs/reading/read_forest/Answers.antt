@@ -1,5 +1,5 @@
 use Rattle.std.proofs.Common.{length}
-use Rattle.html_subset.specs.Tokens.{tokens}
+use Rattle.html_tokens.specs.Tokens.{tokens}
 use Rattle.html_subset.proofs.AtomLemmas.{forest_result_over}
 use Rattle.html_subset.proofs.reading.read_forest.Goals as goal
 

@@ -2,7 +2,7 @@ use Rattle.std.proofs.Common.{◌≡◌, ◌≤◌, length}
 use Rattle.html_subset.specs.Builders.{machine_of, Stands}
 use Rattle.html_subset.specs.Machine.{run}
 use Rattle.html_subset.specs.Results.{IsFront}
-use Rattle.html_subset.specs.Tokens.{tokens_from, tokens}
+use Rattle.html_tokens.specs.Tokens.{tokens_from, tokens}
 use Rattle.html_subset.proofs.reading.take_all.Given as goal
 
 abbrev pub invariant-tokens : goal.invariant-tokens

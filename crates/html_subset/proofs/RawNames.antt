@@ -1,8 +1,0 @@
--- The raw elements of the code are those of the definition.
-use Rattle.std.proofs.Common.{◌≡◌, map, refl}
-use Rattle.html_subset.specs.declared.raw.TheConstants.{RAW}
-use Rattle.html_subset.specs.Bytes.{lowered}
-use Rattle.html_subset.specs.Names.{raw_names}
-
-pub same_names : map (λ n. lowered n.now) RAW ≡ raw_names
-same_names = refl

@@ -1,0 +1,5 @@
+pub mod Rests
+pub mod RawNames
+pub mod AttributeSteps
+pub mod WordLemmas
+mod TokenRows
