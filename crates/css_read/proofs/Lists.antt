@@ -5,19 +5,7 @@ use Rattle.css_read.specs.declared.brackets.Bracket.{Bracket}
 use Rattle.css_read.specs.Units.{after_byte, behind_unit, stops_at, from_first_in, from_first}
 use Rattle.css_read.specs.Rules.{begins, list_ends}
 use Rattle.css_read.specs.Fronts.{IsStart}
-
-choose : (test : Bool) (xs ys : List ℕ) (n : ℕ) → length xs ≤ n → length ys ≤ n → length (if test then xs else ys) ≤ n
-choose true xs ys n first second = first
-choose false xs ys n first second = second
-
-no_longer : (bytes : List ℕ) (brackets : List Bracket) (skip : ℕ) (bs : List ℕ) → length (from_first_in bytes brackets skip bs) ≤ length bs
-unfolding from_first_in
-no_longer bytes brackets skip [] = omega arith
-no_longer bytes brackets (suc skip) (b ∷ bs) = let others = no_longer bytes brackets skip bs in omega arith
-no_longer bytes brackets zero (b ∷ bs) =
-    let left = length bs - length (behind_unit (b ∷ bs)) in
-    let others = no_longer bytes (after_byte b brackets) left bs in
-    choose (stops_at bytes b brackets) (b ∷ bs) (from_first_in bytes (after_byte b brackets) left bs) (length (b ∷ bs)) (omega arith) (omega arith)
+use Rattle.css_read.proofs.Lengths.{no_longer}
 
 brace_begins : (b : ℕ) (bs : List ℕ) → (b == 123) ≡ true → begins (codes "{") (b ∷ bs) ≡ true
 brace_begins b bs same = grind (arith, nat_tests)

@@ -1,5 +1,6 @@
 pub mod Drafts
 pub mod Fronts
+pub mod Order
 pub mod Pieces
 pub mod Places
 pub mod Readable

@@ -1,9 +1,10 @@
 //! Reading a sheet, from left to right.
-ghost use Rattle.std.specs.Prelude.{◌≡◌, ◌≤◌, ◌<◌, ◌+◌, length, map, slice_range, IfOk, OnOk};
+ghost use Rattle.std.specs.Prelude.{◌≡◌, ◌≤◌, ◌<◌, ◌+◌, All, length, map, slice_range, IfOk, OnOk};
 ghost use Rattle.sel_core.specs.Bytes.{IsRest};
 ghost use Rattle.sel_core.specs.Results.{IsFront};
 ghost use Rattle.css_read.specs.Drafts.{draft_of};
 ghost use Rattle.css_read.specs.Fronts.{list_len};
+ghost use Rattle.css_read.specs.Order.{AreApart, AreInRules, range_of};
 ghost use Rattle.css_read.specs.Pieces.{pieces};
 ghost use Rattle.css_read.specs.Places.{IsPlaced, ArePlaced};
 ghost use Rattle.css_read.specs.Readable.{IsReadableOutcome, AllReadable};
@@ -193,6 +194,10 @@ pub fn read_sheet(alloc: Global, text: &[u8], atoms: &mut AtomTable) -> Result<S
     ensures count { IfOk result (λ s. length s.items ≤ MOST_SELECTORS) }
     ensures placed { IfOk result (λ s. ArePlaced (length text.now) s.items) }
     ensures readable { IfOk result (λ s. AllReadable atoms.new (sheet_of s).items) }
+    ensures rules_apart { IfOk result (λ s. AreApart 0 (length text.now) s.rules) }
+    ensures items_apart { IfOk result (λ s. AreApart 0 (length text.now) (map range_of (sheet_of s).items)) }
+    ensures numbered { IfOk result (λ s. All (λ i. i.rule < length s.rules) s.items) }
+    ensures in_rules { IfOk result (λ s. AreInRules s.rules s.items) }
     ensures front { IsFront atoms.old atoms.new }
 {
     if let Err(e) = text.to_str() {
