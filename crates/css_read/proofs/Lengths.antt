@@ -1,5 +1,5 @@
 -- What is left behind a piece of a text is no longer than the text.
-use Rattle.std.proofs.Common.{◌≡◌, ℕ, zero, suc, ◌-◌, ◌≤◌, ◌==◌, Bool, true, false, if◌then◌else◌, nat_eq, List, [], ◌∷◌, length, drop, codes, arith, length-drop}
+use Rattle.std.proofs.Common.{ℕ, zero, suc, ◌-◌, ◌≤◌, ◌==◌, Bool, true, false, if◌then◌else◌, nat_eq, List, [], ◌∷◌, length, drop, codes, arith, length-drop}
 use Rattle.std.specs.List.{starts_with}
 use Rattle.sel_core.specs.Bytes.{is_passed, behind_close, behind_gap}
 use Rattle.css_read.specs.declared.brackets.Bracket.{Bracket}

@@ -1,7 +1,6 @@
 -- A list of selectors has a byte at least, or its `{` follows.
-use Rattle.std.proofs.Common.{◌≡◌, ℕ, zero, suc, ◌-◌, ◌≤◌, ◌<◌, ◌==◌, ◌&&◌, Bool, true, false, if◌then◌else◌, List, [], ◌∷◌, length, codes, refl, arith}
+use Rattle.std.proofs.Common.{◌≡◌, ℕ, ◌-◌, ◌≤◌, ◌<◌, ◌==◌, ◌&&◌, Bool, true, false, if◌then◌else◌, List, [], ◌∷◌, length, codes, refl, arith}
 use Rattle.std.proofs.lemmas.Bool.Decides.{nat_tests}
-use Rattle.css_read.specs.declared.brackets.Bracket.{Bracket}
 use Rattle.css_read.specs.Units.{after_byte, behind_unit, stops_at, from_first_in, from_first}
 use Rattle.css_read.specs.Rules.{begins, list_ends}
 use Rattle.css_read.specs.Fronts.{IsStart}

@@ -1,12 +1,12 @@
 -- The selectors of a list stand in order and apart.
-use Rattle.std.proofs.Common.{◌≡◌, ℕ, zero, suc, ◌+◌, ◌-◌, ◌≤◌, ◌==◌, ◌&&◌, Bool, true, false, if◌then◌else◌, List, [], ◌∷◌, ◌++◌, length, take, codes, arith}
+use Rattle.std.proofs.Common.{ℕ, zero, suc, ◌+◌, ◌-◌, ◌≤◌, ◌==◌, ◌&&◌, Bool, true, false, if◌then◌else◌, List, [], ◌∷◌, ◌++◌, length, take, codes, arith}
 use Rattle.std.proofs.lemmas.List.{length-take}
 use Rattle.sel_core.specs.Bytes.{behind_gap}
 use Rattle.css_read.specs.declared.sheets.Range.{Range}
 use Rattle.css_read.specs.Units.{behind_unit, begins_gap}
 use Rattle.css_read.specs.Pieces.{with_unit, solid_len, piece_of, from_comma, first_piece, more_pieces, pieces}
 use Rattle.css_read.specs.Order.{AreApart}
-use Rattle.css_read.proofs.Lengths.{no_longer, unit_no_longer, gap_no_longer}
+use Rattle.css_read.proofs.Lengths.{no_longer, gap_no_longer}
 
 -- ---- ranges in order
 

@@ -1,9 +1,8 @@
 -- The selectors of a sheet stand in its rules, and both in the order of the file.
-use Rattle.std.proofs.Common.{◌≡◌, ℕ, zero, suc, ◌+◌, ◌-◌, ◌≤◌, ◌<◌, Bool, true, false, if◌then◌else◌, nat_lt, List, [], ◌∷◌, ◌++◌, length, take, drop, map, All, Option, Some, None, slice_get, slice_range, Result, Ok, Err, refl, sym, subst, arith}
+use Rattle.std.proofs.Common.{◌≡◌, ℕ, zero, suc, ◌-◌, ◌≤◌, ◌<◌, Bool, true, false, if◌then◌else◌, nat_lt, List, [], ◌∷◌, ◌++◌, length, drop, map, All, Option, Some, slice_get, slice_range, Ok, Err, refl, sym, subst, arith}
 use Rattle.std.specs.Option.{IsSomeAnd}
 use Rattle.std.proofs.lemmas.List.{map-append, length-take}
 use Rattle.std.proofs.lemmas.List.Elements.{All-nil, All-cons, All-head, All-tail, All-push, All-weaker}
-use Rattle.std.proofs.lemmas.Option.{slice_get_within}
 use Rattle.tp_base.specs.Names.{Named}
 use Rattle.sel_core.specs.declared.faults.SelFault.TheVariants as sel
 use Rattle.sel_core.specs.Reading as one
@@ -12,7 +11,6 @@ use Rattle.css_read.specs.declared.faults.SheetFault.TheVariants.{TooManySelecto
 use Rattle.css_read.specs.declared.sheets.Range.{Range}
 use Rattle.css_read.specs.declared.sheets.SheetItem.{SheetItem}
 use Rattle.css_read.specs.Order.{AreApart, range_of, IsInRule, AreInRules}
-use Rattle.css_read.specs.Pieces.{pieces}
 use Rattle.css_read.specs.Reading.{Ending, then_read, item, item_from, read_item, add_item, add_items, pieces_of, add_rule, add_rules, empty_sheet}
 use Rattle.css_read.specs.Rules.{Rule, rules_of}
 use Rattle.css_read.specs.Sheets.{Outcome, judged, skipped, Item, Sheet}
