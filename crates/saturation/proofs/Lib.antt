@@ -19,5 +19,6 @@ mod WakingLemmas
 mod MemberLemmas
 mod DoneLemmas
 mod FirstLemmas
+mod GrowthLemmas
 mod ReadsLemmas
 mod BuildLemmas

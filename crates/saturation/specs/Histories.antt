@@ -1,8 +1,9 @@
 -- The changes of a cell: in which rounds it got which diagram.
 --     place_after s j a history k            the diagram after k rounds
+--     AreGrowing ts history label            under the label, what holds at one change holds at all later ones
 --     first_in starts ts history label       the first round whose diagram holds under the label
 --     IsHistory s ts n history j a           the history tells the cell of kind j and atom a up to round n
-use Rattle.std.specs.Prelude.{◌≡◌, ℕ, ◌<◌, ◌≤◌, nat_lt, Bool, if◌then◌else◌, List, [], ◌∷◌, Option, Some, None, All}
+use Rattle.std.specs.Prelude.{◌≡◌, ℕ, ◌<◌, ◌≤◌, nat_lt, Bool, true, length, get_or, if◌then◌else◌, List, [], ◌∷◌, Option, Some, None, All}
 use Rattle.tp_base.specs.Classes.{has_class}
 use Rattle.class_diagrams.specs.References.{Reference, leaf_reference}
 use Rattle.class_diagrams.specs.Trees.{Tree, eval}
@@ -35,6 +36,11 @@ AreInOrder (c ∷ cs) = All (λ d. c.0 < d.0) cs × AreInOrder cs
 abbrev pub first_holding : List Tree → List Change → List ℕ → Option ℕ
 first_holding branches [] label = None
 first_holding branches (c ∷ cs) label = if eval (tree_at branches c.1) label then Some c.0 else first_holding branches cs label
+
+-- each later change holds under the label where an earlier one does
+abbrev pub AreGrowing : List Tree → List Change → List ℕ → Type 0
+AreGrowing branches history label = (i j : ℕ) (c : Change) → i ≤ j → j < length history
+    → eval (tree_at branches (get_or history i c).1) label ≡ true → eval (tree_at branches (get_or history j c).1) label ≡ true
 
 abbrev pub first_in : Bool → List Tree → List Change → List ℕ → Option ℕ
 first_in starts branches history label = if starts then Some 0 else first_holding branches history label

@@ -1,7 +1,7 @@
 //! The changes of each cell.
 ghost use Rattle.std.specs.Prelude.{◌≡◌, ℕ, false, ◌==◌, ◌&&◌, ◌++◌, if◌then◌else◌, All, [], ◌∷◌, unwrap_or, option_copied, IfOk, OnOk};
 ghost use Rattle.class_diagrams.specs.Arena.{IsIn};
-ghost use Rattle.saturation.specs.Histories.{first_holding};
+ghost use Rattle.saturation.specs.Histories.{first_holding, AreGrowing};
 ghost use Rattle.saturation.specs.HistoryMap.{history_in};
 
 use class_diagrams::{Diagrams, Ref};
@@ -32,19 +32,29 @@ impl Model for History {
 }
 
 impl History {
-    // The first change whose diagram holds under the label, by its round.
+    // The first change whose diagram holds under the label, by its round. As each holds where an earlier one does, half
+    // of them are left after each look.
     pub(crate) fn first_holding(&self, d: &Diagrams, label: &ClassSet) -> Option<u64>
-        requires { All (λ c. IsIn d.now.branches c.1) self.now }
+        requires inside { All (λ c. IsIn d.now.branches c.1) self.now }
+        requires growing { AreGrowing d.now.branches self.now label.now }
         ensures { result ≡ first_holding d.now.branches self.now label.now }
     {
-        let mut rest = self.changes.as_slice();
-        'changes: while let Some((change, later)) = rest.split_first() {
-            if d.eval(change.1, label) {
-                return Some(change.0);
+        let changes = self.changes.as_slice();
+        let mut low = 0;
+        let mut high = changes.len();
+        'halves: while low < high {
+            let middle = low + (high - low) / 2;
+            if d.eval(changes[middle].1, label) {
+                high = middle;
+            } else {
+                low = middle + 1;
             }
-            rest = later;
         }
-        None
+        if low < changes.len() {
+            Some(changes[low].0)
+        } else {
+            None
+        }
     }
 }
 

@@ -1,10 +1,9 @@
-use Rattle.std.proofs.Common.{◌≡◌, length, All}
-use Rattle.class_diagrams.specs.Arena.{IsIn}
-use Rattle.saturation.specs.Histories.{first_holding}
+use Rattle.std.proofs.Common.{◌-◌}
+use Rattle.saturation.proofs.GrowthLemmas.{IsBetween}
 use Rattle.saturation.proofs.histories.History.first_holding.Given as goal
 
-abbrev pub invariant-changes : goal.invariant-changes
-invariant-changes l = (first_holding l.d.branches l.rest l.label ≡ first_holding l.d.branches l.self l.label) × All (λ c. IsIn l.d.branches c.1) l.rest
+abbrev pub invariant-halves : goal.invariant-halves
+invariant-halves l = IsBetween l.d.branches l.label l.changes l.low l.high
 
-abbrev pub decreases-changes : goal.decreases-changes
-decreases-changes l = length l.rest
+abbrev pub decreases-halves : goal.decreases-halves
+decreases-halves l = l.high - l.low

@@ -3,7 +3,13 @@ use Rattle.saturation.specs.Histories.{Change, first_holding, first_in}
 use Rattle.saturation.specs.HistoryMap.{history_in}
 use Rattle.saturation.proofs.EndLemmas.{first_is, first_few}
 use Rattle.saturation.proofs.FirstLemmas.{first_at_start}
+use Rattle.saturation.proofs.GrowthLemmas.{found_growing}
 use Rattle.saturation.proofs.shared.SharedSummaries.first_told.Goals as goal
+
+pub first_holding-requires-clause-growing : goal.first_holding-requires-clause-growing
+first_holding-requires-clause-growing c =
+    found_growing c.self.inside.system c.self.inside.diagrams (history_in c.self.inside.histories) c.self.inside.cells c.self.invariant.built c.args.kind c.args.atom
+    (rw (← c.self.view_is) at c.requires) c.in_ok-history.history.now c.in_ok-history.ensures c.args.parent.now
 
 pub returns-then-starts_with-clause-first : goal.returns-then-starts_with-clause-first
 returns-then-starts_with-clause-first c = first_at_start c.args.self.now c.args.kind c.args.atom c.args.parent.now (sym c.starts_with.ensures ∙ c.if-starts_with.true)
