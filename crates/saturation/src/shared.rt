@@ -36,6 +36,7 @@ fn all_rounds(alloc: Global, system: &System, diagrams: &mut Diagrams) -> Result
     ensures spent { IsErrOf result GainFault.Spent → MayBeSpent system.now diagrams.old.limit }
     ensures whole { IsOk result → ¬ HasToBeSpent system.now diagrams.old.limit }
 {
+    // Its contract says that this is an arena.
     let _ = diagrams.held();
     let mut cells = Cells::first(alloc, system)?;
     let mut histories = Histories::new(alloc);
