@@ -1,5 +1,5 @@
 -- Declarations, and where each name stands last among them.
-use Rattle.std.proofs.Common.{Vec, Global, ◌≡◌, ℕ, zero, suc, ◌+◌, ◌-◌, ◌<◌, ◌≤◌, Bool, true, false, if◌then◌else◌, List, [], ◌∷◌, ◌++◌, length, map, take, get_or, bytes_eq, Option, Some, None, IsSome, refl, sym, ap, ◌∙◌, arith, append_assoc, append-nil, length-append}
+use Rattle.std.proofs.Common.{◌≡◌, ℕ, zero, suc, ◌+◌, ◌-◌, ◌<◌, ◌≤◌, Bool, true, false, if◌then◌else◌, List, [], ◌∷◌, ◌++◌, length, map, take, get_or, bytes_eq, Option, Some, None, IsSome, refl, sym, ap, ◌∙◌, arith, append_assoc, append-nil, length-append}
 use Rattle.std.proofs.lemmas.List.{map-append, length-map, take_all}
 use Rattle.std.proofs.lemmas.Slice.Eq.{bytes_eq-Decides}
 use Rattle.std.specs.List.{take-map}
@@ -104,23 +104,22 @@ is_last q es places k e indexed found is =
 pub none_indexed : (es : List Entry) (places : List ℕ → Option ℕ) → es ≡ [] → ((q : List ℕ) → places q ≡ None) → IsIndexed es places
 none_indexed es places none nowhere = rw none (record { last = nowhere; hidden = tt })
 
-hidden_more : (before : List (List ℕ)) (es : List Entry) (e : Entry) → HideThose before es → e.key.items ≡ name_of e → e.hides ≡ last_in 0 (name_of e) (before ++ names_in es)
+hidden_more : (before : List (List ℕ)) (es : List Entry) (e : Entry) → HideThose before es → e.hides ≡ last_in 0 (name_of e) (before ++ names_in es)
     → HideThose before (es ++ e ∷ [])
-hidden_more before [] e those key is = (key, is ∙ ap (last_in 0 (name_of e)) (append-nil before), tt)
-hidden_more before (d ∷ es) e those key is =
-    (those.0, those.1, hidden_more (before ++ name_of d ∷ []) es e those.2 key (is ∙ ap (last_in 0 (name_of e)) (sym (append_assoc before (name_of d ∷ []) (names_in es)))))
+hidden_more before [] e those is = (is ∙ ap (last_in 0 (name_of e)) (append-nil before), tt)
+hidden_more before (d ∷ es) e those is =
+    (those.0, hidden_more (before ++ name_of d ∷ []) es e those.1 (is ∙ ap (last_in 0 (name_of e)) (sym (append_assoc before (name_of d ∷ []) (names_in es)))))
 
--- the last one keeps its name, and hides the last of those before it
+-- the last one hides the last of those before it
 record IsLast (before : List (List ℕ)) (es : List Entry) (e : Entry) : Type 0 where
   those : HideThose before es
-  key : e.key.items ≡ name_of e
   hides : e.hides ≡ last_in 0 (name_of e) (before ++ names_in es)
 
 hidden_less : (before : List (List ℕ)) (es : List Entry) (e : Entry) → HideThose before (es ++ e ∷ []) → IsLast before es e
-hidden_less before [] e those = record { those = tt; key = those.0; hides = those.1 ∙ ap (last_in 0 (name_of e)) (sym (append-nil before)) }
+hidden_less before [] e those = record { those = tt; hides = those.0 ∙ ap (last_in 0 (name_of e)) (sym (append-nil before)) }
 hidden_less before (d ∷ es) e those =
-    let further = hidden_less (before ++ name_of d ∷ []) es e those.2 in
-    record { those = (those.0, those.1, further.those); key = further.key; hides = further.hides ∙ ap (last_in 0 (name_of e)) (append_assoc before (name_of d ∷ []) (names_in es)) }
+    let further = hidden_less (before ++ name_of d ∷ []) es e those.1 in
+    record { those = (those.0, further.those); hides = further.hides ∙ ap (last_in 0 (name_of e)) (append_assoc before (name_of d ∷ []) (names_in es)) }
 
 names_more : (es : List Entry) (e : Entry) → names_in (es ++ e ∷ []) ≡ names_in es ++ name_of e ∷ []
 names_more es e = map-append name_of es (e ∷ [])
@@ -131,14 +130,14 @@ last_one es e q =
     ap (last_in 0 q) (names_more es e) ∙ last_more 0 q (name_of e) (names_in es)
     ∙ ap (λ n. if bytes_eq (name_of e) q then Some n else last_in 0 q (names_in es)) many
 
-pub one_indexed : (es : List Entry) (old new : List ℕ → Option ℕ) (d : code.Declaration) (k : ℕ) (h : Option ℕ) (key : Vec ℕ Global) → IsIndexed es old → k ≡ length es → h ≡ old d.name.now
-    → key.items ≡ d.name.now → ((q : List ℕ) → new q ≡ (if bytes_eq d.name.now q then Some k else old q)) → IsIndexed (es ++ record { declaration = d; hides = h; key = key } ∷ []) new
-one_indexed es old new d k h key indexed is hides name changed =
-    let e : Entry = record { declaration = d; hides = h; key = key } in
+pub one_indexed : (es : List Entry) (old new : List ℕ → Option ℕ) (d : code.Declaration) (k : ℕ) (h : Option ℕ) → IsIndexed es old → k ≡ length es → h ≡ old d.name.now
+    → ((q : List ℕ) → new q ≡ (if bytes_eq d.name.now q then Some k else old q)) → IsIndexed (es ++ record { declaration = d; hides = h } ∷ []) new
+one_indexed es old new d k h indexed is hides changed =
+    let e : Entry = record { declaration = d; hides = h } in
     record {
       last = λ q. changed q ∙ ap (λ n. if bytes_eq (name_of e) q then Some n else old q) is
           ∙ ap (λ r. if bytes_eq (name_of e) q then Some (length es) else r) (indexed.last q) ∙ sym (last_one es e q);
-      hidden = hidden_more [] es e indexed.hidden name (hides ∙ indexed.last (name_of e));
+      hidden = hidden_more [] es e indexed.hidden (hides ∙ indexed.last (name_of e));
     }
 
 pub same_indexed : (es : List Entry) (old new : List ℕ → Option ℕ) → IsIndexed es old → ((q : List ℕ) → new q ≡ old q) → IsIndexed es new
@@ -152,12 +151,11 @@ either es e true q same hides = hides ∙ ap (λ n. last_in 0 n (names_in es)) (
 either es e false q other hides = refl
 
 less_indexed : (es : List Entry) (e : Entry) (old new : List ℕ → Option ℕ) → IsIndexed (es ++ e ∷ []) old
-    → ((q : List ℕ) → new q ≡ (if bytes_eq e.key.items q then e.hides else old q)) → IsIndexed es new
+    → ((q : List ℕ) → new q ≡ (if bytes_eq (name_of e) q then e.hides else old q)) → IsIndexed es new
 less_indexed es e old new indexed changed =
     let less = hidden_less [] es e indexed.hidden in
     record {
-      last = λ q. changed q ∙ ap (λ n. if bytes_eq n q then e.hides else old q) less.key
-          ∙ ap (λ r. if bytes_eq (name_of e) q then e.hides else r) (indexed.last q ∙ last_one es e q) ∙ either es e (bytes_eq (name_of e) q) q refl less.hides;
+      last = λ q. changed q ∙ ap (λ r. if bytes_eq (name_of e) q then e.hides else r) (indexed.last q ∙ last_one es e q) ∙ either es e (bytes_eq (name_of e) q) q refl less.hides;
       hidden = less.those;
     }
 
@@ -177,14 +175,13 @@ pub none_less : (all es : List Entry) → length all ≡ 0 → all ≡ es ++ [] 
 none_less [] es none is = ap listed (sym (is ∙ append-nil es))
 none_less (e ∷ all) es none is = let never : ⊥ = omega (arith, none) in absurd never
 
-pub last_known : (all es : List Entry) (e : Entry) (places : List ℕ → Option ℕ) → IsIndexed all places → all ≡ es ++ e ∷ [] → IsSome (places e.key.items)
+pub last_known : (all es : List Entry) (e : Entry) (places : List ℕ → Option ℕ) → IsIndexed all places → all ≡ es ++ e ∷ [] → IsSome (places (name_of e))
 last_known all es e places indexed is =
-    let key = (hidden_less [] es e (rw is at indexed).hidden).key in
     let same = (bytes_eq-Decides (name_of e) (name_of e)).1 refl in
-    rw (key, indexed.last (name_of e) ∙ ap (λ xs. last_in 0 (name_of e) (names_in xs)) is ∙ last_one es e (name_of e), same) refl
+    rw (indexed.last (name_of e) ∙ ap (λ xs. last_in 0 (name_of e) (names_in xs)) is ∙ last_one es e (name_of e), same) refl
 
 pub last_gone : (all es : List Entry) (e : Entry) (old new : List ℕ → Option ℕ) → IsIndexed all old → all ≡ es ++ e ∷ []
-    → ((q : List ℕ) → new q ≡ (if bytes_eq e.key.items q then e.hides else old q)) → IsIndexed es new
+    → ((q : List ℕ) → new q ≡ (if bytes_eq (name_of e) q then e.hides else old q)) → IsIndexed es new
 last_gone all es e old new indexed is changed = less_indexed es e old new (rw is at indexed) changed
 
 pub none_gone : (all es : List Entry) (places : List ℕ → Option ℕ) → IsIndexed all places → all ≡ es ++ [] → IsIndexed es places

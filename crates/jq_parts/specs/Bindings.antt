@@ -13,11 +13,16 @@ pub data Value : Type 0 where
   markup : List LabelTree → Value
   placed : Value
 
--- a name, the chain to which it is bound, if it is one, and the places of the handlers round the declaration
+-- a name, the chain to which it is bound, if it is one, and then the places of the handlers round the declaration
 pub record Declaration : Type 0 where
   pub name : List ℕ
   pub value : Option Value
   pub under : List ℕ
+
+-- these places, where a name is bound to a chain
+abbrev pub under_bound : Option Value → List ℕ → List ℕ
+under_bound None places = []
+under_bound (Some v) places = places
 
 abbrev pub or_else : {A : Type 0} → Option A → Option A → Option A
 or_else (Some x) y = Some x

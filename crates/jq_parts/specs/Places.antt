@@ -9,7 +9,7 @@ use Rattle.jq_parts.specs.Bindings.{or_else}
 
 -- the place that a table has for a name
 abbrev pub place_in : LastPlaces → List ℕ → Option ℕ
-place_in table q = unwrap_or (get_by (λ k. bytes_eq q k.items) table.table) None
+place_in table q = unwrap_or (get_by (λ k. bytes_eq q k.now) table.table) None
 
 -- the place of the last of these names that is this one, where the first has this place
 abbrev pub last_in : ℕ → List ℕ → List (List ℕ) → Option ℕ
@@ -22,10 +22,10 @@ name_of e = e.declaration.name.now
 abbrev pub names_in : List Entry → List (List ℕ)
 names_in es = map name_of es
 
--- each keeps its name, and hides the last of the same name before it, behind others of these names
+-- each hides the last of the same name before it, behind others of these names
 abbrev pub HideThose : List (List ℕ) → List Entry → Type 0
 HideThose before [] = ⊤
-HideThose before (e ∷ es) = (e.key.items ≡ name_of e) × (e.hides ≡ last_in 0 (name_of e) before) × HideThose (before ++ name_of e ∷ []) es
+HideThose before (e ∷ es) = (e.hides ≡ last_in 0 (name_of e) before) × HideThose (before ++ name_of e ∷ []) es
 
 pub record IsIndexed (es : List Entry) (places : List ℕ → Option ℕ) : Type 0 where
   pub last : (q : List ℕ) → places q ≡ last_in 0 q (names_in es)

@@ -14,7 +14,7 @@ use tp_base::NoMemory;
 #[derive(Drop)]
 pub struct Declarations<'a> {
     entries: Vec<Entry<'a>>,
-    places: LastPlaces,
+    places: LastPlaces<'a>,
 }
 
 impl<'a> Model for Declarations<'a> {
@@ -58,17 +58,13 @@ impl<'a> Declarations<'a> {
         ensures pushed { OnOk result (self.new ≡ self.old ++ declaration.entry ∷ []) }
         ensures kept { OnErr result (self.new ≡ self.old) }
     {
-        let alloc = *self.entries.allocator();
         let name = declaration.name;
         let hides = self.places.get(name);
-        let place = self.entries.len();
-        let key = Vec::from_slice(alloc, name)?;
-        self.entries.push(Entry {
-            declaration,
-            hides,
-            key,
-        })?;
-        if let Err(e) = self.places.put(alloc, name, Some(place)) {
+        let Ok(place) = u32::try_from(self.entries.len()) else {
+            return Err(NoMemory);
+        };
+        self.entries.push(Entry { declaration, hides })?;
+        if let Err(e) = self.places.put(name, Some(place)) {
             self.entries.pop();
             return Err(e);
         }
@@ -81,7 +77,7 @@ impl<'a> Declarations<'a> {
         ensures { self.new ≡ take (length self.old - 1) self.old }
     {
         if let Some(entry) = self.entries.pop() {
-            self.places.put_back(entry.key, entry.hides);
+            self.places.put_back(entry.declaration.name, entry.hides);
         }
     }
 
@@ -103,7 +99,7 @@ impl<'a> Declarations<'a> {
         let Some(place) = self.places.get(name) else {
             return None;
         };
-        let entry = &self.entries[place];
+        let entry = &self.entries[place as usize];
         Some(&entry.declaration)
     }
 }

@@ -5,7 +5,6 @@ use crate::values::Declaration;
 #[derive(Drop)]
 pub(crate) struct Entry<'a> {
     pub(crate) declaration: Declaration<'a>,
-    pub(crate) hides: Option<usize>,
-    /// Its name, kept so that putting back what it hides wants no memory.
-    pub(crate) key: Vec<u8>,
+    /// Half the size of a `usize`: a script can have millions of declarations.
+    pub(crate) hides: Option<u32>,
 }

@@ -8,11 +8,11 @@ use tp_base::NoMemory;
 
 /// For each name the place where it stands last, if it stands in the list.
 #[derive(Drop)]
-pub(crate) struct LastPlaces {
-    table: IndexMap<Vec<u8>, Option<usize>>,
+pub(crate) struct LastPlaces<'a> {
+    table: IndexMap<&'a [u8], Option<u32>>,
 }
 
-impl LastPlaces {
+impl<'a> LastPlaces<'a> {
     pub(crate) fn new(alloc: Global) -> Self
         ensures { (q : List ℕ) → place_in result q ≡ None }
     {
@@ -22,7 +22,7 @@ impl LastPlaces {
     }
 
     /// Linear in the name, on average.
-    pub(crate) fn get(&self, name: &[u8]) -> Option<usize>
+    pub(crate) fn get(&self, name: &[u8]) -> Option<u32>
         ensures { result ≡ place_in self.now name.now }
     {
         match self.table.get(name) {
@@ -33,25 +33,19 @@ impl LastPlaces {
 
     /// Linear in the name, on average.
     #[tactic(auto, using(crate::proofs::NameSteps::put))]
-    pub(crate) fn put(
-        &mut self,
-        alloc: Global,
-        name: &[u8],
-        place: Option<usize>,
-    ) -> Result<(), NoMemory>
+    pub(crate) fn put(&mut self, name: &'a [u8], place: Option<u32>) -> Result<(), NoMemory>
         ensures put { OnOk result ((q : List ℕ) → place_in self.new q ≡ (if bytes_eq name.now q then place else place_in self.old q)) }
         ensures kept { OnErr result ((q : List ℕ) → place_in self.new q ≡ place_in self.old q) }
     {
-        let key = Vec::from_slice(alloc, name)?;
-        self.table.insert(key, place)?;
+        self.table.insert(name, place)?;
         Ok(())
     }
 
     /// Changes the place of a name that has one, which wants no memory. Linear in the name, on average.
     #[tactic(auto, using(crate::proofs::NameSteps::put_known))]
-    pub(crate) fn put_back(&mut self, name: Vec<u8>, place: Option<usize>)
-        requires { IsSome (place_in self.old name.items) }
-        ensures { (q : List ℕ) → place_in self.new q ≡ (if bytes_eq name.items q then place else place_in self.old q) }
+    pub(crate) fn put_back(&mut self, name: &'a [u8], place: Option<u32>)
+        requires { IsSome (place_in self.old name.now) }
+        ensures { (q : List ℕ) → place_in self.new q ≡ (if bytes_eq name.now q then place else place_in self.old q) }
     {
         let _put = self.table.insert(name, place);
     }

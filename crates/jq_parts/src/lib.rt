@@ -37,4 +37,4 @@ pub use selections::{class_set, compounds, selectors};
 pub use stating::stated;
 pub use targets::target;
 pub use value_chains::is_chain;
-pub use values::{Declaration, Value, matched, this_chain};
+pub use values::{Bound, Declaration, Value, matched, this_chain};

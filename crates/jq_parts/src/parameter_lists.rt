@@ -9,23 +9,14 @@ use crate::cursors::Cursor;
 use crate::declarations::Declarations;
 use crate::values::Declaration;
 use jq_words::{ScriptFault, begins};
-use std::alloc::Global;
 
 /// A parameter hides what its name was bound to.
 #[tactic(auto, using(crate::proofs::ParameterSteps::one_hidden))]
-fn hide<'a>(
-    alloc: Global,
-    name: &'a [u8],
-    declarations: &mut Declarations<'a>,
-) -> Result<(), ScriptFault>
+fn hide<'a>(name: &'a [u8], declarations: &mut Declarations<'a>) -> Result<(), ScriptFault>
     ensures hidden { OnOk result (declarations_of declarations.new ≡ declarations_of declarations.old ++ spec.hidden name.now ∷ []) }
     ensures only_memory { IfErr result (λ e. e ≡ Memory) }
 {
-    let declaration = Declaration {
-        name,
-        value: None,
-        under: Vec::new(alloc),
-    };
+    let declaration = Declaration { name, bound: None };
     declarations.push(declaration)?;
     Ok(())
 }
@@ -33,7 +24,6 @@ fn hide<'a>(
 /// Further parameters, each behind a comma.
 #[tactic(auto, using(crate::proofs::ParameterSteps::goes_on, crate::proofs::ParameterSteps::fails, crate::proofs::ParameterSteps::ends, jq_words::proofs::Rests::itself, jq_words::proofs::Rests::behind_first, jq_words::proofs::Rests::is_rest, jq_words::proofs::Rests::of_rest))]
 fn more_parameters<'a>(
-    alloc: Global,
     size: usize,
     declarations: &mut Declarations<'a>,
     words: &mut Cursor<'_, 'a>,
@@ -44,7 +34,7 @@ fn more_parameters<'a>(
     'names: while begins(words.words(), b",") {
         words.pass();
         let name = words.want_name(size)?;
-        hide(alloc, name, declarations)?;
+        hide(name, declarations)?;
     }
     Ok(())
 }
@@ -53,7 +43,6 @@ fn more_parameters<'a>(
 /// look-ups.
 #[tactic(auto, unfolding(crate::specs::Parameters::parameters, crate::specs::Parameters::named_parameters), using(jq_words::proofs::Rests::passed, jq_words::proofs::Rests::behind_behind, jq_words::proofs::Rests::behind_rest))]
 pub fn parameters<'a>(
-    alloc: Global,
     size: usize,
     room: usize,
     declarations: &mut Declarations<'a>,
@@ -68,8 +57,8 @@ pub fn parameters<'a>(
         return Ok(());
     }
     let name = words.want_name(size)?;
-    hide(alloc, name, declarations)?;
-    more_parameters(alloc, size, declarations, words)?;
+    hide(name, declarations)?;
+    more_parameters(size, declarations, words)?;
     words.want(size, b")")?;
     Ok(())
 }

@@ -55,13 +55,13 @@ pub fn used(alloc: Global, scope: &Scope<'_>, name: &[u8], at: usize) -> Result<
     let Some(declaration) = scope.declarations.latest(name) else {
         return Err(ScriptFault::UnboundName(letters(alloc, name)?, at));
     };
-    let Some(value) = &declaration.value else {
+    let Some(bound) = &declaration.bound else {
         return Err(ScriptFault::UnboundName(letters(alloc, name)?, at));
     };
-    if value.is_this() && !same_places(&declaration.under, &scope.handlers) {
+    if bound.value.is_this() && !same_places(&bound.under, &scope.handlers) {
         return Err(ScriptFault::ThisOutside(at));
     }
-    Ok(value.copy()?)
+    Ok(bound.value.copy()?)
 }
 
 /// Whether a name is bound to a chain. A look-up.
@@ -71,6 +71,6 @@ pub fn is_bound(declarations: &Declarations<'_>, name: &[u8]) -> bool
 {
     match declarations.latest(name) {
         None => false,
-        Some(declaration) => declaration.value.is_some(),
+        Some(declaration) => declaration.bound.is_some(),
     }
 }

@@ -28,9 +28,9 @@ fn is_apart(declarations: &Declarations<'_>, name: &[u8]) -> bool
     let Some(declaration) = declarations.latest(name) else {
         return false;
     };
-    match &declaration.value {
-        None | Some(Value::Elements(_)) => false,
-        Some(_) => true,
+    match &declaration.bound {
+        None => false,
+        Some(bound) => !matches!(bound.value, Value::Elements(_)),
     }
 }
 

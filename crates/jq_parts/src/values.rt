@@ -47,12 +47,18 @@ impl Value {
     }
 }
 
-/// A name, the chain to which it is bound, if it is one, and the places of the handlers round the declaration.
+/// The chain to which a name is bound, and the places of the handlers round the declaration.
+#[derive(Drop)]
+pub struct Bound {
+    pub value: Value,
+    pub under: Vec<usize>,
+}
+
+/// A name, and to what it is bound, if it is to a chain. Small, since a script can have millions of declarations.
 #[derive(Drop)]
 pub struct Declaration<'a> {
     pub name: &'a [u8],
-    pub value: Option<Value>,
-    pub under: Vec<usize>,
+    pub bound: Option<Box<Bound>>,
 }
 
 /// The chain of some selectors, without calls. Constant.

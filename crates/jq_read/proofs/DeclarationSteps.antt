@@ -5,14 +5,14 @@ use Rattle.jq_words.specs.Words.{Word, is_mark, begins, first_is, want_name}
 use Rattle.jq_words.specs.Results.{IsRest, IsBehind}
 use Rattle.jq_words.proofs.Rests.{is_rest}
 use Rattle.jq_read.specs.States.{Context, State, size}
-use Rattle.jq_parts.specs.Bindings.{Value}
+use Rattle.jq_parts.specs.Bindings.{Value, under_bound}
 use Rattle.jq_parts.specs.Scopes.{Handler, places_of}
 use Rattle.jq_read.specs.Statements.{Blocks, with_declaration, value_behind, one, more_ones}
 
 module _ (blocks : Blocks) (room : ℕ) (c : Context) where
   pub one_reads : (s t u : State) (ws behind rest : List Word) (name : List ℕ) (v : Option Value) (hs : List Handler)
       → want_name (size c) ws ≡ Ok (name, behind) → value_behind blocks room c s behind ≡ Ok (v, t, rest) → places_of hs ≡ places_of c.handlers
-      → u ≡ with_declaration (record { name = name; value = v; under = places_of hs }) t → one blocks room c s ws ≡ Ok (u, rest)
+      → u ≡ with_declaration (record { name = name; value = v; under = under_bound v (places_of hs) }) t → one blocks room c s ws ≡ Ok (u, rest)
   unfolding one
   one_reads s t u ws behind rest name v hs named valued same is = rw (named, valued, is, same) refl
 

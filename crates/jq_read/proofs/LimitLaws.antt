@@ -20,7 +20,7 @@ use Rattle.jq_words.specs.Brackets.{is_empty, arguments, behind_arguments}
 use Rattle.jq_words.specs.Texts.{texts, is_markup}
 use Rattle.jq_words.specs.Calls.{Form, moves, unites, goes_back, classes, grows, places, handles, listens, passes}
 use Rattle.jq_parts.specs.Keywords.{jquery, pages}
-use Rattle.jq_parts.specs.Bindings.{Value, elements, everywhere, markup, placed, Declaration, bound, latest, if_chain}
+use Rattle.jq_parts.specs.Bindings.{Value, elements, everywhere, markup, placed, Declaration, bound, latest, if_chain, under_bound}
 use Rattle.jq_parts.specs.Scopes.{Handler, Scope, used, if_bound, is_this, places_of, this_at}
 use Rattle.jq_parts.specs.Selections.{selectors, compounds, class_set}
 use Rattle.jq_parts.specs.Markup.{Grown, grown, forest, with_forest, nodes_in}
@@ -450,7 +450,7 @@ module _ (blocks : Blocks) (keeps : (opened : ℕ) → Keeps (blocks opened)) wh
   one_in k room c s ws here =
       any_then _ (want_name (size c) ws) _ (λ name.
       and_then _ _ (value_behind blocks room c s name.1) _ (value_in k room c s name.1 here) (λ v known.
-      let d : Declaration = record { name = name.0; value = v.0; under = places_of c.handlers } in
+      let d : Declaration = record { name = name.0; value = v.0; under = under_bound v.0 (places_of c.handlers) } in
       with_clear k v.1 (v.1.declarations ++ d ∷ []) (all_push (λ x. pending_in x.value ≡ 0) v.1.declarations d known.1.clear known.0) known.1))
 
   more_ones_in : (k room : ℕ) (c : Context) (s : State) (skip : ℕ) (ws : List Word) → IsIn k s → IfOk (more_ones blocks room c s skip ws) (StateIn k)

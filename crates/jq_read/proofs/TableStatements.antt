@@ -7,7 +7,7 @@ use Rattle.js_scan.specs.Tokens.{script_tokens}
 use Rattle.jq_sem.specs.Statements.{Statement}
 use Rattle.jq_words.specs.declared.faults.TheConstants.{MOST_OPEN}
 use Rattle.jq_words.specs.Words.{Word, words, Outcome, is_mark, begins, begins_name, want, want_name, want_open, end}
-use Rattle.jq_parts.specs.Bindings.{Value, Declaration}
+use Rattle.jq_parts.specs.Bindings.{Value, Declaration, under_bound}
 use Rattle.jq_parts.specs.Scopes.{places_of}
 use Rattle.jq_parts.specs.Values.{is_chain}
 use Rattle.jq_sem.specs.Tables.{AreStatementsOver}
@@ -94,7 +94,7 @@ module _ (blocks : Blocks) (keeps : (opened : ℕ) → KeepsOver (blocks opened)
   one_over room c s ws over =
       any_then _ (want_name (size c) ws) _ (λ name.
       and_then _ _ (value_behind blocks room c s name.1) _ (value_over room c s name.1 over) (λ v known.
-      let d : Declaration = record { name = name.0; value = v.0; under = places_of c.handlers } in record {
+      let d : Declaration = record { name = name.0; value = v.0; under = under_bound v.0 (places_of c.handlers) } in record {
         longer = known.0.longer;
         over = bind c v.1 (v.1.declarations ++ d ∷ []) (all_push (λ x. IsBoundOver (count v.1) x.value) v.1.declarations d known.0.over.bindings known.1) known.0.over;
       }))

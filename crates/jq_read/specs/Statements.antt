@@ -6,7 +6,7 @@ use Rattle.std.specs.Prelude.{ℕ, zero, suc, ◌+◌, ◌-◌, ◌==◌, ◌&&�
 use Rattle.jq_words.specs.declared.faults.ScriptFault.TheVariants.{UnknownCall, UnknownForm}
 use Rattle.jq_words.specs.Words.{Word, is_mark, is_mark_among, first_is, begins, begins_name, place, spelled, Outcome, ◌>>=◌, unexpected, want, want_name, want_open, end_fits, end}
 use Rattle.jq_words.specs.FreeLists.{free}
-use Rattle.jq_parts.specs.Bindings.{Value, Declaration, bound}
+use Rattle.jq_parts.specs.Bindings.{Value, Declaration, bound, under_bound}
 use Rattle.jq_parts.specs.Scopes.{places_of}
 use Rattle.jq_parts.specs.Values.{is_chain}
 use Rattle.jq_read.specs.declared.forms.StatementForm.{StatementForm}
@@ -140,7 +140,7 @@ unfoldable pub one : Blocks → ℕ → Context → State → List Word → Outc
 one blocks room c s ws = do
   name ← want_name (size c) ws
   v ← value_behind blocks room c s name.1
-  Ok (with_declaration (record { name = name.0; value = v.0; under = places_of c.handlers }) v.1, v.2)
+  Ok (with_declaration (record { name = name.0; value = v.0; under = under_bound v.0 (places_of c.handlers) }) v.1, v.2)
 
 -- those behind a comma each; `skip` words are left of the last one
 unfoldable pub more_ones : Blocks → ℕ → Context → State → ℕ → List Word → Outcome (State × List Word)

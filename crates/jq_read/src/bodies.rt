@@ -40,7 +40,6 @@ pub(crate) fn function_body<'a>(
     let had_this = state.scope.has_this;
     enter(handler, &mut state.scope)?;
     parameters(
-        reader.alloc,
         reader.text.len(),
         room,
         &mut state.scope.declarations,

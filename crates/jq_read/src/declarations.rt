@@ -5,7 +5,8 @@ ghost use Rattle.jq_words.specs.Results.{Leaves, Turns, IsRest, IsBehind};
 ghost use Rattle.jq_words.specs.declared.faults.ScriptFault.TheVariants.{Memory};
 ghost use Rattle.jq_parts.specs.Scopes.{places_of};
 ghost use Rattle.jq_parts.specs.ScopeViews.{handlers_of};
-ghost use Rattle.jq_parts.specs.Views.{value_of};
+ghost use Rattle.jq_parts.specs.Bindings.{under_bound};
+ghost use Rattle.jq_parts.specs.Views.{value_of, bound_value, bound_under};
 ghost use Rattle.jq_read.specs.Statements as spec;
 ghost use Rattle.jq_read.specs.Readers.{context_of, state_of};
 
@@ -13,7 +14,7 @@ use crate::bodies::function;
 use crate::chains::chain;
 use crate::functions::list_in;
 use crate::states::{Reader, State};
-use jq_parts::{Cursor, Declaration, Handler, Value, is_chain};
+use jq_parts::{Bound, Cursor, Declaration, Handler, Value, is_chain};
 use jq_words::{ScriptFault, begins, begins_name};
 use std::alloc::Global;
 use tp_base::{AtomTable, NoMemory};
@@ -29,6 +30,22 @@ fn places(alloc: Global, handlers: &[Handler]) -> Result<Vec<usize>, NoMemory>
     Ok(found)
 }
 
+/// What a value binds a name to, under the handlers round it.
+fn bound_to(
+    alloc: Global,
+    value: Option<Value>,
+    handlers: &[Handler],
+) -> Result<Option<Box<Bound>>, NoMemory>
+    ensures value { IfOk result (λ b. bound_value b ≡ option_map value_of value) }
+    ensures under { IfOk result (λ b. bound_under b ≡ under_bound (option_map value_of value) (places_of (handlers_of handlers.now))) }
+{
+    let Some(value) = value else {
+        return Ok(None);
+    };
+    let under = places(alloc, handlers)?;
+    Ok(Some(Box::new(alloc, Bound { value, under })?))
+}
+
 /// One declaration more, under the handlers round it.
 #[tactic(auto, using(crate::proofs::HandlerSteps::declared))]
 fn declare<'a>(
@@ -37,12 +54,12 @@ fn declare<'a>(
     value: Option<Value>,
     state: &mut State<'a>,
 ) -> Result<(), ScriptFault>
-    ensures declared { (names : _) → OnOk result (state_of reader.entry state.new names ≡ spec.with_declaration (record { name = name.now; value = option_map value_of value; under = places_of (context_of reader.entry state.old).handlers }) (state_of reader.entry state.old names)) }
+    ensures declared { (names : _) → OnOk result (state_of reader.entry state.new names ≡ spec.with_declaration (record { name = name.now; value = option_map value_of value; under = under_bound (option_map value_of value) (places_of (context_of reader.entry state.old).handlers) }) (state_of reader.entry state.old names)) }
     ensures kept { OnOk result (context_of reader.entry state.new ≡ context_of reader.entry state.old) }
     ensures only_memory { IfErr result (λ e. e ≡ Memory) }
 {
-    let under = places(reader.alloc, &state.scope.handlers)?;
-    let declaration = Declaration { name, value, under };
+    let bound = bound_to(reader.alloc, value, &state.scope.handlers)?;
+    let declaration = Declaration { name, bound };
     state.scope.declarations.push(declaration)?;
     Ok(())
 }

@@ -1,8 +1,8 @@
 //! Parts of chains, with the name `a` bound to document or window.
 use crate::words::{lettered, tokens_of};
 use jq_parts::{
-    Cursor, Declaration, Declarations, Lists, Scope, Stated, Value, class_set, compounds, is_chain,
-    markup_argument, parameters, placed, root, selectors, stated, target, text_argument,
+    Bound, Cursor, Declaration, Declarations, Lists, Scope, Stated, Value, class_set, compounds,
+    is_chain, markup_argument, parameters, placed, root, selectors, stated, target, text_argument,
     this_chain,
 };
 use jq_sem::{Chain, Root};
@@ -13,10 +13,13 @@ use tree_sem::Action;
 
 fn scope<'a>(alloc: Global) -> Result<Scope<'a>, ScriptFault> {
     let mut declarations = Declarations::new(alloc);
+    let bound = Bound {
+        value: Value::Everywhere,
+        under: Vec::new(alloc),
+    };
     declarations.push(Declaration {
         name: b"a",
-        value: Some(Value::Everywhere),
-        under: Vec::new(alloc),
+        bound: Some(Box::new(alloc, bound)?),
     })?;
     Ok(Scope {
         handlers: Vec::new(alloc),
@@ -114,7 +117,7 @@ pub(crate) fn hidden(alloc: Global, text: &[u8]) -> Result<String, ScriptFault> 
     let lists = Lists::new(alloc, text, &tokens)?;
     let mut words = Cursor::new(&lists);
     let mut scope = scope(alloc)?;
-    parameters(alloc, text.len(), 1, &mut scope.declarations, &mut words)?;
+    parameters(text.len(), 1, &mut scope.declarations, &mut words)?;
     let bound = jq_parts::is_bound(&scope.declarations, b"a");
     Ok(format!(in alloc; "{} {bound}", scope.declarations.len())?)
 }
