@@ -13,6 +13,7 @@ mod TableNeeds
 mod PlacedForests
 mod AnswerLemmas
 mod LoopLemmas
+mod MemoLemmas
 mod ShownLemmas
 mod DecisionLemmas
 mod AgreementLemmas

@@ -2,7 +2,7 @@
 --     IsProved a proof ..       the atom's one proof, with what it unfolds to
 --     IsSaid a answer           the answer is right for the atom
 --     AreSaid items seen ..     and the answers for the items, whose atoms these are
-use Rattle.std.specs.Prelude.{◌≡◌, ◌⊎◌, ℕ, ◌≤◌, Bool, true, false, List, [], ◌∷◌, length, drop, Option}
+use Rattle.std.specs.Prelude.{◌≡◌, ◌⊎◌, ℕ, ◌≤◌, Bool, true, false, List, [], ◌∷◌, length, drop, Option, Some, None}
 use Rattle.tp_base.specs.Classes.{has_class}
 use Rattle.tree_sem.specs.Trees.{LabelTree}
 use Rattle.css_read.specs.Sheets.{Outcome, judged, skipped as left_out, Item}
@@ -22,6 +22,12 @@ use Rattle.judge.specs.Spending.{MaySpend, HasToSpend}
 abbrev pub atoms_behind : Outcome → List ℕ → List ℕ
 atoms_behind (judged s) seen = drop 1 seen
 atoms_behind (left_out cause at) seen = seen
+
+-- the atom of an item that is judged
+abbrev pub atom_in : Outcome → List ℕ → Option ℕ
+atom_in (judged s) [] = None
+atom_in (judged s) (a ∷ seen) = Some a
+atom_in (left_out cause at) seen = None
 
 module _ (s : System) (page : LabelTree) (limits : Limits) where
   pub record IsProved (a : ℕ) (proof : Proof) (steps : ℕ) (shown : Option Unfolded) : Type 0 where

@@ -3,6 +3,7 @@ pub mod BySeen
 pub mod Faults
 pub mod Grounds
 pub mod Losses
+pub mod Memo
 pub mod Outcomes
 pub mod Spending
 pub mod TheSystem

@@ -4,9 +4,12 @@ ghost use Rattle.tp_base.specs.Classes.{has_class};
 ghost use Rattle.css_read.specs.Views.{outcome_of, item_of};
 ghost use Rattle.usage_report.specs.Views.{answer_of};
 ghost use Rattle.judge.specs.Answers as spec;
-ghost use Rattle.judge.specs.BySeen.{IsSaid, IsSaidFirst, IsSaidOf, AreSaid, atoms_behind};
+ghost use Rattle.judge.specs.BySeen.{IsSaid, IsSaidFirst, IsSaidOf, AreSaid, atom_in, atoms_behind};
+ghost use Rattle.judge.specs.Memo.{AreRight};
 ghost use Rattle.judge.specs.Grounds.{IsReady};
 
+use crate::copying::copy_answer;
+use crate::memo::Memo;
 use crate::proving::{Ground, proved};
 use class_adding::Closed;
 use css_read::{Outcome, SheetItem};
@@ -26,8 +29,8 @@ fn is_seen(closed: &Closed, root: &Path, atom: Atom) -> bool
     }
 }
 
-// The answer for a selector of this atom.
-fn by_atom<S: Summaries>(
+// The answer for an atom that has none yet.
+fn new_for<S: Summaries>(
     alloc: Global,
     ground: &Ground<'_>,
     sums: &S,
@@ -45,20 +48,42 @@ fn by_atom<S: Summaries>(
     }
 }
 
+// The answer for a selector of this atom: a copy, where it was made before.
+fn by_atom<S: Summaries>(
+    alloc: Global,
+    ground: &Ground<'_>,
+    sums: &S,
+    root: &Path,
+    memo: &Memo,
+    atom: Atom,
+) -> Result<Answer, NoMemory>
+    requires ready { IsReady (S.system sums.now) (S.known sums.now) ground.now }
+    requires root { root.now ≡ [] }
+    requires right { AreRight (IsSaid ground.now.system.now ground.now.page.now ground.now.limits.now ground.now.closed.now.labels.label) memo.now }
+    ensures { IfOk result (λ a. IsSaid ground.now.system.now ground.now.page.now ground.now.limits.now ground.now.closed.now.labels.label atom (answer_of a)) }
+{
+    match memo.of(atom) {
+        Some(answer) => copy_answer(alloc, answer),
+        None => new_for(alloc, ground, sums, root, atom),
+    }
+}
+
 // The answer for a selector whose atom is the first of these.
 fn by_first<S: Summaries>(
     alloc: Global,
     ground: &Ground<'_>,
     sums: &S,
     root: &Path,
+    memo: &Memo,
     seen: &[Atom],
 ) -> Result<Answer, NoMemory>
     requires ready { IsReady (S.system sums.now) (S.known sums.now) ground.now }
     requires root { root.now ≡ [] }
+    requires right { AreRight (IsSaid ground.now.system.now ground.now.page.now ground.now.limits.now ground.now.closed.now.labels.label) memo.now }
     ensures { IfOk result (λ a. IsSaidFirst ground.now.system.now ground.now.page.now ground.now.limits.now ground.now.closed.now.labels.label seen.now (answer_of a)) }
 {
     match seen.first() {
-        Some(atom) => by_atom(alloc, ground, sums, root, *atom),
+        Some(atom) => by_atom(alloc, ground, sums, root, memo, *atom),
         None => Ok(Answer::Unused),
     }
 }
@@ -69,15 +94,17 @@ fn answer<S: Summaries>(
     ground: &Ground<'_>,
     sums: &S,
     root: &Path,
+    memo: &Memo,
     outcome: &Outcome,
     seen: &[Atom],
 ) -> Result<Answer, NoMemory>
     requires ready { IsReady (S.system sums.now) (S.known sums.now) ground.now }
     requires root { root.now ≡ [] }
+    requires right { AreRight (IsSaid ground.now.system.now ground.now.page.now ground.now.limits.now ground.now.closed.now.labels.label) memo.now }
     ensures { IfOk result (λ a. IsSaidOf ground.now.system.now ground.now.page.now ground.now.limits.now ground.now.closed.now.labels.label (outcome_of outcome.now) seen.now (answer_of a)) }
 {
     match outcome {
-        Outcome::Judged(_) => by_first(alloc, ground, sums, root, seen),
+        Outcome::Judged(_) => by_first(alloc, ground, sums, root, memo, seen),
         Outcome::Skipped(cause, at) => Ok(Answer::Skipped(*cause, *at)),
     }
 }
@@ -95,8 +122,21 @@ fn behind<'a>(outcome: &Outcome, seen: &'a [Atom]) -> &'a [Atom]
     }
 }
 
+// The atom of an item that is judged.
+fn atom_of(outcome: &Outcome, seen: &[Atom]) -> Option<Atom>
+    ensures { result ≡ atom_in (outcome_of outcome.now) seen.now }
+{
+    match outcome {
+        Outcome::Judged(_) => match seen.first() {
+            Some(atom) => Some(*atom),
+            None => None,
+        },
+        Outcome::Skipped(_, _) => None,
+    }
+}
+
 /// An answer for each item, by the closed label of the root and by proofs. The atoms are those of the items that are judged.
-/// A look-up for each item, and a proof for each that is used.
+/// A look-up for each item, a proof for each atom that is used, and a copy for each further item of this atom.
 pub(crate) fn all_answers<S: Summaries>(
     alloc: Global,
     ground: &Ground<'_>,
@@ -108,16 +148,17 @@ pub(crate) fn all_answers<S: Summaries>(
     ensures { IfOk result (λ v. AreSaid ground.now.system.now ground.now.page.now ground.now.limits.now ground.now.closed.now.labels.label (map item_of items.now) seen.now (map answer_of v.items)) }
 {
     let root = Path::root(alloc);
-    let mut answers = Vec::new(alloc);
+    let mut memo = Memo::new(alloc);
     let mut rest = items;
     let mut left = seen;
     'items: while let Some((item, later)) = rest.split_first() {
-        let said = answer(alloc, ground, sums, &root, &item.outcome, left)?;
-        answers.push(said)?;
+        let said = answer(alloc, ground, sums, &root, &memo, &item.outcome, left)?;
+        let atom = atom_of(&item.outcome, left);
+        memo.push(atom, said)?;
         left = behind(&item.outcome, left);
         rest = later;
     }
-    Ok(answers)
+    Ok(memo.answers)
 }
 
 // The answer for an item where too much would have to be found out.

@@ -26,7 +26,7 @@ use usage_report::Answer;
 /// unfold a longer proof by `unfold`.
 ///
 /// Each statement and each selector is translated once, and the page is closed once; then a look-up answers an item that is
-/// unused, and one proof an item that is used.
+/// unused, one proof the first of the items that are used and read alike, and a copy each further one.
 pub fn judge(
     alloc: Global,
     page: &Tree,

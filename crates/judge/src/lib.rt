@@ -3,10 +3,12 @@
 
 mod answering;
 mod closing;
+mod copying;
 mod engines;
 mod faults;
 mod judging;
 mod laws;
+mod memo;
 mod proving;
 mod simplifying;
 

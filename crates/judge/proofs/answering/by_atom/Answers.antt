@@ -1,12 +1,11 @@
-use Rattle.std.proofs.Common.{sym, ◌∙◌}
-use Rattle.tp_base.proofs.ClassLemmas.{Contains-has_class}
-use Rattle.judge.proofs.ShownLemmas.{said_seen}
+use Rattle.std.proofs.Common.{◌≡◌, IfOk, Some, sym, ap, ◌∙◌}
+use Rattle.std.specs.Option.{option_copied}
+use Rattle.judge.specs.BySeen.{IsSaid}
+use Rattle.judge.proofs.MemoLemmas.{right_found, said_copied}
 use Rattle.judge.proofs.answering.by_atom.Goals as goal
 
-pub proved-requires-clause-has : goal.proved-requires-clause-has
-proved-requires-clause-has g c = Contains-has_class c.args.atom c.args.ground.now.closed.now.labels.label (sym c.is_seen.ensures ∙ c.if-is_seen.true)
-
-pub returns-then-is_seen : goal.returns-then-is_seen
-returns-then-is_seen g c =
-    said_seen c.args.ground.now.system.now c.args.ground.now.page.now c.args.ground.now.limits.now c.args.ground.now.closed.now.labels.label c.args.atom c.proved.result
-    (sym c.is_seen.ensures ∙ c.if-is_seen.true) c.proved.ensures
+pub returns-in-Some : goal.returns-in-Some
+returns-in-Some g c =
+    let Right = IsSaid c.args.ground.now.system.now c.args.ground.now.page.now c.args.ground.now.limits.now c.args.ground.now.closed.now.labels.label in
+    said_copied Right c.copy_answer.result c.args.atom c.in-Some.answer.now c.copy_answer.ensures
+    (right_found Right c.args.memo.now c.args.atom c.in-Some.answer.now c.requires.right (sym (ap option_copied c.in-Some.is) ∙ c.of.ensures))
