@@ -1,5 +1,5 @@
 -- What is remembered of answers stays right when one more is made.
-use Rattle.std.proofs.Common.{◌≡◌, ◌<◌, ℕ, zero, suc, Bool, true, false, cond, ◌==◌, if◌then◌else◌, List, [], ◌∷◌, ◌++◌, length, Option, Some, None, option_and_then, slice_get, Result, Ok, Err, IfOk, refl, sym, ap, subst, ◌∙◌, inl, inr}
+use Rattle.std.proofs.Common.{◌≡◌, ℕ, ◌==◌, List, [], ◌∷◌, ◌++◌, length, Option, Some, None, option_and_then, slice_get, Result, Ok, Err, IfOk, refl, sym, ap, subst, ◌∙◌, inl, inr}
 use Rattle.std.proofs.lemmas.Bool.{cases_Bool, eqb-true}
 use Rattle.std.proofs.lemmas.Option.{slice_get_within}
 use Rattle.tp_base.proofs.NamesLemmas.{slice_get-append_left, slice_get-push}
@@ -19,9 +19,6 @@ still_there : {X : Type 0} (xs : List X) (n : ℕ) (x y : X) → slice_get xs n 
 still_there xs n x y at = slice_get-append_left xs (y ∷ []) n (slice_get_within xs n x at) ∙ at
 
 module _ (Right : ℕ → Answer → Type 0) where
-  pub right_none : (m : Memo) → ((a : ℕ) → place_in m.places a ≡ None) → AreRight Right m
-  right_none m none a n is = let no : None ≡ Some n = sym (none a) ∙ is in cc
-
   pub right_found : (m : Memo) (a : ℕ) (x : code.Answer) → AreRight Right m → Some x ≡ option_and_then (slice_get m.answers.items) (place_in m.places a) → Right a (answer_of x)
   right_found m a x right found = by (place_in m.places a) refl found
     where
@@ -44,8 +41,10 @@ module _ (Right : ℕ → Answer → Type 0) where
     where
       there : (y : code.Answer) → slice_get (old.answers.items ++ x ∷ []) n ≡ Some y → slice_get new.answers.items n ≡ Some y
       there y at = ap (λ xs. slice_get xs n) more ∙ at
+
       before : place_in old.places a ≡ Some n → (y : code.Answer) × (slice_get new.answers.items n ≡ Some y) × Right a (answer_of y)
       before was = let r = right a n was in (r.0, there r.0 (still_there old.answers.items n r.0 x r.1), r.2)
+
       by : (p : Option ℕ) → ArePlaced p (length old.answers.items) old.places new.places → ((b : ℕ) → p ≡ Some b → Right b (answer_of x))
           → (y : code.Answer) × (slice_get new.answers.items n ≡ Some y) × Right a (answer_of y)
       by None same mine = before (sym (same a) ∙ is)
