@@ -5,6 +5,7 @@ use Rattle.std.proofs.lemmas.List.{map-append, length-take}
 use Rattle.std.proofs.lemmas.List.Elements.{All-nil, All-cons, All-head, All-tail, All-push, All-weaker}
 use Rattle.tp_base.specs.Names.{Named}
 use Rattle.sel_core.specs.declared.faults.SelFault.TheVariants as sel
+use Rattle.sel_core.specs.Selectors.{Selector}
 use Rattle.sel_core.specs.Reading as one
 use Rattle.css_read.specs.declared.faults.TheConstants.{MOST_SELECTORS}
 use Rattle.css_read.specs.declared.faults.SheetFault.TheVariants.{TooManySelectors}
@@ -35,7 +36,7 @@ choose P false e f first second = second
 
 -- ---- one selector
 
-from_any : (P : Item → Type 0) (rule : ℕ) (p : Range) (e : one.Ending) → ((o : Outcome) → P (item rule p o)) → IfRead P (item_from rule p e)
+from_any : (P : Item → Type 0) (rule : ℕ) (p : Range) (e : one.Ending Selector) → ((o : Outcome) → P (item rule p o)) → IfRead P (item_from rule p e)
 from_any P rule p (names, Ok s) holds = holds (judged s)
 from_any P rule p (names, Err (sel.Skipped why at)) holds = holds (skipped why at)
 from_any P rule p (names, Err sel.TooManyAtoms) holds = tt
