@@ -1,6 +1,7 @@
 pub mod ClassLemmas
 pub mod NamesLemmas
 pub mod Rising
+pub mod LossLemmas
 mod Interned
 mod StoredNames
 mod Rows

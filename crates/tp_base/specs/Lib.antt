@@ -1,3 +1,4 @@
 pub mod Classes
+pub mod Losses
 pub mod Names
 pub mod Places

@@ -3,6 +3,7 @@ ghost use Rattle.std.specs.Prelude.{◌≡◌, ◌<◌, ◌≤◌, ◌+◌, ◌�
 ghost use Rattle.std.specs.List.{prefix_len};
 ghost use Rattle.std.specs.List.Sorted.{IsStrictlyIncreasing};
 ghost use Rattle.tp_base.specs.Classes.{has_class, all_among, with_class, union_of, cut_to};
+ghost use Rattle.tp_base.specs.Losses.{without_class};
 
 use crate::atoms::Atom;
 use crate::no_memory::NoMemory;
@@ -97,6 +98,21 @@ impl ClassSet {
         }
         self.atoms = merged(*self.atoms.allocator(), &self.atoms, &other.atoms)?;
         Ok(true)
+    }
+
+    /// Takes an atom out, and says whether it was there. Linear in the length.
+    pub fn take(&mut self, atom: Atom) -> bool
+        ensures taken { self.new ≡ without_class atom self.old }
+        ensures test { result ≡ has_class atom self.old }
+        ensures member { IsTrue result ↔ Contains self.old atom }
+    {
+        match self.atoms.binary_search(&atom) {
+            Ok(place) => {
+                self.atoms.remove(place);
+                true
+            }
+            Err(_) => false,
+        }
     }
 
     /// Keeps only the atoms that the other set has. Linear in the two lengths.

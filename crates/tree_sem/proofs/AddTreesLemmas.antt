@@ -1,5 +1,5 @@
 -- What trees that are added below a node leave of the others.
-use Rattle.std.proofs.Common.{◌≡◌, ◌≢◌, ◌⊎◌, ℕ, zero, suc, ◌+◌, List, [], ◌∷◌, ◌++◌, length, Some, None, IsSome, option_map, option_and_then, slice_get, fold, refl, ap, ◌∙◌, inl, inr, append-nil, arith}
+use Rattle.std.proofs.Common.{◌≡◌, ◌≢◌, ℕ, zero, suc, ◌+◌, List, [], ◌∷◌, ◌++◌, length, Some, None, IsSome, option_map, option_and_then, slice_get, fold, refl, ap, ◌∙◌, inl, inr, append-nil, arith}
 use Rattle.std.proofs.lemmas.Bool.{cases_order}
 use Rattle.tree_sem.specs.Trees.{Row, LabelTree, tree_of, length_of, push_tree, edit_tree, node_at, label_at, children_at, edit_at}
 use Rattle.tree_sem.specs.Nodes.{IsNode}

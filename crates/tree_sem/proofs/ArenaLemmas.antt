@@ -1,5 +1,5 @@
 -- What a table of nodes says of its tree.
-use Rattle.std.proofs.Common.{◌≡◌, ◌≢◌, ℕ, zero, suc, ◌+◌, ◌<◌, ◌≤◌, List, [], ◌∷◌, ◌++◌, length, Some, None, option_map, option_and_then, slice_get, reverse, refl, sym, ap, ◌∙◌, subst, arith}
+use Rattle.std.proofs.Common.{◌≡◌, ◌≢◌, ◌⊎◌, ℕ, zero, suc, ◌+◌, ◌≤◌, List, [], ◌∷◌, ◌++◌, length, Option, Some, None, option_map, option_and_then, slice_get, reverse, refl, sym, ap, ◌∙◌, subst, inl, inr, arith}
 use Rattle.std.proofs.lemmas.List.{reverse-append, reverse-reverse}
 use Rattle.tree_sem.specs.Trees.{node, LabelTree, tree_of, edit_tree, node_at, edit_at, push_tree, length_of}
 use Rattle.tree_sem.specs.Arena.{row_by, tree_to, place_from, IsArena}
@@ -39,48 +39,58 @@ pub row_by-push : (f : ℕ → LabelTree) (cs : List ℕ) (c : ℕ) → row_by f
 row_by-push f [] c = refl
 row_by-push f (d ∷ cs) c = ap (λ rest. node (f d).label (f d).below rest) (row_by-push f cs c)
 
-module _ (label kids : ℕ → List ℕ) (n : ℕ) (arena : IsArena n kids) where
-  -- levels past the table's length change nothing
-  pub deep_enough : (a b i : ℕ) → i < n → n ≤ i + a → n ≤ i + b → tree_to label kids a i ≡ tree_to label kids b i
-  deep_enough zero b i within la lb = absurd (omega arith)
-  deep_enough (suc a) zero i within la lb = absurd (omega arith)
-  deep_enough (suc a) (suc b) i within la lb =
+module _ (label kids : ℕ → List ℕ) (parent : ℕ → Option ℕ) (n : ℕ) (arena : IsArena n kids parent) where
+  -- levels past the last change nothing
+  pub deep_enough : (a b i : ℕ) → n ≤ arena.depth i + a → n ≤ arena.depth i + b → tree_to label kids a i ≡ tree_to label kids b i
+  deep_enough zero b i la lb = absurd (omega (arith, arena.shallow i))
+  deep_enough (suc a) zero i la lb = absurd (omega (arith, arena.shallow i))
+  deep_enough (suc a) (suc b) i la lb =
       let below = row_by-same (tree_to label kids a) (tree_to label kids b) (kids i) (λ k c at.
-      let up = arena.rises i k c within at in
-      deep_enough a b c up.1 (omega (arith, up.0)) (omega (arith, up.0))) in
+      let deeper = arena.deeper i k c at in
+      deep_enough a b c (omega (arith, deeper)) (omega (arith, deeper))) in
       ap (λ f. record { label = label i; below = f }) below
 
   -- the tree of a node is its label over its children's trees
-  pub unrolled : (i : ℕ) → i < n → tree_to label kids n i ≡ record { label = label i; below = row_by (tree_to label kids n) (kids i) }
+  pub unrolled : (i : ℕ) → tree_to label kids n i ≡ record { label = label i; below = row_by (tree_to label kids n) (kids i) }
   unrolled = by n refl
     where
-      by : (m : ℕ) → m ≡ n → (i : ℕ) → i < n → tree_to label kids m i ≡ record { label = label i; below = row_by (tree_to label kids n) (kids i) }
-      by zero e i within = absurd (omega arith)
-      by (suc m) e i within =
+      by : (m : ℕ) → m ≡ n → (i : ℕ) → tree_to label kids m i ≡ record { label = label i; below = row_by (tree_to label kids n) (kids i) }
+      by zero e i = absurd (omega (arith, arena.shallow i))
+      by (suc m) e i =
           ap (λ f. record { label = label i; below = f }) (row_by-same (tree_to label kids m) (tree_to label kids n) (kids i) (λ k c at.
-          let up = arena.rises i k c within at in
-          deep_enough m n c up.1 (omega (arith, up.0)) (omega arith)))
+          let deeper = arena.deeper i k c at in
+          deep_enough m n c (omega (arith, deeper)) (omega arith)))
 
   -- the node at a path is the one that the table finds there
-  pub node_at-tree_to : (p : List ℕ) (i : ℕ) → i < n → node_at p (tree_to label kids n i) ≡ option_map (tree_to label kids n) (place_from kids i p)
-  node_at-tree_to [] i within = refl
-  node_at-tree_to (k ∷ p) i within =
-      rw (unrolled i within, tree_of-row_by (tree_to label kids n) (kids i) k)
+  pub node_at-tree_to : (p : List ℕ) (i : ℕ) → node_at p (tree_to label kids n i) ≡ option_map (tree_to label kids n) (place_from kids i p)
+  node_at-tree_to [] i = refl
+  node_at-tree_to (k ∷ p) i =
+      rw (unrolled i, tree_of-row_by (tree_to label kids n) (kids i) k)
       (elim (slice_get (kids i) k)
       as (λ o. slice_get (kids i) k ≡ o → option_and_then (node_at p) (option_map (tree_to label kids n) o) ≡ option_map (tree_to label kids n) (option_and_then (λ c. place_from kids c p) o)) [
         | None ↦ λ e. refl
-        | Some c ↦ λ e. node_at-tree_to p c (arena.rises i k c within e).1
+        | Some c ↦ λ e. node_at-tree_to p c
       ] refl)
 
-  pub place_within : (p : List ℕ) (i j : ℕ) → i < n → place_from kids i p ≡ Some j → (i ≤ j) × (j < n)
-  place_within [] i j within at = let e : i ≡ j = cc in (omega arith, omega arith)
-  place_within (k ∷ p) i j within at =
-      elim (slice_get (kids i) k) as (λ o. slice_get (kids i) k ≡ o → option_and_then (λ c. place_from kids c p) o ≡ Some j → (i ≤ j) × (j < n)) [
+  -- each number of a path is one level
+  pub place_depth : (p : List ℕ) (i j : ℕ) → place_from kids i p ≡ Some j → arena.depth j ≡ arena.depth i + length p
+  place_depth [] i j at = let e : i ≡ j = cc in let same = ap arena.depth e in omega (arith, same)
+  place_depth (k ∷ p) i j at =
+      elim (slice_get (kids i) k) as (λ o. slice_get (kids i) k ≡ o → option_and_then (λ c. place_from kids c p) o ≡ Some j → arena.depth j ≡ arena.depth i + length (k ∷ p)) [
         | None ↦ λ e at. cc
-        | Some c ↦ λ e at.
-            let up = arena.rises i k c within e in
-            let there = place_within p c j up.1 at in
-            (omega (arith, up.0, there.0), there.1)
+        | Some c ↦ λ e at. omega (arith, arena.deeper i k c e, place_depth p c j at)
+      ] refl at
+
+  -- a node that a path leads to is where it begins, or a child
+  pub last_step : (p : List ℕ) (i j : ℕ) → place_from kids i p ≡ Some j → (i ≡ j) ⊎ ((m : ℕ) × (k : ℕ) × (slice_get (kids m) k ≡ Some j))
+  last_step [] i j at = inl (cc)
+  last_step (k ∷ p) i j at =
+      elim (slice_get (kids i) k) as (λ o. slice_get (kids i) k ≡ o → option_and_then (λ c. place_from kids c p) o ≡ Some j → (i ≡ j) ⊎ ((m : ℕ) × (l : ℕ) × (slice_get (kids m) l ≡ Some j))) [
+        | None ↦ λ e at. cc
+        | Some c ↦ λ e at. elim (last_step p c j at) [
+          | inl same ↦ inr (i, k, e ∙ ap Some same)
+          | inr found ↦ inr found
+        ]
       ] refl at
 
   -- a walk down from i by the steps r, last step first, ends at j
@@ -88,25 +98,25 @@ module _ (label kids : ℕ → List ℕ) (n : ℕ) (arena : IsArena n kids) wher
   Walk i [] j = i ≡ j
   Walk i (k ∷ r) j = (m : ℕ) × Walk i r m × (slice_get (kids m) k ≡ Some j)
 
-  walk_within : (i : ℕ) → i < n → (r : List ℕ) (j : ℕ) → Walk i r j → (i ≤ j) × (j < n)
-  walk_within i within [] j w = (omega arith, omega arith)
-  walk_within i within (k ∷ r) j (m, w, at) =
-      let up = walk_within i within r m w in
-      let next = arena.rises m k j up.1 at in
-      (omega (arith, up.0, next.0), next.1)
+  walk_depth : (i : ℕ) (r : List ℕ) (j : ℕ) → Walk i r j → arena.depth j ≡ arena.depth i + length r
+  walk_depth i [] j w = let same = ap arena.depth w in omega (arith, same)
+  walk_depth i (k ∷ r) j (m, w, at) = omega (arith, walk_depth i r m w, arena.deeper m k j at)
+
+  -- a child has one parent, and one number there
+  pub one_parent : (i j k l c : ℕ) → slice_get (kids i) k ≡ Some c → slice_get (kids j) l ≡ Some c → (i ≡ j) × (k ≡ l)
+  one_parent i j k l c at at' =
+      let both : Some i ≡ Some j = sym (arena.up i k c at) ∙ arena.up j l c at' in
+      let same : i ≡ j = cc in
+      (same, arena.once i k l c at (ap (λ m. slice_get (kids m) l) same ∙ at'))
 
   -- there is one walk at most to each node
-  one_walk : (i : ℕ) → i < n → (r s : List ℕ) (j : ℕ) → Walk i r j → Walk i s j → r ≡ s
-  one_walk i within [] [] j v w = refl
-  one_walk i within [] (k ∷ s) j v (m, w, at) =
-      let up = walk_within i within s m w in
-      absurd (omega (arith, up.0, (arena.rises m k j up.1 at).0))
-  one_walk i within (k ∷ r) [] j (m, v, at) w =
-      let up = walk_within i within r m v in
-      absurd (omega (arith, up.0, (arena.rises m k j up.1 at).0))
-  one_walk i within (k ∷ r) (l ∷ s) j (m, v, at) (m', w, at') =
-      let same = arena.one_parent m m' k l j (walk_within i within r m v).1 (walk_within i within s m' w).1 at at' in
-      let rest = one_walk i within r s m v (subst (λ q. Walk i s q) (sym same.0) w) in
+  one_walk : (i : ℕ) (r s : List ℕ) (j : ℕ) → Walk i r j → Walk i s j → r ≡ s
+  one_walk i [] [] j v w = refl
+  one_walk i [] (k ∷ s) j v (m, w, at) = let same = ap arena.depth v in absurd (omega (arith, same, walk_depth i s m w, arena.deeper m k j at))
+  one_walk i (k ∷ r) [] j (m, v, at) w = let same = ap arena.depth w in absurd (omega (arith, same, walk_depth i r m v, arena.deeper m k j at))
+  one_walk i (k ∷ r) (l ∷ s) j (m, v, at) (m', w, at') =
+      let same = one_parent m m' k l j at at' in
+      let rest = one_walk i r s m v (subst (λ q. Walk i s q) (sym same.0) w) in
       λ x. same.1 x ∷ rest x
 
   -- a first step before a walk
@@ -123,59 +133,63 @@ module _ (label kids : ℕ → List ℕ) (n : ℕ) (arena : IsArena n kids) wher
       ] refl at
 
   -- there is one path at most to each node
-  pub one_path : (i : ℕ) → i < n → (p q : List ℕ) (j : ℕ) → place_from kids i p ≡ Some j → place_from kids i q ≡ Some j → p ≡ q
-  one_path i within p q j at at' =
-      sym (reverse-reverse p) ∙ ap reverse (one_walk i within (reverse p) (reverse q) j (walk_of p i j at) (walk_of q i j at')) ∙ reverse-reverse q
+  pub one_path : (i : ℕ) (p q : List ℕ) (j : ℕ) → place_from kids i p ≡ Some j → place_from kids i q ≡ Some j → p ≡ q
+  one_path i p q j at at' =
+      sym (reverse-reverse p) ∙ ap reverse (one_walk i (reverse p) (reverse q) j (walk_of p i j at) (walk_of q i j at')) ∙ reverse-reverse q
 
--- Two tables, where the second has the nodes of the first and maybe more, and differs from it at one node only.
-pub record IsChangedAt (n n' : ℕ) (label kids label' kids' : ℕ → List ℕ) (j : ℕ) : Type 0 where
-  pub old : IsArena n kids
-  pub new : IsArena n' kids'
-  pub longer : n ≤ n'
-  pub here : j < n
-  pub labels : (i : ℕ) → i < n → i ≢ j → label' i ≡ label i
-  pub children : (i : ℕ) → i < n → i ≢ j → kids' i ≡ kids i
+-- Two tables, which differ at one node only, or in what no old one leads to.
+pub record IsChangedAt (n : ℕ) (Old : ℕ → Type 0) (label kids : ℕ → List ℕ) (parent : ℕ → Option ℕ) (label' kids' : ℕ → List ℕ) (parent' : ℕ → Option ℕ) (j : ℕ) : Type 0 where
+  pub old : IsArena n kids parent
+  pub new : IsArena n kids' parent'
+  pub stays : (i k c : ℕ) → Old i → slice_get (kids i) k ≡ Some c → Old c
+  pub labels : (i : ℕ) → Old i → i ≢ j → label' i ≡ label i
+  pub children : (i : ℕ) → Old i → i ≢ j → kids' i ≡ kids i
 
-module _ (n n' : ℕ) (label kids label' kids' : ℕ → List ℕ) (j : ℕ) (change : IsChangedAt n n' label kids label' kids' j) where
+module _ (n : ℕ) (Old : ℕ → Type 0) (label kids : ℕ → List ℕ) (parent : ℕ → Option ℕ) (label' kids' : ℕ → List ℕ) (parent' : ℕ → Option ℕ) (j : ℕ) (change : IsChangedAt n Old label kids parent label' kids' parent' j) where
   abbrev old_tree : ℕ → LabelTree
   old_tree = tree_to label kids n
 
   abbrev new_tree : ℕ → LabelTree
-  new_tree = tree_to label' kids' n'
+  new_tree = tree_to label' kids' n
 
   -- a tree that the changed node is not in stays
-  pub away : (m i : ℕ) → i < n → n ≤ i + m → ((q : List ℕ) → place_from kids i q ≡ Some j → ⊥) → new_tree i ≡ old_tree i
-  away zero i within le none = absurd (omega arith)
-  away (suc m) i within le none =
+  pub away : (m i : ℕ) → Old i → n ≤ change.old.depth i + m → ((q : List ℕ) → place_from kids i q ≡ Some j → ⊥) → new_tree i ≡ old_tree i
+  away zero i is le none = absurd (omega (arith, change.old.shallow i))
+  away (suc m) i is le none =
       let other : i ≢ j = λ e. none [] (ap Some e) in
       let trees = row_by-same new_tree old_tree (kids i) (λ k c at.
-      let up = change.old.rises i k c within at in
-      away m c up.1 (omega (arith, up.0)) (λ q there. none (k ∷ q) (rw at there))) in
-      rw (unrolled label' kids' n' change.new i (omega (arith, change.longer)), unrolled label kids n change.old i within, change.labels i within other, change.children i within other)
+      away m c (change.stays i k c is at) (omega (arith, change.old.deeper i k c at)) (λ q there. none (k ∷ q) (rw at there))) in
+      rw (unrolled label' kids' parent' n change.new i, unrolled label kids parent n change.old i, change.labels i is other, change.children i is other)
       (ap (λ f. record { label = label i; below = f }) trees)
 
   -- where f makes the new tree of the changed node of its old one, the tree above is edited at the path to it
-  pub edited : (f : LabelTree → LabelTree) → new_tree j ≡ f (old_tree j) → (p : List ℕ) (i : ℕ) → i < n → place_from kids i p ≡ Some j → new_tree i ≡ edit_at p f (old_tree i)
-  edited f is [] i within at = let e : i ≡ j = cc in rw e is
-  edited f is (k ∷ p) i within at =
+  pub edited : (f : LabelTree → LabelTree) → new_tree j ≡ f (old_tree j) → (p : List ℕ) (i : ℕ) → Old i → place_from kids i p ≡ Some j → new_tree i ≡ edit_at p f (old_tree i)
+  edited f is [] i here at = let e : i ≡ j = cc in rw e is
+  edited f is (k ∷ p) i here at =
       elim (slice_get (kids i) k) as (λ o. slice_get (kids i) k ≡ o → option_and_then (λ c. place_from kids c p) o ≡ Some j → new_tree i ≡ edit_at (k ∷ p) f (old_tree i)) [
         | None ↦ λ e at'. cc
         | Some c ↦ λ e at'.
-            let up = change.old.rises i k c within e in
-            let below = place_within label kids n change.old p c j up.1 at' in
-            let other : i ≢ j = λ same. omega (arith, up.0, below.0) in
-            let trees = edit_tree-row_by old_tree new_tree (edit_at p f) (kids i) k c e (edited f is p c up.1 at') (λ l d ne there.
-            let up' = change.old.rises i l d within there in
-            away n d up'.1 (omega arith) (λ q found.
-            let same : l ∷ q ≡ k ∷ p = one_path label kids n change.old i within (l ∷ q) (k ∷ p) j (rw there found) at in
+            let deep = place_depth label kids parent n change.old (k ∷ p) i j at in
+            let other : i ≢ j = λ same. let level = ap change.old.depth same in omega (arith, deep, level) in
+            let trees = edit_tree-row_by old_tree new_tree (edit_at p f) (kids i) k c e (edited f is p c (change.stays i k c here e) at') (λ l d ne there.
+            away n d (change.stays i l d here there) (omega arith) (λ q found.
+            let same : l ∷ q ≡ k ∷ p = one_path label kids parent n change.old i (l ∷ q) (k ∷ p) j (rw there found) at in
             ne (cc))) in
-            rw (unrolled label' kids' n' change.new i (omega (arith, change.longer)), unrolled label kids n change.old i within, change.labels i within other, change.children i within other)
+            rw (unrolled label' kids' parent' n change.new i, unrolled label kids parent n change.old i, change.labels i here other, change.children i here other)
             (ap (λ g. record { label = label i; below = g }) trees)
       ] refl at
 
   -- the trees below the changed node stay
-  pub below_changed : row_by new_tree (kids j) ≡ row_by old_tree (kids j)
-  below_changed =
-      row_by-same new_tree old_tree (kids j) (λ k c at.
-      let up = change.old.rises j k c change.here at in
-      away n c up.1 (omega arith) (λ q there. omega (arith, up.0, (place_within label kids n change.old q c j up.1 there).0)))
+  pub below_changed : Old j → (cs : List ℕ) → ((k c : ℕ) → slice_get cs k ≡ Some c → (l : ℕ) × (slice_get (kids j) l ≡ Some c)) → row_by new_tree cs ≡ row_by old_tree cs
+  below_changed is cs of =
+      row_by-same new_tree old_tree cs (λ k c at.
+      let found = of k c at in
+      let deeper = change.old.deeper j found.0 c found.1 in
+      away n c (change.stays j found.0 c is found.1) (omega arith) (λ q there. omega (arith, deeper, place_depth label kids parent n change.old q c j there)))
+
+  -- as does the tree of a node of which the changed one is no child, nor of any other
+  pub apart : ((m k : ℕ) → slice_get (kids m) k ≡ Some j → ⊥) → (i : ℕ) → Old i → i ≢ j → new_tree i ≡ old_tree i
+  apart none i is other = away n i is (omega arith) (λ q there. elim (last_step label kids parent n change.old q i j there) [
+    | inl same ↦ other same
+    | inr found ↦ none found.0 found.1 found.2
+  ])

@@ -3,6 +3,7 @@ use Rattle.std.proofs.Common.{◌≡◌, ℕ, zero, suc, ◌+◌, ◌≤◌, Lis
 use Rattle.std.specs.List.{sum_by}
 use Rattle.std.proofs.lemmas.List.Sums.{sum_by-cons}
 use Rattle.tree_sem.specs.Trees.{Row, no_nodes, node, LabelTree, leaf, tree_of, edit_tree, node_at, edit_at, push_tree, nodes_of, count_of, add_class, add_child}
+use Rattle.tree_sem.specs.Cuts.{drop_tree, drop_child}
 use Rattle.tree_sem.specs.Actions.{add_classes, add_trees}
 use Rattle.tree_sem.proofs.EditLemmas.{edit_at-none}
 
@@ -30,6 +31,39 @@ count_of-edit_at (k ∷ p) f t s d at more =
           let inner = count_of-edit_at p f u s d at' more in
           omega (arith, nodes_of-edit_tree (edit_at p f) t.below k u d e inner)
     ] refl at
+
+-- the same where it takes d nodes away
+nodes_of-edit_tree_less : (h : LabelTree → LabelTree) (f : Row) (k : ℕ) (s : LabelTree) (d : ℕ) → tree_of f k ≡ Some s → count_of (h s) + d ≡ count_of s → nodes_of (edit_tree h f k) + d ≡ nodes_of f
+nodes_of-edit_tree_less h no_nodes k s d at less = cc
+nodes_of-edit_tree_less h (node l below next) zero s d at less =
+    let first : LabelTree = record { label = l; below = below } in
+    let same : first ≡ s = cc in
+    let less' : count_of (h first) + d ≡ count_of first = subst (λ (z : LabelTree). count_of (h z) + d ≡ count_of z) (sym same) less in
+    omega (arith, less')
+nodes_of-edit_tree_less h (node l below next) (suc k) s d at less = omega (arith, nodes_of-edit_tree_less h next k s d at less)
+
+count_of-edit_at_less : (p : List ℕ) (f : LabelTree → LabelTree) (t s : LabelTree) (d : ℕ) → node_at p t ≡ Some s → count_of (f s) + d ≡ count_of s → count_of (edit_at p f t) + d ≡ count_of t
+count_of-edit_at_less [] f t s d at less = let same : t ≡ s = cc in subst (λ (z : LabelTree). count_of (f z) + d ≡ count_of z) (sym same) less
+count_of-edit_at_less (k ∷ p) f t s d at less =
+    elim (tree_of t.below k) as (λ o. tree_of t.below k ≡ o → option_and_then (node_at p) o ≡ Some s → count_of (edit_at (k ∷ p) f t) + d ≡ count_of t) [
+      | None ↦ λ e at'. cc
+      | Some u ↦ λ e at'.
+          let inner = count_of-edit_at_less p f u s d at' less in
+          omega (arith, nodes_of-edit_tree_less (edit_at p f) t.below k u d e inner)
+    ] refl at
+
+nodes_of-drop_tree : (r : Row) (k : ℕ) (u : LabelTree) → tree_of r k ≡ Some u → nodes_of (drop_tree r k) + count_of u ≡ nodes_of r
+nodes_of-drop_tree no_nodes k u at = cc
+nodes_of-drop_tree (node l below next) zero u at =
+    let first : LabelTree = record { label = l; below = below } in
+    let same : first ≡ u = cc in
+    let count = ap count_of same in
+    omega (arith, count)
+nodes_of-drop_tree (node l below next) (suc k) u at = omega (arith, nodes_of-drop_tree next k u at)
+
+-- a child that is taken away takes its nodes with it
+pub count_of-drop_child : (p : List ℕ) (k : ℕ) (t s u : LabelTree) → node_at p t ≡ Some s → tree_of s.below k ≡ Some u → count_of (edit_at p (drop_child k) t) + count_of u ≡ count_of t
+count_of-drop_child p k t s u at below = let less = nodes_of-drop_tree s.below k u below in count_of-edit_at_less p (drop_child k) t s (count_of u) at (omega (arith, less))
 
 -- classes add no node, and a child one
 pub count_of-add_class : (p : List ℕ) (a : ℕ) (t : LabelTree) → count_of (edit_at p (add_class a) t) ≡ count_of t

@@ -1,7 +1,8 @@
 -- Edits at each of some paths.
-use Rattle.std.proofs.Common.{◌≡◌, ℕ, suc, ◌+◌, ◌*◌, ◌<◌, ◌≤◌, List, [], ◌∷◌, length, take, get_or, All, sym, ap, ◌∙◌, arith}
+use Rattle.std.proofs.Common.{◌≡◌, ℕ, suc, ◌+◌, ◌*◌, ◌<◌, ◌≤◌, List, [], ◌∷◌, length, take, get_or, All, sym, subst, ap, ◌∙◌, arith}
 use Rattle.std.specs.List.{sum_by}
 use Rattle.std.proofs.Math.Nat.{suc-mul, mul-le-mul_right}
+use Rattle.std.proofs.lemmas.List.{length-take, get_or-take}
 use Rattle.std.proofs.lemmas.List.Sums.{fold_more}
 use Rattle.std.proofs.lemmas.List.Elements.{All-head, All-tail}
 use Rattle.tree_sem.specs.Trees.{LabelTree, node_at, edit_at, edit_each, push_tree, count_of}
@@ -39,3 +40,9 @@ count_of-edit_each (p ∷ at) tops t nodes =
     let next = edit_at p (add_trees tops) t in
     let rest : All (IsNode next) at = λ k d within. IsNode-grows t next (add_trees_grows tops p t) (get_or at k d) (All-tail (IsNode t) p at nodes k d within) in
     omega (arith, count_of-edit_each at tops next rest, count_of-add_trees p tops t here.0 here.1, suc-mul (length at) (sum_by count_of tops))
+
+-- how many there are after some of the paths
+pub count_of-edit_each-part : (at : List (List ℕ)) (tops : List LabelTree) (t : LabelTree) → All (IsNode t) at → (k : ℕ) → k < length at → count_of (edit_each (take k at) (add_trees tops) t) ≡ count_of t + k * sum_by count_of tops
+count_of-edit_each-part at tops t nodes k less =
+    let some : length (take k at) ≡ k = omega (arith, length-take k at) in
+    count_of-edit_each (take k at) tops t (λ m d within. subst (IsNode t) (sym (get_or-take k at m d (omega (arith, some)))) (nodes m d (omega (arith, some)))) ∙ ap (λ n. count_of t + n * sum_by count_of tops) some

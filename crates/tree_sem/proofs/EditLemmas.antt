@@ -65,6 +65,20 @@ edit_at-same (k ∷ p) f t same =
     let row = edit_tree-same (edit_at p f) t.below k (λ s at. edit_at-same p f s (λ u at'. same u (rw at at'))) in
     λ i. record { label = t.label; below = row i }
 
+-- edits that do the same to the node do the same
+edit_tree-there : (f g : LabelTree → LabelTree) (r : Row) (k : ℕ) → ((s : LabelTree) → tree_of r k ≡ Some s → f s ≡ g s) → edit_tree f r k ≡ edit_tree g r k
+edit_tree-there f g no_nodes k same = refl
+edit_tree-there f g (node l below next) zero same =
+    let first = same (record { label = l; below = below }) refl in
+    λ i. node (first i).label (first i).below next
+edit_tree-there f g (node l below next) (suc k) same = ap (λ r. node l below r) (edit_tree-there f g next k same)
+
+pub edit_at-alike : (p : List ℕ) (f g : LabelTree → LabelTree) (t : LabelTree) → ((s : LabelTree) → node_at p t ≡ Some s → f s ≡ g s) → edit_at p f t ≡ edit_at p g t
+edit_at-alike [] f g t same = same t refl
+edit_at-alike (k ∷ p) f g t same =
+    let row = edit_tree-there (edit_at p f) (edit_at p g) t.below k (λ s at. edit_at-alike p f g s (λ u at'. same u (rw at at'))) in
+    λ i. record { label = t.label; below = row i }
+
 -- where no node is there, nothing is edited
 pub edit_at-none : (p : List ℕ) (f : LabelTree → LabelTree) (t : LabelTree) → node_at p t ≡ None → edit_at p f t ≡ t
 edit_at-none p f t none = edit_at-same p f t (λ s at. let never : Some s ≡ None = sym at ∙ none in cc)

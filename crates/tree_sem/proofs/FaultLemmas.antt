@@ -1,5 +1,5 @@
 -- Which fault a call gives.
-use Rattle.std.proofs.Common.{◌≡◌, ◌↔◌, ℕ, ◌<◌, ◌≤◌, Bool, true, false, IsTrue, inl, inr, arith, Option, Some, None, IsNone, IsSome, Result, Ok, Err, IsErrOf, IsErrAnd}
+use Rattle.std.proofs.Common.{◌≡◌, ◌↔◌, ℕ, ◌<◌, ◌≤◌, Bool, true, false, IsTrue, inl, inr, arith, Option, Some, None, IsNone, IsSome, Result, Ok, Err, OnOk, IsErrOf, IsErrAnd}
 use Rattle.std.proofs.lemmas.Bool.{cases_lt}
 use Rattle.tree_sem.specs.declared.tree_fault.TreeFault.{TreeFault}
 use Rattle.tree_sem.specs.declared.tree_fault.TreeFault.TheVariants.{NoSuchNode, TooManyNodes, Memory}
@@ -28,3 +28,17 @@ not_so P b same no_test p = let yes : b ≡ true = same.1 p in cc
 -- a count that doesn't fit is past the limit
 pub past : (count needed most : ℕ) → count ≡ needed → (needed ≤ most → ⊥) → most < count
 past count needed most same not_within = elim (cases_lt most count) [ inl lt ↦ lt | inr le ↦ absurd (not_within (omega arith)) ]
+
+-- what follows where a call succeeds
+pub on_ok : {T E : Type 0} (r : Result T E) (P Q : Type 0) → (P → Q) → OnOk r P → OnOk r Q
+on_ok (Ok x) P Q follows is = follows is
+on_ok (Err e) P Q follows is = tt
+
+-- where memory fails, the tree is not said to be full
+pub not_too_many : {T : Type 0} (r : Result T TreeFault) → IsErrAnd r (λ e. e ≡ Memory) → IsErrOf r TooManyNodes → ⊥
+not_too_many (Ok v) is same = is
+not_too_many (Err e) is same = let other : TooManyNodes ≡ Memory = cc in cc
+
+-- a call that succeeds, where the tree would not be full
+pub fits : {T : Type 0} (v : T) (P : Type 0) → (P → ⊥) → IsErrOf {T = T} {E = TreeFault} (Ok v) TooManyNodes ↔ P
+fits v P not_so = (λ same. cc, λ p. absurd (not_so p))

@@ -1,61 +1,93 @@
--- What a table's list says of its nodes.
-use Rattle.std.proofs.Common.{◌≡◌, ℕ, ◌<◌, List, length, take, get_or, Option, Some, None, IsSome, option_map, refl, sym, ap, ◌∙◌, subst}
+-- What a table says of its nodes.
+use Rattle.std.proofs.Common.{◌≡◌, ℕ, ◌<◌, ◌≤◌, List, [], ◌∷◌, length, take, Option, Some, None, IsSome, option_map, option_and_then, slice_get, refl, sym, ap, ◌∙◌, subst, inl, inr, arith}
 use Rattle.std.specs.List.Sorted.{IsStrictlyIncreasing}
-use Rattle.std.proofs.lemmas.Option.{slice_get_read}
 use Rattle.std.proofs.Math.Seq.{take-length}
+use Rattle.slab.specs.Slab.{Slab, get, ContainsKey}
 use Rattle.tree_sem.specs.declared.slots.Slot.{Slot}
-use Rattle.tree_sem.specs.Trees.{LabelTree, node_at, label_at, length_of}
+use Rattle.tree_sem.specs.declared.tree_fault.TheConstants.{MOST_NODES}
+use Rattle.tree_sem.specs.Trees.{Row, no_nodes, node, LabelTree, leaf, node_at, label_at, length_of, nodes_of}
 use Rattle.tree_sem.specs.Nodes.{AllRise}
-use Rattle.tree_sem.specs.Arena.{place_from, IsArena}
-use Rattle.tree_sem.specs.Table.{kids_in, label_in, tree_in, IsTable}
-use Rattle.tree_sem.proofs.ArenaLemmas.{unrolled, node_at-tree_to, place_within, length_of-row_by}
+use Rattle.tree_sem.specs.Arena.{row_by, place_from}
+use Rattle.tree_sem.specs.Table.{kids_in, label_in, parent_in, tree_in, most_levels, IsForest, IsTable}
+use Rattle.tree_sem.proofs.ArenaLemmas.{unrolled, node_at-tree_to, last_step, length_of-row_by}
+use Rattle.tree_sem.proofs.CountLemmas.{length-node_at}
 
--- the children's numbers of the slot that was read, and its label
-pub kids_in-read : (slots : List Slot) (i : ℕ) (s : Slot) (items : List ℕ) → i < length slots → s ≡ get_or slots i s → items ≡ (get_or slots i s).children.items → kids_in slots i ≡ items
-kids_in-read slots i s items within at is = rw (slice_get_read slots (length slots) i s refl within at) (ap (λ z. z.children.items) at ∙ sym is)
+pub most_levels_are : most_levels ≡ MOST_NODES
+unfolding most_levels
+most_levels_are = refl
 
-pub label_in-read : (slots : List Slot) (i : ℕ) (s : Slot) → i < length slots → s ≡ get_or slots i s → label_in slots i ≡ s.label
-label_in-read slots i s within at = rw (slice_get_read slots (length slots) i s refl within at)
+-- a slot with a parent is there
+pub with_parent : (slots : Slab Slot) (i j : ℕ) → parent_in slots i ≡ Some j → ContainsKey slots i
+with_parent slots i j at = elim (get slots i) as (λ o. option_and_then (λ (s : Slot). s.parent) o ≡ Some j → IsSome o) [ None ↦ λ e. cc | Some s ↦ λ e. refl ] at
 
-module _ (slots : List Slot) (arena : IsArena (length slots) (kids_in slots)) (p : List ℕ) where
-  pub no_node : None ≡ place_from (kids_in slots) 0 p → node_at p (tree_in slots 0) ≡ None
-  no_node none = node_at-tree_to (label_in slots) (kids_in slots) (length slots) arena p 0 arena.some ∙ ap (option_map (tree_in slots)) (sym none)
+module _ (slots : Slab Slot) (forest : IsForest slots) where
+  -- a node's tree is its label over its children's trees
+  pub rolled_out : (i : ℕ) → tree_in slots i ≡ record { label = label_in slots i; below = row_by (tree_in slots) (kids_in slots i) }
+  rolled_out = unrolled (label_in slots) (kids_in slots) (parent_in slots) most_levels forest.arena
 
-  module _ (j : ℕ) (at : Some j ≡ place_from (kids_in slots) 0 p) where
-    pub node_there : node_at p (tree_in slots 0) ≡ Some (tree_in slots j)
-    node_there = node_at-tree_to (label_in slots) (kids_in slots) (length slots) arena p 0 arena.some ∙ ap (option_map (tree_in slots)) (sym at)
+  -- a child is there
+  pub child_there : (i k c : ℕ) → slice_get (kids_in slots i) k ≡ Some c → ContainsKey slots c
+  child_there i k c at = with_parent slots c i (forest.arena.up i k c at)
 
-    there : j < length slots
-    there = (place_within (label_in slots) (kids_in slots) (length slots) arena p 0 j arena.some (sym at)).1
+  -- and what a path leads to
+  pub place_there : (p : List ℕ) (j : ℕ) → place_from (kids_in slots) 0 p ≡ Some j → ContainsKey slots j
+  place_there p j at = elim (last_step (label_in slots) (kids_in slots) (parent_in slots) most_levels forest.arena p 0 j at) [
+    | inl same ↦ subst (ContainsKey slots) same forest.root
+    | inr found ↦ child_there found.0 found.1 j found.2
+  ]
 
-    pub label_there : label_at p (tree_in slots 0) ≡ Some (label_in slots j)
-    label_there = rw node_there (ap (λ (t : LabelTree). Some t.label) (unrolled (label_in slots) (kids_in slots) (length slots) arena j there))
+  module _ (p : List ℕ) where
+    pub no_node : None ≡ place_from (kids_in slots) 0 p → node_at p (tree_in slots 0) ≡ None
+    no_node none = node_at-tree_to (label_in slots) (kids_in slots) (parent_in slots) most_levels forest.arena p 0 ∙ ap (option_map (tree_in slots)) (sym none)
 
-    pub kids_there : length_of (tree_in slots j).below ≡ length (kids_in slots j)
-    kids_there = rw (unrolled (label_in slots) (kids_in slots) (length slots) arena j there) (length_of-row_by (tree_in slots) (kids_in slots j))
+    module _ (j : ℕ) (at : Some j ≡ place_from (kids_in slots) 0 p) where
+      pub node_there : node_at p (tree_in slots 0) ≡ Some (tree_in slots j)
+      node_there = node_at-tree_to (label_in slots) (kids_in slots) (parent_in slots) most_levels forest.arena p 0 ∙ ap (option_map (tree_in slots)) (sym at)
 
-    pub children_there : option_map (λ n. length_of n.below) (node_at p (tree_in slots 0)) ≡ Some (length (kids_in slots j))
-    children_there =
-        rw (node_there, unrolled (label_in slots) (kids_in slots) (length slots) arena j there)
-        (ap Some (length_of-row_by (tree_in slots) (kids_in slots j)))
+      pub label_there : label_at p (tree_in slots 0) ≡ Some (label_in slots j)
+      label_there = rw node_there (ap (λ (t : LabelTree). Some t.label) (rolled_out j))
+
+      pub kids_there : length_of (tree_in slots j).below ≡ length (kids_in slots j)
+      kids_there = rw (rolled_out j) (length_of-row_by (tree_in slots) (kids_in slots j))
+
+      pub children_there : option_map (λ n. length_of n.below) (node_at p (tree_in slots 0)) ≡ Some (length (kids_in slots j))
+      children_there = rw node_there (ap Some kids_there)
+
+-- there are no more children than nodes
+length_of-nodes_of : (r : Row) → length_of r ≤ nodes_of r
+length_of-nodes_of no_nodes = omega arith
+length_of-nodes_of (node l below next) = omega (arith, length_of-nodes_of next)
+
+pub few_children : (slots : Slab Slot) → IsTable slots → (p : List ℕ) (j : ℕ) → Some j ≡ place_from (kids_in slots) 0 p → length (kids_in slots j) < MOST_NODES
+few_children slots table p j at =
+    let some = length-node_at p (tree_in slots 0) (tree_in slots j) (node_there slots table.forest p j at) in
+    omega (arith, some, length_of-nodes_of (tree_in slots j).below, kids_there slots table.forest p j at, table.counted, table.in_limit)
 
 -- a node that is missing isn't there
 pub not_there : {X : Type 0} (o : Option X) → o ≡ None → IsSome o → ⊥
 not_there {X = X} o none is = let never : IsSome {T = X} None = rw none at is in cc
 
 -- what a walk over a whole path found
-pub walked : (items slots : List Slot) (p : List ℕ) (n : ℕ) (o : Option ℕ) → items ≡ slots → n ≡ length p → o ≡ place_from (kids_in items) 0 (take n p) → o ≡ place_from (kids_in slots) 0 p
-walked items slots p n o same all is =
+pub walked : (slots : Slab Slot) (p : List ℕ) (n : ℕ) (o : Option ℕ) → n ≡ length p → o ≡ place_from (kids_in slots) 0 (take n p) → o ≡ place_from (kids_in slots) 0 p
+walked slots p n o all is =
     let whole : take n p ≡ p = rw all (take-length p) in
-    is ∙ rw (same, whole)
+    is ∙ rw whole
 
 -- the labels rise
-pub all_rise : (slots : List Slot) → IsTable slots → AllRise (tree_in slots 0)
-all_rise slots table v label at = by (place_from (kids_in slots) 0 v) refl
+pub all_rise : (slots : Slab Slot) → IsForest slots → AllRise (tree_in slots 0)
+all_rise slots forest v label at = by (place_from (kids_in slots) 0 v) refl
   where
     by : (o : Option ℕ) → o ≡ place_from (kids_in slots) 0 v → IsStrictlyIncreasing label
-    by None e = let none : label_at v (tree_in slots 0) ≡ None = ap (option_map (λ (n : LabelTree). n.label)) (no_node slots table.arena v e) in cc
+    by None e = let none : label_at v (tree_in slots 0) ≡ None = ap (option_map (λ (n : LabelTree). n.label)) (no_node slots forest v e) in cc
     by (Some j) e =
-        let some = label_there slots table.arena v j e in
+        let some = label_there slots forest v j e in
         let same : label_in slots j ≡ label = cc in
-        subst IsStrictlyIncreasing same (table.rising j)
+        subst IsStrictlyIncreasing same (forest.rising j)
+
+-- where the tree is a leaf, the root has no children
+pub bare_leaf : (slots : Slab Slot) → IsForest slots → (l : List ℕ) → tree_in slots 0 ≡ leaf l → kids_in slots 0 ≡ []
+bare_leaf slots forest l is = by (kids_in slots 0) (ap (λ (t : LabelTree). t.below) (sym (rolled_out slots forest 0) ∙ is))
+  where
+    by : (cs : List ℕ) → row_by (tree_in slots) cs ≡ no_nodes → cs ≡ []
+    by [] none = refl
+    by (c ∷ cs) none = cc

@@ -1,124 +1,75 @@
--- What writes to the list of slots do.
-use Rattle.std.proofs.Common.{◌≡◌, ◌≢◌, ℕ, zero, suc, ◌<◌, ◌≤◌, List, [], ◌∷◌, ◌++◌, length, set, take, Some, slice_get, refl, sym, ap, ◌∙◌, inl, inr, arith, length-append}
-use Rattle.std.proofs.Math.ListN.{length-set}
-use Rattle.std.proofs.lemmas.Bool.{cases_lt, cases_order}
-use Rattle.std.proofs.lemmas.List.{length-take}
-use Rattle.std.proofs.lemmas.Option.{slice_get_past}
-use Rattle.tp_base.proofs.NamesLemmas.{slice_get-append_left, slice_get-push}
+-- What writes to the table of slots do.
+use Rattle.std.proofs.Common.{◌≡◌, ◌≢◌, ℕ, ◌+◌, List, [], ◌∷◌, ◌++◌, Option, Some, None, IsSome, is_some, cond, option_map, option_and_then, unwrap_or, refl, sym, ap, ◌∙◌, subst, arith}
+use Rattle.std.proofs.lemmas.List.Sums.{sum_by-set}
+use Rattle.slab.specs.Slab.{Slab, get, ContainsKey, slab_len, with_value, Updates}
+use Rattle.slab.proofs.SlabLemmas.{ContainsKey-within, Updates-with_value}
 use Rattle.tree_sem.specs.declared.slots.Slot.{Slot}
-use Rattle.tree_sem.specs.declared.tree_fault.TheConstants.{MOST_NODES}
-use Rattle.tree_sem.specs.Trees.{count_of}
-use Rattle.tree_sem.specs.Table.{kids_in, label_in, tree_in, IsTable, IsGrown, IsRelabelled, IsSame}
+use Rattle.tree_sem.specs.Table.{kids_in, label_in, parent_in, IsChanged, IsGrown}
+use Rattle.tree_sem.proofs.RowLemmas.{there}
 
-pub slice_get-set_same : {X : Type 0} (xs : List X) (j : ℕ) (y : X) → j < length xs → slice_get (set xs j y) j ≡ Some y
-slice_get-set_same [] j y within = absurd (omega arith)
-slice_get-set_same (x ∷ xs) zero y within = refl
-slice_get-set_same (x ∷ xs) (suc j) y within = slice_get-set_same xs j y (omega arith)
+-- what the table says of a slot that was read
+module _ (slots : Slab Slot) (i : ℕ) (s : Slot) (at : get slots i ≡ Some s) where
+  pub label_is : label_in slots i ≡ s.label
+  label_is = ap (λ o. unwrap_or (option_map (λ (z : Slot). z.label) o) []) at
 
-pub slice_get-set_other : {X : Type 0} (xs : List X) (j i : ℕ) (y : X) → i ≢ j → slice_get (set xs j y) i ≡ slice_get xs i
-slice_get-set_other [] j i y other = refl
-slice_get-set_other (x ∷ xs) zero zero y other = absurd (other refl)
-slice_get-set_other (x ∷ xs) zero (suc i) y other = refl
-slice_get-set_other (x ∷ xs) (suc j) zero y other = refl
-slice_get-set_other (x ∷ xs) (suc j) (suc i) y other = slice_get-set_other xs j i y (λ e. other (ap suc e))
+  pub kids_are : kids_in slots i ≡ s.children.items
+  kids_are = ap (λ o. unwrap_or (option_map (λ (z : Slot). z.children.items) o) []) at
 
-module _ (old : List Slot) (new parent : Slot) (place : ℕ) (l : List ℕ) (here : place < length old) (label : new.label ≡ l) (bare : new.children.items ≡ [])
-    (same : parent.label ≡ label_in old place) (more : parent.children.items ≡ kids_in old place ++ length old ∷ []) where
-  at_new : slice_get (set (old ++ new ∷ []) place parent) (length old) ≡ Some new
-  at_new = slice_get-set_other (old ++ new ∷ []) place (length old) parent (λ e. omega arith) ∙ slice_get-push old new
+  pub parent_is : parent_in slots i ≡ s.parent
+  parent_is = ap (λ o. option_and_then (λ (z : Slot). z.parent) o) at
 
-  at_other : (i : ℕ) → i < length old → i ≢ place → slice_get (set (old ++ new ∷ []) place parent) i ≡ slice_get old i
-  at_other i within other = slice_get-set_other (old ++ new ∷ []) place i parent other ∙ slice_get-append_left old (new ∷ []) i within
+  pub is_there : ContainsKey slots i
+  is_there = subst (λ o. IsSome o) (sym at) refl
 
-  at_place : slice_get (set (old ++ new ∷ []) place parent) place ≡ Some parent
-  at_place = slice_get-set_same (old ++ new ∷ []) place parent (omega (arith, length-append old (new ∷ [])))
+-- a write at a slot that is there keeps the count
+abbrev counted : Option Slot → ℕ
+counted o = cond (is_some o) 1 0
 
-  pub grown_by_writes : IsGrown old (set (old ++ new ∷ []) place parent) place l
-  grown_by_writes = record {
-    count = length-set (old ++ new ∷ []) place parent ∙ length-append old (new ∷ []);
-    new_label = rw at_new label;
-    new_children = rw at_new bare;
-    labels = λ i within. elim (cases_order i place) [
-      | inl e ↦ rw (e, at_place) same
-      | inr (inl less) ↦ rw (at_other i within (λ e. omega arith))
-      | inr (inr above) ↦ rw (at_other i within (λ e. omega arith))
-    ];
-    parent = rw at_place more;
-    children = λ i within other. rw (at_other i within other);
-  }
+pub len-with_value : (slots : Slab Slot) (place : ℕ) (s : Slot) → ContainsKey slots place → slab_len (with_value slots place s) ≡ slab_len slots
+len-with_value slots place s here =
+    let was = there (get slots place) here in
+    let one : counted (get slots place) ≡ counted (Some was.0) = ap counted was.1 in
+    omega (arith, one, sum_by-set counted slots.slots place (Some s) None (ContainsKey-within slots place here))
 
--- a slot with another label
-pub relabelled_by_write : (old : List Slot) (place : ℕ) (slot : Slot) (label : List ℕ) → place < length old → slot.label ≡ label → slot.children.items ≡ kids_in old place → IsRelabelled old (set old place slot) place label
-relabelled_by_write old place slot label here same kept = record {
-  count = length-set old place slot;
-  changed = rw (slice_get-set_same old place slot here) same;
-  labels = λ i apart. rw (slice_get-set_other old place i slot apart);
-  children = λ i. elim (cases_order i place) [
-    | inl e ↦ rw (e, slice_get-set_same old place slot here) kept
-    | inr (inl less) ↦ rw (slice_get-set_other old place i slot (λ e. omega arith))
-    | inr (inr above) ↦ rw (slice_get-set_other old place i slot (λ e. omega arith))
-  ];
-}
-
-pub slice_get-take : {X : Type 0} (n : ℕ) (xs : List X) (i : ℕ) → i < n → slice_get (take n xs) i ≡ slice_get xs i
-slice_get-take zero xs i lt = absurd (omega arith)
-slice_get-take (suc n) [] i lt = refl
-slice_get-take (suc n) (x ∷ xs) zero lt = refl
-slice_get-take (suc n) (x ∷ xs) (suc i) lt = slice_get-take n xs i (omega arith)
-
--- the last slot, which was new, is taken away again
-module _ (old : List Slot) (new parent : Slot) (place : ℕ) (here : place < length old)
-    (same_label : parent.label ≡ label_in old place) (same_kids : parent.children.items ≡ kids_in old place) where
-  abbrev back : List Slot
-  back = take (length old) (set (old ++ new ∷ []) place parent)
-
-  back_length : length back ≡ length old
-  back_length = omega (arith, length-take (length old) (set (old ++ new ∷ []) place parent), length-set (old ++ new ∷ []) place parent, length-append old (new ∷ []))
-
-  back_other : (i : ℕ) → i ≢ place → slice_get back i ≡ slice_get old i
-  back_other i other = elim (cases_lt i (length old)) [
-    | inl lt ↦ slice_get-take (length old) (set (old ++ new ∷ []) place parent) i lt ∙ slice_get-set_other (old ++ new ∷ []) place i parent other ∙ slice_get-append_left old (new ∷ []) i lt
-    | inr ge ↦ slice_get_past back i (omega (arith, back_length)) ∙ sym (slice_get_past old i ge)
-  ]
-
-  back_place : slice_get back place ≡ Some parent
-  back_place =
-      slice_get-take (length old) (set (old ++ new ∷ []) place parent) place here
-      ∙ slice_get-set_same (old ++ new ∷ []) place parent (omega (arith, length-append old (new ∷ [])))
-
-  pub same_by_writes : IsSame old back
-  same_by_writes = record {
-    count = back_length;
-    labels = λ i. elim (cases_order i place) [
-      | inl e ↦ rw (e, back_place) same_label
-      | inr (inl less) ↦ rw (back_other i (λ e. omega arith))
-      | inr (inr above) ↦ rw (back_other i (λ e. omega arith))
-    ];
-    children = λ i. elim (cases_order i place) [
-      | inl e ↦ rw (e, back_place) same_kids
-      | inr (inl less) ↦ rw (back_other i (λ e. omega arith))
-      | inr (inr above) ↦ rw (back_other i (λ e. omega arith))
-    ];
-  }
-
--- the same nodes are the same table, and the same tree
-pub same_table : (old new : List Slot) → IsTable old → IsSame old new → IsTable new
-same_table old new table same =
-    let kids : kids_in new ≡ kids_in old = λ x i. same.children i x in
-    let labels : label_in new ≡ label_in old = λ x i. same.labels i x in
+-- a slot with another label, other children or another parent
+pub changed_by_write : (old : Slab Slot) (place : ℕ) (s : Slot) (l cs : List ℕ) (above : Option ℕ) → ContainsKey old place → s.label ≡ l → s.children.items ≡ cs → s.parent ≡ above
+    → IsChanged old (with_value old place s) place l cs above
+changed_by_write old place s l cs above here label children parent =
+    let writes = Updates-with_value old place s here in
+    let new = with_value old place s in
     record {
-      arena = rw (same.count, kids) table.arena;
-      counted = rw (kids, labels, same.count) table.counted;
-      in_limit = rw same.count table.in_limit;
-      rising = λ i. rw (same.labels i) (table.rising i);
+      count = len-with_value old place s here;
+      here = is_there new place s writes.changed;
+      label = label_is new place s writes.changed ∙ label;
+      children = kids_are new place s writes.changed ∙ children;
+      parent = parent_is new place s writes.changed ∙ parent;
+      others = writes.others;
     }
 
-pub same_tree : (old new : List Slot) → IsSame old new → tree_in new 0 ≡ tree_in old 0
-same_tree old new same =
-    let kids : kids_in new ≡ kids_in old = λ x i. same.children i x in
-    let labels : label_in new ≡ label_in old = λ x i. same.labels i x in
-    rw (kids, labels, same.count)
-
--- a table's tree is within the limit
-pub tree_in_limit : (slots : List Slot) → IsTable slots → count_of (tree_in slots 0) ≤ MOST_NODES
-tree_in_limit slots table = omega (arith, table.counted, table.in_limit)
+-- one node more: its parent's list gets room, then it its slot, and then the list its number
+pub grown_by_writes : (old mid : Slab Slot) (place child : ℕ) (was first node again last : Slot) (l : List ℕ) → get old place ≡ Some was → first.label ≡ was.label → first.children.items ≡ was.children.items
+    → first.parent ≡ was.parent → get (with_value old place first) child ≡ None → Updates (with_value old place first) mid child (Some node) → slab_len mid ≡ slab_len (with_value old place first) + 1
+    → node.label ≡ l → node.children.items ≡ [] → node.parent ≡ Some place → get mid place ≡ Some again → last.label ≡ again.label → last.children.items ≡ again.children.items ++ child ∷ []
+    → last.parent ≡ again.parent → IsGrown old (with_value mid place last) place child l
+grown_by_writes old mid place child was first node again last l at first_label first_kids first_parent free inserts count label bare up reads last_label last_kids last_parent =
+    let here = is_there old place was at in
+    let one = Updates-with_value old place first here in
+    let apart : child ≢ place = λ same. let never : Some first ≡ None = sym one.changed ∙ ap (get (with_value old place first)) (sym same) ∙ free in cc in
+    let mid_place : get mid place ≡ Some first = inserts.others place (λ same. apart (sym same)) ∙ one.changed in
+    let both : Some again ≡ Some first = sym reads ∙ mid_place in
+    let same : again ≡ first = cc in
+    let two = Updates-with_value mid place last (is_there mid place again reads) in
+    let new = with_value mid place last in
+    let new_child : get new child ≡ Some node = two.others child apart ∙ inserts.changed in
+    record {
+      count = len-with_value mid place last (is_there mid place again reads) ∙ count ∙ ap (λ n. n + 1) (len-with_value old place first here);
+      fresh = sym (one.others child apart) ∙ free;
+      new_label = label_is new child node new_child ∙ label;
+      new_children = kids_are new child node new_child ∙ bare;
+      new_parent = parent_is new child node new_child ∙ up;
+      here = is_there new place last two.changed;
+      label = label_is new place last two.changed ∙ last_label ∙ ap (λ (z : Slot). z.label) same ∙ first_label ∙ sym (label_is old place was at);
+      children = kids_are new place last two.changed ∙ last_kids ∙ ap (λ z. z ++ child ∷ []) (ap (λ (z : Slot). z.children.items) same ∙ first_kids ∙ sym (kids_are old place was at));
+      parent = parent_is new place last two.changed ∙ last_parent ∙ ap (λ (z : Slot). z.parent) same ∙ first_parent ∙ sym (parent_is old place was at);
+      others = λ i not_child not_place. two.others i not_place ∙ inserts.others i not_child ∙ one.others i not_place;
+    }

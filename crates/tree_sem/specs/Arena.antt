@@ -1,5 +1,5 @@
--- A tree that is kept as a table: each node has a number, and its place in the table has its label and its children's numbers.
-use Rattle.std.specs.Prelude.{◌≡◌, ℕ, zero, suc, ◌<◌, List, [], ◌∷◌, length, Option, Some, option_and_then, slice_get}
+-- A tree that is kept as a table: each node has a number, and its place in the table has its label, its children's numbers and its parent's.
+use Rattle.std.specs.Prelude.{◌≡◌, ℕ, zero, suc, ◌<◌, ◌==◌, List, [], ◌∷◌, ◌++◌, if◌then◌else◌, Option, Some, None, option_map, option_and_then, unwrap_or, slice_get}
 use Rattle.tree_sem.specs.Trees.{Row, no_nodes, node, LabelTree, leaf}
 
 -- the trees that f gives for the numbers
@@ -18,9 +18,22 @@ abbrev pub place_from : (ℕ → List ℕ) → ℕ → List ℕ → Option ℕ
 place_from kids i [] = Some i
 place_from kids i (k ∷ p) = option_and_then (λ c. place_from kids c p) (slice_get (kids i) k)
 
--- each node but the first is the child of exactly one node, which has a smaller number
-pub record IsArena (n : ℕ) (kids : ℕ → List ℕ) : Type 0 where
-  pub some : 0 < n
-  pub rises : (i k c : ℕ) → i < n → slice_get (kids i) k ≡ Some c → (i < c) × (c < n)
-  pub one_parent : (i j k l c : ℕ) → i < n → j < n → slice_get (kids i) k ≡ Some c → slice_get (kids j) l ≡ Some c → (i ≡ j) × (k ≡ l)
-  pub few : (i : ℕ) → i < n → length (kids i) < n
+-- the place of a number in a list
+abbrev pub number_in : ℕ → List ℕ → ℕ
+number_in i [] = 0
+number_in i (c ∷ cs) = if c == i then 0 else suc (number_in i cs)
+
+-- the path of the node i, by its parents, as long as n numbers
+abbrev pub path_up : (ℕ → List ℕ) → (ℕ → Option ℕ) → ℕ → ℕ → List ℕ
+path_up kids parent zero i = []
+path_up kids parent (suc n) i = unwrap_or (option_map (λ j. path_up kids parent n j ++ number_in i (kids j) ∷ []) (parent i)) []
+
+-- Each child is one level deeper than its parent, is its child once, and names it. The node 0 is no child. No level is n or deeper.
+pub record IsArena (n : ℕ) (kids : ℕ → List ℕ) (parent : ℕ → Option ℕ) : Type 0 where
+  pub depth : ℕ → ℕ
+  pub first : depth 0 ≡ 0
+  pub shallow : (i : ℕ) → depth i < n
+  pub deeper : (i k c : ℕ) → slice_get (kids i) k ≡ Some c → depth c ≡ suc (depth i)
+  pub up : (i k c : ℕ) → slice_get (kids i) k ≡ Some c → parent c ≡ Some i
+  pub once : (i k l c : ℕ) → slice_get (kids i) k ≡ Some c → slice_get (kids i) l ≡ Some c → k ≡ l
+  pub root : parent 0 ≡ None

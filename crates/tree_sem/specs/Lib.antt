@@ -1,5 +1,6 @@
 pub mod Actions
 pub mod Arena
+pub mod Cuts
 pub mod Embedding
 pub mod Growth
 pub mod Nodes

@@ -84,3 +84,7 @@ add_class a t = record t { label = with_class a t.label }
 -- the node with a leaf as its last child
 abbrev pub add_child : List ℕ → LabelTree → LabelTree
 add_child l t = record t { below = push_tree t.below (leaf l) }
+
+-- the node with one tree more as its last child
+abbrev pub add_tree : LabelTree → LabelTree → LabelTree
+add_tree u t = record t { below = push_tree t.below u }

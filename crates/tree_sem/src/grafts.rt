@@ -1,16 +1,12 @@
-//! Whole trees that are put below nodes of a table, and taken away again where memory fails.
-ghost use Rattle.std.specs.Prelude.{◌≡◌, ◌<◌, ◌≤◌, ◌+◌, ◌*◌, ◌↔◌, ◌++◌, ℕ, nat_lt, Some, length, take, map, All, IsTrue, IsNone, IsSome, slice_get, vec_len, IfOk, IfSome, OnOk, OnErr};
-ghost use Rattle.std.specs.List.{prefix_len, sum_by};
+//! Whole trees that are put below nodes, and taken away again where memory fails.
+ghost use Rattle.std.specs.Prelude.{◌≡◌, ◌<◌, ◌≤◌, ◌+◌, ◌*◌, ◌↔◌, length, take, All, IsTrue, IsNone, IfSome, OnOk, OnErr};
+ghost use Rattle.std.specs.List.{sum_by};
 ghost use Rattle.tree_sem.specs.Actions.{add_trees};
-ghost use Rattle.tree_sem.specs.Arena.{IsArena};
 ghost use Rattle.tree_sem.specs.Nodes.{IsNode};
-ghost use Rattle.tree_sem.specs.Table.{kids_in, tree_in, IsTable, IsGrafted, IsLater, IsCutBack};
-ghost use Rattle.tree_sem.specs.Trees.{count_of, edit_at, edit_each};
+ghost use Rattle.tree_sem.specs.Trees.{LabelTree, count_of, edit_at, edit_each};
 
 use crate::label_tree::Tree;
-use crate::slots::{Slot, place_of};
 use crate::tree_fault::MOST_NODES;
-use std::alloc::Global;
 use tp_base::{NoMemory, Path};
 
 /// Whether there is room for the nodes of these trees, so many times, beside `count` nodes. It looks at no more
@@ -45,112 +41,58 @@ fn room_after(room: u32, tops: &[Tree]) -> Option<u32>
     Some(left)
 }
 
-/// Gives the node of each path these trees as its last children.
-pub fn graft_each(slots: &mut Vec<Slot>, at: &[Path], tops: &[Tree]) -> Result<(), NoMemory>
-    requires table { IsTable slots.old.items }
-    requires nodes { All (IsNode (tree_in slots.old.items 0)) at.now }
-    requires room { vec_len slots.old + length at.now * sum_by count_of tops.now ≤ MOST_NODES }
-    ensures table { OnOk result (IsTable slots.new.items) }
-    ensures tree { OnOk result (tree_in slots.new.items 0 ≡ edit_each at.now (add_trees tops.now) (tree_in slots.old.items 0)) }
-    ensures err { OnErr result (IsLater slots.old.items slots.new.items) }
+/// Gives the node of each path these trees as its last children, or leaves the tree as it was.
+pub fn graft_each(tree: &mut Tree, at: &[Path], tops: &[Tree]) -> Result<(), NoMemory>
+    requires nodes { All (IsNode tree.old) at.now }
+    requires room { count_of tree.old + length at.now * sum_by count_of tops.now ≤ MOST_NODES }
+    ensures ok { OnOk result (tree.new ≡ edit_each at.now (add_trees tops.now) tree.old) }
+    ensures err { OnErr result (tree.new ≡ tree.old) }
 {
-    for path in at {
-        graft_at(slots, path, tops)?;
+    for done in 0..at.len() {
+        if let Err(NoMemory) = graft_all(tree, &at[done], tops) {
+            drop_from_each(tree, at, done, tops);
+            return Err(NoMemory);
+        }
     }
     Ok(())
 }
 
-// Gives the node of the path these trees as its last children.
-fn graft_at(slots: &mut Vec<Slot>, at: &Path, tops: &[Tree]) -> Result<(), NoMemory>
-    requires table { IsTable slots.old.items }
-    requires is_node { IsNode (tree_in slots.old.items 0) at.now }
-    requires room { vec_len slots.old + sum_by count_of tops.now ≤ MOST_NODES }
-    ensures count { OnOk result (vec_len slots.new ≡ vec_len slots.old + sum_by count_of tops.now) }
-    ensures table { OnOk result (IsTable slots.new.items) }
-    ensures tree { OnOk result (tree_in slots.new.items 0 ≡ edit_at at.now (add_trees tops.now) (tree_in slots.old.items 0)) }
-    ensures later { IsLater slots.old.items slots.new.items }
+// Gives the node of the path these trees as its last children, or leaves the tree as it was.
+fn graft_all(tree: &mut Tree, at: &Path, tops: &[Tree]) -> Result<(), NoMemory>
+    requires is_node { IsNode tree.old at.now }
+    requires room { count_of tree.old + sum_by count_of tops.now ≤ MOST_NODES }
+    ensures ok { OnOk result (tree.new ≡ edit_at at.now (add_trees tops.now) tree.old) }
+    ensures err { OnErr result (tree.new ≡ tree.old) }
 {
-    let Some(place) = place_of(slots, at, at.len()) else {
-        unreachable!()
-    };
-    for top in tops {
-        graft(slots, place, top.slots())?;
+    for done in 0..tops.len() {
+        if let Err(NoMemory) = tree.graft(at, &tops[done]) {
+            drop_trees(tree, at, done, tops);
+            return Err(NoMemory);
+        }
     }
     Ok(())
 }
 
-// Puts the nodes of another table after the others, and makes the first of them the last child of the node at
-// the place.
-fn graft(slots: &mut Vec<Slot>, place: usize, nodes: &[Slot]) -> Result<(), NoMemory>
-    requires in_table { place < vec_len slots.old }
-    requires arena { IsArena (length nodes.now) (kids_in nodes.now) }
-    requires room { vec_len slots.old + length nodes.now ≤ MOST_NODES }
-    ensures ok { OnOk result (IsGrafted slots.old.items slots.new.items place nodes.now) }
-    ensures err { OnErr result (IsLater slots.old.items slots.new.items) }
+// Takes the first `count` of these trees away again from the node of the path, where they are its last children.
+fn drop_trees(tree: &mut Tree, at: &Path, count: usize, tops: &[Tree])
+    requires within { count ≤ length tops.now }
+    ensures { (t : LabelTree) → tree.old ≡ edit_at at.now (add_trees (take count tops.now)) t → tree.new ≡ t }
 {
-    let first = slots.len() as u32;
-    append(slots, first, nodes)?;
-    slots[place].children.push(first)?;
-    Ok(())
-}
-
-// Puts copies of these nodes after the others, whose number is `first`.
-fn append(slots: &mut Vec<Slot>, first: u32, nodes: &[Slot]) -> Result<(), NoMemory>
-    requires first { vec_len slots.old ≡ first }
-    requires arena { IsArena (length nodes.now) (kids_in nodes.now) }
-    requires room { first + length nodes.now ≤ MOST_NODES }
-    ensures front { take first slots.new.items ≡ slots.old.items }
-    ensures labels { OnOk result (map (λ s. s.label) slots.new.items ≡ map (λ s. s.label) slots.old.items ++ map (λ s. s.label) nodes.now) }
-    ensures children { OnOk result (map (λ s. s.children.items) slots.new.items
-        ≡ map (λ s. s.children.items) slots.old.items ++ map (λ s. map (λ c. first + c) s.children.items) nodes.now) }
-{
-    let alloc = *slots.allocator();
-    for node in nodes {
-        let children = raised(alloc, &node.children, first)?;
-        slots.push(Slot {
-            label: node.label.copy()?,
-            children,
-        })?;
-    }
-    Ok(())
-}
-
-// The numbers, each raised by the same.
-fn raised(alloc: Global, numbers: &[u32], by: u32) -> Result<Vec<u32>, NoMemory>
-    requires { All (λ n. by + n ≤ MOST_NODES) numbers.now }
-    ensures { IfOk result (λ v. v.items ≡ map (λ n. by + n) numbers.now) }
-{
-    let mut made = Vec::new(alloc);
-    for number in numbers {
-        made.push(by + *number)?;
-    }
-    Ok(made)
-}
-
-/// Takes away the nodes from a number on, which are the last children of their parents. Linear in the number.
-pub fn cut_back(slots: &mut Vec<Slot>, len: usize)
-    requires within { len ≤ vec_len slots.old }
-    requires few { len ≤ MOST_NODES }
-    ensures { IsCutBack slots.old.items slots.new.items len }
-{
-    slots.truncate(len);
-    for place in 0..len {
-        let slot = &mut slots[place];
-        cut_children(&mut slot.children, len as u32);
+    let mut left = count;
+    while left > 0 {
+        tree.drop_last(at);
+        left -= 1;
     }
 }
 
-// Keeps the children before the first whose number is not below `len`.
-fn cut_children(children: &mut Vec<u32>, len: u32)
-    ensures { children.new.items ≡ take (prefix_len (λ c. nat_lt c len) children.old.items) children.old.items }
+// Takes these trees away again from the nodes of the first `count` paths, the last first.
+fn drop_from_each(tree: &mut Tree, at: &[Path], count: usize, tops: &[Tree])
+    requires within { count ≤ length at.now }
+    ensures { (t : LabelTree) → tree.old ≡ edit_each (take count at.now) (add_trees tops.now) t → tree.new ≡ t }
 {
-    let kept = count_below(children, len);
-    children.truncate(kept);
-}
-
-// How many numbers stand before the first that is not below `len`.
-fn count_below(numbers: &[u32], len: u32) -> usize
-    ensures { result ≡ prefix_len (λ c. nat_lt c len) numbers.now }
-{
-    numbers.iter().take_while(|c| **c < len).count()
+    let mut left = count;
+    while left > 0 {
+        left -= 1;
+        drop_trees(tree, &at[left], tops.len(), tops);
+    }
 }

@@ -1,15 +1,20 @@
 //! A tree whose nodes have sets of classes as their labels.
-ghost use Rattle.std.specs.Prelude.{◌≡◌, ◌<◌, ◌≤◌, ◌↔◌, not, length, take, All, Contains, IsTrue, IsNone, IsSome, IfOk, IfSome, OnOk, OnErr, IsErrOf, option_map, option_copied};
+ghost use Rattle.std.specs.Prelude.{◌≡◌, ◌+◌, ◌<◌, ◌≤◌, ◌↔◌, not, length, take, All, Contains, IsTrue, IsNone, IsSome, IfOk, IfSome, OnOk, OnErr, IsErrOf, option_map, option_copied};
 ghost use Rattle.tp_base.specs.Classes.{has_class, all_among};
 ghost use Rattle.tree_sem.specs.Actions.{add_classes, add_trees};
+ghost use Rattle.tree_sem.specs.Cuts.{take_class, cut_at, drop_last};
 ghost use Rattle.tree_sem.specs.Nodes.{IsNode, AllRise};
-ghost use Rattle.tree_sem.specs.Table.{tree_in, IsTable};
-ghost use Rattle.tree_sem.specs.Trees.{leaf, count_of, length_of, node_at, label_at, children_at, edit_at, edit_each, add_class, add_child};
+ghost use Rattle.tree_sem.specs.Trees.{leaf, count_of, length_of, node_at, label_at, children_at, edit_at, edit_each, add_class, add_child, add_tree};
 
-use crate::grafts::{cut_back, graft_each, has_room};
-use crate::slots::{Slot, add_to_label, childless, copy_of, place_of, push_child, unite_label};
+use crate::copying::{copy_below, graft_at};
+use crate::cutting::cut_child;
+use crate::grafts::{graft_each, has_room};
+use crate::slots::{
+    Slot, add_to_label, childless, place_of, push_child, take_from_label, unite_label,
+};
 use crate::tree_fault::{MOST_NODES, TreeFault};
 use crate::unions::unite_each;
+use slab::Slab;
 use std::alloc::Global;
 use std::marker::Model;
 use std::slice;
@@ -18,7 +23,7 @@ use tp_base::{Atom, ClassSet, NoMemory, Path};
 /// A tree. A contract sees labels over rows of trees.
 #[derive(Drop)]
 pub struct Tree {
-    slots: Vec<Slot>,
+    slots: Slab<Slot>,
 }
 
 impl Model for Tree {
@@ -31,9 +36,9 @@ impl Model for Tree {
 
     ghost use Rattle.tree_sem.specs.Table.{tree_in, IsTable};
 
-    ghost view = { λ t. tree_in t.slots.items 0 };
+    ghost view = { λ t. tree_in t.slots 0 };
 
-    ghost invariant = { λ t. IsTable t.slots.items };
+    ghost invariant = { λ t. IsTable t.slots };
 }
 
 impl Tree {
@@ -41,8 +46,8 @@ impl Tree {
     pub fn new(alloc: Global, label: ClassSet) -> Result<Tree, NoMemory>
         ensures { IfOk result (λ t. t ≡ leaf label) }
     {
-        let mut slots = Vec::new(alloc);
-        slots.push(childless(alloc, label))?;
+        let mut slots = Slab::new(alloc);
+        slots.insert(childless(alloc, label, None))?;
         Ok(Tree { slots })
     }
 
@@ -50,8 +55,10 @@ impl Tree {
     pub fn copy(&self) -> Result<Tree, NoMemory>
         ensures { IfOk result (λ t. t ≡ self.now) }
     {
-        let slots = copy_of(*self.slots.allocator(), &self.slots)?;
-        Ok(Tree { slots })
+        let root = &self.slots[0];
+        let mut tree = Tree::new(*root.children.allocator(), root.label.copy()?)?;
+        copy_below(&mut tree.slots, 0, &self.slots)?;
+        Ok(tree)
     }
 
     /// How many nodes there are.
@@ -139,7 +146,8 @@ impl Tree {
         if self.slots.len() >= MOST_NODES as usize {
             return Err(TreeFault::TooManyNodes);
         }
-        let step = push_child(&mut self.slots, place, label)?;
+        let step = self.slots[place].children.len() as u32;
+        push_child(&mut self.slots, place, label)?;
         Ok(step)
     }
 
@@ -167,18 +175,73 @@ impl Tree {
         ensures in_limit { count_of self.new ≤ MOST_NODES }
         ensures err { OnErr result (self.new ≡ self.old) }
     {
+        let held = self.count();
         if !self.has_each(at) {
             return Err(TreeFault::NoSuchNode);
         }
-        if !has_room(self.count(), at.len(), tops) {
+        if !has_room(held, at.len(), tops) {
             return Err(TreeFault::TooManyNodes);
         }
-        let before = self.slots.len();
-        if let Err(NoMemory) = graft_each(&mut self.slots, at, tops) {
-            cut_back(&mut self.slots, before);
-            return Err(TreeFault::Memory);
-        }
+        graft_each(self, at, tops)?;
         Ok(())
+    }
+
+    /// Gives the node at the path another tree as its last child, or leaves the tree as it was.
+    pub(crate) fn graft(&mut self, at: &Path, top: &Tree) -> Result<(), NoMemory>
+        requires is_node { IsNode self.old at.now }
+        requires room { count_of self.old + count_of top.now ≤ MOST_NODES }
+        ensures ok { OnOk result (self.new ≡ edit_at at.now (add_tree top.now) self.old) }
+        ensures err { OnErr result (self.new ≡ self.old) }
+    {
+        let Some(place) = place_of(&self.slots, at, at.len()) else {
+            unreachable!()
+        };
+        graft_at(&mut self.slots, place, &top.slots)
+    }
+
+    /// Takes the last child from the node at the path, with all below it, where there is one.
+    pub(crate) fn drop_last(&mut self, at: &Path)
+        ensures { self.new ≡ edit_at at.now drop_last self.old }
+    {
+        let Some(place) = place_of(&self.slots, at, at.len()) else {
+            return;
+        };
+        let children = self.slots[place].children.len();
+        if children > 0 {
+            cut_child(&mut self.slots, place, children - 1);
+        }
+    }
+
+    /// Takes a class out of the label of the node at the path, and says whether it was there, or nothing where no node is
+    /// there. Linear in the path's length and the label's; it takes no memory.
+    pub fn take_class(&mut self, at: &Path, atom: Atom) -> Option<bool>
+        ensures taken { self.new ≡ edit_at at.now (take_class atom) self.old }
+        ensures had { result ≡ option_map (has_class atom) (label_at at.now self.old) }
+    {
+        let place = place_of(&self.slots, at, at.len())?;
+        Some(take_from_label(&mut self.slots, place, atom))
+    }
+
+    /// Takes the node at the path out of the tree, with all below it, and says whether it did: the root stays, and where no
+    /// node is there nothing changes. Linear in the path's length, in the nodes that go and in the later children of the
+    /// parent; it takes no memory.
+    pub fn cut(&mut self, at: &Path) -> bool
+        ensures cut { self.new ≡ cut_at at.now self.old }
+        ensures test { IsTrue result ↔ (IsNode self.old at.now × 0 < length at.now) }
+    {
+        let levels = at.len();
+        if levels == 0 {
+            return false;
+        }
+        let Some(parent) = place_of(&self.slots, at, levels - 1) else {
+            return false;
+        };
+        let step = at.at(levels - 1) as usize;
+        if step >= self.slots[parent].children.len() {
+            return false;
+        }
+        cut_child(&mut self.slots, parent, step);
+        true
     }
 
     /// Adds the classes of a set to the labels of the nodes at the paths, or leaves the tree as it was. Linear in the
@@ -202,14 +265,6 @@ impl Tree {
         ensures { IsTrue result ↔ All (IsNode self.now) at.now }
     {
         at.iter().all(|path| self.label(path).is_some())
-    }
-
-    /// The nodes, as other tables take them over.
-    pub(crate) fn slots(&self) -> &[Slot]
-        ensures table { IsTable result.now }
-        ensures tree { tree_in result.now 0 ≡ self.now }
-    {
-        &self.slots
     }
 
     // The node whose path is the first `len` numbers of the path.

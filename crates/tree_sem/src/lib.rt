@@ -2,6 +2,8 @@
 #![tactic(auto)]
 
 mod actions;
+mod copying;
+mod cutting;
 mod document_order;
 mod forests;
 mod grafts;

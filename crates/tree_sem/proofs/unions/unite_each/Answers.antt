@@ -1,4 +1,4 @@
-use Rattle.std.proofs.Common.{◌≡◌, ◌+◌, map, take, suc, refl, sym, ap, ◌∙◌, subst, arith}
+use Rattle.std.proofs.Common.{◌≡◌, ◌+◌, take, suc, refl, sym, ap, ◌∙◌, subst, arith}
 use Rattle.std.proofs.lemmas.List.{take_all}
 use Rattle.tree_sem.specs.Trees.{edit_at, edit_each}
 use Rattle.tree_sem.specs.Nodes.{IsNode}
@@ -12,27 +12,27 @@ use Rattle.tree_sem.proofs.unions.unite_each.Goals as goal
 pub loop-label-init : goal.loop-label-init
 loop-label-init c = record {
   within = omega arith;
-  left = c.into_iter-label-iterator.ensures.into_iter_gives.0 ∙ c.in_ok-labels.ensures ∙ ap (λ z. map (united z c.args.classes.now) c.args.at.now) c.deref.ensures.value;
+  left = c.into_iter-label-iterator.ensures.into_iter_gives.0 ∙ c.in_ok-labels.ensures;
   table = c.requires.table;
-  uniting = uniting_itself c.args.slots.now.items c.args.classes.now;
+  uniting = uniting_itself c.args.slots.now c.args.classes.now;
   tree = refl;
 }
 
 pub relabel-requires-clause-is_node : goal.relabel-requires-clause-is_node
 relabel-requires-clause-is_node c =
-    let old = tree_in c.args.slots.now.items 0 in
+    let old = tree_in c.args.slots.now 0 in
     let path = c.index-at-done.result in
     let k = c.loop-label.done in
     let f = add_classes c.args.classes.now in
-    let next = next_left (united c.args.slots.now.items c.args.classes.now) c.args.at.now k path c.in-Some.label c.next.new.self.rest.items (sym c.in-Some.ensures.steps.0 ∙ c.loop-label.invariant.left) in
+    let next = next_left (united c.args.slots.now c.args.classes.now) c.args.at.now k path c.in-Some.label c.next.new.self.rest.items (sym c.in-Some.ensures.steps.0 ∙ c.loop-label.invariant.left) in
     let here : IsNode old path = subst (IsNode old) (sym c.index-at-done.is) (c.requires.nodes k path next.0) in
     rw c.loop-label.invariant.tree (IsNode-grows old (edit_each (take k c.args.at.now) f old) (edit_each_grows f (classes_grow c.args.classes.now) (take k c.args.at.now) old) path here)
 
 pub loop-label-preserved : goal.loop-label-preserved
 loop-label-preserved c =
-    let old = c.args.slots.now.items in
-    let mid = c.loop-label.slots.items in
-    let new = c.relabel.new.slots.items in
+    let old = c.args.slots.now in
+    let mid = c.loop-label.slots in
+    let new = c.relabel.new.slots in
     let classes = c.args.classes.now in
     let at = c.args.at.now in
     let path = c.index-at-done.result in
@@ -57,5 +57,5 @@ pub returns-clause-tree : goal.returns-clause-tree
 returns-clause-tree c =
     let at = c.args.at.now in
     let f = add_classes c.args.classes.now in
-    let none = none_left (united c.args.slots.now.items c.args.classes.now) at c.loop-label.done c.loop-label.label-iterator.rest.items c.loop-label.invariant.left (omega (arith, c.loop-label.label-iterator.rest.ok.0, c.in-None.ensures.steps.0)) in
+    let none = none_left (united c.args.slots.now c.args.classes.now) at c.loop-label.done c.loop-label.label-iterator.rest.items c.loop-label.invariant.left (omega (arith, c.loop-label.label-iterator.rest.ok.0, c.in-None.ensures.steps.0)) in
     rw (take_all c.loop-label.done at none) at c.loop-label.invariant.tree

@@ -1,20 +1,9 @@
-use Rattle.std.proofs.Common.{◌∙◌}
-use Rattle.tree_sem.proofs.CopyLemmas.{same_parts}
-use Rattle.tree_sem.proofs.WriteLemmas.{same_table, same_tree}
+use Rattle.std.proofs.Common.{[], ◌∙◌, refl}
+use Rattle.tree_sem.proofs.TableLemmas.{bare_leaf}
 use Rattle.tree_sem.proofs.label_tree.Tree.copy.Goals as goal
 
-pub invariant_of-result : goal.invariant_of-result
-invariant_of-result c =
-    let old = c.self.inside.slots.items in
-    let new = c.in_ok-slots.slots.items in
-    let labels = rw c.deref.ensures.value at c.in_ok-slots.ensures.labels in
-    let children = rw c.deref.ensures.value at c.in_ok-slots.ensures.children in
-    same_table old new c.self.invariant (same_parts old new labels children)
+pub copy_below-requires-clause-bare : goal.copy_below-requires-clause-bare
+copy_below-requires-clause-bare c = bare_leaf c.tree.inside.slots c.tree.invariant.forest _ (c.tree.view_is ∙ c.in_ok-tree.ensures)
 
 pub returns : goal.returns
-returns c =
-    let old = c.self.inside.slots.items in
-    let new = c.in_ok-slots.slots.items in
-    let labels = rw c.deref.ensures.value at c.in_ok-slots.ensures.labels in
-    let children = rw c.deref.ensures.value at c.in_ok-slots.ensures.children in
-    same_tree old new (same_parts old new labels children) ∙ c.self.view_is
+returns c = c.in_ok-copy_below.ensures.ok [] refl ∙ c.self.view_is

@@ -1,0 +1,6 @@
+-- What is taken out of a set.
+use Rattle.std.specs.Prelude.{ℕ, List, ◌==◌, not, filter}
+
+-- the numbers but x
+abbrev pub without_class : ℕ → List ℕ → List ℕ
+without_class x ys = filter (λ y. not (y == x)) ys
