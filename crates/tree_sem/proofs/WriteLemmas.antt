@@ -46,6 +46,13 @@ changed_by_write old place s l cs above here label children parent =
       others = writes.others;
     }
 
+-- what was put back at a place stays there while another slot is taken
+pub back_there : (old mid : Slab Slot) (place child : ℕ) (was first node : Slot) → get old place ≡ Some was → get (with_value old place first) child ≡ None → Updates (with_value old place first) mid child (Some node)
+    → get mid place ≡ Some first
+back_there old mid place child was first node at free inserts =
+    let one = Updates-with_value old place first (is_there old place was at) in
+    inserts.others place (λ same. let never : Some first ≡ None = sym one.changed ∙ ap (get (with_value old place first)) same ∙ free in cc) ∙ one.changed
+
 -- one node more: its parent's list gets room, then it its slot, and then the list its number
 pub grown_by_writes : (old mid : Slab Slot) (place child : ℕ) (was first node again last : Slot) (l : List ℕ) → get old place ≡ Some was → first.label ≡ was.label → first.children.items ≡ was.children.items
     → first.parent ≡ was.parent → get (with_value old place first) child ≡ None → Updates (with_value old place first) mid child (Some node) → slab_len mid ≡ slab_len (with_value old place first) + 1
@@ -55,7 +62,7 @@ grown_by_writes old mid place child was first node again last l at first_label f
     let here = is_there old place was at in
     let one = Updates-with_value old place first here in
     let apart : child ≢ place = λ same. let never : Some first ≡ None = sym one.changed ∙ ap (get (with_value old place first)) (sym same) ∙ free in cc in
-    let mid_place : get mid place ≡ Some first = inserts.others place (λ same. apart (sym same)) ∙ one.changed in
+    let mid_place = back_there old mid place child was first node at free inserts in
     let both : Some again ≡ Some first = sym reads ∙ mid_place in
     let same : again ≡ first = cc in
     let two = Updates-with_value mid place last (is_there mid place again reads) in

@@ -3,6 +3,7 @@ use Rattle.std.proofs.lemmas.Option.{slice_get_within}
 use Rattle.tree_sem.specs.Cuts.{drop_child}
 use Rattle.tree_sem.specs.Table.{kids_in, tree_in}
 use Rattle.tree_sem.specs.Trees.{edit_at}
+use Rattle.tree_sem.proofs.ChangeLemmas.{same_table}
 use Rattle.tree_sem.proofs.CopyLemmas.{graft_table, graft_here, graft_tree, back_place, back_child, back_tree}
 use Rattle.tree_sem.proofs.CutLemmas.{table_cut}
 use Rattle.tree_sem.proofs.TableLemmas.{place_there}
@@ -11,6 +12,9 @@ use Rattle.tree_sem.proofs.copying.graft_at.Goals as goal
 
 pub index-requires : goal.index-requires
 index-requires c = place_there c.args.slots.now c.requires.table.forest c.requires.here.0 c.args.place c.requires.here.1
+
+pub returns-in_err-child-clause-table : goal.returns-in_err-child-clause-table
+returns-in_err-child-clause-table c = same_table c.args.slots.now c.push_child.new.slots c.args.place c.in_err-child.ensures.err c.requires.table
 
 pub copy_below-requires-clause-table : goal.copy_below-requires-clause-table
 copy_below-requires-clause-table c =
