@@ -1,5 +1,5 @@
 -- What a write to the table does to the nodes.
-use Rattle.std.proofs.Common.{◌≡◌, ◌≢◌, ℕ, zero, suc, ◌≤◌, List, [], ◌∷◌, Some, None, IsSome, option_map, option_and_then, unwrap_or, slice_get, sym, ap, ◌∙◌, subst, inl, inr, arith}
+use Rattle.std.proofs.Common.{◌≡◌, ◌≢◌, ℕ, zero, suc, ◌≤◌, List, [], ◌∷◌, Option, Some, None, IsSome, option_map, option_and_then, unwrap_or, slice_get, sym, ap, ◌∙◌, subst, inl, inr, arith}
 use Rattle.std.specs.List.Sorted.{IsStrictlyIncreasing}
 use Rattle.std.proofs.lemmas.Bool.{cases_eq}
 use Rattle.slab.specs.Slab.{Slab, get, ContainsKey}
@@ -168,6 +168,13 @@ module _ (old new : Slab Slot) (place : ℕ) (l : List ℕ) (forest : IsForest o
       (ap (λ z. record { label = z; below = row_by (tree_in old) (kids_in new place) }) (change.label ∙ is) ∙ ap (λ z. record { label = f (label_in old place); below = row_by (tree_in old) z }) change.children
       ∙ ap (λ (t : LabelTree). let u : LabelTree = record t { label = f t.label } in u) (sym rolled)) p at
 
+-- where a slot has the same children, each node has
+pub kids_kept : (old new : Slab Slot) (place : ℕ) (l : List ℕ) (above : Option ℕ) → IsChanged old new place l (kids_in old place) above → kids_in new ≡ kids_in old
+kids_kept old new place l above change = λ x i. (elim (cases_eq i place) as (λ _. kids_in new i ≡ kids_in old i) [
+  | inl same ↦ ap (kids_in new) same ∙ change.children ∙ ap (kids_in old) (sym same)
+  | inr other ↦ kids_stay old new i (change.others i other)
+]) x
+
 -- a slot that is as it was
 module _ (old new : Slab Slot) (place : ℕ) (change : IsChanged old new place (label_in old place) (kids_in old place) (parent_in old place)) where
   same_labels : label_in new ≡ label_in old
@@ -177,10 +184,7 @@ module _ (old new : Slab Slot) (place : ℕ) (change : IsChanged old new place (
   ]) x
 
   pub same_kids : kids_in new ≡ kids_in old
-  same_kids = λ x i. (elim (cases_eq i place) as (λ _. kids_in new i ≡ kids_in old i) [
-    | inl same ↦ ap (kids_in new) same ∙ change.children ∙ ap (kids_in old) (sym same)
-    | inr other ↦ kids_stay old new i (change.others i other)
-  ]) x
+  same_kids = kids_kept old new place (label_in old place) (parent_in old place) change
 
   pub same_tree : tree_in new ≡ tree_in old
   same_tree = ap (λ f. tree_to f (kids_in new) most_levels) same_labels ∙ ap (λ f. tree_to (label_in old) f most_levels) same_kids

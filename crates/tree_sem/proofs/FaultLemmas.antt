@@ -1,5 +1,5 @@
 -- Which fault a call gives.
-use Rattle.std.proofs.Common.{◌≡◌, ◌↔◌, ℕ, ◌<◌, ◌≤◌, Bool, true, false, IsTrue, inl, inr, arith, Option, Some, None, IsNone, IsSome, Result, Ok, Err, OnOk, IsErrOf, IsErrAnd}
+use Rattle.std.proofs.Common.{◌≡◌, ◌↔◌, ℕ, ◌<◌, ◌≤◌, Bool, true, false, IsTrue, inl, inr, arith, refl, sym, ◌∙◌, Option, Some, None, IsNone, IsSome, Result, Ok, Err, OnOk, IsErrOf, IsErrAnd}
 use Rattle.std.proofs.lemmas.Bool.{cases_lt}
 use Rattle.tree_sem.specs.declared.tree_fault.TreeFault.{TreeFault}
 use Rattle.tree_sem.specs.declared.tree_fault.TreeFault.TheVariants.{NoSuchNode, TooManyNodes, Memory}
@@ -42,3 +42,11 @@ not_too_many (Err e) is same = let other : TooManyNodes ≡ Memory = cc in cc
 -- a call that succeeds, where the tree would not be full
 pub fits : {T : Type 0} (v : T) (P : Type 0) → (P → ⊥) → IsErrOf {T = T} {E = TreeFault} (Ok v) TooManyNodes ↔ P
 fits v P not_so = (λ same. cc, λ p. absurd (not_so p))
+
+-- where a node is there, a call that never misses one gives no such fault
+pub not_missing : {T X : Type 0} (o : Option X) (x : X) (r : Result T TreeFault) → o ≡ Some x → (IsErrOf r NoSuchNode → ⊥) → IsErrOf r NoSuchNode ↔ IsNone o
+not_missing o x r there never = (λ is. absurd (never is), λ none. let some : IsNone (Some x) = rw there at none in cc)
+
+-- and it says that the tree is full where the table is
+pub full_tree : {T X : Type 0} (o : Option X) (x : X) (r : Result T TreeFault) (held count most : ℕ) → o ≡ Some x → count ≡ held → IsErrOf r TooManyNodes ↔ (held ≡ most) → IsErrOf r TooManyNodes ↔ (IsSome o × count ≡ most)
+full_tree o x r held count most there same full = (λ is. (rw there refl, same ∙ full.0 is), λ both. full.1 (sym same ∙ both.1))

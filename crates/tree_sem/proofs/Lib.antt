@@ -1,6 +1,7 @@
 pub mod AddTreesLemmas
 mod ArenaLemmas
 pub mod BothLemmas
+mod BuilderLemmas
 mod ChangeLemmas
 mod GrowLemmas
 pub mod CountLemmas

@@ -1,6 +1,6 @@
 -- The parents of nodes, by their paths.
-use Rattle.std.proofs.Common.{◌≡◌, ℕ, zero, suc, ◌-◌, ◌<◌, ◌≤◌, List, [], ◌∷◌, ◌++◌, length, take, drop, Some, None, IsSome, option_map, option_and_then, refl, ap, ◌∙◌, arith}
-use Rattle.std.proofs.lemmas.List.{take-append-drop}
+use Rattle.std.proofs.Common.{◌≡◌, ℕ, zero, suc, ◌+◌, ◌-◌, ◌<◌, ◌≤◌, List, [], ◌∷◌, ◌++◌, length, take, drop, Some, None, IsSome, option_map, option_and_then, refl, sym, ap, ◌∙◌, length-take-le, arith}
+use Rattle.std.proofs.lemmas.List.{take-append-drop, take_all}
 use Rattle.tree_sem.specs.Trees.{LabelTree, node_at}
 use Rattle.tree_sem.specs.Paths.{parent_of}
 use Rattle.tree_sem.proofs.RowLemmas.{node_at-append, node_at-child}
@@ -58,3 +58,13 @@ IsSome-parent_of v p t up is =
     let last = child_of_parent v p up in
     let family = node_at-child p last.0 t (rw last.1 at is) in
     rw family.2 refl
+
+-- what is left of a path after no level up, and after one more
+pub all_up : (v : List ℕ) → v ≡ take (length v - 0) v
+all_up v = let whole : length v - 0 ≡ length v = omega arith in sym (ap (λ n. take n v) whole ∙ take_all (length v) v (omega arith))
+
+pub one_up : (n : ℕ) (v w : List ℕ) → w ≡ take (length v - n) v → take (length w - 1) w ≡ take (length v - (n + 1)) v
+one_up n v w is =
+    let len : length w ≡ length v - n = ap length is ∙ length-take-le (length v - n) v (omega arith) in
+    let less : length w - 1 ≡ length v - (n + 1) = omega (arith, len) in
+    ap (λ k. take k w) less ∙ ap (take (length v - (n + 1))) is ∙ take_take (length v - (n + 1)) (length v - n) v (omega arith)

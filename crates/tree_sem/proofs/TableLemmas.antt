@@ -1,10 +1,11 @@
 -- What a table says of its nodes.
-use Rattle.std.proofs.Common.{◌≡◌, ℕ, ◌<◌, ◌≤◌, List, [], ◌∷◌, length, take, Option, Some, None, IsSome, option_map, option_and_then, slice_get, refl, sym, ap, ◌∙◌, subst, inl, inr, arith}
+use Rattle.std.proofs.Common.{◌≡◌, ℕ, ◌<◌, ◌≤◌, List, [], ◌∷◌, length, take, Option, Some, None, IsSome, IfSome, Result, IfOk, option_map, option_and_then, slice_get, refl, sym, ap, ◌∙◌, subst, inl, inr, arith}
 use Rattle.std.specs.List.Sorted.{IsStrictlyIncreasing}
 use Rattle.std.proofs.Math.Seq.{take-length}
 use Rattle.slab.specs.Slab.{Slab, get, ContainsKey}
 use Rattle.tree_sem.specs.declared.slots.Slot.{Slot}
 use Rattle.tree_sem.specs.declared.tree_fault.TheConstants.{MOST_NODES}
+use Rattle.tree_sem.specs.declared.tree_fault.TreeFault.{TreeFault}
 use Rattle.tree_sem.specs.Trees.{Row, no_nodes, node, LabelTree, leaf, node_at, label_at, length_of, nodes_of}
 use Rattle.tree_sem.specs.Nodes.{AllRise}
 use Rattle.tree_sem.specs.Arena.{row_by, place_from}
@@ -49,6 +50,9 @@ module _ (slots : Slab Slot) (forest : IsForest slots) where
 
       pub kids_there : length_of (tree_in slots j).below ≡ length (kids_in slots j)
       kids_there = rw (rolled_out j) (length_of-row_by (tree_in slots) (kids_in slots j))
+
+      pub child_number : (r : Result ℕ TreeFault) → IfOk r (λ k. k ≡ length (kids_in slots j)) → IfOk r (λ k. IfSome (node_at p (tree_in slots 0)) (λ n. k ≡ length_of n.below))
+      child_number r is = let has : IfOk r (λ k. k ≡ length_of (tree_in slots j).below) = rw kids_there is in rw node_there has
 
       pub children_there : option_map (λ n. length_of n.below) (node_at p (tree_in slots 0)) ≡ Some (length (kids_in slots j))
       children_there = rw node_there (ap Some kids_there)

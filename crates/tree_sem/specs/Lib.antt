@@ -2,6 +2,7 @@ pub mod Actions
 pub mod Arena
 pub mod Cuts
 pub mod Embedding
+pub mod Growing
 pub mod Growth
 pub mod Nodes
 pub mod Order

@@ -9,9 +9,8 @@ ghost use Rattle.tree_sem.specs.Trees.{leaf, count_of, length_of, node_at, label
 use crate::copying::{copy_below, graft_at};
 use crate::cutting::cut_child;
 use crate::grafts::{graft_each, has_room};
-use crate::slots::{
-    Slot, add_to_label, childless, place_of, push_child, take_from_label, unite_label,
-};
+use crate::growing::add_last;
+use crate::slots::{Slot, add_to_label, childless, place_of, take_from_label, unite_label};
 use crate::tree_fault::{MOST_NODES, TreeFault};
 use crate::unions::unite_each;
 use slab::Slab;
@@ -23,7 +22,7 @@ use tp_base::{Atom, ClassSet, NoMemory, Path};
 /// A tree. A contract sees labels over rows of trees.
 #[derive(Drop)]
 pub struct Tree {
-    slots: Slab<Slot>,
+    pub(crate) slots: Slab<Slot>,
 }
 
 impl Model for Tree {
@@ -143,12 +142,7 @@ impl Tree {
         let Some(place) = place_of(&self.slots, at, at.len()) else {
             return Err(TreeFault::NoSuchNode);
         };
-        if self.slots.len() >= MOST_NODES as usize {
-            return Err(TreeFault::TooManyNodes);
-        }
-        let step = self.slots[place].children.len() as u32;
-        push_child(&mut self.slots, place, label)?;
-        Ok(step)
+        add_last(&mut self.slots, place, label)
     }
 
     /// Gives the node at the path these trees as its last children, all or none of them. Linear in the path's

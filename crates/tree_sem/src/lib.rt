@@ -7,8 +7,10 @@ mod cutting;
 mod document_order;
 mod forests;
 mod grafts;
+mod growing;
 mod label_tree;
 mod slots;
+mod tree_builder;
 mod tree_fault;
 mod unions;
 
@@ -16,4 +18,5 @@ pub use actions::{Action, Step};
 pub use document_order::go_on;
 pub use forests::{Forest, Trees};
 pub use label_tree::Tree;
+pub use tree_builder::TreeBuilder;
 pub use tree_fault::{MOST_NODES, TreeFault};
