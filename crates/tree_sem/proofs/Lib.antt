@@ -26,6 +26,7 @@ pub mod RowLemmas
 pub mod ShapeLemmas
 mod TableLemmas
 mod UnionLemmas
+mod UpwardLemmas
 mod WalkLemmas
 pub mod WithinLemmas
 mod WriteLemmas

@@ -9,4 +9,5 @@ pub mod Order
 pub mod Paths
 pub mod Table
 pub mod TreeCode
+pub mod TreeNodes
 pub mod Trees

@@ -47,6 +47,11 @@ pub record IsTable (slots : Slab Slot) : Type 0 where
   pub counted : count_of (tree_in slots 0) ≡ slab_len slots
   pub in_limit : slab_len slots ≤ MOST_NODES
 
+-- the place of a node of the root's tree
+pub record IsPlace (slots : Slab Slot) (place : ℕ) : Type 0 where
+  pub forest : IsForest slots
+  pub leads : place_from (kids_in slots) 0 (path_in slots place) ≡ Some place
+
 -- the same, but that the node at the place has this label, these children and this parent
 pub record IsChanged (old new : Slab Slot) (place : ℕ) (l cs : List ℕ) (above : Option ℕ) : Type 0 where
   pub count : slab_len new ≡ slab_len old

@@ -4,12 +4,14 @@ ghost use Rattle.tp_base.specs.Classes.{has_class, all_among};
 ghost use Rattle.tree_sem.specs.Actions.{add_classes, add_trees};
 ghost use Rattle.tree_sem.specs.Cuts.{take_class, cut_at, drop_last};
 ghost use Rattle.tree_sem.specs.Nodes.{IsNode, AllRise};
+ghost use Rattle.tree_sem.specs.TreeNodes.{node_of};
 ghost use Rattle.tree_sem.specs.Trees.{leaf, count_of, length_of, node_at, label_at, children_at, edit_at, edit_each, add_class, add_child, add_tree};
 
 use crate::copying::{copy_below, graft_at};
 use crate::cutting::cut_child;
 use crate::grafts::{graft_each, has_room};
 use crate::growing::add_last;
+use crate::nodes::Node;
 use crate::slots::{Slot, add_to_label, childless, place_of, take_from_label, unite_label};
 use crate::tree_fault::{MOST_NODES, TreeFault};
 use crate::unions::unite_each;
@@ -67,6 +69,13 @@ impl Tree {
         ensures rise { AllRise self.now }
     {
         self.slots.len() as u32
+    }
+
+    /// The node at the path, or nothing where none is there. Linear in the path's length.
+    pub fn node(&self, at: &Path) -> Option<Node<'_>>
+        ensures { result ≡ node_of self.now at.now }
+    {
+        Node::at_path(&self.slots, at)
     }
 
     /// The label of the node at the path, or nothing where no node is there. Linear in the path's length.
