@@ -1,6 +1,5 @@
 -- From what `with_name` answers to what the clauses of `intern` say.
 use Rattle.std.proofs.Common.{◌≡◌, ℕ, ◌<◌, ◌≤◌, List, [], ◌∷◌, ◌++◌, length, slice_get, Contains, Option, Some, None, Result, Ok, Err, IfOk, OnOk, IfErr, IsErrOf, ◌↔◌, refl, inl, inr, arith}
-use Rattle.std.specs.Option.{ok_or}
 use Rattle.std.proofs.lemmas.Bool.{le-ltb}
 use Rattle.tp_base.specs.declared.atoms.TheConstants.{MOST_ATOMS}
 use Rattle.tp_base.specs.declared.atom_table.AtomFault.{AtomFault}
@@ -13,16 +12,20 @@ pub record IsAnswer (ns ms : List Named) (n : Named) (r : Result ℕ AtomFault) 
   pub ok : IfOk r (λ a. with_name ns n ≡ Some (a, ms))
   pub full : IsErrOf r TooManyAtoms ↔ (with_name ns n ≡ None)
 
--- a full table gives what a search finds
-pub searched : (ns : List Named) (n : Named) (o : Option ℕ) → o ≡ place_in ns n → MOST_ATOMS ≤ length ns → IsAnswer ns ns n (ok_or o TooManyAtoms)
+-- a name that is there has its place, and nothing changes
+pub known_place : (ns : List Named) (n : Named) (a : ℕ) → place_in ns n ≡ Some a → IsAnswer ns ns n (Ok a)
 unfolding with_name
-searched ns n (Some i) found full = record {
-  ok = rw (← found) refl;
-  full = rw (← found) (λ e. absurd cc, λ e. absurd cc);
+known_place ns n a found = record {
+  ok = rw found refl;
+  full = rw found (λ e. absurd cc, λ e. absurd cc);
 }
-searched ns n None none full = record {
+
+-- a new name finds no room in a full table
+pub no_room : (ns : List Named) (n : Named) → place_in ns n ≡ None → MOST_ATOMS ≤ length ns → IsAnswer ns ns n (Err TooManyAtoms)
+unfolding with_name
+no_room ns n new full = record {
   ok = tt;
-  full = rw (← none, le-ltb (length ns) MOST_ATOMS full) (λ e. refl, λ e. refl);
+  full = rw (new, le-ltb (length ns) MOST_ATOMS full) (λ e. refl, λ e. refl);
 }
 
 -- where there is room, only memory can be wanting

@@ -7,9 +7,9 @@ use Rattle.std.proofs.lemmas.List.Folds.{list_any_at, Any-from_list_any}
 use Rattle.std.proofs.lemmas.List.Sums.{passes_at_first, fails_before_first, prefix_len-le-length}
 use Rattle.std.proofs.lemmas.List.{get_or_default}
 use Rattle.indexmap.specs.IndexSet.{insert_key}
-use Rattle.tp_base.specs.declared.atom_table.Name.{Name}
+use Rattle.tp_base.specs.declared.names.Name.{Name}
 use Rattle.tp_base.specs.declared.atoms.TheConstants.{MOST_ATOMS}
-use Rattle.tp_base.specs.contracts.atom_table.NamePartialEq as its
+use Rattle.tp_base.specs.contracts.names.NamePartialEq as its
 use Rattle.tp_base.specs.Names.{Named, named, is_name, place_in, with_name}
 
 -- the derived `==`

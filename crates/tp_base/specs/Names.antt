@@ -5,7 +5,7 @@ use denote.Enum.Bare.{sameb}
 use Rattle.tp_base.specs.contracts.atoms.AtomKind.{the_type}
 use Rattle.tp_base.specs.declared.atoms.AtomKind.{AtomKind}
 use Rattle.tp_base.specs.declared.atoms.TheConstants.{MOST_ATOMS}
-use Rattle.tp_base.specs.declared.atom_table.Name.{Name}
+use Rattle.tp_base.specs.declared.names.Name.{Name}
 
 -- what a name is to a caller: its kind and its text
 abbrev pub Named : Type 0

@@ -1,8 +1,9 @@
 //! Interned names: each different pair of a kind and a name gets a number.
-ghost use Rattle.std.specs.Prelude.{◌≡◌, ◌<◌, ◌≤◌, ◌+◌, ◌↔◌, [], ◌∷◌, ◌++◌, length, slice_get, Contains, Some, IsNone, IfOk, IfSome, OnOk, OnErr, IsErrOf, IfNone, IfErr, position, option_map};
-ghost use Rattle.tp_base.specs.Names.{IsDistinct, named, is_name, place_in, with_name};
+ghost use Rattle.std.specs.Prelude.{◌≡◌, ◌<◌, ◌≤◌, ◌+◌, ◌↔◌, [], ◌∷◌, ◌++◌, length, slice_get, Contains, Some, IsNone, IfOk, IfSome, OnOk, OnErr, IsErrOf, IfErr, option_map};
+ghost use Rattle.tp_base.specs.Names.{IsDistinct, place_in, with_name};
 
 use crate::atoms::{Atom, AtomKind, MOST_ATOMS};
+use crate::names::{Name, NameRef};
 use indexmap::IndexSet;
 use std::alloc::{AllocError, AllocFailed, Global};
 use std::marker::Model;
@@ -35,12 +36,6 @@ impl<T: Drop> From<AllocFailed<T>> for AtomFault {
     fn from(_error: AllocFailed<T>) -> AtomFault {
         AtomFault::Memory
     }
-}
-
-#[derive(Debug, PartialEq, Eq, Hash, Drop)]
-struct Name {
-    kind: AtomKind,
-    text: Vec<u8>,
 }
 
 /// The names that were interned, in the order of their first coming. A contract sees the list of the
@@ -80,8 +75,8 @@ impl AtomTable {
         self.names.len() as u32
     }
 
-    /// The number of a name, which is added where it is new. Constant on average in the number of names,
-    /// and linear in it where the table is full.
+    /// The number of a name, which is added where it is new. Linear in its text, and constant on average in the number of names.
+    /// A name that is there already needs no memory.
     pub fn intern(&mut self, kind: AtomKind, name: &[u8]) -> Result<Atom, AtomFault>
         ensures ok { IfOk result (λ a. with_name self.old (kind, name.now) ≡ Some (a, self.new)) }
         ensures place { IfOk result (λ a. slice_get self.new a ≡ Some (kind, name.now)) }
@@ -95,19 +90,19 @@ impl AtomTable {
             ↔ (¬ Contains self.old (kind, name.now) × length self.old ≡ MOST_ATOMS) }
         ensures err { OnErr result (self.new ≡ self.old) }
     {
-        // A full table is searched as it lies, since a look-up by a key needs memory, which may fail first.
-        if self.count() >= MOST_ATOMS {
-            self.find(kind, name).ok_or(AtomFault::TooManyAtoms)
-        } else {
-            self.enter(kind, name)
+        let full = self.count() >= MOST_ATOMS;
+        match self.find(kind, name) {
+            Some(atom) => Ok(atom),
+            None if full => Err(AtomFault::TooManyAtoms),
+            None => self.enter(kind, name),
         }
     }
 
-    // The number of a name that is there already, by a look at each.
+    // The number of a name that is there already.
     fn find(&self, kind: AtomKind, name: &[u8]) -> Option<Atom>
         ensures { result ≡ place_in self.now (kind, name.now) }
     {
-        let place = place_of(self.names.as_slice(), kind, name)?;
+        let place = self.names.get_index_of(NameRef { kind, text: name })?;
         Some(Atom(place as u32))
     }
 
@@ -131,16 +126,4 @@ impl AtomTable {
         let name = self.names.get_index(atom.0 as usize)?;
         Some((name.kind, name.text.as_slice()))
     }
-}
-
-fn place_of(names: &[Name], kind: AtomKind, name: &[u8]) -> Option<usize>
-    ensures { result ≡ position (λ known. is_name (kind, name.now) (named known)) names.now }
-{
-    names.iter().position(|known| is_named(known, kind, name))
-}
-
-fn is_named(known: &Name, kind: AtomKind, name: &[u8]) -> bool
-    ensures { result ≡ is_name (kind, name.now) (named known.now) }
-{
-    kind == known.kind && name == known.text.as_slice()
 }

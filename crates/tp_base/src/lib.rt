@@ -4,6 +4,7 @@
 mod atom_table;
 mod atoms;
 mod class_set;
+mod names;
 mod no_memory;
 mod paths;
 mod places;

@@ -1,5 +1,5 @@
 use Rattle.std.proofs.Common.{◌≡◌, Some, map}
-use Rattle.tp_base.specs.declared.atom_table.Name.{Name}
+use Rattle.tp_base.specs.declared.names.Name.{Name}
 use Rattle.tp_base.specs.Names.{named, with_name}
 use Rattle.tp_base.proofs.StoredNames.{inserted}
 use Rattle.tp_base.proofs.NamesLemmas.{with_name-IsTable}

@@ -3,10 +3,7 @@ use Rattle.tp_base.proofs.atom_table.AtomTable.find.Goals as goal
 
 pub returns-in_err-place : goal.returns-in_err-place
 returns-in_err-place c =
-    rw (← c.self.view_is, place_in-map c.self.inside.names.keys (c.args.kind, c.args.name.now), c.from_residual.ensures)
-    (rw c.as_slice.ensures.keys at c.in_err-place.ensures)
+    rw (← c.self.view_is, place_in-map c.self.inside.names.keys (c.args.kind, c.args.name.now), c.from_residual.ensures) c.in_err-place.ensures.index
 
 pub returns : goal.returns
-returns c =
-    rw (← c.self.view_is, place_in-map c.self.inside.names.keys (c.args.kind, c.args.name.now))
-    (rw c.as_slice.ensures.keys at c.in_ok-place.ensures)
+returns c = rw (← c.self.view_is, place_in-map c.self.inside.names.keys (c.args.kind, c.args.name.now)) c.in_ok-place.ensures.index
