@@ -1,4 +1,5 @@
 pub mod Classes
+pub mod Cursor
 pub mod Losses
 pub mod Names
 pub mod Places

@@ -1,5 +1,5 @@
 -- Names, and the lists of different names that tables are seen as.
-use Rattle.std.specs.Prelude.{ℕ, ◌<◌, ◌≤◌, ◌≢◌, Bool, ◌&&◌, nat_lt, if◌then◌else◌, List, [], ◌∷◌, ◌++◌, length, slice_get, position, Option, Some, None}
+use Rattle.std.specs.Prelude.{◌≡◌, ℕ, ◌<◌, ◌≤◌, ◌≢◌, Bool, ◌&&◌, nat_lt, if◌then◌else◌, List, [], ◌∷◌, ◌++◌, length, take, slice_get, position, Option, Some, None}
 use Rattle.std.specs.Str.{bytes_eq}
 use denote.Enum.Bare.{sameb}
 use Rattle.tp_base.specs.contracts.atoms.AtomKind.{the_type}
@@ -27,6 +27,10 @@ placed None names name = if nat_lt (length names) MOST_ATOMS then Some (length n
 -- the place of a name, and the names with it among them; none where it is new and there is no room
 unfoldable pub with_name : List Named → Named → Option (ℕ × List Named)
 with_name names name = placed (place_in names name) names name
+
+-- the names that were there keep their numbers
+abbrev pub IsFront : List Named → List Named → Type 0
+IsFront old new = take (length old) new ≡ old
 
 -- no name comes twice
 abbrev pub IsDistinct : List Named → Type 0

@@ -4,6 +4,7 @@
 mod atom_table;
 mod atoms;
 mod class_set;
+mod cursor;
 mod names;
 mod no_memory;
 mod paths;
@@ -12,6 +13,7 @@ mod places;
 pub use atom_table::{AtomFault, AtomTable};
 pub use atoms::{Atom, AtomKind, MOST_ATOMS};
 pub use class_set::ClassSet;
+pub use cursor::Cursor;
 pub use no_memory::NoMemory;
 pub use paths::Path;
 pub use places::{MOST_BYTES, Place, place_of};

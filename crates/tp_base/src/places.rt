@@ -2,6 +2,8 @@
 ghost use Rattle.std.specs.Prelude.{◌≡◌, ◌≤◌, length};
 ghost use Rattle.tp_base.specs.Places.{line_of, column_of};
 
+use crate::cursor::Cursor;
+
 /// How long a text can be, so that its lines and columns can be counted.
 pub const MOST_BYTES: u32 = 16_777_216;
 
@@ -19,14 +21,5 @@ pub fn place_of(text: &[u8], at: usize) -> Place
     ensures line { result.line ≡ line_of text.now at }
     ensures column { result.column ≡ column_of text.now at }
 {
-    let mut place = Place { line: 1, column: 1 };
-    for byte in &text[..at] {
-        if *byte == b'\n' {
-            place.line += 1;
-            place.column = 1;
-        } else {
-            place.column += 1;
-        }
-    }
-    place
+    Cursor::new().place_at(text, at)
 }
