@@ -1,5 +1,5 @@
 -- From what `with_name` answers to what the clauses of `intern` say.
-use Rattle.std.proofs.Common.{◌≡◌, ℕ, ◌<◌, ◌≤◌, List, [], ◌∷◌, ◌++◌, length, slice_get, Contains, Option, Some, None, Result, Ok, Err, IfOk, OnOk, IfErr, IsErrOf, ◌↔◌, refl, inl, inr, arith}
+use Rattle.std.proofs.Common.{◌≡◌, ℕ, ◌<◌, ◌≤◌, List, [], ◌∷◌, ◌++◌, length, slice_get, Contains, Some, None, Result, Ok, Err, IfOk, OnOk, IfErr, IsErrOf, ◌↔◌, refl, inl, inr, arith}
 use Rattle.std.proofs.lemmas.Bool.{le-ltb}
 use Rattle.tp_base.specs.declared.atoms.TheConstants.{MOST_ATOMS}
 use Rattle.tp_base.specs.declared.atom_table.AtomFault.{AtomFault}

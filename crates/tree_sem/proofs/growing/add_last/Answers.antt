@@ -1,5 +1,6 @@
 use Rattle.std.proofs.Common.{◌≡◌, length, sym, ap, arith}
 use Rattle.tree_sem.specs.Table.{kids_in}
+use Rattle.tree_sem.proofs.ChangeLemmas.{same_table}
 use Rattle.tree_sem.proofs.TableLemmas.{place_there, few_children}
 use Rattle.tree_sem.proofs.GrowLemmas.{tree_grown, table_grown, places_stay}
 use Rattle.tree_sem.proofs.WriteLemmas.{kids_are}
@@ -14,6 +15,9 @@ overflow_cast-step c =
     let many = ap length (kids_are slots c.args.place c.index.result.now c.index.ensures) in
     let number : c.len-step.result ≡ length (kids_in slots c.args.place) = omega (arith, many, c.index.result.now.children.ok.0, c.len-step.ensures) in
     omega (arith, number, few_children slots c.requires.table c.requires.here.0 c.args.place (sym c.requires.here.1))
+
+pub returns-in_err-push_child-clause-table : goal.returns-in_err-push_child-clause-table
+returns-in_err-push_child-clause-table c = same_table c.args.slots.now c.push_child.new.slots c.args.place c.in_err-push_child.ensures.err c.requires.table
 
 pub returns-clause-table : goal.returns-clause-table
 returns-clause-table c =

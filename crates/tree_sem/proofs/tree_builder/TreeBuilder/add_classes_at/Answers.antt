@@ -3,7 +3,7 @@ use Rattle.tp_base.specs.Classes.{union_of}
 use Rattle.tp_base.proofs.ClassLemmas.{IsStrictlyIncreasing-union_of}
 use Rattle.tree_sem.specs.Arena.{place_from}
 use Rattle.tree_sem.specs.Table.{label_in}
-use Rattle.tree_sem.proofs.ChangeLemmas.{kids_kept, relabelled_tree, table_relabelled}
+use Rattle.tree_sem.proofs.ChangeLemmas.{kids_kept, same_table, relabelled_tree, table_relabelled}
 use Rattle.tree_sem.proofs.FaultLemmas.{memory_fault, no_fault}
 use Rattle.tree_sem.proofs.TableLemmas.{no_node, node_there, walked}
 use Rattle.tree_sem.proofs.tree_builder.TreeBuilder.add_classes_at.Goals as goal
@@ -23,6 +23,15 @@ returns-in_err-unite_label-clause-no_such_node c =
     let at = walked slots c.args.at.now c.len.result (Some c.in-Some.place) c.len.ensures c.in-Some.ensures.place in
     let there = node_there slots c.self.invariant.table.forest c.args.at.now c.in-Some.place at in
     rw (← c.self.view_is) (memory_fault _ _ c.from_residual.result there c.from_residual.ensures.1)
+
+pub invariant_of-self : goal.invariant_of-self
+invariant_of-self c =
+    let slots = c.self.inside.slots in
+    let change = c.in_err-unite_label.ensures.err in
+    record {
+      table = same_table slots c.unite_label.new.slots c.in-Some.place change c.self.invariant.table;
+      here = ap (λ kids. place_from kids 0 c.self.inside.at) (kids_kept slots c.unite_label.new.slots c.in-Some.place _ _ change) ∙ c.self.invariant.here;
+    }
 
 pub invariant_of-self-2 : goal.invariant_of-self-2
 invariant_of-self-2 c =
