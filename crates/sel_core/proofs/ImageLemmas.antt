@@ -1,5 +1,5 @@
 -- What a selector matches, its images and what grows from it are matched too.
-use Rattle.std.proofs.Common.{◌≡◌, ℕ, ◌<◌, ◌≤◌, List, [], ◌∷◌, length, take, Some, None, option_map, IsSome, IsSomeAnd, All, Contains, refl, subst, sym, arith}
+use Rattle.std.proofs.Common.{◌≡◌, ℕ, ◌≤◌, List, [], ◌∷◌, length, take, Some, None, option_map, IsSome, IsSomeAnd, All, Contains, refl, subst, sym, arith}
 use Rattle.std.proofs.Math.Seq.{take-length}
 use Rattle.tree_sem.specs.Trees.{LabelTree, node_at}
 use Rattle.tree_sem.specs.Nodes.{IsNode}

@@ -2,6 +2,7 @@ pub mod FitLemmas
 pub mod Groups
 pub mod ImageLemmas
 pub mod PartLemmas
+pub mod UpwardLemmas
 pub mod WriteLemmas
 pub mod Gaps
 pub mod Rests

@@ -1,23 +1,28 @@
 -- Where the groups of a selector are placed, from right to left.
---     MatchesAt t v n s           the selector matches the node that the first n numbers of v lead to
---     IsLeft t v n parts joins    what is left of a selector matches above the level n; without parts it does
---     Leaves                      the last group of a selector fits at a level, and leaves this
-use Rattle.std.specs.Prelude.{ℕ, ◌<◌, ◌≤◌, List, [], ◌∷◌, take}
-use Rattle.tree_sem.specs.Trees.{LabelTree}
+--     IsUpTo u v                    u is v, or the path of a node above
+--     MatchesNode n s               the selector matches the node
+--     IsLeft n parts joins          what is left of a selector matches some node above; without parts it does
+--     Leaves from s n parts joins   the last group of a selector fits with its last compound at a node, and leaves this
+use Rattle.std.specs.Prelude.{◌≡◌, ℕ, ◌≤◌, List, [], ◌∷◌, length, take}
+use Rattle.tree_sem.specs.Paths.{IsAncestor}
+use Rattle.tree_sem.specs.TreeNodes.{TreeNode}
 use Rattle.sel_core.specs.declared.selectors.Compound.{Compound}
 use Rattle.sel_core.specs.declared.selectors.Join.{Join}
-use Rattle.sel_core.specs.Selectors.{Selector, Fits, Above}
+use Rattle.sel_core.specs.Selectors.{Selector, Matches}
 use Rattle.sel_core.specs.Parts.{selector_from}
 
-abbrev pub MatchesAt : LabelTree → List ℕ → ℕ → Selector → Type 0
-MatchesAt t v n s = Fits t (take n v) s.subject × Above t v n s.outer
+abbrev pub IsUpTo : List ℕ → List ℕ → Type 0
+IsUpTo u v = (len : ℕ) × (len ≤ length v) × (u ≡ take len v)
 
-abbrev pub IsLeft : LabelTree → List ℕ → ℕ → List Compound → List Join → Type 0
-IsLeft t v n [] joins = Unit {0}
-IsLeft t v n (c ∷ parts) joins = (m : ℕ) × (m < n) × MatchesAt t v m (selector_from (c ∷ parts) joins)
+abbrev pub MatchesNode : TreeNode → Selector → Type 0
+MatchesNode n s = Matches n.tree n.path s
 
--- where the rest matches above the level n, the selector matches at the level `from`;
--- and wherever the selector matches at that level or above, the rest matches above n
-pub record Leaves (t : LabelTree) (v : List ℕ) (from : ℕ) (s : Selector) (n : ℕ) (parts : List Compound) (joins : List Join) : Type 0 where
-  pub enough : IsLeft t v n parts joins → MatchesAt t v from s
-  pub needed : (m : ℕ) → m ≤ from → MatchesAt t v m s → IsLeft t v n parts joins
+abbrev pub IsLeft : TreeNode → List Compound → List Join → Type 0
+IsLeft n [] joins = Unit {0}
+IsLeft n (c ∷ parts) joins = (u : List ℕ) × IsAncestor u n.path × Matches n.tree u (selector_from (c ∷ parts) joins)
+
+-- where the rest matches above the node n, the selector matches the node `from`;
+-- and wherever the selector matches that node or one above, the rest matches above n
+pub record Leaves (from : TreeNode) (s : Selector) (n : TreeNode) (parts : List Compound) (joins : List Join) : Type 0 where
+  pub enough : IsLeft n parts joins → MatchesNode from s
+  pub needed : (u : List ℕ) → IsUpTo u from.path → Matches from.tree u s → IsLeft n parts joins

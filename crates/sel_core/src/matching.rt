@@ -1,27 +1,30 @@
-//! Whether a selector matches a node. It is walked from right to left: compounds that are joined by `>` stand on
-//! neighbouring levels, so they are placed as one group, and each group takes the nearest place that fits.
-ghost use Rattle.std.specs.Prelude.{◌≡◌, ◌≤◌, ◌<◌, ◌+◌, ◌↔◌, length, take, IsTrue, IfNone, IfSome};
+//! Whether a selector matches a node. It is walked from right to left: compounds that are joined by `>` stand one
+//! above the other, so they are placed as one group, and each group takes the nearest place that fits.
+ghost use Rattle.std.specs.Prelude.{◌≡◌, ◌<◌, ◌+◌, ◌↔◌, length, IsTrue, IfNone, IfSome};
 ghost use Rattle.tp_base.specs.Classes.{all_among};
 ghost use Rattle.sel_core.specs.Selectors.{Fits, Matches};
 ghost use Rattle.sel_core.specs.Parts.{selector_from};
-ghost use Rattle.sel_core.specs.Places.{MatchesAt, IsLeft, Leaves};
+ghost use Rattle.sel_core.specs.Places.{MatchesNode, IsLeft, Leaves};
 ghost use Rattle.sel_core.specs.Views.{selector_of};
 
 use crate::selectors::{Compound, Join, Selector};
 use tp_base::{Atom, ClassSet, Path};
-use tree_sem::Tree;
+use tree_sem::{Node, Tree};
 
-/// Whether the selector matches the node at the path; false where no node is there. Each level of the path is
-/// tried for one group at most, so at most as many compounds are tested as the path's nodes times the longest
-/// group, each by a walk from the root.
+/// Whether the selector matches the node at the path; false where no node is there. Each node above is tried for one
+/// group at most, so at most as many compounds are tested as the path's nodes times the longest group, each in the time
+/// of its atoms times the logarithm of a label's.
 pub fn matches(tree: &Tree, at: &Path, s: &Selector) -> bool
     ensures { IsTrue result ↔ Matches tree.now at.now (selector_of s.now) }
 {
-    let Some(mut left) = placed(tree, at, at.len(), s.parts.items(), s.joins.items()) else {
+    let Some(node) = tree.node(at) else {
+        return false;
+    };
+    let Some(mut left) = placed(node, s.parts.items(), s.joins.items()) else {
         return false;
     };
     'groups: while !left.parts.is_empty() {
-        match nearest(tree, at, left.level, left.parts, left.joins) {
+        match nearest(&left.node, left.parts, left.joins) {
             None => return false,
             Some(further) => left = further,
         }
@@ -29,86 +32,64 @@ pub fn matches(tree: &Tree, at: &Path, s: &Selector) -> bool
     true
 }
 
-/// What of a selector is still to be placed above a level. Without parts it is nothing.
-#[derive(Clone, Copy)]
-struct Left<'a> {
-    level: usize,
+/// What of a selector is still to be placed above a node. Without parts it is nothing.
+#[derive(Drop)]
+struct Left<'t, 'a> {
+    node: Node<'t>,
     parts: &'a [Compound],
     joins: &'a [Join],
 }
 
-// What is left where the last group of a selector is at the nearest place above a level that fits.
-fn nearest<'a>(
-    tree: &Tree,
-    at: &Path,
-    level: usize,
+// What is left where the last group of a selector is at the nearest node above that fits.
+fn nearest<'t, 'a>(
+    node: &Node<'t>,
     parts: &'a [Compound],
     joins: &'a [Join],
-) -> Option<Left<'a>>
-    requires within { level ≤ length at.now }
+) -> Option<Left<'t, 'a>>
     requires between { length parts.now ≡ length joins.now + 1 }
-    ensures none { IfNone result (IsLeft tree.now at.now level parts.now joins.now → ⊥) }
-    ensures same { IfSome result (λ l. IsLeft tree.now at.now level parts.now joins.now ↔ IsLeft tree.now at.now l.level l.parts.now l.joins.now) }
-    ensures above { IfSome result (λ l. l.level ≤ level) }
+    ensures none { IfNone result (IsLeft node.now parts.now joins.now → ⊥) }
+    ensures same { IfSome result (λ l. IsLeft node.now parts.now joins.now ↔ IsLeft l.node l.parts.now l.joins.now) }
     ensures between { IfSome result (λ l. 0 < length l.parts.now → length l.parts.now ≡ length l.joins.now + 1) }
     ensures fewer { IfSome result (λ l. length l.parts.now < length parts.now) }
 {
-    let mut higher = level;
-    'levels: while higher > 0 {
-        higher -= 1;
-        if let Some(left) = placed(tree, at, higher, parts, joins) {
+    let mut above = node.parent();
+    'nodes: while let Some(next) = above {
+        above = next.parent();
+        if let Some(left) = placed(next, parts, joins) {
             return Some(left);
         }
     }
     None
 }
 
-// What is left where the last compound of a selector is at this level, and those before it up to a join that is
-// no `>` are above it, level by level.
-fn placed<'a>(
-    tree: &Tree,
-    at: &Path,
-    level: usize,
-    parts: &'a [Compound],
-    joins: &'a [Join],
-) -> Option<Left<'a>>
-    requires within { level ≤ length at.now }
+// What is left where the last compound of a selector is at this node, and those before it up to a join that is
+// no `>` are above it, parent by parent.
+fn placed<'t, 'a>(node: Node<'t>, parts: &'a [Compound], joins: &'a [Join]) -> Option<Left<'t, 'a>>
     requires between { length parts.now ≡ length joins.now + 1 }
-    ensures none { IfNone result (MatchesAt tree.now at.now level (selector_from parts.now joins.now) → ⊥) }
-    ensures some { IfSome result (λ l. Leaves tree.now at.now level (selector_from parts.now joins.now) l.level l.parts.now l.joins.now) }
-    ensures above { IfSome result (λ l. l.level ≤ level) }
+    ensures none { IfNone result (MatchesNode node.entry (selector_from parts.now joins.now) → ⊥) }
+    ensures some { IfSome result (λ l. Leaves node.entry (selector_from parts.now joins.now) l.node l.parts.now l.joins.now) }
     ensures between { IfSome result (λ l. 0 < length l.parts.now → length l.parts.now ≡ length l.joins.now + 1) }
     ensures fewer { IfSome result (λ l. length l.parts.now < length parts.now) }
 {
-    let mut left = Left {
-        level,
-        parts,
-        joins,
-    };
+    let mut left = Left { node, parts, joins };
     'children: while let Some((last, parts)) = left.parts.split_last() {
-        if !fits_above(tree, at, left.level, last) {
+        if !fits_here(&left.node, last) {
             return None;
         }
         match left.joins.split_last() {
             None => return Some(Left {
-                level: left.level,
+                node: left.node,
                 parts,
                 joins: left.joins,
             }),
             Some((Join::Inside, joins)) => return Some(Left {
-                level: left.level,
+                node: left.node,
                 parts,
                 joins,
             }),
             Some((Join::Child, joins)) => {
-                if left.level == 0 {
-                    return None;
-                }
-                left = Left {
-                    level: left.level - 1,
-                    parts,
-                    joins,
-                };
+                let node = left.node.parent()?;
+                left = Left { node, parts, joins };
             }
         }
     }
@@ -120,18 +101,17 @@ fn placed<'a>(
 pub fn fits(tree: &Tree, at: &Path, c: &Compound) -> bool
     ensures { IsTrue result ↔ Fits tree.now at.now c.now.atoms }
 {
-    fits_above(tree, at, at.len(), c)
+    match tree.label(at) {
+        None => false,
+        Some(label) => has_all(label, c.atoms.items()),
+    }
 }
 
-// Whether the node that the first `level` numbers of the path lead to has each atom of the compound.
-fn fits_above(tree: &Tree, at: &Path, level: usize, compound: &Compound) -> bool
-    requires { level ≤ length at.now }
-    ensures { IsTrue result ↔ Fits tree.now (take level at.now) compound.now.atoms }
+// Whether the node has each atom of the compound.
+fn fits_here(node: &Node<'_>, compound: &Compound) -> bool
+    ensures { IsTrue result ↔ Fits node.now.tree node.now.path compound.now.atoms }
 {
-    match tree.label_above(at, level) {
-        None => false,
-        Some(label) => has_all(label, compound.atoms.items()),
-    }
+    has_all(node.label(), compound.atoms.items())
 }
 
 fn has_all(label: &ClassSet, atoms: &[Atom]) -> bool

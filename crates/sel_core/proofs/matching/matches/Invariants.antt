@@ -1,4 +1,4 @@
-use Rattle.std.proofs.Common.{◌≡◌, ◌<◌, ◌≤◌, ◌+◌, ◌↔◌, length}
+use Rattle.std.proofs.Common.{◌≡◌, ◌<◌, ◌+◌, ◌↔◌, length}
 use Rattle.sel_core.specs.Selectors.{Matches}
 use Rattle.sel_core.specs.Places.{IsLeft}
 use Rattle.sel_core.specs.Views.{selector_of}
@@ -6,9 +6,8 @@ use Rattle.sel_core.proofs.matching.matches.Given as goal
 
 abbrev pub invariant-groups : goal.invariant-groups
 invariant-groups l = record {
-  within : l.left.level ≤ length l.at;
   between : 0 < length l.left.parts.now → length l.left.parts.now ≡ length l.left.joins.now + 1;
-  same : Matches l.tree l.at (selector_of l.s) ↔ IsLeft l.tree l.at l.left.level l.left.parts.now l.left.joins.now;
+  same : Matches l.tree l.at (selector_of l.s) ↔ IsLeft l.left.node l.left.parts.now l.left.joins.now;
 }
 
 abbrev pub decreases-groups : goal.decreases-groups

@@ -5,10 +5,9 @@ use Rattle.sel_core.proofs.matching.placed.Given as goal
 
 abbrev pub invariant-children : goal.invariant-children
 invariant-children l = record {
-  within : l.left.level ≤ l.level;
   between : length l.left.parts.now ≡ length l.left.joins.now + 1;
   fewer : length l.left.parts.now ≤ length l.parts;
-  reached : IsReached l.tree l.at l.level (selector_from l.parts l.joins) l.left.level (selector_from l.left.parts.now l.left.joins.now);
+  reached : IsReached l.fn.node (selector_from l.parts l.joins) l.left.node (selector_from l.left.parts.now l.left.joins.now);
 }
 
 abbrev pub decreases-children : goal.decreases-children
