@@ -1,0 +1,4 @@
+pub mod Blanks
+pub mod Marks
+pub mod OrderMark
+pub mod Rests
