@@ -1,6 +1,6 @@
 -- Passing over strings, comments and bytes, up to one that is looked for.
 use Rattle.std.proofs.Common.{◌≡◌, ℕ, zero, suc, ◌-◌, ◌<◌, true, false, List, [], ◌∷◌, length, drop, refl, sym, ap, ◌∙◌, arith}
-use Rattle.sel_core.specs.Bytes.{IsRest}
+use Rattle.text_bytes.specs.Rests.{IsRest}
 use Rattle.css_read.specs.declared.brackets.Bracket.{Bracket}
 use Rattle.css_read.specs.Units.{after_byte, behind_unit, stops_at, from_first_in}
 

@@ -1,7 +1,7 @@
 -- Selectors of a list, one after the other.
 use Rattle.std.proofs.Common.{◌≡◌, ℕ, zero, suc, ◌-◌, List, [], ◌∷◌, length, drop, Ok, Err, refl, sym, ◌∙◌, arith}
 use Rattle.tp_base.specs.Names.{Named}
-use Rattle.sel_core.specs.Bytes.{IsRest}
+use Rattle.text_bytes.specs.Rests.{IsRest}
 use Rattle.css_read.specs.declared.faults.SheetFault.{SheetFault}
 use Rattle.css_read.specs.declared.sheets.Range.{Range}
 use Rattle.css_read.specs.Pieces.{from_comma, first_piece, more_pieces, pieces}

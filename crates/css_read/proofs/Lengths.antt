@@ -1,10 +1,12 @@
 -- What is left behind a piece of a text is no longer than the text.
 use Rattle.std.proofs.Common.{ℕ, zero, suc, ◌-◌, ◌≤◌, ◌==◌, Bool, true, false, if◌then◌else◌, nat_eq, List, [], ◌∷◌, length, drop, codes, arith, length-drop}
 use Rattle.std.specs.List.{starts_with}
+use Rattle.text_bytes.specs.Marks.{behind_mark}
+use Rattle.text_bytes.specs.OrderMark.{behind_order_mark}
 use Rattle.sel_core.specs.Bytes.{is_passed, behind_close, behind_gap}
 use Rattle.css_read.specs.declared.brackets.Bracket.{Bracket}
 use Rattle.css_read.specs.Units.{is_quote, begins_comment, behind_string, behind_unit, after_byte, stops_at, from_first_in, from_first}
-use Rattle.css_read.specs.Rules.{begins, behind_block, behind_mark}
+use Rattle.css_read.specs.Rules.{begins, behind_block}
 
 choose : (test : Bool) (xs ys : List ℕ) (n : ℕ) → length xs ≤ n → length ys ≤ n → length (if test then xs else ys) ≤ n
 choose true xs ys n first second = first
@@ -28,12 +30,12 @@ string_no_longer quote false (b ∷ bs) =
     choose (b == quote) bs _ (length (b ∷ bs)) (omega arith) (choose (b == 10) (b ∷ bs) (behind_string quote (b == 92) bs) (length (b ∷ bs)) (omega arith) (omega arith))
 
 close_no_longer : (bs : List ℕ) → length (behind_close bs) ≤ length bs
-unfolding behind_close
+unfolding behind_mark
 close_no_longer [] = omega arith
 close_no_longer (b ∷ bs) =
     let others = close_no_longer bs in
     let dropped = length-drop 1 bs in
-    choose (starts_with nat_eq (b ∷ bs) (codes "*/")) (drop 1 bs) (behind_close bs) (length (b ∷ bs)) (omega arith) (omega arith)
+    choose (starts_with nat_eq (b ∷ bs) (codes "*/")) (drop 1 bs) (behind_mark (codes "*/") bs) (length (b ∷ bs)) (omega arith) (omega arith)
 
 pub unit_no_longer : (bs : List ℕ) → length (behind_unit bs) ≤ length bs
 unfolding behind_unit
@@ -63,8 +65,8 @@ block_no_longer bs =
     let dropped = length-drop 1 (from_first (codes "}") bs) in
     omega arith
 
-pub mark_no_longer : (bs : List ℕ) → length (behind_mark bs) ≤ length bs
-unfolding behind_mark
+pub mark_no_longer : (bs : List ℕ) → length (behind_order_mark bs) ≤ length bs
+unfolding behind_order_mark
 mark_no_longer bs =
     let dropped = length-drop 3 bs in
-    choose (begins (239 ∷ 187 ∷ 191 ∷ []) bs) (drop 3 bs) bs (length bs) (omega arith) (omega arith)
+    choose (starts_with nat_eq bs (0xEF ∷ 0xBB ∷ 0xBF ∷ [])) (drop 3 bs) bs (length bs) (omega arith) (omega arith)

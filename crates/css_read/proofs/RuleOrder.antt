@@ -1,10 +1,11 @@
 -- The rules of a text stand in order and apart.
 use Rattle.std.proofs.Common.{◌≡◌, ℕ, zero, suc, ◌+◌, ◌-◌, ◌≤◌, ◌<◌, ◌==◌, ◌&&◌, Bool, true, false, if◌then◌else◌, nat_lt, List, [], ◌∷◌, ◌++◌, length, take, drop, codes, refl, arith, length-drop}
 use Rattle.std.proofs.lemmas.Bool.{false≢true}
+use Rattle.text_bytes.specs.OrderMark.{behind_order_mark}
 use Rattle.sel_core.specs.Bytes.{name_len}
 use Rattle.css_read.specs.declared.fronts.Front.TheVariants.{Passed, Opens, Closes, Styles}
 use Rattle.css_read.specs.Units.{behind_unit, begins_gap, from_first}
-use Rattle.css_read.specs.Rules.{Begun, begins, list_ends, prelude_ends, behind_block, holds_rules, at_block, at_rule, style_rule, next_front, depth_after, Rule, rules_at, rules_from, behind_mark, rules_of}
+use Rattle.css_read.specs.Rules.{Begun, begins, list_ends, prelude_ends, behind_block, holds_rules, at_block, at_rule, style_rule, next_front, depth_after, Rule, rules_at, rules_from, rules_of}
 use Rattle.css_read.proofs.Lengths.{no_longer, unit_no_longer, block_no_longer, mark_no_longer}
 
 -- in order between two offsets, each with its `{` before its end
@@ -89,4 +90,4 @@ apart_from size from depth zero (b ∷ bs) within here =
 
 pub rules_apart : (text : List ℕ) → AreRulesApart 0 (length text) (rules_of text)
 unfolding rules_of
-rules_apart text = let shorter = mark_no_longer text in apart_from (length text) 0 0 0 (behind_mark text) shorter (omega arith)
+rules_apart text = let shorter = mark_no_longer text in apart_from (length text) 0 0 0 (behind_order_mark text) shorter (omega arith)

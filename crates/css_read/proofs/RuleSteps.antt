@@ -1,10 +1,11 @@
 -- Rules, one after the other.
 use Rattle.std.proofs.Common.{◌≡◌, ℕ, zero, suc, ◌-◌, ◌<◌, nat_lt, List, [], ◌∷◌, ◌++◌, length, drop, Ok, Err, refl, sym, ap, ◌∙◌, arith}
+use Rattle.text_bytes.specs.OrderMark.{behind_order_mark}
 use Rattle.tp_base.specs.Names.{Named}
-use Rattle.sel_core.specs.Bytes.{IsRest}
+use Rattle.text_bytes.specs.Rests.{IsRest}
 use Rattle.css_read.specs.declared.faults.SheetFault.{SheetFault}
 use Rattle.css_read.specs.declared.fronts.Front.{Front}
-use Rattle.css_read.specs.Rules.{next_front, depth_after, Rule, rules_at, rules_from, behind_mark, rules_of}
+use Rattle.css_read.specs.Rules.{next_front, depth_after, Rule, rules_at, rules_from, rules_of}
 use Rattle.css_read.specs.Sheets.{Sheet}
 use Rattle.css_read.specs.Reading.{Ending, then_read, add_rule, add_rules, empty_sheet}
 
@@ -62,7 +63,7 @@ unfolding add_rules rules_from
 ends text found names size depth [] none = refl
 ends text found names size depth (b ∷ bs) none = absurd (omega arith)
 
-pub begins : (text rest : List ℕ) (found : Sheet) (names : List Named) → found ≡ empty_sheet → rest ≡ behind_mark text
+pub begins : (text rest : List ℕ) (found : Sheet) (names : List Named) → found ≡ empty_sheet → rest ≡ behind_order_mark text
     → add_rules text found names (rules_from (length text) 0 0 rest) ≡ add_rules text empty_sheet names (rules_of text)
 unfolding rules_of
 begins text rest found names first at = rw (first, at) refl

@@ -3,6 +3,7 @@
 --     rules_of    the rules that have a list of selectors, in the file's order
 use Rattle.std.specs.Prelude.{ℕ, zero, suc, ◌+◌, ◌-◌, ◌==◌, ◌&&◌, ◌||◌, Bool, true, false, if◌then◌else◌, nat_eq, nat_lt, List, [], ◌∷◌, ◌++◌, length, take, drop, codes}
 use Rattle.std.specs.List.{starts_with}
+use Rattle.text_bytes.specs.OrderMark.{behind_order_mark}
 use Rattle.sel_core.specs.Bytes.{name_len}
 use Rattle.sel_core.specs.Grammar.{is_word}
 use Rattle.css_read.specs.declared.fronts.Front.{Front}
@@ -84,8 +85,5 @@ rules_from size depth zero (b ∷ bs) =
     rules_at begun.0 (size - length (b ∷ bs)) (size - length begun.1) ++ rules_from size (depth_after depth begun.0) (length bs - length begun.1) bs
 
 -- a byte order mark is passed over
-unfoldable pub behind_mark : List ℕ → List ℕ
-behind_mark bs = if begins (239 ∷ 187 ∷ 191 ∷ []) bs then drop 3 bs else bs
-
 unfoldable pub rules_of : List ℕ → List Rule
-rules_of text = rules_from (length text) 0 0 (behind_mark text)
+rules_of text = rules_from (length text) 0 0 (behind_order_mark text)

@@ -1,13 +1,11 @@
 //! What stands where a rule may begin.
-ghost use Rattle.std.specs.Prelude.{◌≡◌, ◌≤◌, ◌<◌, length, drop, map, IfOk};
-ghost use Rattle.std.specs.Char.{to_ascii_lowercase};
-ghost use Rattle.sel_core.specs.Bytes.{IsRest};
-ghost use Rattle.sel_core.specs.Grammar.{is_word};
+ghost use Rattle.std.specs.Prelude.{◌≡◌, ◌≤◌, ◌<◌, length, drop, IfOk};
+ghost use Rattle.text_bytes.specs.Rests.{IsRest};
 ghost use Rattle.css_read.specs.Rules as spec;
 ghost use Rattle.css_read.specs.Fronts.{front_view, list_len, IsStart};
 
 use crate::units::{begins_gap, behind_unit, from_first};
-use sel_core::name_len;
+use sel_core::{is_word, name_len};
 use std::alloc::{AllocError, Global};
 
 /// What a text begins with, where a rule may begin.
@@ -36,7 +34,7 @@ fn prelude_ends(inside: bool) -> &'static [u8]
 }
 
 /// The text behind a block, from behind its `{` on.
-#[tactic(auto, unfolding(crate::specs::Rules::behind_block), using(sel_core::proofs::Rests::of_rest))]
+#[tactic(auto, unfolding(crate::specs::Rules::behind_block), using(text_bytes::proofs::Rests::of_rest))]
 fn behind_block(alloc: Global, text: &[u8]) -> Result<&[u8], AllocError>
     ensures gives { IfOk result (λ r. r.now ≡ spec.behind_block text.now) }
     ensures rest { IfOk result (λ r. IsRest text.now r.now) }
@@ -46,7 +44,7 @@ fn behind_block(alloc: Global, text: &[u8]) -> Result<&[u8], AllocError>
 }
 
 /// The text without its first byte.
-#[tactic(auto, using(sel_core::proofs::Rests::behind_first, sel_core::proofs::Rests::itself))]
+#[tactic(auto, using(text_bytes::proofs::Rests::behind_first, text_bytes::proofs::Rests::itself))]
 fn behind_byte(text: &[u8]) -> &[u8]
     ensures gives { result.now ≡ drop 1 text.now }
     ensures rest { IsRest text.now result.now }
@@ -55,13 +53,6 @@ fn behind_byte(text: &[u8]) -> &[u8]
         None => text,
         Some((_, behind)) => behind,
     }
-}
-
-#[tactic(auto, using(sel_core::proofs::WordLemmas::is_word_by))]
-fn is_word(name: &[u8], word: &[u8]) -> bool
-    ensures { result ≡ is_word name.now (map to_ascii_lowercase word.now) }
-{
-    name.eq_ignore_ascii_case(word)
 }
 
 /// Whether the at-rules of a name have blocks that hold rules.
@@ -89,7 +80,7 @@ fn at_block(alloc: Global, holds: bool, text: &[u8]) -> Result<(Front, &[u8]), A
 }
 
 /// An at-rule from behind its `@` on.
-#[tactic(auto, unfolding(crate::specs::Rules::at_rule), using(sel_core::proofs::Rests::of_rest))]
+#[tactic(auto, unfolding(crate::specs::Rules::at_rule), using(text_bytes::proofs::Rests::of_rest))]
 fn at_rule(alloc: Global, inside: bool, text: &[u8]) -> Result<(Front, &[u8]), AllocError>
     ensures gives { IfOk result (λ f. front_view f ≡ spec.at_rule inside text.now) }
     ensures rest { IfOk result (λ f. IsRest text.now f.1.now) }
@@ -108,7 +99,7 @@ fn at_rule(alloc: Global, inside: bool, text: &[u8]) -> Result<(Front, &[u8]), A
 }
 
 /// A list of selectors with its block. Without a block it is passed over.
-#[tactic(auto, unfolding(crate::specs::Rules::style_rule), using(crate::proofs::Lists::shorter, sel_core::proofs::Rests::of_rest))]
+#[tactic(auto, unfolding(crate::specs::Rules::style_rule), using(crate::proofs::Lists::shorter, text_bytes::proofs::Rests::of_rest))]
 fn style_rule(alloc: Global, inside: bool, text: &[u8]) -> Result<(Front, &[u8]), AllocError>
     requires { IsStart inside text.now }
     ensures gives { IfOk result (λ f. front_view f ≡ spec.style_rule inside text.now) }
@@ -126,7 +117,7 @@ fn style_rule(alloc: Global, inside: bool, text: &[u8]) -> Result<(Front, &[u8])
 
 /// What stands at the beginning of a text, inside a block that holds rules or outside all, and the text behind it.
 /// Linear in what is passed over.
-#[tactic(auto, unfolding(crate::specs::Rules::next_front), using(sel_core::proofs::Rests::of_rest, sel_core::proofs::Rests::behind_first, sel_core::proofs::Rests::itself))]
+#[tactic(auto, unfolding(crate::specs::Rules::next_front), using(text_bytes::proofs::Rests::of_rest, text_bytes::proofs::Rests::behind_first, text_bytes::proofs::Rests::itself))]
 pub(crate) fn next_front(
     alloc: Global,
     inside: bool,
@@ -162,18 +153,5 @@ pub(crate) fn depth_after(depth: usize, front: Front) -> usize
         Front::Opens => depth + 1,
         Front::Closes => depth.saturating_sub(1),
         _ => depth,
-    }
-}
-
-/// The text behind a byte order mark, where there is one.
-#[tactic(auto, unfolding(crate::specs::Rules::behind_mark), using(sel_core::proofs::Rests::dropped, sel_core::proofs::Rests::itself))]
-pub(crate) fn behind_mark(text: &[u8]) -> &[u8]
-    ensures gives { result.now ≡ spec.behind_mark text.now }
-    ensures rest { IsRest text.now result.now }
-{
-    if text.starts_with(b"\xef\xbb\xbf") {
-        text.split_at(3).1
-    } else {
-        text
     }
 }

@@ -1,6 +1,6 @@
 //! The selectors of a list, as places in the file.
 ghost use Rattle.std.specs.Prelude.{◌≡◌, ◌≤◌, length, IfOk};
-ghost use Rattle.sel_core.specs.Bytes.{IsRest};
+ghost use Rattle.text_bytes.specs.Rests.{IsRest};
 ghost use Rattle.css_read.specs.Pieces as spec;
 
 use crate::sheets::Range;
@@ -9,7 +9,7 @@ use sel_core::behind_gap;
 use std::alloc::{AllocError, Global};
 
 /// How many bytes there are up to the white space and the comments at the end. Linear.
-#[tactic(auto, using(crate::proofs::Solids::begins, crate::proofs::Solids::passes_gap, crate::proofs::Solids::passes_solid, crate::proofs::Solids::ends, sel_core::proofs::Rests::of_rest, sel_core::proofs::Rests::itself))]
+#[tactic(auto, using(crate::proofs::Solids::begins, crate::proofs::Solids::passes_gap, crate::proofs::Solids::passes_solid, crate::proofs::Solids::ends, text_bytes::proofs::Rests::of_rest, text_bytes::proofs::Rests::itself))]
 fn solid_len(text: &[u8]) -> usize
     ensures gives { result ≡ spec.solid_len 0 text.now }
     ensures within { result ≤ length text.now }

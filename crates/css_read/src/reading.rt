@@ -1,6 +1,6 @@
 //! Reading a sheet, from left to right.
 ghost use Rattle.std.specs.Prelude.{◌≡◌, ◌≤◌, ◌<◌, ◌+◌, All, length, map, slice_range, IfOk, OnOk};
-ghost use Rattle.sel_core.specs.Bytes.{IsRest};
+ghost use Rattle.text_bytes.specs.Rests.{IsRest};
 ghost use Rattle.sel_core.specs.Results.{IsFront};
 ghost use Rattle.css_read.specs.Drafts.{draft_of};
 ghost use Rattle.css_read.specs.Fronts.{list_len};
@@ -14,12 +14,13 @@ ghost use Rattle.css_read.specs.Rules as rules;
 ghost use Rattle.css_read.specs.Views.{item_of, sheet_of};
 
 use crate::faults::{MOST_SELECTORS, SheetFault};
-use crate::fronts::{Front, behind_mark, depth_after, next_front};
+use crate::fronts::{Front, depth_after, next_front};
 use crate::pieces::first_piece;
 use crate::sheets::{Outcome, Range, Ranges, Sheet, SheetItem, SheetItems};
 use bstr::ByteSlice;
 use sel_core::{SelFault, read_selector};
 use std::alloc::Global;
+use text_bytes::behind_order_mark;
 use tp_base::AtomTable;
 
 /// Reads the selector at a piece of a rule.
@@ -83,7 +84,7 @@ fn add_item(
 }
 
 /// Reads the selectors of a rule's list.
-#[tactic(auto, using(crate::proofs::ItemSteps::begins, crate::proofs::ItemSteps::first_fails, crate::proofs::ItemSteps::goes_on, crate::proofs::ItemSteps::fails, crate::proofs::ItemSteps::ends, sel_core::proofs::Fronts::front_of_front, sel_core::proofs::Rests::of_rest))]
+#[tactic(auto, using(crate::proofs::ItemSteps::begins, crate::proofs::ItemSteps::first_fails, crate::proofs::ItemSteps::goes_on, crate::proofs::ItemSteps::fails, crate::proofs::ItemSteps::ends, sel_core::proofs::Fronts::front_of_front, text_bytes::proofs::Rests::of_rest))]
 fn add_items(
     alloc: Global,
     text: &[u8],
@@ -159,7 +160,7 @@ impl Draft {
 }
 
 /// Reads the rules of a text.
-#[tactic(auto, using(crate::proofs::RuleSteps::begins, crate::proofs::RuleSteps::goes_on, crate::proofs::RuleSteps::fails, crate::proofs::RuleSteps::ends, sel_core::proofs::Fronts::front_itself, sel_core::proofs::Fronts::front_of_front, sel_core::proofs::Rests::of_rest))]
+#[tactic(auto, using(crate::proofs::RuleSteps::begins, crate::proofs::RuleSteps::goes_on, crate::proofs::RuleSteps::fails, crate::proofs::RuleSteps::ends, sel_core::proofs::Fronts::front_itself, sel_core::proofs::Fronts::front_of_front, text_bytes::proofs::Rests::of_rest))]
 fn add_rules(alloc: Global, text: &[u8], atoms: &mut AtomTable) -> Result<Draft, SheetFault>
     ensures reads { Reads draft_of result atoms.new (spec.add_rules text.now spec.empty_sheet atoms.old (rules.rules_of text.now)) }
     ensures few { IfOk result (λ d. length d.items.items ≤ MOST_SELECTORS) }
@@ -172,7 +173,7 @@ fn add_rules(alloc: Global, text: &[u8], atoms: &mut AtomTable) -> Result<Draft,
         rules: Vec::new(alloc),
     };
     let mut depth = 0;
-    let mut rest = behind_mark(text);
+    let mut rest = behind_order_mark(text);
     'rules: while !rest.is_empty() {
         let (front, behind) = next_front(alloc, depth > 0, rest)?;
         let place = Range {

@@ -1,14 +1,15 @@
 //! Strings, comments, and what stands outside them and outside brackets.
 ghost use Rattle.std.specs.Prelude.{◌≡◌, ◌<◌, length, reverse, false, IfOk};
-ghost use Rattle.sel_core.specs.Bytes.{IsRest};
+ghost use Rattle.text_bytes.specs.Rests.{IsRest};
 ghost use Rattle.css_read.specs.Units as spec;
 
 use crate::brackets::{Bracket, track};
-use sel_core::{behind_close, is_blank};
+use sel_core::behind_close;
 use std::alloc::{AllocError, Global};
+use text_bytes::is_blank;
 
 /// The text behind a string, from behind its opening quote on.
-#[tactic(auto, unfolding(crate::specs::Units::behind_string), using(sel_core::proofs::Rests::of_rest, sel_core::proofs::Rests::behind_first, sel_core::proofs::Rests::itself))]
+#[tactic(auto, unfolding(crate::specs::Units::behind_string), using(text_bytes::proofs::Rests::of_rest, text_bytes::proofs::Rests::behind_first, text_bytes::proofs::Rests::itself))]
 fn behind_string(quote: u8, text: &[u8]) -> &[u8]
     ensures gives { result.now ≡ spec.behind_string quote false text.now }
     ensures rest { IsRest text.now result.now }
@@ -43,7 +44,7 @@ fn begins_comment(text: &[u8]) -> bool
 }
 
 /// The text behind the string, the comment or the byte that it begins with.
-#[tactic(auto, unfolding(crate::specs::Units::behind_unit), using(sel_core::proofs::Rests::of_rest, sel_core::proofs::Rests::behind_first, sel_core::proofs::Rests::dropped))]
+#[tactic(auto, unfolding(crate::specs::Units::behind_unit), using(text_bytes::proofs::Rests::of_rest, text_bytes::proofs::Rests::behind_first, text_bytes::proofs::Rests::dropped))]
 pub(crate) fn behind_unit(text: &[u8]) -> &[u8]
     ensures gives { result.now ≡ spec.behind_unit text.now }
     ensures rest { IsRest text.now result.now }
@@ -78,7 +79,7 @@ fn stops_at(bytes: &[u8], byte: u8, brackets: &[Bracket]) -> bool
 }
 
 /// The text from the first of some bytes on, outside brackets, strings and comments. Linear in what is passed over.
-#[tactic(auto, using(crate::proofs::Firsts::goes_on, crate::proofs::Firsts::found, crate::proofs::Firsts::ends, sel_core::proofs::Rests::of_rest))]
+#[tactic(auto, using(crate::proofs::Firsts::goes_on, crate::proofs::Firsts::found, crate::proofs::Firsts::ends, text_bytes::proofs::Rests::of_rest))]
 pub(crate) fn from_first<'a>(
     alloc: Global,
     bytes: &[u8],

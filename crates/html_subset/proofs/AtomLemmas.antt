@@ -25,7 +25,8 @@ use Rattle.html_subset.specs.Growth.{Growth, nothing, more, add, size, row_befor
 use Rattle.html_subset.specs.Labels.{Outcome, ◌>>=◌, given_names, and_one, labelled}
 use Rattle.html_subset.specs.Building.{Root, Roots, Document, forest, page, State, is_forest, level, others, open_elements, node_names, bare, with_node, opened, with_implied, with_element, put, start_tag, unless_given, with_given, root_tag, head_tag, any_start, paragraph_end, end_tag, token, run}
 use Rattle.html_subset.specs.Pages.{root_label, bare_page, no_trees, page_tree, Ending, ending, page_of, forest_of}
-use Rattle.html_subset.specs.Reading.{behind_order_mark, read_page, read_forest}
+use Rattle.text_bytes.specs.OrderMark.{behind_order_mark}
+use Rattle.html_subset.specs.Reading.{read_page, read_forest}
 use Rattle.html_subset.specs.Results.{Reads}
 
 abbrev pub IsBelow : ℕ → List ℕ → Type 0

@@ -3,7 +3,7 @@ use Rattle.std.proofs.Common.{◌≡◌, ℕ, true, false, List, [], ◌∷◌, 
 use Rattle.tp_base.specs.Names.{Named, with_name}
 use Rattle.tp_base.specs.declared.atoms.AtomKind.TheVariants.{Class}
 use Rattle.html_subset.specs.declared.faults.PageFault.{PageFault}
-use Rattle.html_tokens.specs.Bytes.{is_blank}
+use Rattle.text_bytes.specs.Blanks.{is_blank}
 use Rattle.html_tokens.specs.Words.{word_len, words_from}
 use Rattle.html_tokens.proofs.WordLemmas.{next_word}
 use Rattle.html_subset.specs.Labels.{Outcome, class_names, and_one, labelled}

@@ -3,7 +3,7 @@ use Rattle.std.proofs.Common.{◌≡◌, ℕ, zero, suc, ◌-◌, ◌<◌, List,
 use Rattle.std.specs.Str.Lossy.{utf8_valid_len}
 use Rattle.std.proofs.lemmas.Str.{utf8_valid_len-IsUtf8}
 use Rattle.std.specs.Option.{option_to_list}
-use Rattle.html_tokens.specs.Bytes.{IsRest}
+use Rattle.text_bytes.specs.Rests.{IsRest}
 use Rattle.html_tokens.specs.Tokens.{Token, front, tokens_from}
 use Rattle.html_subset.specs.Labels.{Outcome, ◌>>=◌}
 use Rattle.html_subset.specs.Machine.{Machine, any_token, run}

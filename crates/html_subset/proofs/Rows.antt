@@ -8,7 +8,8 @@ use Rattle.tree_sem.specs.Trees.{no_nodes, node}
 use Rattle.html_subset.specs.declared.faults.PageFault.TheVariants.{TooDeep, TooManyNodes}
 use Rattle.html_tokens.specs.Names.{is_raw}
 use Rattle.html_tokens.specs.Attributes.{past_blank, quoted, value, behind_equals, attribute, attributes_from, value_of, given}
-use Rattle.html_tokens.specs.Markup.{behind_angle, behind_arrow, begins_end_of, behind_raw, begins_markup, behind_text}
+use Rattle.text_bytes.specs.Marks.{behind_mark}
+use Rattle.html_tokens.specs.Markup.{begins_end_of, behind_raw, begins_markup, behind_text}
 use Rattle.html_tokens.specs.Tokens.{Token, start, tag, behind_start, start_tag, end_tag, end_markup, markup, front, tokens_from, tokens}
 use Rattle.html_tokens.specs.Words.{words_from}
 use Rattle.html_subset.specs.Elements.{named_kinds, kind_of}
@@ -94,11 +95,11 @@ page_rows =
     ∷ []
 
 forests_hold : map (λ (row : Row). outlined (run (read row.0) (no_trees []))) forest_rows ≡ map (λ (row : Row). codes row.1) forest_rows
-unfolding is_raw past_blank quoted value behind_equals attribute attributes_from value_of given behind_angle behind_arrow begins_end_of behind_raw begins_markup behind_text tag behind_start start_tag end_tag end_markup markup front tokens_from words_from named_kinds kind_of behind closed_by holder is_bare place opens closed_at_end labelled place_in with_name with_node with_implied building.start_tag with_given root_tag head_tag building.end_tag token run
+unfolding is_raw past_blank quoted value behind_equals attribute attributes_from value_of given behind_mark begins_end_of behind_raw begins_markup behind_text tag behind_start start_tag end_tag end_markup markup front tokens_from words_from named_kinds kind_of behind closed_by holder is_bare place opens closed_at_end labelled place_in with_name with_node with_implied building.start_tag with_given root_tag head_tag building.end_tag token run
 forests_hold = refl
 
 pages_hold : map (λ (row : Row). outlined (bare_page [] >>= run (read row.0))) page_rows ≡ map (λ (row : Row). codes row.1) page_rows
-unfolding is_raw past_blank quoted value behind_equals attribute attributes_from value_of given behind_angle behind_arrow begins_end_of behind_raw begins_markup behind_text tag behind_start start_tag end_tag end_markup markup front tokens_from words_from named_kinds kind_of behind closed_by holder is_bare place opens closed_at_end labelled place_in with_name with_node with_implied building.start_tag with_given root_tag head_tag building.end_tag token run bare_page
+unfolding is_raw past_blank quoted value behind_equals attribute attributes_from value_of given behind_mark begins_end_of behind_raw begins_markup behind_text tag behind_start start_tag end_tag end_markup markup front tokens_from words_from named_kinds kind_of behind closed_by holder is_bare place opens closed_at_end labelled place_in with_name with_node with_implied building.start_tag with_given root_tag head_tag building.end_tag token run bare_page
 pages_hold = refl
 
 -- an empty id counts as given, but gives no name; what is given is kept
@@ -111,7 +112,7 @@ labels_hold : page_of (read "<html class='a b' id=x><body id=''><html class=c id
     below = node (1 ∷ []) no_nodes (node (2 ∷ 5 ∷ []) (node (4 ∷ 5 ∷ 6 ∷ 7 ∷ []) (node (8 ∷ []) no_nodes no_nodes) no_nodes) no_nodes);
   }),
 )
-unfolding is_raw past_blank quoted value behind_equals attribute attributes_from value_of given behind_angle behind_arrow begins_end_of behind_raw begins_markup behind_text tag behind_start start_tag end_tag end_markup markup front tokens_from words_from named_kinds kind_of behind closed_by holder is_bare place opens closed_at_end labelled place_in with_name with_node with_implied building.start_tag with_given root_tag head_tag building.end_tag token run bare_page page_of
+unfolding is_raw past_blank quoted value behind_equals attribute attributes_from value_of given behind_mark begins_end_of behind_raw begins_markup behind_text tag behind_start start_tag end_tag end_markup markup front tokens_from words_from named_kinds kind_of behind closed_by holder is_bare place opens closed_at_end labelled place_in with_name with_node with_implied building.start_tag with_given root_tag head_tag building.end_tag token run bare_page page_of
 labels_hold = refl
 
 -- ---- limits
@@ -133,7 +134,7 @@ faults (Err e) = []
 depths_hold : map (λ (r : Document × ℕ). faults (token (start (bare (codes "div") 7)) (deep r.0 r.1)))
     ((page (bare_roots [] [] []), 510) ∷ (page (bare_roots [] [] []), 511) ∷ (forest, 511) ∷ (forest, 512) ∷ [])
     ≡ (511 ∷ []) ∷ (7 ∷ 0 ∷ []) ∷ (512 ∷ []) ∷ (7 ∷ 0 ∷ []) ∷ []
-unfolding is_raw past_blank quoted value behind_equals attribute attributes_from value_of given behind_angle behind_arrow begins_end_of behind_raw begins_markup behind_text tag behind_start start_tag end_tag end_markup markup front tokens_from words_from named_kinds kind_of behind closed_by holder is_bare place opens closed_at_end labelled place_in with_name with_node with_implied building.start_tag with_given root_tag head_tag building.end_tag token run
+unfolding is_raw past_blank quoted value behind_equals attribute attributes_from value_of given behind_mark begins_end_of behind_raw begins_markup behind_text tag behind_start start_tag end_tag end_markup markup front tokens_from words_from named_kinds kind_of behind closed_by holder is_bare place opens closed_at_end labelled place_in with_name with_node with_implied building.start_tag with_given root_tag head_tag building.end_tag token run
 depths_hold = refl
 
 -- a page of 99,997 nodes in its body has 100,000, and so many may be in a forest

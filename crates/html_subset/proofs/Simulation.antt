@@ -11,7 +11,7 @@ use Rattle.html_subset.specs.declared.scopes.Scope.TheVariants as within
 use Rattle.html_subset.specs.declared.faults.PageFault.{PageFault}
 use Rattle.html_subset.specs.declared.faults.PageFault.TheVariants.{TooDeep, TooManyNodes}
 use Rattle.html_subset.specs.declared.faults.TheConstants.{MOST_DEPTH, MOST_PAGE_NODES}
-use Rattle.html_tokens.specs.Bytes.{is_blank}
+use Rattle.text_bytes.specs.Blanks.{is_blank}
 use Rattle.html_tokens.specs.Tokens.{Token, text, start, stop, StartTag}
 use Rattle.html_subset.specs.Elements.{is, kind_of, is_root, is_in_head, is_void, Element, element}
 use Rattle.html_subset.specs.TreeTable.{Place, place, opens, behind, has_kind, closed_at_end}

@@ -1,22 +1,18 @@
 -- Pages and markup, from their bytes.
-use Rattle.std.specs.Prelude.{ℕ, ◌==◌, if◌then◌else◌, nat_eq, List, [], ◌∷◌, length, drop, Err}
-use Rattle.std.specs.List.{starts_with}
+use Rattle.std.specs.Prelude.{ℕ, ◌==◌, if◌then◌else◌, List, length, Err}
 use Rattle.std.specs.Str.Lossy.{utf8_valid_len}
+use Rattle.text_bytes.specs.OrderMark.{behind_order_mark}
 use Rattle.tp_base.specs.Names.{Named}
 use Rattle.tree_sem.specs.Trees.{LabelTree}
 use Rattle.html_subset.specs.declared.faults.PageFault.TheVariants.{NotUtf8}
 use Rattle.html_tokens.specs.Tokens.{tokens}
 use Rattle.html_subset.specs.Pages.{Ending, page_of, forest_of}
 
--- without a byte order mark at the front
-unfoldable pub behind_order_mark : List ℕ → List ℕ
-behind_order_mark bs = if starts_with nat_eq bs (0xEF ∷ 0xBB ∷ 0xBF ∷ []) then drop 3 bs else bs
-
 -- what is read of bytes that are UTF-8; any other are refused where the first one stands that isn't
 abbrev pub if_utf8 : {A : Type 0} → List ℕ → List Named → Ending A → Ending A
 if_utf8 bs table read = if utf8_valid_len bs == length bs then read else (table, Err (NotUtf8 (utf8_valid_len bs)))
 
--- A page: its tokens are read one after the other. The names come into the table, also those before a fault.
+-- A page: its tokens are read one after the other, behind a byte order mark. The names come into the table, also those before a fault.
 unfoldable pub read_page : List ℕ → List Named → Ending LabelTree
 read_page bs table = if_utf8 bs table (page_of (tokens (length bs) (behind_order_mark bs)) table)
 

@@ -1,13 +1,10 @@
 -- What the calls return, as the definitions see it.
-use Rattle.std.specs.Prelude.{◌≡◌, ◌≢◌, List, length, take, Result, Ok, Err}
+use Rattle.std.specs.Prelude.{◌≡◌, ◌≢◌, List, Result, Ok, Err}
 use Rattle.tp_base.specs.Names.{Named}
+pub use Rattle.tp_base.specs.Names.{IsFront}
 use Rattle.html_subset.specs.declared.faults.PageFault.{PageFault}
 use Rattle.html_subset.specs.declared.faults.PageFault.TheVariants.{Memory}
 use Rattle.html_subset.specs.Labels.{Outcome}
-
--- the names that were there keep their numbers
-abbrev pub IsFront : List Named → List Named → Type 0
-IsFront old new = take (length old) new ≡ old
 
 -- a call's result, seen by the view, and the names that it leaves are what comes of a step, unless memory ran out
 abbrev pub Does : {X Y : Type 0} → (X → Y) → Result X PageFault → List Named → Outcome Y → Type 0

@@ -10,8 +10,9 @@ ghost use Rattle.html_subset.specs.Results.{Does, IsFront};
 ghost use Rattle.html_tokens.specs.Views.{bytes_of, start_tag_of};
 
 use crate::faults::PageFault;
-use html_tokens::{StartTag, is_blank, word_len};
+use html_tokens::{StartTag, word_len};
 use std::alloc::Global;
+use text_bytes::is_blank;
 use tp_base::{AtomFault, AtomKind, AtomTable, ClassSet};
 
 /// Adds the atom of a name to the label, for a tag at `at`.

@@ -1,5 +1,6 @@
 //! Reading a page, or markup: its tokens are taken one after the other.
 ghost use Rattle.std.specs.Prelude.{◌≡◌, ◌≤◌, length, option_map, All, OnOk, IfOk};
+ghost use Rattle.text_bytes.specs.OrderMark as order_mark;
 ghost use Rattle.tree_sem.specs.Nodes.{IsTreeOver};
 ghost use Rattle.html_subset.specs.Builders.{machine_of, Stands};
 ghost use Rattle.html_subset.specs.Machine as machine;
@@ -14,21 +15,9 @@ use crate::faults::PageFault;
 use bstr::ByteSlice;
 use html_tokens::{Token, next};
 use std::alloc::Global;
+use text_bytes::behind_order_mark;
 use tp_base::AtomTable;
 use tree_sem::{Forest, Tree};
-
-/// Without a byte order mark at the front.
-#[tactic(auto, unfolding(crate::specs::Reading::behind_order_mark))]
-fn behind_order_mark(text: &[u8]) -> &[u8]
-    ensures gives { result.now ≡ spec.behind_order_mark text.now }
-    ensures within { length result.now ≤ length text.now }
-{
-    if text.starts_with(b"\xef\xbb\xbf") {
-        text.split_at(3).1
-    } else {
-        text
-    }
-}
 
 /// Goes on by a token, where there is one.
 #[tactic(auto, unfolding(crate::specs::Machine::any_token), using(crate::proofs::Fronts::front_itself))]
@@ -72,7 +61,7 @@ fn take_all<'a>(
 
 #[tactic(auto, using(crate::proofs::EndingLemmas::page_reads, crate::proofs::EndingLemmas::page_stops, crate::proofs::EndingLemmas::page_fails, crate::proofs::Fronts::front_of_front))]
 fn page(alloc: Global, text: &[u8], atoms: &mut AtomTable) -> Result<Tree, PageFault>
-    ensures reads { Reads (λ t. t) result atoms.new (page_of (tokens (length text.now) (spec.behind_order_mark text.now)) atoms.old) }
+    ensures reads { Reads (λ t. t) result atoms.new (page_of (tokens (length text.now) (order_mark.behind_order_mark text.now)) atoms.old) }
     ensures front { IsFront atoms.old atoms.new }
 {
     let mut builder = Builder::start_page(alloc, atoms)?;

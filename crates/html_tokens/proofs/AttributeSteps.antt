@@ -3,7 +3,8 @@ use Rattle.std.proofs.Common.{◌≡◌, ℕ, zero, suc, ◌-◌, ◌<◌, Bool,
 use Rattle.std.specs.Option.{option_or, option_map}
 use Rattle.std.specs.Str.{str_eq_ignore_ascii_case}
 use Rattle.std.proofs.lemmas.Bool.{ne_eqb}
-use Rattle.html_tokens.specs.Bytes.{is_filler, IsRest}
+use Rattle.text_bytes.specs.Rests.{IsRest}
+use Rattle.html_tokens.specs.Bytes.{is_filler}
 use Rattle.html_tokens.specs.Attributes.{Attribute, Given, Read, ◌>>=◌, attribute, attributes_from, value_of, given_by, first_given, given}
 
 -- what is kept of attributes that were read before and of those that are read next

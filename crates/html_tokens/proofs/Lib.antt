@@ -1,4 +1,3 @@
-pub mod Rests
 pub mod RawNames
 pub mod AttributeSteps
 pub mod WordLemmas

@@ -4,7 +4,8 @@ use Prim.Native.String.{String}
 use Rattle.std.specs.Prelude.{codes}
 use Rattle.html_tokens.specs.Names.{is_raw}
 use Rattle.html_tokens.specs.Attributes.{past_blank, quoted, value, behind_equals, attribute, attributes_from, value_of, given}
-use Rattle.html_tokens.specs.Markup.{behind_angle, behind_arrow, begins_end_of, behind_raw, begins_markup, behind_text}
+use Rattle.text_bytes.specs.Marks.{behind_mark}
+use Rattle.html_tokens.specs.Markup.{begins_end_of, behind_raw, begins_markup, behind_text}
 use Rattle.html_tokens.specs.Tokens.{Token, tag, behind_start, start_tag, end_tag, end_markup, markup, front, tokens_from, tokens}
 use Rattle.html_tokens.specs.Tokens.Token.{text, start, stop}
 
@@ -71,5 +72,5 @@ raw_rows =
     ∷ []
 
 rows_hold : map (λ (row : Row). tokens (length (codes row.0)) (codes row.0)) (tag_rows ++ text_rows ++ raw_rows) ≡ map (λ (row : Row). row.1) (tag_rows ++ text_rows ++ raw_rows)
-unfolding is_raw past_blank quoted value behind_equals attribute attributes_from value_of given behind_angle behind_arrow begins_end_of behind_raw begins_markup behind_text tag behind_start start_tag end_tag end_markup markup front tokens_from
+unfolding is_raw past_blank quoted value behind_equals attribute attributes_from value_of given behind_mark begins_end_of behind_raw begins_markup behind_text tag behind_start start_tag end_tag end_markup markup front tokens_from
 rows_hold = refl

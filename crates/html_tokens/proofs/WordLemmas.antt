@@ -1,6 +1,6 @@
 -- The words of a text, one after the other.
 use Rattle.std.proofs.Common.{◌≡◌, ℕ, zero, suc, ◌+◌, ◌-◌, false, List, [], ◌∷◌, take, drop, refl, ap, arith}
-use Rattle.html_tokens.specs.Bytes.{is_blank}
+use Rattle.text_bytes.specs.Blanks.{is_blank}
 use Rattle.html_tokens.specs.Words.{word_len, words_from}
 
 skips : (n : ℕ) (bs : List ℕ) → words_from n bs ≡ words_from 0 (drop n bs)

@@ -3,7 +3,8 @@ use Rattle.std.specs.Prelude.{ℕ, zero, suc, ◌+◌, ◌-◌, ◌==◌, ◌||�
 use Rattle.std.specs.List.{prefix_len}
 use Rattle.std.specs.Option.{option_or, option_map}
 use Rattle.std.specs.Str.{byte, str_eq_ignore_ascii_case}
-use Rattle.html_tokens.specs.Bytes.{is_blank, is_filler, in_attribute_name, in_bare_value, is_not}
+use Rattle.text_bytes.specs.Blanks.{is_blank}
+use Rattle.html_tokens.specs.Bytes.{is_filler, in_attribute_name, in_bare_value, is_not}
 
 -- what was read, and the bytes behind it, unless the file's end cuts it
 abbrev pub Read : Type 0 → Type 0

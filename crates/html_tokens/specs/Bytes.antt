@@ -1,10 +1,7 @@
 -- Classes of the bytes of a page, and where names and values end.
-use Rattle.std.specs.Prelude.{◌≡◌, ◌≤◌, ℕ, ◌-◌, ◌==◌, ◌||◌, Bool, not, List, length, drop}
+use Rattle.std.specs.Prelude.{ℕ, ◌==◌, ◌||◌, Bool, not, List}
 use Rattle.std.specs.Str.{byte, str_to_ascii_lowercase}
-
--- white space: space, tab, LF, FF and CR
-abbrev pub is_blank : ℕ → Bool
-is_blank b = b == 32 || b == 9 || b == 10 || b == 12 || b == 13
+use Rattle.text_bytes.specs.Blanks.{is_blank}
 
 -- what stands between the attributes of a tag
 abbrev pub is_filler : ℕ → Bool
@@ -31,8 +28,3 @@ is_not other b = not (b == other)
 -- a name without its case
 abbrev pub lowered : List ℕ → List ℕ
 lowered = str_to_ascii_lowercase
-
--- the rest is the last of the bytes
-pub record IsRest (all rest : List ℕ) : Type 0 where
-  pub shorter : length rest ≤ length all
-  pub last : drop (length all - length rest) all ≡ rest

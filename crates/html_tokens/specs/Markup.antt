@@ -3,17 +3,16 @@ use Rattle.std.specs.Prelude.{ℕ, ◌==◌, ◌||◌, ◌&&◌, Bool, false, if
 use Rattle.std.specs.Char.{is_ascii_alphabetic}
 use Rattle.std.specs.List.{starts_with}
 use Rattle.std.specs.Str.{byte, str_eq_ignore_ascii_case}
+use Rattle.text_bytes.specs.Marks.{behind_mark}
 use Rattle.html_tokens.specs.Bytes.{ends_tag_name}
 
 -- behind the first `>`, or the end
-unfoldable pub behind_angle : List ℕ → List ℕ
-behind_angle [] = []
-behind_angle (b ∷ bs) = if b == byte ">" then bs else behind_angle bs
+abbrev pub behind_angle : List ℕ → List ℕ
+behind_angle bs = behind_mark (codes ">") bs
 
 -- behind the first `-->`, or the end
-unfoldable pub behind_arrow : List ℕ → List ℕ
-behind_arrow [] = []
-behind_arrow (b ∷ bs) = if starts_with nat_eq (b ∷ bs) (codes "-->") then drop 2 bs else behind_arrow bs
+abbrev pub behind_arrow : List ℕ → List ℕ
+behind_arrow bs = behind_mark (codes "-->") bs
 
 -- whether the first byte ends the name of a tag
 abbrev pub is_ended : List ℕ → Bool

@@ -1,7 +1,7 @@
 -- The words of a text, which white space parts.
 use Rattle.std.specs.Prelude.{ℕ, zero, suc, ◌-◌, not, if◌then◌else◌, List, [], ◌∷◌, take}
 use Rattle.std.specs.List.{prefix_len}
-use Rattle.html_tokens.specs.Bytes.{is_blank}
+use Rattle.text_bytes.specs.Blanks.{is_blank}
 
 -- the length of the word that a text begins with
 abbrev pub word_len : List ℕ → ℕ

@@ -1,13 +1,12 @@
 //! The attributes of a tag.
 ghost use Rattle.std.specs.Prelude.{◌≡◌, ◌<◌, length, [], ◌∷◌, IfSome};
 ghost use Rattle.std.specs.Option.{option_map};
+ghost use Rattle.text_bytes.specs.Rests.{IsRest};
 ghost use Rattle.html_tokens.specs.Attributes as spec;
-ghost use Rattle.html_tokens.specs.Bytes.{IsRest};
 ghost use Rattle.html_tokens.specs.Views.{attribute_of, given_of};
 
-use crate::bytes::{
-    attribute_name_len, bare_value_len, blank_len, is_filler, is_same_name, quoted_len,
-};
+use crate::bytes::{attribute_name_len, bare_value_len, is_filler, is_same_name, quoted_len};
+use text_bytes::blank_len;
 
 /// An attribute as it is written.
 #[derive(Clone, Copy)]
@@ -23,7 +22,7 @@ pub(crate) struct Given<'a> {
     pub(crate) class: Option<&'a [u8]>,
 }
 
-#[tactic(auto, unfolding(crate::specs::Attributes::past_blank), using(crate::proofs::Rests::dropped))]
+#[tactic(auto, unfolding(crate::specs::Attributes::past_blank), using(text_bytes::proofs::Rests::dropped))]
 fn past_blank(text: &[u8]) -> &[u8]
     ensures gives { result.now ≡ spec.past_blank text.now }
     ensures rest { IsRest text.now result.now }
@@ -32,7 +31,7 @@ fn past_blank(text: &[u8]) -> &[u8]
 }
 
 /// Up to the quote, and the bytes behind it.
-#[tactic(auto, unfolding(crate::specs::Attributes::quoted), using(crate::proofs::Rests::dropped))]
+#[tactic(auto, unfolding(crate::specs::Attributes::quoted), using(text_bytes::proofs::Rests::dropped))]
 fn quoted(quote: u8, text: &[u8]) -> Option<(&[u8], &[u8])>
     ensures gives { spec.quoted quote text.now ≡ option_map (λ r. (r.0.now, r.1.now)) result }
     ensures rest { IfSome result (λ r. IsRest text.now r.1.now) }
@@ -45,7 +44,7 @@ fn quoted(quote: u8, text: &[u8]) -> Option<(&[u8], &[u8])>
 }
 
 /// The value behind `=`.
-#[tactic(auto, unfolding(crate::specs::Attributes::value), using(crate::proofs::Rests::of_rest, crate::proofs::Rests::behind_first, crate::proofs::Rests::dropped))]
+#[tactic(auto, unfolding(crate::specs::Attributes::value), using(text_bytes::proofs::Rests::of_rest, text_bytes::proofs::Rests::behind_first, text_bytes::proofs::Rests::dropped))]
 fn value(text: &[u8]) -> Option<(&[u8], &[u8])>
     ensures gives { spec.value text.now ≡ option_map (λ r. (r.0.now, r.1.now)) result }
     ensures rest { IfSome result (λ r. IsRest text.now r.1.now) }
@@ -58,7 +57,7 @@ fn value(text: &[u8]) -> Option<(&[u8], &[u8])>
 }
 
 /// The bytes of the value, where white space, `=` and white space come first.
-#[tactic(auto, unfolding(crate::specs::Attributes::behind_equals), using(crate::proofs::Rests::of_rest, crate::proofs::Rests::behind_first))]
+#[tactic(auto, unfolding(crate::specs::Attributes::behind_equals), using(text_bytes::proofs::Rests::of_rest, text_bytes::proofs::Rests::behind_first))]
 fn behind_equals(text: &[u8]) -> Option<&[u8]>
     ensures gives { spec.behind_equals text.now ≡ option_map (λ r. r.now) result }
     ensures rest { IfSome result (λ r. IsRest text.now r.now) }
@@ -70,7 +69,7 @@ fn behind_equals(text: &[u8]) -> Option<&[u8]>
 }
 
 /// An attribute from its first byte on, which may be `=`.
-#[tactic(auto, unfolding(crate::specs::Attributes::attribute), using(crate::proofs::Rests::of_rest, crate::proofs::Rests::dropped))]
+#[tactic(auto, unfolding(crate::specs::Attributes::attribute), using(text_bytes::proofs::Rests::of_rest, text_bytes::proofs::Rests::dropped))]
 fn read_attribute(text: &[u8]) -> Option<(Attribute<'_>, &[u8])>
     ensures gives { spec.attribute text.now ≡ option_map (λ r. (attribute_of r.0, r.1.now)) result }
     ensures rest { IfSome result (λ r. IsRest text.now r.1.now) }
@@ -110,7 +109,7 @@ impl<'a> Given<'a> {
 }
 
 /// What is kept of the attributes up to `>`, and the bytes behind it. Linear in the tag.
-#[tactic(auto, using(crate::proofs::AttributeSteps::begins, crate::proofs::AttributeSteps::passes, crate::proofs::AttributeSteps::adds, crate::proofs::AttributeSteps::closes, crate::proofs::AttributeSteps::fails, crate::proofs::AttributeSteps::ends, crate::proofs::Rests::of_rest, crate::proofs::Rests::behind_first))]
+#[tactic(auto, using(crate::proofs::AttributeSteps::begins, crate::proofs::AttributeSteps::passes, crate::proofs::AttributeSteps::adds, crate::proofs::AttributeSteps::closes, crate::proofs::AttributeSteps::fails, crate::proofs::AttributeSteps::ends, text_bytes::proofs::Rests::of_rest, text_bytes::proofs::Rests::behind_first))]
 pub(crate) fn read_given(text: &[u8]) -> Option<(Given<'_>, &[u8])>
     ensures gives { spec.given text.now ≡ option_map (λ r. (given_of r.0, r.1.now)) result }
     ensures rest { IfSome result (λ r. IsRest text.now r.1.now) }

@@ -5,12 +5,7 @@ ghost use Rattle.std.specs.Str.{str_eq_ignore_ascii_case};
 ghost use Rattle.html_tokens.specs.Bytes as spec;
 ghost use Rattle.html_tokens.specs.Words.{word_len};
 
-/// White space of HTML: space, tab, line feed, form feed and carriage return.
-pub fn is_blank(b: u8) -> bool
-    ensures { result ≡ spec.is_blank b }
-{
-    matches!(b, b' ' | b'\t' | b'\n' | b'\x0c' | b'\r')
-}
+use text_bytes::is_blank;
 
 /// What stands between attributes.
 pub(crate) fn is_filler(b: u8) -> bool
@@ -38,13 +33,6 @@ pub fn word_len(text: &[u8]) -> usize
     ensures within { result ≤ length text.now }
 {
     text.iter().take_while(|b| !is_blank(**b)).count()
-}
-
-pub(crate) fn blank_len(text: &[u8]) -> usize
-    ensures gives { result ≡ prefix_len spec.is_blank text.now }
-    ensures within { result ≤ length text.now }
-{
-    text.iter().take_while(|b| is_blank(**b)).count()
 }
 
 pub(crate) fn tag_name_len(text: &[u8]) -> usize

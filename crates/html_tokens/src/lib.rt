@@ -7,6 +7,6 @@ mod markup;
 mod raw;
 mod tokens;
 
-pub use bytes::{is_blank, is_same_name, word_len};
+pub use bytes::{is_same_name, word_len};
 pub use raw::is_raw;
 pub use tokens::{StartTag, Token, next};

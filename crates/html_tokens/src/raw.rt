@@ -1,8 +1,9 @@
 //! Raw elements, whose text is passed over.
 ghost use Rattle.std.specs.Prelude.{◌≡◌, map};
+ghost use Rattle.text_bytes.specs.Rests.{IsRest};
 ghost use Rattle.html_tokens.specs.Markup as spec;
 ghost use Rattle.html_tokens.specs.Names as elements;
-ghost use Rattle.html_tokens.specs.Bytes.{IsRest, lowered};
+ghost use Rattle.html_tokens.specs.Bytes.{lowered};
 
 use crate::bytes::{ends_tag_name, is_same_name};
 
@@ -65,7 +66,7 @@ fn begins_end_of(name: &[u8], text: &[u8]) -> bool
 }
 
 /// From the first end tag of this name on, or the end. Linear in the text, since a raw element's name is short.
-#[tactic(auto, unfolding(crate::specs::Markup::behind_raw), using(crate::proofs::Rests::of_rest, crate::proofs::Rests::behind_first))]
+#[tactic(auto, unfolding(crate::specs::Markup::behind_raw), using(text_bytes::proofs::Rests::of_rest, text_bytes::proofs::Rests::behind_first))]
 pub(crate) fn behind_raw<'a>(name: &[u8], text: &'a [u8]) -> &'a [u8]
     ensures gives { result.now ≡ spec.behind_raw name.now text.now }
     ensures rest { IsRest text.now result.now }

@@ -1,8 +1,8 @@
 //! Tokens: texts, start tags and end tags.
 ghost use Rattle.std.specs.Prelude.{◌≡◌, ◌+◌, ◌<◌, IfSome, length};
 ghost use Rattle.std.specs.Option.{option_map};
+ghost use Rattle.text_bytes.specs.Rests.{IsRest};
 ghost use Rattle.html_tokens.specs.Tokens as spec;
-ghost use Rattle.html_tokens.specs.Bytes.{IsRest};
 ghost use Rattle.html_tokens.specs.Views.{front_of, start_tag_of, tag_of};
 
 use crate::attributes::{Given, read_given};
@@ -39,7 +39,7 @@ struct Tag<'a> {
 }
 
 /// A tag from its name on, and the bytes behind its `>`.
-#[tactic(auto, unfolding(crate::specs::Tokens::tag), using(crate::proofs::Rests::of_rest, crate::proofs::Rests::dropped))]
+#[tactic(auto, unfolding(crate::specs::Tokens::tag), using(text_bytes::proofs::Rests::of_rest, text_bytes::proofs::Rests::dropped))]
 fn read_tag(text: &[u8]) -> Option<(Tag<'_>, &[u8])>
     ensures gives { spec.tag text.now ≡ option_map (λ r. (tag_of r.0, r.1.now)) result }
     ensures rest { IfSome result (λ r. IsRest text.now r.1.now) }
@@ -50,7 +50,7 @@ fn read_tag(text: &[u8]) -> Option<(Tag<'_>, &[u8])>
 }
 
 /// The bytes behind a start tag, and behind the text of a raw element.
-#[tactic(auto, unfolding(crate::specs::Tokens::behind_start), using(crate::proofs::Rests::itself))]
+#[tactic(auto, unfolding(crate::specs::Tokens::behind_start), using(text_bytes::proofs::Rests::itself))]
 fn behind_start<'a>(name: &[u8], rest: &'a [u8]) -> &'a [u8]
     ensures gives { result.now ≡ spec.behind_start name.now rest.now }
     ensures rest { IsRest rest.now result.now }
@@ -63,7 +63,7 @@ fn behind_start<'a>(name: &[u8], rest: &'a [u8]) -> &'a [u8]
 }
 
 /// A start tag from its name on.
-#[tactic(auto, unfolding(crate::specs::Tokens::start_tag), using(crate::proofs::Rests::of_rest, crate::proofs::Rests::none_left))]
+#[tactic(auto, unfolding(crate::specs::Tokens::start_tag), using(text_bytes::proofs::Rests::of_rest, text_bytes::proofs::Rests::none_left))]
 fn start_tag(at: usize, text: &[u8]) -> (Option<Token<'_>>, &[u8])
     ensures gives { spec.start_tag at text.now ≡ front_of result }
     ensures rest { IsRest text.now result.1.now }
@@ -82,7 +82,7 @@ fn start_tag(at: usize, text: &[u8]) -> (Option<Token<'_>>, &[u8])
 }
 
 /// An end tag from its name on.
-#[tactic(auto, unfolding(crate::specs::Tokens::end_tag), using(crate::proofs::Rests::none_left))]
+#[tactic(auto, unfolding(crate::specs::Tokens::end_tag), using(text_bytes::proofs::Rests::none_left))]
 fn end_tag(at: usize, text: &[u8]) -> (Option<Token<'_>>, &[u8])
     ensures gives { spec.end_tag at text.now ≡ front_of result }
     ensures rest { IsRest text.now result.1.now }
@@ -94,7 +94,7 @@ fn end_tag(at: usize, text: &[u8]) -> (Option<Token<'_>>, &[u8])
 }
 
 /// Behind `</`.
-#[tactic(auto, unfolding(crate::specs::Tokens::end_markup), using(crate::proofs::Rests::itself))]
+#[tactic(auto, unfolding(crate::specs::Tokens::end_markup), using(text_bytes::proofs::Rests::itself))]
 fn end_markup(at: usize, text: &[u8]) -> (Option<Token<'_>>, &[u8])
     ensures gives { spec.end_markup at text.now ≡ front_of result }
     ensures rest { IsRest text.now result.1.now }
@@ -107,7 +107,7 @@ fn end_markup(at: usize, text: &[u8]) -> (Option<Token<'_>>, &[u8])
 }
 
 /// Behind the `<` at `at`, where that begins markup.
-#[tactic(auto, unfolding(crate::specs::Tokens::markup), using(crate::proofs::Rests::of_rest, crate::proofs::Rests::behind_first, crate::proofs::Rests::itself))]
+#[tactic(auto, unfolding(crate::specs::Tokens::markup), using(text_bytes::proofs::Rests::of_rest, text_bytes::proofs::Rests::behind_first, text_bytes::proofs::Rests::itself))]
 fn markup(at: usize, text: &[u8]) -> (Option<Token<'_>>, &[u8])
     ensures gives { spec.markup at text.now ≡ front_of result }
     ensures rest { IsRest text.now result.1.now }
@@ -128,7 +128,7 @@ fn markup(at: usize, text: &[u8]) -> (Option<Token<'_>>, &[u8])
 
 /// What stands at the front of the text, which is the offset `at`, and what is behind it. Comments, texts of raw
 /// elements and what else counts as nothing is passed over. Linear in what is passed.
-#[tactic(auto, unfolding(crate::specs::Tokens::front), using(crate::proofs::Rests::of_rest, crate::proofs::Rests::behind_first, crate::proofs::Rests::itself))]
+#[tactic(auto, unfolding(crate::specs::Tokens::front), using(text_bytes::proofs::Rests::of_rest, text_bytes::proofs::Rests::behind_first, text_bytes::proofs::Rests::itself))]
 pub fn next(at: usize, text: &[u8]) -> (Option<Token<'_>>, &[u8])
     ensures gives { spec.front at text.now ≡ front_of result }
     ensures rest { IsRest text.now result.1.now }

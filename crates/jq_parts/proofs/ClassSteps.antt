@@ -2,7 +2,7 @@
 use Rattle.std.proofs.Common.{◌≡◌, ℕ, true, false, List, [], ◌∷◌, length, take, drop, Ok, Err, refl, arith}
 use Rattle.tp_base.specs.Names.{Named, with_name}
 use Rattle.tp_base.specs.declared.atoms.AtomKind.TheVariants.{Class}
-use Rattle.html_tokens.specs.Bytes.{is_blank}
+use Rattle.text_bytes.specs.Blanks.{is_blank}
 use Rattle.html_tokens.specs.Words.{word_len, words_from, words}
 use Rattle.html_tokens.proofs.WordLemmas.{next_word}
 use Rattle.jq_words.specs.declared.faults.ScriptFault.{ScriptFault}

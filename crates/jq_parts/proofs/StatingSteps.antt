@@ -1,7 +1,6 @@
 -- One statement more, and its place.
-use Rattle.std.proofs.Common.{◌≡◌, ℕ, List, [], ◌∷◌, ◌++◌, length, map, take, min, sym, ◌∙◌, inl, inr, arith}
-use Rattle.std.proofs.lemmas.Bool.{cases_lt}
-use Rattle.std.proofs.lemmas.List.{map-append, append_assoc, append-nil, take_all}
+use Rattle.std.proofs.Common.{◌≡◌, ℕ, List, [], ◌∷◌, ◌++◌, map, sym, ◌∙◌}
+use Rattle.std.proofs.lemmas.List.{map-append, append_assoc, append-nil}
 use Rattle.jq_sem.specs.declared.stmts.Stmt.{Stmt}
 use Rattle.jq_sem.specs.Statements.{Statement}
 use Rattle.jq_sem.specs.Views.{statement_of, statements_of}
@@ -20,10 +19,3 @@ placed_more text found s t rest all is before =
 -- all of them have
 pub placed_all : (text : List ℕ) (found : List Stmt) (all : List Statement) → statements_of found ++ map (stated_in text) [] ≡ all → statements_of found ≡ all
 placed_all text found all before = sym (append-nil (statements_of found)) ∙ before
-
--- what is taken up to an offset past the end is all
-pub take_within : (n m : ℕ) (text : List ℕ) → m ≡ min n (length text) → take m text ≡ take n text
-take_within n m text is = elim (cases_lt n (length text)) [
-  | inl lt ↦ let same : m ≡ n = omega arith in rw same
-  | inr ge ↦ let same : m ≡ length text = omega arith in rw same (take_all (length text) text (omega arith) ∙ sym (take_all n text ge))
-]

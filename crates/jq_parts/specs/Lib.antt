@@ -12,7 +12,6 @@ pub mod Notes
 pub mod Arguments
 pub mod Parameters
 pub mod Stating
-pub mod Marks
 pub mod Values
 pub mod Views
 pub mod ScopeViews

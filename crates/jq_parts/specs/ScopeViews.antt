@@ -1,5 +1,6 @@
 -- What the scopes, effects and statements of the code are to the definitions.
 use Rattle.std.specs.Prelude.{ℕ, map, List, Option, option_map}
+use Rattle.tp_base.specs.Places.{place_at}
 use Rattle.tree_sem.specs.declared.actions.Action.{Action}
 use Rattle.jq_sem.specs.declared.chains.Chain as code_chain
 use Rattle.jq_sem.specs.Views as sem
@@ -9,7 +10,7 @@ use Rattle.jq_parts.specs.declared.scopes.Handler as code_handler
 use Rattle.jq_parts.specs.declared.scopes.Scope as code_scope
 use Rattle.jq_parts.specs.Views.{declarations_of}
 use Rattle.jq_parts.specs.Scopes.{Handler, Scope}
-use Rattle.jq_parts.specs.Stating.{Effect, place_in}
+use Rattle.jq_parts.specs.Stating.{Effect}
 
 abbrev pub handler_of : code_handler.Handler → Handler
 handler_of h = record { chain = sem.chain_of h.chain; at = h.at }
@@ -25,4 +26,4 @@ effect_of e = option_map (λ a. (sem.chain_of a.0, a.1)) e
 
 -- a statement of a text, which has an offset in the place of its place
 abbrev pub stated_in : List ℕ → Stated → Statement
-stated_in text s = record { handlers = map sem.chain_of s.handlers; chain = sem.chain_of s.chain; action = s.action; place = place_in text s.at }
+stated_in text s = record { handlers = map sem.chain_of s.handlers; chain = sem.chain_of s.chain; action = s.action; place = place_at text s.at }

@@ -1,7 +1,6 @@
 -- The statements of a script, one more at a time.
 use Rattle.std.specs.Prelude.{ℕ, nat_le, nat_lt, if◌then◌else◌, List, [], ◌∷◌, ◌++◌, length, map, sum, Option, Some, None, Ok, Err}
-use Rattle.tp_base.specs.Places.{line_of, column_of}
-use Rattle.tp_base.specs.declared.places.Place.{Place}
+use Rattle.tp_base.specs.Places.{place_at}
 use Rattle.tree_sem.specs.declared.actions.Action.{Action}
 use Rattle.jq_sem.specs.Statements.{Chain, Statement}
 use Rattle.jq_words.specs.declared.faults.ScriptFault.TheVariants.{TooLong, TooManyStatements}
@@ -12,9 +11,6 @@ use Rattle.jq_parts.specs.Scopes.{Handler}
 -- What a call does to the nodes of a chain, if it acts.
 abbrev pub Effect : Type 0
 Effect = Option (Chain × Action)
-
-abbrev pub place_in : List ℕ → ℕ → Place
-place_in text at = record { line = line_of text at; column = column_of text at }
 
 -- how many calls chains have together
 abbrev pub calls_in : List Chain → ℕ
@@ -29,4 +25,4 @@ stated text hs at None ss = Ok ss
 stated text hs at (Some (chain, action)) ss =
     if nat_le MOST_STATEMENTS (length ss) then Err (TooManyStatements at)
     else if nat_lt MOST_CALLS (calls_in (chain ∷ chains_of hs)) then Err (TooLong at)
-    else Ok (ss ++ record { handlers = chains_of hs; chain = chain; action = action; place = place_in text at } ∷ [])
+    else Ok (ss ++ record { handlers = chains_of hs; chain = chain; action = action; place = place_at text at } ∷ [])

@@ -10,7 +10,6 @@ mod entries;
 mod keywords;
 mod last_places;
 mod lists;
-mod marks;
 mod markup;
 mod open_lists;
 mod parameter_lists;

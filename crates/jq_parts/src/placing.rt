@@ -1,16 +1,15 @@
 //! Where the statements of a script stand.
 ghost use Rattle.std.specs.Prelude.{◌≡◌, ◌≤◌, ℕ, List, length, map, IfOk, IfErr};
+ghost use Rattle.tp_base.specs.Places.{place_at};
 ghost use Rattle.tp_base.specs.declared.places.TheConstants.{MOST_BYTES};
 ghost use Rattle.jq_sem.specs.Views.{statement_of, statements_of};
 ghost use Rattle.jq_words.specs.declared.faults.ScriptFault.TheVariants.{Memory};
-ghost use Rattle.jq_parts.specs.Stating as spec;
 ghost use Rattle.jq_parts.specs.ScopeViews.{stated_in};
 
-use crate::marks::Mark;
 use jq_sem::{Chain, Chains, Stmt};
 use jq_words::ScriptFault;
 use std::alloc::Global;
-use tp_base::Place;
+use tp_base::{Cursor, Place};
 use tree_sem::Action;
 
 /// A statement whose place is still the offset of its action's name.
@@ -24,7 +23,7 @@ pub struct Stated {
 
 /// A statement at a place.
 fn at_place(place: Place, statement: Stated) -> Stmt
-    ensures { (text : List ℕ) → place ≡ spec.place_in text statement.at → statement_of result ≡ stated_in text statement }
+    ensures { (text : List ℕ) → place ≡ place_at text statement.at → statement_of result ≡ stated_in text statement }
 {
     Stmt {
         place,
@@ -42,9 +41,9 @@ pub fn placed(alloc: Global, text: &[u8], statements: Vec<Stated>) -> Result<Vec
     ensures only_memory { IfErr result (λ e. e ≡ Memory) }
 {
     let mut found = Vec::new(alloc);
-    let mut mark = Mark::new();
+    let mut cursor = Cursor::new();
     for statement in statements {
-        let place = mark.place_at(text, statement.at);
+        let place = cursor.place_at(text, statement.at);
         found.push(at_place(place, statement))?;
     }
     Ok(found)

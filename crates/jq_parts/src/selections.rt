@@ -14,9 +14,10 @@ ghost use Rattle.jq_words.specs.declared.faults.ScriptFault.TheVariants.{Memory,
 ghost use Rattle.jq_parts.specs.Selections as spec;
 
 use html_tokens::word_len;
-use jq_words::{ScriptFault, is_blank};
+use jq_words::ScriptFault;
 use sel_core::{Compound, SelFault, Selector, read_strict_list};
 use std::alloc::Global;
+use text_bytes::is_blank;
 use tp_base::{AtomFault, AtomKind, AtomTable, ClassSet, NoMemory};
 
 /// The list of selectors in the letters of an argument, whose first Text stands at an offset. Names read before a refusal stay in the

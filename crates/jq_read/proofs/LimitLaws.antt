@@ -6,6 +6,7 @@ use Rattle.std.proofs.lemmas.Bool.{leb-false, ltb-false}
 use Rattle.std.proofs.lemmas.Result.{IfOk-at_ok}
 use Rattle.std.proofs.lemmas.List.Sums.{sum_by_push}
 use Rattle.tp_base.specs.Names.{Named}
+use Rattle.tp_base.specs.Places.{place_at}
 use Rattle.tree_sem.specs.Trees.{LabelTree}
 use Rattle.tree_sem.specs.declared.actions.Action.{Action}
 use Rattle.tree_sem.specs.declared.actions.Action.TheVariants.{Classes}
@@ -25,7 +26,7 @@ use Rattle.jq_parts.specs.Scopes.{Handler, Scope, used, if_bound, is_this, place
 use Rattle.jq_parts.specs.Selections.{selectors, compounds, class_set}
 use Rattle.jq_parts.specs.Markup.{Grown, grown, forest, with_forest, nodes_in}
 use Rattle.jq_parts.specs.Arguments.{text_argument, markup_argument, forest_or, wrapped, wrapped_forest, target}
-use Rattle.jq_parts.specs.Stating.{Effect, stated, calls_in, chains_of, place_in}
+use Rattle.jq_parts.specs.Stating.{Effect, stated, calls_in, chains_of}
 use Rattle.jq_parts.specs.Parameters.{hidden, parameters, named_parameters, more_parameters}
 use Rattle.jq_parts.specs.Roots.{root, wrapped_root, root_of, jquery_argument, lettered_root, named_root}
 use Rattle.jq_parts.specs.Values.{is_chain}
@@ -98,11 +99,11 @@ room_for : (k : ℕ) (c : Context) (at : ℕ) (chain : Chain) (action : Action) 
     → (full ≡ false → length s.statements < MOST_STATEMENTS) → (long ≡ false → calls_in (chain ∷ chains_of c.handlers) ≤ MOST_CALLS)
     → IsIn (nodes_in (trees_added action) + k) s
     → IfOk ((if full then Err (TooManyStatements at) else (if long then Err (TooLong at)
-    else Ok (s.statements ++ record { handlers = chains_of c.handlers; chain = chain; action = action; place = place_in c.text at } ∷ []))) >>= λ ss. Ok (record s { statements = ss })) (IsIn k)
+    else Ok (s.statements ++ record { handlers = chains_of c.handlers; chain = chain; action = action; place = place_at c.text at } ∷ []))) >>= λ ss. Ok (record s { statements = ss })) (IsIn k)
 room_for k c at chain action s true long room short here = tt
 room_for k c at chain action s false true room short here = tt
 room_for k c at chain action s false false room short here =
-    let one : Statement = record { handlers = chains_of c.handlers; chain = chain; action = action; place = place_in c.text at } in
+    let one : Statement = record { handlers = chains_of c.handlers; chain = chain; action = action; place = place_at c.text at } in
     let count : nodes_added (s.statements ++ one ∷ []) ≡ nodes_added s.statements + nodes_in (trees_added action) = sum_by_push (λ t. nodes_in (trees_added t.action)) s.statements one in
     record {
       few = omega (arith, length-append s.statements (one ∷ []), room refl);

@@ -3,13 +3,14 @@ use Rattle.std.proofs.Common.{ℕ, ◌≤◌, not, ◌&&◌, if◌then◌else◌
 use Rattle.std.specs.Prelude.{Ok, Err, IfOk, IfSome, nat_le, nat_lt, bytes_eq, option_and_then}
 use Rattle.std.specs.List.{AllByRecursion}
 use Rattle.tp_base.specs.Names.{Named}
+use Rattle.tp_base.specs.Places.{place_at}
 use Rattle.jq_sem.specs.Statements.{Chain, Statement}
 use Rattle.jq_words.specs.declared.faults.ScriptFault.TheVariants.{ThisOutside}
 use Rattle.jq_words.specs.declared.faults.TheConstants.{MOST_STATEMENTS, MOST_CALLS}
 use Rattle.jq_parts.specs.Bindings.{Value, elements, everywhere, markup, placed, Declaration, bound, latest, if_chain}
 use Rattle.jq_parts.specs.Scopes.{Handler, Scope, used, if_bound, is_this, places_of, this_at}
 use Rattle.jq_parts.specs.Markup.{Grown, grown}
-use Rattle.jq_parts.specs.Stating.{Effect, stated, calls_in, chains_of, place_in}
+use Rattle.jq_parts.specs.Stating.{Effect, stated, calls_in, chains_of}
 use Rattle.jq_sem.specs.Tables.{IsChainOver, AreChainsOver, AreTreesOver, IsActionOver, IsStatementOver, AreStatementsOver}
 use Rattle.jq_parts.proofs.SelectorLaws.{IsChainOver-more, AreChainsOver-more, AreTreesOver-more, AreStatementsOver-more}
 use Rattle.jq_read.specs.States.{Context, State, with_names}
@@ -106,7 +107,7 @@ pub stated_over : (c : Context) (at : ℕ) (e : Effect) (s : State) → AreOver 
 unfolding and_stated stated
 stated_over c at None s over effect = same c s over
 stated_over c at (Some (chain, action)) s over effect =
-    let one : Statement = record { handlers = chains_of c.handlers; chain = chain; action = action; place = place_in c.text at } in
+    let one : Statement = record { handlers = chains_of c.handlers; chain = chain; action = action; place = place_at c.text at } in
     and_then _ _ _ _ (either (λ ss. AreStatementsOver (count s) ss) (nat_le MOST_STATEMENTS (length s.statements)) _ _ tt
     (either (λ ss. AreStatementsOver (count s) ss) (nat_lt MOST_CALLS (calls_in (chain ∷ chains_of c.handlers))) _ _ tt
     (one_statement (count s) s.statements one over.statements (over.handlers, effect.0, effect.1))))

@@ -2,24 +2,13 @@
 use Rattle.std.proofs.Common.{◌≡◌, ℕ, zero, suc, ◌+◌, ◌-◌, ◌<◌, List, [], ◌∷◌, length, drop, refl, sym, ap, ◌∙◌, arith}
 use Rattle.std.proofs.lemmas.List.{drop-drop, drop_all, length-drop}
 use Rattle.std.specs.Prelude.{Result, Ok, Err, OnOk}
+pub use Rattle.text_bytes.proofs.Rests.{of_rest, itself, dropped}
 use Rattle.jq_words.specs.declared.faults.ScriptFault.{ScriptFault}
 use Rattle.jq_words.specs.Words.{Word}
 use Rattle.jq_words.specs.Results.{IsRest, IsBehind}
 
-pub of_rest : (all middle rest : List Word) → IsRest all middle → IsRest middle rest → IsRest all rest
-of_rest all middle rest outer inner =
-    let steps : (length all - length middle) + (length middle - length rest) ≡ length all - length rest = omega (arith, outer.shorter, inner.shorter) in
-    record {
-      shorter = omega (arith, outer.shorter, inner.shorter);
-      last = ap (λ n. drop n all) (sym steps) ∙ sym (drop-drop (length middle - length rest) (length all - length middle) all) ∙ ap (drop (length middle - length rest)) outer.last ∙ inner.last;
-    }
-
 pub behind_first : (all : List Word) → IsRest all (drop 1 all)
-behind_first [] = record { shorter = omega arith; last = refl }
-behind_first (t ∷ ts) = let one : suc (length ts) - length ts ≡ 1 = omega arith in record { shorter = omega arith; last = ap (λ n. drop n (t ∷ ts)) one }
-
-pub itself : (all : List Word) → IsRest all all
-itself all = let none : length all - length all ≡ 0 = omega arith in record { shorter = omega arith; last = ap (λ n. drop n all) none }
+behind_first all = dropped 1 all
 
 -- ---- behind the first word
 
@@ -70,11 +59,6 @@ passed_rest ws rest part = record { part = of_rest (drop 1 ws) (drop 1 (drop 1 w
 
 pub passed_behind_rest : (ws middle rest : List Word) → IsBehind (drop 1 (drop 1 ws)) middle → IsRest middle rest → IsBehind ws rest
 passed_behind_rest ws middle rest outer inner = passed_rest ws rest (of_rest (drop 1 (drop 1 ws)) middle rest (is_rest (drop 1 (drop 1 ws)) middle outer) inner)
-
-dropped : (n : ℕ) (ws : List Word) → IsRest ws (drop n ws)
-dropped zero ws = itself ws
-dropped (suc n) [] = itself []
-dropped (suc n) (w ∷ ws) = of_rest (w ∷ ws) ws (drop n ws) (behind_first (w ∷ ws)) (dropped n ws)
 
 pub some_dropped : (n : ℕ) (ws rest : List Word) → 0 < n → rest ≡ drop n ws → IsBehind ws rest
 some_dropped zero ws rest some is = let never : ⊥ = omega (arith, some) in absurd never

@@ -1,5 +1,6 @@
 -- How a result stands to what the definitions give.
-use Rattle.std.specs.Prelude.{◌≡◌, ◌≢◌, ◌≤◌, ℕ, ◌-◌, List, length, drop, Option, Some, None, Result, Ok, Err}
+use Rattle.std.specs.Prelude.{◌≡◌, ◌≢◌, List, drop, Option, Some, None, Result, Ok, Err}
+pub use Rattle.text_bytes.specs.Rests.{IsRest}
 use Rattle.jq_words.specs.declared.faults.ScriptFault.{ScriptFault}
 use Rattle.jq_words.specs.declared.faults.ScriptFault.TheVariants.{Memory}
 use Rattle.jq_words.specs.Words.{Word, Outcome}
@@ -28,11 +29,6 @@ Turns view x y (Err e) read = e ≢ Memory → read ≡ Err e
 abbrev pub Yields : {A B X Y Z : Type 0} → (A → B) → X → Y → Z → Result A ScriptFault → Outcome (B × X × Y × Z) → Type 0
 Yields view x y z (Ok a) read = read ≡ Ok (view a, x, y, z)
 Yields view x y z (Err e) read = e ≢ Memory → read ≡ Err e
-
--- the last of the words
-pub record IsRest (all rest : List Word) : Type 0 where
-  pub shorter : length rest ≤ length all
-  pub last : drop (length all - length rest) all ≡ rest
 
 -- the result is Ok where there is no cause, and else the fault, unless memory ran out
 abbrev pub Allows : {X : Type 0} → Option ScriptFault → Result X ScriptFault → Type 0

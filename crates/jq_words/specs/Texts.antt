@@ -2,6 +2,7 @@
 use Rattle.std.specs.Prelude.{ℕ, ◌==◌, ◌&&◌, ◌||◌, Bool, false, if◌then◌else◌, List, [], ◌∷◌, ◌++◌, drop, codes, Option, Some, None, option_map}
 use Rattle.std.specs.List.{prefix_len}
 use Rattle.std.specs.Str.{byte}
+use Rattle.text_bytes.specs.Blanks.{is_blank}
 use Rattle.jq_words.specs.Words.{Word, is_mark, is_text, letters_of, is_form}
 
 unfoldable pub with_letters : List ℕ → Option (List ℕ) → Option (List ℕ)
@@ -27,10 +28,6 @@ unfoldable pub holds_texts : List Word → Bool
 holds_texts [] = false
 holds_texts (t ∷ []) = false
 holds_texts (t ∷ m ∷ ws) = is_text t && (is_mark (codes ")") m || (is_mark (codes "+") m && holds_texts ws))
-
--- space, tab, LF, FF, CR
-abbrev pub is_blank : ℕ → Bool
-is_blank b = b == 32 || b == 9 || b == 10 || b == 12 || b == 13
 
 abbrev pub begins_angle : List ℕ → Bool
 begins_angle [] = false

@@ -15,7 +15,7 @@ pub use calls::{Form, Row, row_of};
 pub use faults::{MOST_CALLS, MOST_FOREST_NODES, MOST_OPEN, MOST_STATEMENTS, ScriptFault};
 pub use free_lists::{Rules, free};
 pub use functions::declared_in;
-pub use texts::{closed_texts, holds_texts_behind, is_blank, is_markup, joined_texts};
+pub use texts::{closed_texts, holds_texts_behind, is_markup, joined_texts};
 pub use words::{
     Word, Words, begins, begins_any_name, begins_name, begins_name_among, end, end_fits, is_one_of,
     letters, only, place, want, want_name, want_open,

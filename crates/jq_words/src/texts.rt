@@ -1,12 +1,12 @@
 //! Texts that are joined by `+`.
-ghost use Rattle.std.specs.Prelude.{◌≡◌, ◌≤◌, [], ◌∷◌, length, drop, Some, None, option_map, IfOk, IfErr};
-ghost use Rattle.std.specs.List.{prefix_len};
+ghost use Rattle.std.specs.Prelude.{◌≡◌, [], ◌∷◌, drop, Some, None, option_map, IfOk, IfErr};
 ghost use Rattle.jq_words.specs.Texts as spec;
 ghost use Rattle.jq_words.specs.declared.faults.ScriptFault.TheVariants.{Memory};
 
 use crate::faults::ScriptFault;
 use crate::words::Words;
 use std::alloc::Global;
+use text_bytes::blank_len;
 
 /// Whether Texts joined and then a closing bracket stand behind the first word.
 #[tactic(auto, using(crate::proofs::TextSteps::no_word, crate::proofs::TextSteps::one_word, crate::proofs::TextSteps::no_text, crate::proofs::TextSteps::closed, crate::proofs::TextSteps::joined, crate::proofs::TextSteps::not_joined))]
@@ -57,21 +57,6 @@ pub fn joined_texts(alloc: Global, words: &Words<'_>) -> Result<Option<Vec<u8>>,
         rest.pass();
     }
     Ok(None)
-}
-
-/// Space, tab, LF, FF or CR.
-pub fn is_blank(b: u8) -> bool
-    ensures { result ≡ spec.is_blank b }
-{
-    b == b' ' || b == b'\t' || b == b'\n' || b == 12 || b == b'\r'
-}
-
-/// How many bytes of white space a text begins with.
-fn blank_len(text: &[u8]) -> usize
-    ensures gives { result ≡ prefix_len spec.is_blank text.now }
-    ensures within { result ≤ length text.now }
-{
-    text.iter().take_while(|b| is_blank(**b)).count()
 }
 
 fn begins_angle(text: &[u8]) -> bool

@@ -1,6 +1,7 @@
 -- Worked rows: the definitions compute.
 use Rattle.std.proofs.Common.{◌≡◌, ℕ, [], ◌∷◌, ◌++◌, Ok, Err, refl}
 use Rattle.std.specs.Prelude.{codes}
+use Rattle.text_bytes.specs.OrderMark.{behind_order_mark}
 use Rattle.js_scan.specs.declared.token.TokenKind.{TokenKind}
 use Rattle.js_scan.specs.declared.token.TokenKind.TheVariants.{Name, Number, Text, Mark}
 use Rattle.js_scan.specs.declared.token.Token.{Token}
@@ -9,7 +10,7 @@ use Rattle.js_scan.specs.Escapes.{escape, hex_pair, hex_quad}
 use Rattle.js_scan.specs.Texts.{text_from, next_piece}
 use Rattle.js_scan.specs.Marks.{mark_len}
 use Rattle.js_scan.specs.Comments.{behind_close}
-use Rattle.js_scan.specs.Tokens.{tokens, tokens_from, front, text_front, block_comment, slash, mark_front, divides_next, behind_order_mark}
+use Rattle.js_scan.specs.Tokens.{tokens, tokens_from, front, text_front, block_comment, slash, mark_front, divides_next}
 
 abbrev token : TokenKind → ℕ → ℕ → Token
 token kind from to = record { kind = kind; from = from; to = to }

@@ -6,16 +6,18 @@ use Rattle.std.specs.Char.{is_ascii_digit}
 use Rattle.std.proofs.lemmas.List.{length-append, take-append-drop}
 use Rattle.std.proofs.lemmas.List.Elements.{All-cons, All-nil}
 use Rattle.std.proofs.Math.Seq.{take-append_seam, drop-append_seam}
+use Rattle.text_bytes.specs.Blanks.{is_blank}
+use Rattle.text_bytes.specs.OrderMark.{behind_order_mark}
 use Rattle.js_scan.specs.declared.token.ScanFault.{ScanFault}
 use Rattle.js_scan.specs.declared.token.ScanFault.TheVariants.{BadByte, Regexp, NotUtf8}
 use Rattle.js_scan.specs.declared.token.Token.{Token}
 use Rattle.js_scan.specs.declared.token.TokenKind.{TokenKind}
 use Rattle.js_scan.specs.declared.token.TokenKind.TheVariants.{Name, Number, Text, Mark}
-use Rattle.js_scan.specs.Bytes.{is_blank, begins_name, is_in_name, is_in_number, is_quote}
+use Rattle.js_scan.specs.Bytes.{begins_name, is_in_name, is_in_number, is_quote}
 use Rattle.js_scan.specs.Comments.{is_in_line, behind_close}
 use Rattle.js_scan.specs.Texts.{Outcome, ok_or, ◌>>=◌, quoted}
 use Rattle.js_scan.specs.Marks.{mark_len, marks}
-use Rattle.js_scan.specs.Tokens.{Front, text_front, block_comment, slash, mark_front, front, divides_next, tokens_of, tokens_from, tokens, script_tokens, behind_order_mark, IsSpelled}
+use Rattle.js_scan.specs.Tokens.{Front, text_front, block_comment, slash, mark_front, front, divides_next, tokens_of, tokens_from, tokens, script_tokens, IsSpelled}
 use Rattle.js_scan.proofs.OwnBytes.{own_run, own_mark, own_text}
 
 bind_ok : {A B : Type 0} (r : Outcome A) (f : A → Outcome B) (y : B) → (r >>= f) ≡ Ok y → (x : A) × (r ≡ Ok x) × (f x ≡ Ok y)

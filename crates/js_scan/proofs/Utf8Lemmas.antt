@@ -1,5 +1,5 @@
 -- In a UTF-8 file the letters of a Text are UTF-8.
-use Rattle.std.proofs.Common.{◌≡◌, ℕ, zero, suc, ◌-◌, ◌+◌, ◌*◌, ◌≤◌, ◌<◌, ◌==◌, ◌&&◌, not, Bool, true, false, List, [], ◌∷◌, take, drop, Option, Some, None, Ok, Err, refl, sym, subst, arith, IsUtf8, encode_utf8, slice_index, nat_eq, nat_lt, if◌then◌else◌, codes}
+use Rattle.std.proofs.Common.{◌≡◌, ℕ, zero, suc, ◌-◌, ◌+◌, ◌*◌, ◌≤◌, ◌<◌, ◌==◌, ◌&&◌, not, Bool, true, false, List, [], ◌∷◌, length, take, drop, Option, Some, None, Ok, Err, refl, sym, subst, arith, IsUtf8, encode_utf8, slice_index, nat_eq, nat_lt, if◌then◌else◌, codes}
 use Rattle.std.proofs.lemmas.Bool.Decides.{nat_tests}
 use Rattle.std.specs.Char.{is_ascii_digit, is_ascii_hexdigit, IsScalar}
 use Rattle.std.specs.Str.{IsCharBoundary}
@@ -10,6 +10,7 @@ use Rattle.std.proofs.lemmas.Str.{IsUtf8-drop, IsUtf8-take, IsUtf8-append, IsUtf
 use Rattle.std.proofs.lemmas.Str.Ascii.{IsAscii-nil, IsAscii-cons}
 use Rattle.std.specs.Prelude.{option_and_then}
 use Rattle.std.specs.Option.{option_map}
+use Rattle.text_bytes.specs.Rests.{IsRest}
 use Rattle.js_scan.specs.declared.token.ScanFault.{ScanFault}
 use Rattle.js_scan.specs.declared.token.ScanFault.TheVariants.{BadString, Template}
 use Rattle.js_scan.specs.Utf8.{TextBehindAscii}
@@ -28,6 +29,9 @@ behind_cut zero bs cut = cut
 behind_cut (suc n) [] cut = cut
 behind_cut (suc n) (b ∷ bs) cut =
     behind_cut n bs (λ i lt ascii. subst (λ (j : ℕ). IsUtf8 (drop j (b ∷ bs))) {x = suc i + 1} {y = suc (i + 1)} (omega arith) (cut (suc i) (omega arith) ascii))
+
+pub behind_rest : (all rest : List ℕ) → IsRest all rest → TextBehindAscii all → TextBehindAscii rest
+behind_rest all rest part cut = subst TextBehindAscii part.last (behind_cut (length all - length rest) all cut)
 
 pub behind_quote : (b : ℕ) (bs : List ℕ) → TextBehindAscii (b ∷ bs) → is_quote b ≡ true → IsUtf8 bs
 behind_quote b bs cut quote = cut 0 (omega arith) (grind (arith, nat_tests))

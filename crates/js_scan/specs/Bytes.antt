@@ -3,10 +3,6 @@ use Rattle.std.specs.Prelude.{ℕ, Bool, not, ◌-◌, ◌||◌, ◌==◌, nat_l
 use Rattle.std.specs.Str.{byte}
 use Rattle.std.specs.Char.{is_ascii_digit, is_ascii_alphabetic}
 
--- space, tab, LF, FF, CR
-abbrev pub is_blank : ℕ → Bool
-is_blank b = b == 32 || b == 9 || b == 10 || b == 12 || b == 13
-
 -- a letter, `_`, `$`
 abbrev pub begins_name : ℕ → Bool
 begins_name b = is_ascii_alphabetic b || b == byte "_" || b == byte "$"

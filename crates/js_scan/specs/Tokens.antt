@@ -4,11 +4,13 @@ use Rattle.std.specs.List.{starts_with, prefix_len}
 use Rattle.std.specs.Str.{byte}
 use Rattle.std.specs.Char.{is_ascii_digit}
 use Rattle.std.specs.Str.Lossy.{utf8_valid_len}
+use Rattle.text_bytes.specs.Blanks.{is_blank}
+use Rattle.text_bytes.specs.OrderMark.{behind_order_mark}
 use Rattle.js_scan.specs.declared.token.Token.{Token}
 use Rattle.js_scan.specs.declared.token.TokenKind.{TokenKind}
 use Rattle.js_scan.specs.declared.token.TokenKind.TheVariants.{Name, Number, Text, Mark}
 use Rattle.js_scan.specs.declared.token.ScanFault.TheVariants.{NotUtf8, Regexp, BadByte}
-use Rattle.js_scan.specs.Bytes.{begins_name, is_in_name, is_in_number, is_blank, is_quote}
+use Rattle.js_scan.specs.Bytes.{begins_name, is_in_name, is_in_number, is_quote}
 use Rattle.js_scan.specs.Comments.{is_in_line, behind_close}
 use Rattle.js_scan.specs.Texts.{Outcome, ok_or, ◌>>=◌, quoted}
 use Rattle.js_scan.specs.Marks.{mark_len}
@@ -79,11 +81,7 @@ tokens_from size divides zero (b ∷ bs) = do
   others ← tokens_from size (divides_next f.0 (take f.1 (b ∷ bs)) divides) (f.1 - 1) bs
   Ok (tokens_of f.0 at (at + f.1) ++ others)
 
--- without a byte order mark at the front
-unfoldable pub behind_order_mark : List ℕ → List ℕ
-behind_order_mark bs = if starts_with nat_eq bs (0xEF ∷ 0xBB ∷ 0xBF ∷ []) then drop 3 bs else bs
-
--- the tokens of a file's bytes; no token stands before the first, so a slash divides only later
+-- The tokens of a file's bytes behind a byte order mark. No token stands before the first, so a slash divides only later.
 abbrev pub tokens : List ℕ → Outcome (List Token)
 tokens bs = tokens_from (length bs) false 0 (behind_order_mark bs)
 

@@ -4,12 +4,6 @@ ghost use Rattle.std.specs.Char.{is_ascii_hexdigit};
 ghost use Rattle.std.specs.List.{prefix_len};
 ghost use Rattle.js_scan.specs.Bytes as spec;
 
-pub(crate) fn is_blank(b: u8) -> bool
-    ensures { result ≡ spec.is_blank b }
-{
-    matches!(b, b' ' | b'\t' | b'\n' | b'\x0c' | b'\r')
-}
-
 pub(crate) fn begins_name(b: u8) -> bool
     ensures { result ≡ spec.begins_name b }
 {

@@ -4,13 +4,14 @@ ghost use Rattle.js_scan.specs.Tokens as spec;
 ghost use Rattle.js_scan.specs.Utf8.{TextBehindAscii};
 ghost use Rattle.js_scan.specs.Views.{Gives};
 
-use crate::bytes::{begins_name, is_blank, is_quote, name_len, number_len};
+use crate::bytes::{begins_name, is_quote, name_len, number_len};
 use crate::comments::{behind_close, line_len};
 use crate::marks::mark_len;
 use crate::texts::text_letters;
 use crate::token::{ScanFault, Token, TokenKind};
 use bstr::ByteSlice;
 use std::alloc::Global;
+use text_bytes::{behind_order_mark, is_blank};
 
 // A text behind its opening quote, which stands at `at`.
 #[tactic(auto, unfolding(crate::specs::Tokens::text_front))]
@@ -140,22 +141,7 @@ fn put(
     Ok(())
 }
 
-// A byte order mark at the front is passed over.
-#[tactic(auto, unfolding(crate::specs::Tokens::behind_order_mark), using(crate::proofs::Utf8Lemmas::behind_cut))]
-fn behind_order_mark(text: &[u8]) -> &[u8]
-    requires text { TextBehindAscii text.now }
-    ensures gives { result.now ≡ spec.behind_order_mark text.now }
-    ensures within { length result.now ≤ length text.now }
-    ensures text { TextBehindAscii result.now }
-{
-    if text.starts_with(b"\xef\xbb\xbf") {
-        text.split_at(3).1
-    } else {
-        text
-    }
-}
-
-#[tactic(auto, using(crate::proofs::TokensLemmas::goes_on, crate::proofs::TokensLemmas::fails, crate::proofs::TokensLemmas::ends, crate::proofs::TokensLemmas::begins, crate::proofs::TokensLemmas::stays_in_order, crate::proofs::Utf8Lemmas::behind_cut))]
+#[tactic(auto, using(crate::proofs::TokensLemmas::goes_on, crate::proofs::TokensLemmas::fails, crate::proofs::TokensLemmas::ends, crate::proofs::TokensLemmas::begins, crate::proofs::TokensLemmas::stays_in_order, crate::proofs::Utf8Lemmas::behind_cut, crate::proofs::Utf8Lemmas::behind_rest))]
 fn tokens(alloc: Global, text: &[u8]) -> Result<Vec<Token>, ScanFault>
     requires text { TextBehindAscii text.now }
     ensures exact { Gives (λ v. v.items) result (spec.tokens text.now) }

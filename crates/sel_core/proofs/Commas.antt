@@ -1,7 +1,9 @@
 -- The next comma outside comments.
 use Rattle.std.proofs.Common.{◌≡◌, ℕ, zero, suc, ◌-◌, true, false, nat_eq, eqb, List, [], ◌∷◌, length, drop, codes, refl, ap, ◌∙◌, arith}
 use Rattle.std.specs.List.{starts_with}
-use Rattle.sel_core.specs.Bytes.{behind_close, IsRest}
+use Rattle.text_bytes.specs.Marks.{behind_mark}
+use Rattle.text_bytes.specs.Rests.{IsRest}
+use Rattle.sel_core.specs.Bytes.{behind_close}
 use Rattle.sel_core.specs.Lists.{from_comma}
 
 skips : (n : ℕ) (bs : List ℕ) → from_comma n bs ≡ from_comma 0 (drop n bs)
@@ -16,7 +18,7 @@ at_comma b bs comma = rw comma refl
 
 pub behind_comment : (b : ℕ) (bs : List ℕ) → eqb b 44 ≡ false → starts_with nat_eq (b ∷ bs) (codes "/*") ≡ true → IsRest (drop 1 bs) (behind_close (drop 1 bs))
     → from_comma 0 (b ∷ bs) ≡ from_comma 0 (behind_close (drop 1 bs))
-unfolding from_comma behind_close
+unfolding from_comma behind_mark
 behind_comment b [] other opens rest = rw (other, opens) refl
 behind_comment b (c ∷ bs) other opens rest =
     let r = behind_close bs in

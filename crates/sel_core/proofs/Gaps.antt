@@ -1,7 +1,9 @@
 -- White space and comments, one after the other.
 use Rattle.std.proofs.Common.{◌≡◌, ℕ, zero, suc, ◌-◌, Bool, true, false, nat_eq, List, [], ◌∷◌, length, drop, codes, refl, ap, ◌∙◌, arith}
 use Rattle.std.specs.List.{starts_with}
-use Rattle.sel_core.specs.Bytes.{is_passed, behind_close, behind_gap, IsRest}
+use Rattle.text_bytes.specs.Marks.{behind_mark}
+use Rattle.text_bytes.specs.Rests.{IsRest}
+use Rattle.sel_core.specs.Bytes.{is_passed, behind_close, behind_gap}
 
 skips : (blanks : Bool) (n : ℕ) (bs : List ℕ) → behind_gap blanks n bs ≡ behind_gap blanks 0 (drop n bs)
 unfolding behind_gap
@@ -15,7 +17,7 @@ passes blanks b bs passed = rw passed refl
 
 pub behind_comment : (blanks : Bool) (b : ℕ) (bs : List ℕ) → is_passed blanks b ≡ false → starts_with nat_eq (b ∷ bs) (codes "/*") ≡ true → IsRest (drop 1 bs) (behind_close (drop 1 bs))
     → behind_gap blanks 0 (b ∷ bs) ≡ behind_gap blanks 0 (behind_close (drop 1 bs))
-unfolding behind_gap behind_close
+unfolding behind_gap behind_mark
 behind_comment blanks b [] other opens rest = rw (other, opens) refl
 behind_comment blanks b (c ∷ bs) other opens rest =
     let r = behind_close bs in

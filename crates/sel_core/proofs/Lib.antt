@@ -5,7 +5,6 @@ pub mod PartLemmas
 pub mod UpwardLemmas
 pub mod WriteLemmas
 pub mod Gaps
-pub mod Rests
 pub mod WordLemmas
 pub mod Fronts
 pub mod Steps

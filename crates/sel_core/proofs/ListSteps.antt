@@ -1,7 +1,7 @@
 -- Selectors of a list, one after the other.
 use Rattle.std.proofs.Common.{◌≡◌, ℕ, zero, suc, ◌-◌, List, [], ◌∷◌, ◌++◌, length, drop, Ok, Err, refl, arith, append-nil, append_assoc}
 use Rattle.tp_base.specs.Names.{Named}
-use Rattle.sel_core.specs.Bytes.{IsRest}
+use Rattle.text_bytes.specs.Rests.{IsRest}
 use Rattle.sel_core.specs.declared.faults.SelFault.{SelFault}
 use Rattle.sel_core.specs.Selectors.{Selector}
 use Rattle.sel_core.specs.Reading.{Ending, then_read}

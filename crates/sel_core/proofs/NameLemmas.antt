@@ -5,7 +5,9 @@ use Rattle.std.proofs.lemmas.List.Folds.{prefix_len-append}
 use Rattle.std.proofs.Math.Seq.{take-append_seam, drop-append_seam}
 use Rattle.std.specs.List.{starts_with, prefix_len}
 use Rattle.tp_base.specs.declared.atoms.AtomKind.{AtomKind}
-use Rattle.sel_core.specs.Bytes.{is_blank, starts_name, in_name, begins_name, name_len, behind_gap, IsRest}
+use Rattle.text_bytes.specs.Rests.{IsRest}
+use Rattle.text_bytes.specs.Blanks.{is_blank}
+use Rattle.sel_core.specs.Bytes.{starts_name, in_name, begins_name, name_len, behind_gap}
 use Rattle.sel_core.specs.Grammar.{name_at}
 use Rattle.sel_core.specs.Readable.{IsName}
 use Rattle.sel_core.proofs.Gaps.{stops}

@@ -2,7 +2,8 @@
 use Rattle.std.proofs.Common.{◌≡◌, ℕ, zero, suc, ◌-◌, ◌<◌, Bool, true, List, [], ◌∷◌, length, drop, Ok, Err, refl, sym, ap, ◌∙◌, arith}
 use Rattle.tp_base.specs.Names.{Named}
 use Rattle.sel_core.specs.declared.faults.SelFault.{SelFault}
-use Rattle.sel_core.specs.Bytes.{IsRest, behind_gap}
+use Rattle.text_bytes.specs.Rests.{IsRest}
+use Rattle.sel_core.specs.Bytes.{behind_gap}
 use Rattle.sel_core.specs.Machine.{Draft, empty_draft, step, finished, run}
 use Rattle.sel_core.specs.Reading.{read_piece}
 use Rattle.sel_core.proofs.SameReading.{same_reading}

@@ -1,11 +1,9 @@
 -- The bytes of a selector's text: white space, comments and names.
-use Rattle.std.specs.Prelude.{◌≡◌, ℕ, zero, suc, ◌-◌, ◌≤◌, ◌==◌, ◌&&◌, ◌||◌, nat_eq, nat_lt, Bool, false, if◌then◌else◌, List, [], ◌∷◌, length, drop, codes}
+use Rattle.std.specs.Prelude.{ℕ, zero, suc, ◌-◌, ◌==◌, ◌&&◌, ◌||◌, nat_eq, nat_lt, Bool, false, if◌then◌else◌, List, [], ◌∷◌, length, drop, codes}
 use Rattle.std.specs.List.{starts_with, prefix_len}
 use Rattle.std.specs.Char.{is_ascii_alphabetic, is_ascii_digit}
-
--- white space: space, tab, LF, FF and CR
-abbrev pub is_blank : ℕ → Bool
-is_blank b = b == 32 || b == 9 || b == 10 || b == 12 || b == 13
+use Rattle.text_bytes.specs.Blanks.{is_blank}
+use Rattle.text_bytes.specs.Marks.{behind_mark}
 
 abbrev pub starts_name : ℕ → Bool
 starts_name b = is_ascii_alphabetic b || b == 95 || nat_lt 127 b
@@ -28,9 +26,8 @@ unfoldable pub name_len : List ℕ → ℕ
 name_len bs = if begins_name bs then prefix_len in_name bs else 0
 
 -- behind the first `*/`, or the end
-unfoldable pub behind_close : List ℕ → List ℕ
-behind_close [] = []
-behind_close (b ∷ bs) = if starts_with nat_eq (b ∷ bs) (codes "*/") then drop 1 bs else behind_close bs
+abbrev pub behind_close : List ℕ → List ℕ
+behind_close bs = behind_mark (codes "*/") bs
 
 -- whether a byte is passed over, where white space is
 abbrev pub is_passed : Bool → ℕ → Bool
@@ -43,8 +40,3 @@ behind_gap blanks (suc skip) (b ∷ bs) = behind_gap blanks skip bs
 behind_gap blanks zero (b ∷ bs) =
     if is_passed blanks b then behind_gap blanks zero bs
     else (if starts_with nat_eq (b ∷ bs) (codes "/*") then behind_gap blanks (length bs - length (behind_close (drop 1 bs))) bs else b ∷ bs)
-
--- the rest is the last of the bytes
-pub record IsRest (all rest : List ℕ) : Type 0 where
-  pub shorter : length rest ≤ length all
-  pub last : drop (length all - length rest) all ≡ rest

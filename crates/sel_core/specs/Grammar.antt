@@ -10,7 +10,8 @@ use Rattle.sel_core.specs.declared.faults.SelFault.{SelFault}
 use Rattle.sel_core.specs.declared.faults.SelFault.TheVariants.{Skipped}
 use Rattle.sel_core.specs.declared.selectors.Join.{Join}
 use Rattle.sel_core.specs.declared.selectors.Join.TheVariants.{Inside, Child}
-use Rattle.sel_core.specs.Bytes.{is_blank, begins_with, begins_name, name_len, behind_gap}
+use Rattle.text_bytes.specs.Blanks.{is_blank}
+use Rattle.sel_core.specs.Bytes.{begins_with, begins_name, name_len, behind_gap}
 
 abbrev pub Outcome : Type 0 → Type 0
 Outcome A = Result A SelFault

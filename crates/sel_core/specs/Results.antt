@@ -1,8 +1,9 @@
 -- What the calls of the reader return, as the definitions see it.
-use Rattle.std.specs.Prelude.{◌≡◌, ◌≢◌, List, ℕ, length, take, Option, option_map, Result, Ok, Err}
+use Rattle.std.specs.Prelude.{◌≡◌, ◌≢◌, List, ℕ, Option, option_map, Result, Ok, Err}
 use denote.Bor.{Bor}
 use Rattle.tp_base.specs.declared.atoms.AtomKind.{AtomKind}
 use Rattle.tp_base.specs.Names.{Named}
+pub use Rattle.tp_base.specs.Names.{IsFront}
 use Rattle.sel_core.specs.declared.faults.SelFault.{SelFault}
 use Rattle.sel_core.specs.declared.faults.SelFault.TheVariants.{Memory}
 use Rattle.sel_core.specs.declared.selectors.Join.{Join}
@@ -20,10 +21,6 @@ part_view p = (option_map (λ w. (w.0, w.1.now)) p.0, p.1.now)
 -- a join, if there is one, and the text behind it
 abbrev pub join_view : Option Join × Bor (List ℕ) → Option Join × List ℕ
 join_view j = (j.0, j.1.now)
-
--- the names that were there keep their numbers
-abbrev pub IsFront : List Named → List Named → Type 0
-IsFront old new = take (length old) new ≡ old
 
 -- a call's result, and the names that it leaves, are what reading gives, unless memory ran out
 abbrev pub Reads : {X Y : Type 0} → (X → Y) → Result X SelFault → List Named → List Named × Outcome Y → Type 0

@@ -1,15 +1,10 @@
 //! The bytes of a selector's text: white space, comments and names.
 ghost use Rattle.std.specs.Prelude.{◌≡◌, ◌≤◌, length};
 ghost use Rattle.std.specs.List.{prefix_len};
+ghost use Rattle.text_bytes.specs.Rests.{IsRest};
 ghost use Rattle.sel_core.specs.Bytes as spec;
-ghost use Rattle.sel_core.specs.Bytes.{IsRest};
 
-/// Whether a byte is white space: space, tab, LF, FF or CR.
-pub fn is_blank(byte: u8) -> bool
-    ensures { result ≡ spec.is_blank byte }
-{
-    matches!(byte, b' ' | b'\t' | b'\n' | 0x0c | b'\r')
-}
+use text_bytes::{behind_mark, is_blank};
 
 fn starts_name(byte: u8) -> bool
     ensures { result ≡ spec.starts_name byte }
@@ -56,19 +51,11 @@ pub fn name_len(text: &[u8]) -> usize
 }
 
 /// The text behind the first `*/`, or its end. Linear in what is passed over.
-#[tactic(auto, unfolding(crate::specs::Bytes::behind_close), using(crate::proofs::Rests::of_rest, crate::proofs::Rests::behind_first, crate::proofs::Rests::dropped))]
 pub fn behind_close(text: &[u8]) -> &[u8]
     ensures gives { result.now ≡ spec.behind_close text.now }
     ensures rest { IsRest text.now result.now }
 {
-    let mut rest = text;
-    'turns: while let Some((_, behind)) = rest.split_first() {
-        if rest.starts_with(b"*/") {
-            return rest.split_at(2).1;
-        }
-        rest = behind;
-    }
-    rest
+    behind_mark(b"*/", text)
 }
 
 fn is_passed(blanks: bool, byte: u8) -> bool
@@ -78,7 +65,7 @@ fn is_passed(blanks: bool, byte: u8) -> bool
 }
 
 /// The text behind comments, and behind white space too where `blanks` says so. Linear in what is passed over.
-#[tactic(auto, using(crate::proofs::Gaps::passes, crate::proofs::Gaps::behind_comment, crate::proofs::Gaps::stops, crate::proofs::Gaps::ends, crate::proofs::Rests::of_rest, crate::proofs::Rests::behind_first, crate::proofs::Rests::dropped))]
+#[tactic(auto, using(crate::proofs::Gaps::passes, crate::proofs::Gaps::behind_comment, crate::proofs::Gaps::stops, crate::proofs::Gaps::ends, text_bytes::proofs::Rests::of_rest, text_bytes::proofs::Rests::behind_first, text_bytes::proofs::Rests::dropped))]
 pub fn behind_gap(blanks: bool, text: &[u8]) -> &[u8]
     ensures gives { result.now ≡ spec.behind_gap blanks 0 text.now }
     ensures rest { IsRest text.now result.now }

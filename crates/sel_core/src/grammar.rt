@@ -1,13 +1,14 @@
 //! What stands where in a selector's text. `to` is the offset of the text's end.
 ghost use Rattle.std.specs.Prelude.{◌≡◌, ◌≤◌, ◌<◌, length, map, option_map, IfSome, IfOk, IsNone, IsSome};
 ghost use Rattle.std.specs.Char.{to_ascii_lowercase};
-ghost use Rattle.sel_core.specs.Bytes.{IsRest};
+ghost use Rattle.text_bytes.specs.Rests.{IsRest};
 ghost use Rattle.sel_core.specs.Grammar as spec;
 ghost use Rattle.sel_core.specs.Results.{Gives, part_view, join_view};
 
-use crate::bytes::{begins_name, begins_with, behind_gap, is_blank, name_len};
+use crate::bytes::{begins_name, begins_with, behind_gap, name_len};
 use crate::faults::{SelFault, Skip};
 use crate::selectors::Join;
+use text_bytes::is_blank;
 use tp_base::AtomKind;
 
 fn cause_of(at: &[u8]) -> Skip
@@ -37,8 +38,9 @@ pub(crate) fn left_at(to: usize, before: &[u8], at: &[u8]) -> SelFault
     SelFault::Skipped(cause_of(at), place)
 }
 
+/// Whether a name is a word, without regard to ASCII case. Linear in the shorter one.
 #[tactic(auto, using(crate::proofs::WordLemmas::is_word_by))]
-fn is_word(name: &[u8], word: &[u8]) -> bool
+pub fn is_word(name: &[u8], word: &[u8]) -> bool
     ensures { result ≡ spec.is_word name.now (map to_ascii_lowercase word.now) }
 {
     name.eq_ignore_ascii_case(word)
@@ -63,7 +65,7 @@ fn is_dropped_class(name: &[u8]) -> bool
 }
 
 /// A name at the end of a pseudo part, which no `(` follows: the text behind it, where the part is dropped.
-#[tactic(auto, unfolding(crate::specs::Grammar::behind_word), using(crate::proofs::Rests::dropped))]
+#[tactic(auto, unfolding(crate::specs::Grammar::behind_word), using(text_bytes::proofs::Rests::dropped))]
 fn behind_word(two: bool, text: &[u8]) -> Option<&[u8]>
     ensures gives { spec.behind_word two text.now ≡ option_map (λ r. r.now) result }
     ensures rest { IfSome result (λ r. IsRest text.now r.now) }
@@ -78,7 +80,7 @@ fn behind_word(two: bool, text: &[u8]) -> Option<&[u8]>
 }
 
 /// Behind the first colon of a pseudo part: the text behind it, where the part is dropped.
-#[tactic(auto, unfolding(crate::specs::Grammar::behind_dropped), using(crate::proofs::Rests::of_rest, crate::proofs::Rests::dropped))]
+#[tactic(auto, unfolding(crate::specs::Grammar::behind_dropped), using(text_bytes::proofs::Rests::of_rest, text_bytes::proofs::Rests::dropped))]
 fn behind_dropped(text: &[u8]) -> Option<&[u8]>
     ensures gives { spec.behind_dropped text.now ≡ option_map (λ r. r.now) result }
     ensures rest { IfSome result (λ r. IsRest text.now r.now) }
@@ -91,7 +93,7 @@ fn behind_dropped(text: &[u8]) -> Option<&[u8]>
 }
 
 /// A part that may stand anywhere in a compound: the kind of the name that is wanted, if one is, and the text from there on.
-#[tactic(auto, unfolding(crate::specs::Grammar::any_part), using(crate::proofs::Rests::of_rest, crate::proofs::Rests::behind_first))]
+#[tactic(auto, unfolding(crate::specs::Grammar::any_part), using(text_bytes::proofs::Rests::of_rest, text_bytes::proofs::Rests::behind_first))]
 pub(crate) fn any_part(drops: bool, text: &[u8]) -> Option<(Option<AtomKind>, &[u8])>
     ensures gives { spec.any_part drops text.now ≡ option_map (λ b. (b.0, b.1.now)) result }
     ensures rest { IfSome result (λ b. IsRest text.now b.1.now) }
@@ -107,7 +109,7 @@ pub(crate) fn any_part(drops: bool, text: &[u8]) -> Option<(Option<AtomKind>, &[
 }
 
 /// A part at the beginning of a compound.
-#[tactic(auto, unfolding(crate::specs::Grammar::first_part), using(crate::proofs::Rests::behind_first, crate::proofs::Rests::itself))]
+#[tactic(auto, unfolding(crate::specs::Grammar::first_part), using(text_bytes::proofs::Rests::behind_first, text_bytes::proofs::Rests::itself))]
 pub(crate) fn first_part(drops: bool, text: &[u8]) -> Option<(Option<AtomKind>, &[u8])>
     ensures gives { spec.first_part drops text.now ≡ option_map (λ b. (b.0, b.1.now)) result }
     ensures rest { IfSome result (λ b. IsRest text.now b.1.now) }
@@ -127,7 +129,7 @@ pub(crate) fn first_part(drops: bool, text: &[u8]) -> Option<(Option<AtomKind>, 
 pub(crate) type Word<'a> = (AtomKind, &'a [u8]);
 
 /// A name, which has to stand behind comments, and the text behind it.
-#[tactic(auto, unfolding(crate::specs::Grammar::name_at), using(crate::proofs::Rests::of_rest, crate::proofs::Rests::dropped))]
+#[tactic(auto, unfolding(crate::specs::Grammar::name_at), using(text_bytes::proofs::Rests::of_rest, text_bytes::proofs::Rests::dropped))]
 fn name_at(to: usize, kind: AtomKind, text: &[u8]) -> Result<(Option<Word<'_>>, &[u8]), SelFault>
     requires { length text.now ≤ to }
     ensures gives { Gives part_view result (spec.name_at to kind text.now) }
@@ -175,7 +177,7 @@ fn behind_child(to: usize, text: &[u8]) -> Result<(Option<Join>, &[u8]), SelFaul
 }
 
 /// Behind white space that follows a compound.
-#[tactic(auto, unfolding(crate::specs::Grammar::behind_space), using(crate::proofs::Rests::of_rest, crate::proofs::Rests::behind_first, crate::proofs::Rests::itself))]
+#[tactic(auto, unfolding(crate::specs::Grammar::behind_space), using(text_bytes::proofs::Rests::of_rest, text_bytes::proofs::Rests::behind_first, text_bytes::proofs::Rests::itself))]
 fn behind_space(to: usize, text: &[u8]) -> Result<(Option<Join>, &[u8]), SelFault>
     requires { length text.now ≤ to }
     ensures gives { Gives join_view result (spec.behind_space to text.now) }
@@ -189,7 +191,7 @@ fn behind_space(to: usize, text: &[u8]) -> Result<(Option<Join>, &[u8]), SelFaul
 }
 
 /// Behind a part and the comments that follow it.
-#[tactic(auto, unfolding(crate::specs::Grammar::behind_near), using(crate::proofs::Rests::of_rest, crate::proofs::Rests::behind_first, crate::proofs::Rests::itself))]
+#[tactic(auto, unfolding(crate::specs::Grammar::behind_near), using(text_bytes::proofs::Rests::of_rest, text_bytes::proofs::Rests::behind_first, text_bytes::proofs::Rests::itself))]
 fn behind_near(to: usize, text: &[u8]) -> Result<(Option<Join>, &[u8]), SelFault>
     requires { length text.now ≤ to }
     ensures gives { Gives join_view result (spec.behind_near to text.now) }
@@ -209,7 +211,7 @@ fn behind_near(to: usize, text: &[u8]) -> Result<(Option<Join>, &[u8]), SelFault
 }
 
 /// Behind a part: the join that stands there, if one does, and the text behind it; without text it is the end.
-#[tactic(auto, unfolding(crate::specs::Grammar::join_at), using(crate::proofs::Rests::of_rest))]
+#[tactic(auto, unfolding(crate::specs::Grammar::join_at), using(text_bytes::proofs::Rests::of_rest))]
 pub(crate) fn join_at(to: usize, text: &[u8]) -> Result<(Option<Join>, &[u8]), SelFault>
     requires { length text.now ≤ to }
     ensures gives { Gives join_view result (spec.join_at to text.now) }

@@ -10,8 +10,9 @@ mod reading;
 mod selectors;
 mod writing;
 
-pub use bytes::{behind_close, behind_gap, is_blank, name_len};
+pub use bytes::{behind_close, behind_gap, name_len};
 pub use faults::{MOST_PARTS, SelFault, Skip};
+pub use grammar::is_word;
 pub use lists::read_strict_list;
 pub use matching::{fits, matches};
 pub use reading::read_selector;

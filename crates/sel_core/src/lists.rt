@@ -1,6 +1,6 @@
 //! Lists of selectors, as a script has them.
 ghost use Rattle.std.specs.Prelude.{◌≡◌, ◌≤◌, length, map, All, IfOk};
-ghost use Rattle.sel_core.specs.Bytes.{IsRest};
+ghost use Rattle.text_bytes.specs.Rests.{IsRest};
 ghost use Rattle.sel_core.specs.Lists as spec;
 ghost use Rattle.sel_core.specs.Readable.{IsReadable};
 ghost use Rattle.sel_core.specs.Results.{Reads, IsFront};
@@ -14,7 +14,7 @@ use std::alloc::Global;
 use tp_base::AtomTable;
 
 /// The text from the first `,` outside comments on.
-#[tactic(auto, using(crate::proofs::Commas::at_comma, crate::proofs::Commas::behind_comment, crate::proofs::Commas::passes, crate::proofs::Commas::ends, crate::proofs::Rests::of_rest, crate::proofs::Rests::behind_first, crate::proofs::Rests::dropped))]
+#[tactic(auto, using(crate::proofs::Commas::at_comma, crate::proofs::Commas::behind_comment, crate::proofs::Commas::passes, crate::proofs::Commas::ends, text_bytes::proofs::Rests::of_rest, text_bytes::proofs::Rests::behind_first, text_bytes::proofs::Rests::dropped))]
 fn from_comma(text: &[u8]) -> &[u8]
     ensures gives { result.now ≡ spec.from_comma 0 text.now }
     ensures rest { IsRest text.now result.now }
@@ -56,7 +56,7 @@ fn read_one<'a>(
 /// Reads a list of selectors for a script: they are split at commas, and nothing is dropped, so each pseudo part is
 /// a refusal. White space and comments may surround each. The names that were read before a refusal stay in the
 /// table. Linear in the text.
-#[tactic(auto, using(crate::proofs::ListSteps::begins, crate::proofs::ListSteps::first_fails, crate::proofs::ListSteps::goes_on, crate::proofs::ListSteps::fails, crate::proofs::ListSteps::ends, crate::proofs::Fronts::front_of_front, crate::proofs::Rests::of_rest))]
+#[tactic(auto, using(crate::proofs::ListSteps::begins, crate::proofs::ListSteps::first_fails, crate::proofs::ListSteps::goes_on, crate::proofs::ListSteps::fails, crate::proofs::ListSteps::ends, crate::proofs::Fronts::front_of_front, text_bytes::proofs::Rests::of_rest))]
 pub fn read_strict_list(
     alloc: Global,
     text: &[u8],

@@ -1,7 +1,7 @@
 //! Reading a selector, from left to right.
 ghost use Rattle.std.specs.Prelude.{List, ◌≡◌, ◌≢◌, ◌≤◌, ◌<◌, ◌+◌, ◌-◌, [], ◌∷◌, ◌++◌, length, take, map, IfOk, OnOk, IfErr, IfSome, IsSome, IsNone, option_map};
 ghost use Rattle.tp_base.specs.Names.{Named, with_name};
-ghost use Rattle.sel_core.specs.Bytes.{IsRest};
+ghost use Rattle.text_bytes.specs.Rests.{IsRest};
 ghost use Rattle.sel_core.specs.Grammar as grammar;
 ghost use Rattle.sel_core.specs.Machine as machine;
 ghost use Rattle.sel_core.specs.Reading as spec;
@@ -106,7 +106,7 @@ impl Draft {
     }
 
     /// A part that begins, or the fault of the text that doesn't.
-    #[tactic(auto, unfolding(crate::specs::Machine::with_part), using(crate::proofs::Rests::of_rest, crate::proofs::Fronts::front_itself))]
+    #[tactic(auto, unfolding(crate::specs::Machine::with_part), using(text_bytes::proofs::Rests::of_rest, crate::proofs::Fronts::front_itself))]
     fn read_part<'a>(
         &mut self,
         to: usize,
@@ -158,7 +158,7 @@ impl Draft {
     }
 
     /// Behind a part: a join, a further part, or the end.
-    #[tactic(auto, using(crate::proofs::Fronts::front_itself, crate::proofs::Rests::of_rest, crate::proofs::Steps::at_join, crate::proofs::Steps::at_end, crate::proofs::Steps::at_part, crate::proofs::Steps::at_fault))]
+    #[tactic(auto, using(crate::proofs::Fronts::front_itself, text_bytes::proofs::Rests::of_rest, crate::proofs::Steps::at_join, crate::proofs::Steps::at_end, crate::proofs::Steps::at_part, crate::proofs::Steps::at_fault))]
     fn later_step<'a>(
         &mut self,
         drops: bool,
@@ -235,7 +235,7 @@ impl Draft {
 
 /// A selector that white space and comments may surround, up to the offset `to`. Pseudo parts are dropped, or there
 /// are none. Linear in the text.
-#[tactic(auto, unfolding(crate::specs::Reading::read_piece), using(crate::proofs::Rests::of_rest, crate::proofs::Runs::goes_on, crate::proofs::Runs::fails, crate::proofs::Runs::ends, crate::proofs::Fronts::front_of_front))]
+#[tactic(auto, unfolding(crate::specs::Reading::read_piece), using(text_bytes::proofs::Rests::of_rest, crate::proofs::Runs::goes_on, crate::proofs::Runs::fails, crate::proofs::Runs::ends, crate::proofs::Fronts::front_of_front))]
 pub(crate) fn read_piece(
     alloc: Global,
     drops: bool,

@@ -1,10 +1,10 @@
 -- Why a run stops at a file that is not read.
 use Rattle.std.specs.Prelude.{ℕ, List}
+use Rattle.tp_base.specs.Places.{place_at}
 use Rattle.html_subset.specs.declared.faults.PageFault.{PageFault}
 use Rattle.html_subset.specs.declared.faults.PageFault.TheVariants as page
 use Rattle.css_read.specs.declared.faults.SheetFault.{SheetFault}
 use Rattle.css_read.specs.declared.faults.SheetFault.TheVariants as sheet
-use Rattle.usage_report.specs.Report.{place_at}
 use Rattle.js_scan.specs.declared.token.ScanFault.{ScanFault}
 use Rattle.js_scan.specs.declared.token.ScanFault.TheVariants as scan
 use Rattle.jq_words.specs.declared.faults.ScriptFault.{ScriptFault}

@@ -17,9 +17,9 @@ use jq_read::ScriptFault;
 use js_scan::ScanFault;
 use judge::JudgeFault;
 use std::alloc::Global;
-use tp_base::NoMemory;
+use tp_base::{Cursor, NoMemory};
 use tp_io::{Sink, SinkFault, put_all};
-use usage_report::{Cursor, ReportFault};
+use usage_report::ReportFault;
 
 /// Why a run ends without its whole report.
 #[derive(Debug, Drop)]

@@ -1,4 +1,3 @@
 pub mod PieceLemmas
-pub mod PlaceLemmas
 pub mod ReportLemmas
 mod Rows

@@ -3,7 +3,7 @@ use Rattle.std.specs.Prelude.{ℕ, ◌+◌, ◌-◌, ◌^◌, ◌==◌, if◌the
 use Rattle.std.specs.List.{flat_map}
 use Rattle.std.specs.Fmt.{decimal}
 use Rattle.tp_base.specs.Names.{Named}
-use Rattle.tp_base.specs.Places.{line_of, column_of}
+use Rattle.tp_base.specs.Places.{place_at}
 use Rattle.tp_base.specs.declared.places.Place.{Place}
 use Rattle.tree_sem.specs.declared.actions.Step.{Step}
 use Rattle.sel_core.specs.declared.faults.Skip.{Skip}
@@ -12,10 +12,6 @@ use Rattle.sel_core.specs.SelectorText.{selector_text}
 use Rattle.css_read.specs.Sheets as sheets
 use Rattle.proof_check.specs.declared.unfolded.Unfolded.{Unfolded}
 use Rattle.usage_report.specs.Answers.{Answer, used, used_unshown, unused, skipped, spent}
-
--- the place of an offset, or of the text's end where it is past it
-abbrev pub place_at : List ℕ → ℕ → Place
-place_at text offset = record { line = line_of text offset; column = column_of text offset }
 
 -- `line:column`
 unfoldable pub place_text : Place → List ℕ

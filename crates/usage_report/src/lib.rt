@@ -2,13 +2,11 @@
 #![tactic(auto)]
 
 mod answers;
-mod cursor;
 mod faults;
 mod lines;
 mod pieces;
 mod report;
 
 pub use answers::Answer;
-pub use cursor::Cursor;
 pub use faults::ReportFault;
 pub use report::write_report;

@@ -1,19 +1,18 @@
 //! The lines of an answer.
 ghost use Rattle.std.specs.Prelude.{◌≡◌, ◌≤◌, ◌++◌, codes, length, OnOk, slice_get};
 ghost use Rattle.std.specs.List.{flat_map};
+ghost use Rattle.tp_base.specs.Cursor.{IsAt};
 ghost use Rattle.tp_base.specs.declared.places.TheConstants.{MOST_BYTES};
 ghost use Rattle.css_read.specs.Views.{outcome_of};
-ghost use Rattle.usage_report.specs.Cursor.{IsAt};
 ghost use Rattle.usage_report.specs.Report as spec;
 ghost use Rattle.usage_report.specs.Views.{answer_of};
 
 use crate::answers::Answer;
-use crate::cursor::Cursor;
 use crate::pieces::Piece;
 use css_read::Outcome;
 use proof_check::Unfolded;
 use sel_core::{Skip, write_selector};
-use tp_base::{AtomTable, NoMemory, Path, Place};
+use tp_base::{AtomTable, Cursor, NoMemory, Path, Place};
 use tree_sem::Step;
 
 impl Piece {

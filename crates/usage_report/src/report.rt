@@ -1,19 +1,18 @@
 //! A report, written to a sink item by item.
 ghost use Rattle.std.specs.Prelude.{◌≡◌, ◌≤◌, length, map, IfOk, OnOk, OnErr};
+ghost use Rattle.tp_base.specs.Cursor.{IsAt};
 ghost use Rattle.tp_base.specs.declared.places.TheConstants.{MOST_BYTES};
 ghost use Rattle.tp_io.specs.Sinks.{Adds, AddsPrefix, Rose};
 ghost use Rattle.css_read.specs.Views.{item_of, sheet_of};
-ghost use Rattle.usage_report.specs.Cursor.{IsAt};
 ghost use Rattle.usage_report.specs.Report as spec;
 ghost use Rattle.usage_report.specs.Views.{answer_of};
 
 use crate::answers::Answer;
-use crate::cursor::Cursor;
 use crate::faults::ReportFault;
 use crate::pieces::Piece;
 use css_read::{Sheet, SheetItem};
 use std::alloc::Global;
-use tp_base::{AtomTable, NoMemory, Place};
+use tp_base::{AtomTable, Cursor, NoMemory, Place};
 use tp_io::{Sink, put_all};
 
 /// Writes the report on a sheet of this text, with an answer for each item and a place for each statement: its first line is one

@@ -1,5 +1,5 @@
 use Rattle.std.proofs.Common.{◌≡◌, ◌≤◌, ◌-◌, length}
-use Rattle.sel_core.specs.Bytes.{IsRest}
+use Rattle.text_bytes.specs.Rests.{IsRest}
 use Rattle.css_read.specs.Pieces.{solid_len}
 use Rattle.css_read.proofs.Solids.{joined}
 use Rattle.css_read.proofs.pieces.solid_len.Given as goal

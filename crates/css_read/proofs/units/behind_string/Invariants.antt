@@ -1,5 +1,5 @@
 use Rattle.std.proofs.Common.{◌≡◌, false, length}
-use Rattle.sel_core.specs.Bytes.{IsRest}
+use Rattle.text_bytes.specs.Rests.{IsRest}
 use Rattle.css_read.specs.Units.{behind_string}
 use Rattle.css_read.proofs.units.behind_string.Given as goal
 

@@ -1,5 +1,5 @@
 use Rattle.std.proofs.Common.{◌≡◌, length, reverse}
-use Rattle.sel_core.specs.Bytes.{IsRest}
+use Rattle.text_bytes.specs.Rests.{IsRest}
 use Rattle.css_read.specs.Units.{from_first_in, from_first}
 use Rattle.css_read.proofs.units.from_first.Given as goal
 

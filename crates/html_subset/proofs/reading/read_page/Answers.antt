@@ -1,5 +1,5 @@
 use Rattle.std.proofs.Common.{length}
-use Rattle.html_subset.specs.Reading.{behind_order_mark}
+use Rattle.text_bytes.specs.OrderMark.{behind_order_mark}
 use Rattle.html_tokens.specs.Tokens.{tokens}
 use Rattle.html_subset.proofs.AtomLemmas.{page_result_over}
 use Rattle.html_subset.proofs.reading.read_page.Goals as goal

@@ -1,7 +1,7 @@
 use Rattle.std.proofs.Common.{arith}
 use Rattle.std.proofs.lemmas.Grind.{common_steps}
 use Rattle.html_tokens.proofs.AttributeSteps.{adds}
-use Rattle.html_tokens.proofs.Rests.{of_rest}
+use Rattle.text_bytes.proofs.Rests.{of_rest}
 use Rattle.html_tokens.proofs.attributes.read_given.Goals as goal
 
 pub turns-preserved : goal.turns-preserved

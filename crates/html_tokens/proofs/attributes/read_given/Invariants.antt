@@ -1,5 +1,5 @@
 use Rattle.std.proofs.Common.{◌≡◌, length}
-use Rattle.html_tokens.specs.Bytes.{IsRest}
+use Rattle.text_bytes.specs.Rests.{IsRest}
 use Rattle.html_tokens.specs.Attributes.{attributes_from, given}
 use Rattle.html_tokens.specs.Views.{given_of}
 use Rattle.html_tokens.proofs.AttributeSteps.{with_given}

@@ -1,5 +1,5 @@
 use Rattle.std.proofs.Common.{◌≡◌, length}
-use Rattle.html_tokens.specs.Bytes.{IsRest}
+use Rattle.text_bytes.specs.Rests.{IsRest}
 use Rattle.html_tokens.specs.Markup.{behind_text}
 use Rattle.html_tokens.proofs.markup.behind_text.Given as goal
 

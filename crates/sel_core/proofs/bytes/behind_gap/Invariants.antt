@@ -1,5 +1,6 @@
 use Rattle.std.proofs.Common.{◌≡◌, length}
-use Rattle.sel_core.specs.Bytes.{behind_gap, IsRest}
+use Rattle.text_bytes.specs.Rests.{IsRest}
+use Rattle.sel_core.specs.Bytes.{behind_gap}
 use Rattle.sel_core.proofs.bytes.behind_gap.Given as goal
 
 abbrev pub invariant-turns : goal.invariant-turns

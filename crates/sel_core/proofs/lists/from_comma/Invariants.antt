@@ -1,5 +1,5 @@
 use Rattle.std.proofs.Common.{◌≡◌, length}
-use Rattle.sel_core.specs.Bytes.{IsRest}
+use Rattle.text_bytes.specs.Rests.{IsRest}
 use Rattle.sel_core.specs.Lists.{from_comma}
 use Rattle.sel_core.proofs.lists.from_comma.Given as goal
 

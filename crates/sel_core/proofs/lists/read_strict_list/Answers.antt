@@ -4,7 +4,7 @@ use Rattle.std.proofs.lemmas.List.{map-append}
 use Rattle.sel_core.specs.Views.{selector_of}
 use Rattle.sel_core.proofs.Fronts.{front_of_front}
 use Rattle.sel_core.proofs.ListSteps.{goes_on, fails, first_fails}
-use Rattle.sel_core.proofs.Rests.{of_rest, behind_first}
+use Rattle.text_bytes.proofs.Rests.{of_rest, behind_first}
 use Rattle.sel_core.proofs.Sound.{all_kept, all_more}
 use Rattle.sel_core.proofs.lists.read_strict_list.Goals as goal
 

@@ -1,5 +1,5 @@
 use Rattle.std.proofs.Common.{◌≡◌, length, map, All}
-use Rattle.sel_core.specs.Bytes.{IsRest}
+use Rattle.text_bytes.specs.Rests.{IsRest}
 use Rattle.sel_core.specs.Lists.{read_strict_list}
 use Rattle.sel_core.specs.Readable.{IsReadable}
 use Rattle.sel_core.specs.Results.{IsFront}

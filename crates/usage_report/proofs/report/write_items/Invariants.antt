@@ -1,6 +1,6 @@
 use Rattle.std.proofs.Common.{◌≤◌, take}
 use Rattle.tp_io.specs.Sinks.{Adds}
-use Rattle.usage_report.specs.Cursor.{IsAt}
+use Rattle.tp_base.specs.Cursor.{IsAt}
 use Rattle.usage_report.proofs.ReportLemmas.{lines_of}
 use Rattle.usage_report.proofs.report.write_items.Given as goal
 
