@@ -1,8 +1,6 @@
 -- Where the current node of a builder is.
-use Rattle.std.proofs.Common.{◌≡◌, ℕ, ◌+◌, ◌-◌, ◌≤◌, List, [], ◌∷◌, ◌++◌, length, take, Option, Some, None, IsSome, IfSome, Contains, refl, sym, ap, ◌∙◌, subst, arith, length-take-le}
-use Rattle.std.proofs.lemmas.List.{take_all}
+use Rattle.std.proofs.Common.{◌≡◌, ℕ, ◌+◌, ◌≤◌, List, [], ◌∷◌, ◌++◌, Option, Some, None, IsSome, IfSome, Contains, refl, sym, ap, ◌∙◌, subst, arith}
 use Rattle.tree_sem.specs.Trees.{LabelTree, leaf, length_of, node_at, edit_at, add_child, count_of}
-use Rattle.tree_sem.proofs.PathLemmas.{take_take}
 use Rattle.tree_sem.proofs.RowLemmas.{there}
 use Rattle.tree_sem.proofs.EditLemmas.{tree_of-push_tree, node_at-edit_at_below}
 use Rattle.tree_sem.specs.Actions.{add_classes}
@@ -10,15 +8,6 @@ use Rattle.tree_sem.specs.Order.{paths_of}
 use Rattle.tree_sem.proofs.NodeLemmas.{Contains-paths_of}
 use Rattle.tree_sem.proofs.ShapeLemmas.{bare_tree-edit_at, paths_of-same}
 use Rattle.tree_sem.proofs.CountLemmas.{count_of-add_child, count_of-add_classes}
-
-pub all_up : (v : List ℕ) → v ≡ take (length v - 0) v
-all_up v = let whole : length v - 0 ≡ length v = omega arith in sym (ap (λ n. take n v) whole ∙ take_all (length v) v (omega arith))
-
-pub one_up : (n : ℕ) (v w : List ℕ) → w ≡ take (length v - n) v → take (length w - 1) w ≡ take (length v - (n + 1)) v
-one_up n v w is =
-    let len : length w ≡ length v - n = ap length is ∙ length-take-le (length v - n) v (omega arith) in
-    let less : length w - 1 ≡ length v - (n + 1) = omega (arith, len) in
-    ap (λ k. take k w) less ∙ ap (take (length v - (n + 1))) is ∙ take_take (length v - (n + 1)) (length v - n) v (omega arith)
 
 pub counted_child : (p l : List ℕ) (t : LabelTree) (n : ℕ) → IsSome (node_at p t) → count_of t ≤ n + 1 → count_of (edit_at p (add_child l) t) ≤ n + 1 + 1
 counted_child p l t n some le = let s = there (node_at p t) some in omega (arith, count_of-add_child p l t s.0 s.1, le)

@@ -13,8 +13,8 @@ abbrev pub machine_of : Builder → List Named → Machine
 machine_of b table = record {
   forest = b.is_forest;
   done = b.done.items;
-  tree = b.tree;
-  at = b.at;
+  tree = b.growing.tree;
+  at = b.growing.at;
   elements = map element_of b.open.items;
   nodes = b.nodes;
   begun = b.begun;
@@ -27,16 +27,16 @@ machine_of b table = record {
 -- The current node is there, and no node is left out of the count. A page has its head and its body. A forest has begun, and the path in
 -- its last tree is no longer than the list of open elements.
 pub record Stands (b : Builder) : Type 0 where
-  pub placed : IsSome (node_at b.at b.tree)
-  pub counted : count_of b.tree ≤ b.nodes + 1
-  pub head : b.is_forest ≡ false → IsSome (node_at (0 ∷ []) b.tree)
-  pub body : b.is_forest ≡ false → IsSome (node_at (1 ∷ []) b.tree)
+  pub placed : IsSome (node_at b.growing.at b.growing.tree)
+  pub counted : count_of b.growing.tree ≤ b.nodes + 1
+  pub head : b.is_forest ≡ false → IsSome (node_at (0 ∷ []) b.growing.tree)
+  pub body : b.is_forest ≡ false → IsSome (node_at (1 ∷ []) b.growing.tree)
   pub begun : b.is_forest ≡ true → b.begun ≡ true
-  pub shallow : b.is_forest ≡ true → length b.at ≤ length b.open.items
+  pub shallow : b.is_forest ≡ true → length b.growing.at ≤ length b.open.items
 
 -- the node that was added last is there
 abbrev pub IsThere : Builder → Option ℕ → Type 0
-IsThere b step = IsSome (node_at (b.at ++ option_to_list step) b.tree)
+IsThere b step = IsSome (node_at (b.growing.at ++ option_to_list step) b.growing.tree)
 
 -- how many elements stay open behind the end tag of a paragraph, if it closes one
 abbrev pub paragraphs_left : Builder → Option ℕ

@@ -23,7 +23,7 @@ use std::alloc::Global;
 use std::mem::replace;
 use text_bytes::is_blank;
 use tp_base::{AtomTable, ClassSet, NoMemory, Path};
-use tree_sem::{Forest, Tree, TreeFault, Trees};
+use tree_sem::{Forest, Tree, TreeBuilder, TreeFault, Trees};
 
 /// Whether a tag gave html, head or body an id and classes.
 #[derive(Clone, Copy, Debug)]
@@ -36,10 +36,9 @@ pub(crate) struct Given {
 /// those that are done, and the one that grows; before the first there is one that stands for none.
 #[derive(Drop)]
 pub(crate) struct Builder<'a> {
-    tree: Tree,
+    /// The tree that grows, at the current node.
+    growing: TreeBuilder,
     done: Vec<Tree>,
-    /// The path of the current node in the tree that grows.
-    at: Path,
     /// The open elements, the innermost last. Those of a page are below its body.
     open: Vec<Element<'a>>,
     nodes: u32,
@@ -102,12 +101,19 @@ fn levels_above(open: &[Element<'_>], left: usize) -> usize
     open.len().saturating_sub(left)
 }
 
-#[tactic(auto, using(crate::proofs::StandLemmas::all_up, crate::proofs::StandLemmas::one_up))]
-fn go_up(at: &mut Path, levels: usize)
-    ensures { at.new ≡ take (length at.old - levels) at.old }
+/// Goes down to the child of a number, if one is given.
+fn go_to(growing: &mut TreeBuilder, step: Option<u32>) -> Result<(), NoMemory>
+    requires { IsSome (node_at (growing.old.at ++ option_to_list step) growing.old.tree) }
+    ensures at { OnOk result (growing.new.at ≡ growing.old.at ++ option_to_list step) }
+    ensures tree { growing.new.tree ≡ growing.old.tree }
 {
-    for _level in 0..levels {
-        at.pop();
+    let Some(step) = step else {
+        return Ok(());
+    };
+    match growing.go_down(step) {
+        Ok(()) => Ok(()),
+        Err(TreeFault::Memory) => Err(NoMemory),
+        Err(_) => unreachable!(),
     }
 }
 
@@ -138,14 +144,14 @@ fn bare_tree(
 }
 
 impl<'a> Builder<'a> {
-    /// A builder that has this tree, and the current node at the path.
+    /// A builder that has this tree, and its current node.
     #[tactic(auto, unfolding(crate::specs::Machine::beginning))]
-    fn begin(alloc: Global, tree: Tree, at: Path, nodes: u32, is_forest: bool) -> Builder<'a>
-        requires placed { IsSome (node_at at tree) }
-        requires counted { count_of tree ≤ nodes + 1 }
-        requires rooted { is_forest ≡ false → IsSome (node_at (0 ∷ []) tree) × IsSome (node_at (1 ∷ []) tree) }
-        requires shallow { is_forest ≡ true → length at ≤ 0 }
-        ensures gives { (table : _) → spec.beginning is_forest tree at nodes table ≡ machine_of result table }
+    fn begin(alloc: Global, growing: TreeBuilder, nodes: u32, is_forest: bool) -> Builder<'a>
+        requires placed { IsSome (node_at growing.at growing.tree) }
+        requires counted { count_of growing.tree ≤ nodes + 1 }
+        requires rooted { is_forest ≡ false → IsSome (node_at (0 ∷ []) growing.tree) × IsSome (node_at (1 ∷ []) growing.tree) }
+        requires shallow { is_forest ≡ true → length growing.at ≤ 0 }
+        ensures gives { (table : _) → spec.beginning is_forest growing.tree growing.at nodes table ≡ machine_of result table }
         ensures stands { Stands result }
     {
         let given = Given {
@@ -153,9 +159,8 @@ impl<'a> Builder<'a> {
             class: false,
         };
         Builder {
-            tree,
+            growing,
             done: Vec::new(alloc),
-            at,
             open: Vec::new(alloc),
             nodes,
             is_forest,
@@ -176,9 +181,9 @@ impl<'a> Builder<'a> {
         let html = element_label(alloc, b"html", 0, atoms)?;
         let head = element_label(alloc, b"head", 0, atoms)?;
         let body = element_label(alloc, b"body", 0, atoms)?;
-        let tree = bare_tree(alloc, html, head, body)?;
-        let at = path_to(alloc, Some(1))?;
-        Ok(Builder::begin(alloc, tree, at, 3, false))
+        let mut growing = TreeBuilder::new(bare_tree(alloc, html, head, body)?);
+        go_to(&mut growing, Some(1))?;
+        Ok(Builder::begin(alloc, growing, 3, false))
     }
 
     /// Markup of no tokens.
@@ -189,14 +194,14 @@ impl<'a> Builder<'a> {
         ensures memory { IfErr result (λ e. e ≡ PageFault.Memory) }
     {
         let tree = Tree::new(alloc, ClassSet::new(alloc))?;
-        Ok(Builder::begin(alloc, tree, Path::root(alloc), 0, true))
+        Ok(Builder::begin(alloc, TreeBuilder::new(tree), 0, true))
     }
 
     /// The page's tree.
     pub(crate) fn finish_page(self) -> Tree
         ensures { (machine_of self.entry []).tree ≡ result }
     {
-        self.tree
+        self.growing.finish()
     }
 
     /// The trees of markup. Linear in their number.
@@ -205,7 +210,7 @@ impl<'a> Builder<'a> {
         ensures memory { IfErr result (λ e. e ≡ PageFault.Memory) }
     {
         let mut trees = self.done;
-        trees.push(self.tree)?;
+        trees.push(self.growing.finish())?;
         trees.remove(0);
         Ok(Forest {
             tops: Trees::new(trees),
@@ -223,11 +228,12 @@ impl<'a> Builder<'a> {
     {
         if self.is_forest && self.open.is_empty() {
             let tree = Tree::new(*self.open.allocator(), label)?;
-            self.done.push(replace(&mut self.tree, tree))?;
+            let last = replace(&mut self.growing, TreeBuilder::new(tree));
+            self.done.push(last.finish())?;
             self.nodes += 1;
             return Ok(None);
         }
-        match self.tree.add_child(&self.at, label) {
+        match self.growing.add_child(label) {
             Ok(step) => {
                 self.nodes += 1;
                 Ok(Some(step))
@@ -245,7 +251,7 @@ impl<'a> Builder<'a> {
         ensures gives { OnOk result ((table : _) → spec.opened (element_of element.entry) (machine_of self.old table, step) ≡ machine_of self.new table) }
         ensures stands { OnOk result (Stands self.new) }
     {
-        push_step(&mut self.at, step)?;
+        go_to(&mut self.growing, step)?;
         self.open.push(element)?;
         Ok(())
     }
@@ -257,7 +263,7 @@ impl<'a> Builder<'a> {
         ensures stands { Stands self.new }
     {
         let levels = levels_above(&self.open, left);
-        go_up(&mut self.at, levels);
+        self.growing.go_up(levels);
         self.open.truncate(left);
     }
 
@@ -268,7 +274,7 @@ impl<'a> Builder<'a> {
         if self.is_forest { 0 } else { 1 }
     }
 
-    /// Adds the node of a tag last below the current one. Linear in the path's length and in the tag.
+    /// Adds the node of a tag last below the current one. Linear in the tag.
     #[tactic(auto, unfolding(crate::specs::Machine::with_node))]
     fn add_node(
         &mut self,
@@ -388,12 +394,12 @@ impl<'a> Builder<'a> {
     /// Adds classes to the label of html, or of its child of a number.
     fn unite(&mut self, child: Option<u32>, classes: &ClassSet) -> Result<(), NoMemory>
         requires stands { Stands self.old }
-        requires there { IsSome (node_at (option_to_list child) self.old.tree) }
+        requires there { IsSome (node_at (option_to_list child) self.old.growing.tree) }
         ensures gives { OnOk result ((table : _) → spec.united (option_to_list child) classes.now (machine_of self.old table) ≡ machine_of self.new table) }
         ensures stands { OnOk result (Stands self.new) }
     {
         let at = path_to(*self.open.allocator(), child)?;
-        match self.tree.add_classes(&at, classes) {
+        match self.growing.add_classes_at(&at, classes) {
             Ok(_) => Ok(()),
             Err(TreeFault::Memory) => Err(NoMemory),
             Err(_) => unreachable!(),
@@ -410,7 +416,7 @@ impl<'a> Builder<'a> {
         atoms: &mut AtomTable,
     ) -> Result<Given, PageFault>
         requires stands { Stands self.old }
-        requires there { IsSome (node_at (option_to_list child) self.old.tree) }
+        requires there { IsSome (node_at (option_to_list child) self.old.growing.tree) }
         ensures does { Does (λ g. (machine_of self.new atoms.new, g)) result atoms.new (spec.with_given (start_tag_of tag.entry) (option_to_list child) given (machine_of self.old atoms.old)) }
         ensures stands { OnOk result (Stands self.new) }
         ensures front { IsFront atoms.old atoms.new }
@@ -475,12 +481,12 @@ impl<'a> Builder<'a> {
     fn add_to_head(&mut self, label: ClassSet) -> Result<(), NoMemory>
         requires stands { Stands self.old }
         requires room { self.old.nodes < MOST_PAGE_NODES }
-        requires head { IsSome (node_at (0 ∷ []) self.old.tree) }
+        requires head { IsSome (node_at (0 ∷ []) self.old.growing.tree) }
         ensures gives { OnOk result ((table : _) → spec.with_head_node label (machine_of self.old table) ≡ machine_of self.new table) }
         ensures stands { OnOk result (Stands self.new) }
     {
         let at = path_to(*self.open.allocator(), Some(0))?;
-        match self.tree.add_child(&at, label) {
+        match self.growing.add_child_at(&at, label) {
             Ok(_) => {
                 self.nodes += 1;
                 Ok(())

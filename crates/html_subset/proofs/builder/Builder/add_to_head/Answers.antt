@@ -6,18 +6,18 @@ use Rattle.html_subset.proofs.builder.Builder.add_to_head.Goals as goal
 
 pub returns-in-Ok-clause-gives : goal.returns-in-Ok-clause-gives
 unfolding with_head_node
-returns-in-Ok-clause-gives c = λ table. rw (c.in-Ok.ensures.ok, c.in_ok-at.ensures) refl
+returns-in-Ok-clause-gives c = λ table. rw (c.in-Ok.ensures.ok, c.add_child_at.ensures.at, c.in_ok-at.ensures) refl
 
 pub returns-in-Ok-clause-stands : goal.returns-in-Ok-clause-stands
 returns-in-Ok-clause-stands c =
     let b = c.args.self.now in
     let s = c.requires.stands in
     let label = c.args.label in
-    rw (c.in-Ok.ensures.ok, c.in_ok-at.ensures) (record {
-      placed = IsSome-add_child_old (0 ∷ []) b.at label b.tree s.placed;
-      counted = counted_child (0 ∷ []) label b.tree b.nodes c.requires.head s.counted;
-      head = λ page. IsSome-add_child_old (0 ∷ []) (0 ∷ []) label b.tree (s.head page);
-      body = λ page. IsSome-add_child_old (0 ∷ []) (1 ∷ []) label b.tree (s.body page);
+    rw (c.in-Ok.ensures.ok, c.add_child_at.ensures.at, c.in_ok-at.ensures) (record {
+      placed = IsSome-add_child_old (0 ∷ []) b.growing.at label b.growing.tree s.placed;
+      counted = counted_child (0 ∷ []) label b.growing.tree b.nodes c.requires.head s.counted;
+      head = λ page. IsSome-add_child_old (0 ∷ []) (0 ∷ []) label b.growing.tree (s.head page);
+      body = λ page. IsSome-add_child_old (0 ∷ []) (1 ∷ []) label b.growing.tree (s.body page);
       begun = s.begun;
       shallow = s.shallow;
     })

@@ -9,17 +9,17 @@ pub returns-clause-cut : goal.returns-clause-cut
 unfolding cut
 returns-clause-cut c = λ table.
     let b = c.args.self.now in
-    rw (c.truncate.ensures.items, c.go_up.ensures, c.levels_above-levels.ensures, c.deref.ensures.value, take-map element_of c.args.left b.«open».items, length-map b.«open».items element_of) refl
+    rw (c.truncate.ensures.items, c.go_up.ensures.tree, c.go_up.ensures.at, c.levels_above-levels.ensures, c.deref.ensures.value, take-map element_of c.args.left b.«open».items, length-map b.«open».items element_of) refl
 
 pub returns-clause-stands : goal.returns-clause-stands
 returns-clause-stands c =
     let b = c.args.self.now in
     let levels = c.levels_above-levels.result in
     record {
-      placed = rw c.go_up.ensures (IsSome-take (length b.at - levels) b.at b.tree c.requires.placed);
-      counted = c.requires.counted;
-      head = c.requires.head;
-      body = c.requires.body;
+      placed = rw (c.go_up.ensures.tree, c.go_up.ensures.at) (IsSome-take (length b.growing.at - levels) b.growing.at b.growing.tree c.requires.placed);
+      counted = rw c.go_up.ensures.tree c.requires.counted;
+      head = rw c.go_up.ensures.tree c.requires.head;
+      body = rw c.go_up.ensures.tree c.requires.body;
       begun = c.requires.begun;
-      shallow = λ forest. omega (arith, c.requires.shallow forest, ap length c.go_up.ensures, length-take (length b.at - levels) b.at, ap length c.truncate.ensures.items, length-take c.args.left b.«open».items, c.levels_above-levels.ensures, ap length c.deref.ensures.value);
+      shallow = λ forest. omega (arith, c.requires.shallow forest, ap length c.go_up.ensures.at, length-take (length b.growing.at - levels) b.growing.at, ap length c.truncate.ensures.items, length-take c.args.left b.«open».items, c.levels_above-levels.ensures, ap length c.deref.ensures.value);
     }
