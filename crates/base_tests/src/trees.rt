@@ -5,7 +5,7 @@ use tree_sem::{Action, Forest, Tree, TreeFault, Trees, go_on};
 
 const CLASS: Atom = Atom(7);
 
-fn path_of(alloc: Global, steps: &[u32]) -> Result<Path, NoMemory> {
+pub fn path_of(alloc: Global, steps: &[u32]) -> Result<Path, NoMemory> {
     let mut at = Path::root(alloc);
     for step in steps {
         at.push(*step)?;
@@ -66,7 +66,7 @@ fn reads_well(alloc: Global, tree: &Tree) -> Result<bool, NoMemory> {
     Ok(right)
 }
 
-fn set_of(alloc: Global, atoms: &[u32]) -> Result<ClassSet, NoMemory> {
+pub fn set_of(alloc: Global, atoms: &[u32]) -> Result<ClassSet, NoMemory> {
     let mut set = ClassSet::new(alloc);
     for atom in atoms {
         set.add(Atom(*atom))?;
@@ -197,7 +197,7 @@ fn last_class(label: &ClassSet) -> u32 {
 }
 
 // The nodes of a tree, as the rows have them.
-fn shape_of(alloc: Global, tree: &Tree) -> Result<Vec<(usize, u32, u32)>, NoMemory> {
+pub fn shape_of(alloc: Global, tree: &Tree) -> Result<Vec<(usize, u32, u32)>, NoMemory> {
     let mut nodes = Vec::new(alloc);
     let mut at = Path::root(alloc);
     for _ in 0..20 {

@@ -1,0 +1,166 @@
+use crate::trees::{path_of, set_of, shape_of};
+use std::alloc::Global;
+use std::test::Fail;
+use tp_base::{ClassSet, Path};
+use tree_sem::{Tree, TreeBuilder, TreeFault};
+
+// What is done with a builder: it goes down to a child or up some levels, gives the current node or the one at a path a
+// child with one class, or the node at a path a class.
+enum Turn {
+    Down(u32),
+    Up(usize),
+    Child(u32),
+    ChildAt(&'static [u32], u32),
+    ClassAt(&'static [u32], u32),
+}
+
+struct TurnRow {
+    turn: Turn,
+    // The child's number, where one is added, and else 0.
+    answer: Result<u32, TreeFault>,
+    // The current node's path after it.
+    at: &'static [u32],
+}
+
+static TURNS: [TurnRow; 15] = [
+    TurnRow {
+        turn: Turn::Child(1),
+        answer: Ok(0),
+        at: &[],
+    },
+    TurnRow {
+        turn: Turn::Down(1),
+        answer: Err(TreeFault::NoSuchNode),
+        at: &[],
+    },
+    TurnRow {
+        turn: Turn::Down(0),
+        answer: Ok(0),
+        at: &[0],
+    },
+    TurnRow {
+        turn: Turn::Child(2),
+        answer: Ok(0),
+        at: &[0],
+    },
+    TurnRow {
+        turn: Turn::Child(3),
+        answer: Ok(1),
+        at: &[0],
+    },
+    TurnRow {
+        turn: Turn::Down(1),
+        answer: Ok(0),
+        at: &[0, 1],
+    },
+    TurnRow {
+        turn: Turn::Child(4),
+        answer: Ok(0),
+        at: &[0, 1],
+    },
+    TurnRow {
+        turn: Turn::ChildAt(&[], 5),
+        answer: Ok(1),
+        at: &[0, 1],
+    },
+    TurnRow {
+        turn: Turn::ChildAt(&[2], 6),
+        answer: Err(TreeFault::NoSuchNode),
+        at: &[0, 1],
+    },
+    TurnRow {
+        turn: Turn::ClassAt(&[1], 8),
+        answer: Ok(0),
+        at: &[0, 1],
+    },
+    TurnRow {
+        turn: Turn::ClassAt(&[0, 5], 8),
+        answer: Err(TreeFault::NoSuchNode),
+        at: &[0, 1],
+    },
+    TurnRow {
+        turn: Turn::Up(1),
+        answer: Ok(0),
+        at: &[0],
+    },
+    TurnRow {
+        turn: Turn::Child(7),
+        answer: Ok(2),
+        at: &[0],
+    },
+    TurnRow {
+        turn: Turn::Up(3),
+        answer: Ok(0),
+        at: &[],
+    },
+    TurnRow {
+        turn: Turn::Child(2),
+        answer: Ok(2),
+        at: &[],
+    },
+];
+
+fn done(alloc: Global, builder: &mut TreeBuilder, turn: &Turn) -> Result<u32, TreeFault> {
+    match turn {
+        Turn::Down(step) => builder.go_down(*step).map(|_| 0),
+        Turn::Up(levels) => {
+            builder.go_up(*levels);
+            Ok(0)
+        }
+        Turn::Child(class) => builder.add_child(set_of(alloc, &[*class])?),
+        Turn::ChildAt(at, class) => {
+            builder.add_child_at(&path_of(alloc, at)?, set_of(alloc, &[*class])?)
+        }
+        Turn::ClassAt(at, class) => {
+            let at = path_of(alloc, at)?;
+            builder
+                .add_classes_at(&at, &set_of(alloc, &[*class])?)
+                .map(|_| 0)
+        }
+    }
+}
+
+fn is_at(path: &Path, steps: &[u32]) -> bool {
+    if path.len() != steps.len() {
+        return false;
+    }
+    for i in 0..path.len() {
+        if path.at(i) != steps[i] {
+            return false;
+        }
+    }
+    true
+}
+
+// Whether each turn answers and ends as its row says, and what is built then.
+fn built(alloc: Global) -> Result<(bool, Tree), TreeFault> {
+    let root = Tree::new(alloc, ClassSet::new(alloc))?;
+    let mut builder = TreeBuilder::new(root);
+    let mut right = true;
+    for row in &TURNS {
+        let answer = done(alloc, &mut builder, &row.turn);
+        right = right && answer == row.answer && is_at(builder.path(), row.at);
+    }
+    Ok((right, builder.finish()))
+}
+
+#[test]
+fn a_builder_grows_where_it_stands(rt: HostRuntime) -> Result<(), Fail> {
+    let (right, tree) = built(rt.alloc())?;
+    assert!(rt; right);
+    assert!(rt;
+        shape_of(rt.alloc(), &tree)?.as_slice()
+            == [
+                (0, 3, 9),
+                (1, 3, 1),
+                (2, 0, 2),
+                (2, 1, 3),
+                (3, 0, 4),
+                (2, 0, 7),
+                (1, 0, 8),
+                (1, 0, 2)
+            ]
+            .as_slice()
+    );
+    Ok(())
+}
