@@ -50,7 +50,7 @@ pub disjunction-append : (x : Tree) (ts us : List Term) → disjunction x (ts ++
 disjunction-append x [] us = refl
 disjunction-append x (t ∷ ts) us = disjunction-append (tor x t.tree) ts us
 
-covered_behind : (b us vs : List Tree) → AreCovered us vs → AreCovered (b ++ us) (b ++ vs)
+pub covered_behind : (b us vs : List Tree) → AreCovered us vs → AreCovered (b ++ us) (b ++ vs)
 covered_behind [] us vs covered x there = covered x there
 covered_behind (t ∷ b) us vs covered x there = elim there [ inl here ↦ inl here | inr behind ↦ inr (covered_behind b us vs covered x behind) ]
 
@@ -194,42 +194,71 @@ of_local-gives now j a r gives = rw (← gives) refl
 
 -- ### a loop over rules
 
-module _ {X : Type 0} (f : CellTrees → X → List Term) (old : Arena) (cells : Entries) (inside : AreIn old.branches cells) (start : Reference) (xs : List X) where
-  pub loop_start : IsArena old → IsIn old.branches start → IsAdding old old start (flat_map (f (trees_in old.branches cells)) xs) [] start
-  loop_start arena within = record { answer = (within, refl); brings = brings_itself old (disjunctions (tree_at old.branches start) (flat_map (f (trees_in old.branches cells)) xs)) arena }
+-- where the terms of each rule stay as the arena grows
+module _ {X : Type 0} (f : List Tree → X → List Term) (old : Arena) (start : Reference) (xs : List X)
+    (same : (us : List Tree) (i : ℕ) (x : X) → i < length xs → x ≡ get_or xs i x → StartsWith old.branches us → f us x ≡ f old.branches x) where
+  pub each_start : IsArena old → IsIn old.branches start → IsAdding old old start (flat_map (f old.branches) xs) [] start
+  each_start arena within = record { answer = (within, refl); brings = brings_itself old (disjunctions (tree_at old.branches start) (flat_map (f old.branches) xs)) arena }
 
   module _ (d : Arena) (sofar : Reference) (i : ℕ) (x : X) (less : i < length xs) (item : x ≡ get_or xs i x)
-      (adding : IsAdding old d start (flat_map (f (trees_in old.branches cells)) xs) (flat_map (f (trees_in old.branches cells)) (take i xs)) sofar) where
+      (adding : IsAdding old d start (flat_map (f old.branches) xs) (flat_map (f old.branches) (take i xs)) sofar) where
     listed : slice_get xs i ≡ Some x
     listed = slice_get-get_or xs i x less ∙ ap (λ y. Some y) (sym item)
 
-    now_same : trees_in d.branches cells ≡ trees_in old.branches cells
-    now_same = cells_same old.branches d.branches cells adding.brings.stays inside
+    now_same : f d.branches x ≡ f old.branches x
+    now_same = same d.branches i x less item adding.brings.stays
 
+    pub each_more : (e : Arena) (r : Result Reference DiagramFault) → Adds d e sofar (f d.branches x) r
+        → Calculates old e (disjunctions (tree_at old.branches start) (flat_map (f old.branches) xs))
+        (disjunction (tree_at old.branches start) (flat_map (f old.branches) (take (i + 1) xs))) r
+    each_more e r adds =
+        subst (λ (ts : List Term). Calculates old e (disjunctions (tree_at old.branches start) (flat_map (f old.branches) xs)) (disjunction (tree_at old.branches start) ts) r)
+        (sym (terms_more (f old.branches) xs i x listed))
+        (add_more old d start (flat_map (f old.branches) xs) (flat_map (f old.branches) (take i xs)) (f old.branches x)
+        (flat_map (f old.branches) (drop (suc i) xs)) sofar (terms_whole (f old.branches) xs i x listed) adding e r
+        (subst (λ (ts : List Term). Adds d e sofar ts r) now_same adds))
+
+    pub each_failed : (e : Arena) (r : Result Reference DiagramFault) (u : Tree) (g : DiagramFault) → IsErrAnd r (λ y. y ≡ g) → Adds d e sofar (f d.branches x) (Err g)
+        → Calculates old e (disjunctions (tree_at old.branches start) (flat_map (f old.branches) xs)) u r
+    each_failed e r u g is adds =
+        calculates_same_error old e (disjunctions (tree_at old.branches start) (flat_map (f old.branches) xs)) u r g is
+        (add_failed old d start (flat_map (f old.branches) xs) (flat_map (f old.branches) (take i xs)) (f old.branches x)
+        (flat_map (f old.branches) (drop (suc i) xs)) sofar (terms_whole (f old.branches) xs i x listed) adding e
+        (disjunction (tree_at d.branches sofar) (f old.branches x)) u g
+        (subst (λ (ts : List Term). Adds d e sofar ts (Err g)) now_same adds))
+
+  pub each_end : (d : Arena) (sofar : Reference) (i : ℕ) → length xs ≤ i
+      → IsAdding old d start (flat_map (f old.branches) xs) (flat_map (f old.branches) (take i xs)) sofar
+      → Adds old d start (flat_map (f old.branches) xs) (Ok sofar)
+  each_end d sofar i past adding =
+      subst (λ (ys : List X). IsAdding old d start (flat_map (f old.branches) xs) (flat_map (f old.branches) ys) sofar) (take_all i xs past) adding
+
+-- where the terms are of the cells alone
+module _ {X : Type 0} (f : CellTrees → X → List Term) (old : Arena) (cells : Entries) (inside : AreIn old.branches cells) (start : Reference) (xs : List X) where
+  abbrev of_cells : List Tree → X → List Term
+  of_cells ts x = f (trees_in ts cells) x
+
+  cells_stay : (us : List Tree) (i : ℕ) (x : X) → i < length xs → x ≡ get_or xs i x → StartsWith old.branches us → of_cells us x ≡ of_cells old.branches x
+  cells_stay us i x less item stays = ap (λ (now : CellTrees). f now x) (cells_same old.branches us cells stays inside)
+
+  pub loop_start : IsArena old → IsIn old.branches start → IsAdding old old start (flat_map (f (trees_in old.branches cells)) xs) [] start
+  loop_start arena within = each_start of_cells old start xs cells_stay arena within
+
+  module _ (d : Arena) (sofar : Reference) (i : ℕ) (x : X) (less : i < length xs) (item : x ≡ get_or xs i x)
+      (adding : IsAdding old d start (flat_map (f (trees_in old.branches cells)) xs) (flat_map (f (trees_in old.branches cells)) (take i xs)) sofar) where
     pub loop_more : (e : Arena) (r : Result Reference DiagramFault) → Adds d e sofar (f (trees_in d.branches cells) x) r
         → Calculates old e (disjunctions (tree_at old.branches start) (flat_map (f (trees_in old.branches cells)) xs))
         (disjunction (tree_at old.branches start) (flat_map (f (trees_in old.branches cells)) (take (i + 1) xs))) r
-    loop_more e r adds =
-        subst (λ (ts : List Term). Calculates old e (disjunctions (tree_at old.branches start) (flat_map (f (trees_in old.branches cells)) xs)) (disjunction (tree_at old.branches start) ts) r)
-        (sym (terms_more (f (trees_in old.branches cells)) xs i x listed))
-        (add_more old d start (flat_map (f (trees_in old.branches cells)) xs) (flat_map (f (trees_in old.branches cells)) (take i xs)) (f (trees_in old.branches cells) x)
-        (flat_map (f (trees_in old.branches cells)) (drop (suc i) xs)) sofar (terms_whole (f (trees_in old.branches cells)) xs i x listed) adding e r
-        (subst (λ (now : CellTrees). Adds d e sofar (f now x) r) now_same adds))
+    loop_more e r adds = each_more of_cells old start xs cells_stay d sofar i x less item adding e r adds
 
     pub loop_failed : (e : Arena) (r : Result Reference DiagramFault) (u : Tree) (g : DiagramFault) → IsErrAnd r (λ y. y ≡ g) → Adds d e sofar (f (trees_in d.branches cells) x) (Err g)
         → Calculates old e (disjunctions (tree_at old.branches start) (flat_map (f (trees_in old.branches cells)) xs)) u r
-    loop_failed e r u g is adds =
-        calculates_same_error old e (disjunctions (tree_at old.branches start) (flat_map (f (trees_in old.branches cells)) xs)) u r g is
-        (add_failed old d start (flat_map (f (trees_in old.branches cells)) xs) (flat_map (f (trees_in old.branches cells)) (take i xs)) (f (trees_in old.branches cells) x)
-        (flat_map (f (trees_in old.branches cells)) (drop (suc i) xs)) sofar (terms_whole (f (trees_in old.branches cells)) xs i x listed) adding e
-        (disjunction (tree_at d.branches sofar) (f (trees_in old.branches cells) x)) u g
-        (subst (λ (now : CellTrees). Adds d e sofar (f now x) (Err g)) now_same adds))
+    loop_failed e r u g is adds = each_failed of_cells old start xs cells_stay d sofar i x less item adding e r u g is adds
 
   pub loop_end : (d : Arena) (sofar : Reference) (i : ℕ) → length xs ≤ i
       → IsAdding old d start (flat_map (f (trees_in old.branches cells)) xs) (flat_map (f (trees_in old.branches cells)) (take i xs)) sofar
       → Adds old d start (flat_map (f (trees_in old.branches cells)) xs) (Ok sofar)
-  loop_end d sofar i past adding =
-      subst (λ (ys : List X). IsAdding old d start (flat_map (f (trees_in old.branches cells)) xs) (flat_map (f (trees_in old.branches cells)) ys) sofar) (take_all i xs past) adding
+  loop_end d sofar i past adding = each_end of_cells old start xs cells_stay d sofar i past adding
 
 -- ### the term of a child
 

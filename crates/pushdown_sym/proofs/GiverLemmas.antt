@@ -1,6 +1,6 @@
 -- Rules by the atoms that they give.
 use Rattle.std.proofs.Common.{◌≡◌, ℕ, suc, ◌+◌, ◌<◌, Bool, true, false, ◌==◌, cond, if◌then◌else◌, List, [], ◌∷◌, ◌++◌, take, length, get_or, slice_get, Some, None, Option, option_map, unwrap_or, Result, refl, sym, ap, subst, ◌∙◌, arith, inl, inr, append_assoc}
-use Rattle.std.specs.List.{flat_map}
+use Rattle.std.specs.List.{filter, flat_map}
 use Rattle.std.proofs.lemmas.Bool.{cases_Bool, both_ways, eqb-true}
 use Rattle.std.proofs.lemmas.List.{take_more, length_push, length-take-le}
 use Rattle.class_diagrams.specs.References.{Reference}
@@ -8,9 +8,8 @@ use Rattle.class_diagrams.specs.declared.faults.DiagramFault.{DiagramFault}
 use Rattle.class_diagrams.specs.Arena.{Arena}
 use Rattle.simple_core.specs.declared.rules.Local.{Local}
 use Rattle.simple_core.specs.declared.rules.Link.{Link}
-use Rattle.simple_core.specs.declared.rules.Spawn.{Spawn}
 use Rattle.pushdown_sym.specs.Terms.{CellTrees, Term}
-use Rattle.pushdown_sym.specs.Adding.{Adds, of_local, of_up, of_down}
+use Rattle.pushdown_sym.specs.Adding.{Adds, of_local, of_up}
 use Rattle.pushdown_sym.specs.Givers.{places_from, places_in, AreGivers, of_place}
 
 -- ### places
@@ -92,14 +91,29 @@ module _ {X Y : Type 0} (f : X → List Y) (passes : X → Bool) (none : (x : X)
   pub all_places : (xs : List X) → flat_map (of_place f xs) (places_from passes 0 xs) ≡ flat_map f xs
   all_places xs = places_behind [] xs 0 refl
 
+-- and where all rules at the places give something, that of the rules that pass
+module _ {X Y : Type 0} (f : X → List Y) (passes : X → Bool) where
+  filtered_behind : (before rest : List X) (k : ℕ) → k ≡ length before → flat_map (of_place f (before ++ rest)) (places_from passes k rest) ≡ flat_map f (filter passes rest)
+  filtered_behind before [] k is = refl
+  filtered_behind before (x ∷ rest) k is =
+      let whole : before ++ x ∷ rest ≡ (before ++ x ∷ []) ++ rest = sym (append_assoc before (x ∷ []) rest) in
+      let behind : flat_map (of_place f (before ++ x ∷ rest)) (places_from passes (suc k) rest) ≡ flat_map f (filter passes rest) =
+      ap (λ (xs : List X). flat_map (of_place f xs) (places_from passes (suc k) rest)) whole
+      ∙ filtered_behind (before ++ x ∷ []) rest (suc k) (omega (arith, is, length_push before x)) in
+      let here : of_place f (before ++ x ∷ rest) k ≡ f x = ap (of_place f (before ++ x ∷ rest)) is ∙ of_place-here f before x rest in
+      elim (cases_Bool (passes x)) [
+        | inl given ↦ rw given (λ n. here n ++ behind n)
+        | inr other ↦ rw other behind
+      ]
+
+  pub filtered_places : (xs : List X) → flat_map (of_place f xs) (places_from passes 0 xs) ≡ flat_map f (filter passes xs)
+  filtered_places xs = filtered_behind [] xs 0 refl
+
 pub of_local-none : (now : CellTrees) (j a : ℕ) (r : Local) → (r.gives == a) ≡ false → of_local now j a r ≡ []
 of_local-none now j a r other = rw other refl
 
 pub of_up-none : (a : ℕ) (l : Link) → (l.to == a) ≡ false → of_up a l ≡ []
 of_up-none a l other = rw other refl
-
-pub of_down-none : (spawns : List Spawn) (now : CellTrees) (j a : ℕ) (l : Link) → (l.to == a) ≡ false → of_down spawns now j a l ≡ []
-of_down-none spawns now j a l other = rw other refl
 
 -- the terms of the rules at the places are those of all rules
 pub adds_given : {X : Type 0} (f : X → List Term) (passes : X → Bool) → ((x : X) → passes x ≡ false → f x ≡ []) → (xs rules : List X) (places : List ℕ)

@@ -6,6 +6,8 @@ pub mod SkipLemmas
 pub mod AddLemmas
 pub mod SeenLemmas
 mod LinkLemmas
+mod DifferentLemmas
+mod ChildLemmas
 pub mod MapLemmas
 mod Rows
 mod GiverLemmas

@@ -20,7 +20,9 @@ use Rattle.simple_core.specs.declared.rules.Spawn.{Spawn}
 use Rattle.simple_core.specs.declared.system.System.{System}
 use Rattle.pushdown_sym.specs.CellMap.{Entries, place_in, trees_in}
 use Rattle.pushdown_sym.specs.Terms.{CellTrees, Term, terms, local_term, up_term, down_term, disjunction, disjunctions, next_tree, partial_results}
+use Rattle.pushdown_sym.specs.declared.gathering.Child.{Child}
 use Rattle.pushdown_sym.specs.Adding.{AreIn, Adds, of_local, of_up, of_down, paired, child_term}
+use Rattle.pushdown_sym.specs.Children.{term_of}
 use Rattle.pushdown_sym.proofs.SeenLemmas.{child_is}
 use Rattle.pushdown_sym.proofs.AddLemmas.{IsAdding, add_more, disjunctions_first, cells_same}
 
@@ -64,31 +66,27 @@ tand-false : (t : Tree) → tand (leaf false) t ≡ leaf false
 unfolding tand
 tand-false t = refl
 
-pub no_child : (a : Arena) (now : CellTrees) (j : ℕ) (l : Link) (c : Spawn) (sofar : Reference) → IsArena a → IsIn a.branches sofar → now j c.needs ≡ leaf false
-    → Adds a a sofar (down_term now j l c ∷ []) (Ok sofar)
-no_child a now j l c sofar arena within none = record {
+pub no_child : (a : Arena) (cells : Entries) (j : ℕ) (c : Child) (sofar : Reference) → IsArena a → IsIn a.branches sofar → trees_in a.branches cells j c.needs ≡ leaf false
+    → Adds a a sofar (term_of a.branches cells j c ∷ []) (Ok sofar)
+no_child a cells j c sofar arena within none = record {
   answer = (
     within,
-    sym (ap (λ t. tor (tree_at a.branches sofar) (tand t (tcompose (now c.kind l.from) (now j)))) none
-        ∙ ap (tor (tree_at a.branches sofar)) (tand-false (tcompose (now c.kind l.from) (now j)))
+    sym (ap (λ t. tor (tree_at a.branches sofar) (tand t (tcompose (tree_at a.branches c.diagram) (trees_in a.branches cells j)))) none
+        ∙ ap (tor (tree_at a.branches sofar)) (tand-false (tcompose (tree_at a.branches c.diagram) (trees_in a.branches cells j)))
         ∙ tor-false (tree_at a.branches sofar)),
   );
-  brings = brings_itself a (disjunctions (tree_at a.branches sofar) (down_term now j l c ∷ [])) arena;
+  brings = brings_itself a (disjunctions (tree_at a.branches sofar) (term_of a.branches cells j c ∷ [])) arena;
 }
 
 -- ### links from children
 
-map-as-flat : {X Y : Type 0} (g : X → Y) (xs : List X) → flat_map (λ x. g x ∷ []) xs ≡ map g xs
+pub map-as-flat : {X Y : Type 0} (g : X → Y) (xs : List X) → flat_map (λ x. g x ∷ []) xs ≡ map g xs
 map-as-flat g [] = refl
 map-as-flat g (x ∷ xs) = ap (λ ys. g x ∷ ys) (map-as-flat g xs)
 
-pub of_down-gives : (spawns : List Spawn) (now : CellTrees) (j a : ℕ) (l : Link) → true ≡ eqb l.to a
-    → of_down spawns now j a l ≡ flat_map (λ (c : Spawn). down_term now j l c ∷ []) spawns
-of_down-gives spawns now j a l gives = rw (← gives) (sym (map-as-flat (down_term now j l) spawns))
-
 -- ### atoms with their diagrams
 
-map-append : {X Y : Type 0} (g : X → Y) (xs ys : List X) → map g (xs ++ ys) ≡ map g xs ++ map g ys
+pub map-append : {X Y : Type 0} (g : X → Y) (xs ys : List X) → map g (xs ++ ys) ≡ map g xs ++ map g ys
 map-append g [] ys = refl
 map-append g (x ∷ xs) ys = ap (λ zs. g x ∷ zs) (map-append g xs ys)
 
@@ -109,12 +107,12 @@ all_paired P f (b ∷ atoms) each (suc k) d less = all_paired P f atoms each k d
 pub rising_paired : (f : ℕ → Reference) (atoms : List ℕ) → IsStrictlyIncreasing atoms → IsStrictlyIncreasing (map (λ e. e.0) (paired f atoms))
 rising_paired f atoms rising = subst IsStrictlyIncreasing (sym (atoms_paired f atoms)) rising
 
-pub child_there : (a b : Arena) (cells : Entries) (j : ℕ) (l : Link) (c : Spawn) (sofar there child : Reference) (by : List (ℕ × Reference)) (r : Result Reference DiagramFault)
-    → there ≡ place_in cells j c.needs → child ≡ place_in cells c.kind l.from → by ≡ paired (place_in cells j) (atoms_of (tree_at a.branches child))
-    → Adds a b sofar (child_term a there child by ∷ []) r → Adds a b sofar (down_term (trees_in a.branches cells) j l c ∷ []) r
-child_there a b cells j l c sofar there child by r there_is child_is_in by_is adds =
+pub child_there : (a b : Arena) (cells : Entries) (j : ℕ) (c : Child) (sofar there : Reference) (by : List (ℕ × Reference)) (r : Result Reference DiagramFault)
+    → there ≡ place_in cells j c.needs → by ≡ paired (place_in cells j) (atoms_of (tree_at a.branches c.diagram))
+    → Adds a b sofar (child_term a there c.diagram by ∷ []) r → Adds a b sofar (term_of a.branches cells j c ∷ []) r
+child_there a b cells j c sofar there by r there_is by_is adds =
     subst (λ (t : Term). Adds a b sofar (t ∷ []) r)
-    ((λ i. child_term a (there_is i) (child_is_in i) ((by_is ∙ ap (λ (f : Reference). paired (place_in cells j) (atoms_of (tree_at a.branches f))) child_is_in) i)) ∙ child_is a cells j l c)
+    ((λ i. child_term a (there_is i) c.diagram (by_is i)) ∙ child_is a cells j c)
     adds
 
 -- ### all terms
@@ -126,7 +124,7 @@ filtered_one q g (x ∷ xs) = elim (cases_Bool (q x)) [
   | inr fails ↦ rw fails (filtered_one q g xs)
 ]
 
-filtered_flat : {X Y : Type 0} (q : X → Bool) (g : X → List Y) (xs : List X) → flat_map (λ x. if q x then g x else []) xs ≡ flat_map g (filter q xs)
+pub filtered_flat : {X Y : Type 0} (q : X → Bool) (g : X → List Y) (xs : List X) → flat_map (λ x. if q x then g x else []) xs ≡ flat_map g (filter q xs)
 filtered_flat q g [] = refl
 filtered_flat q g (x ∷ xs) = elim (cases_Bool (q x)) [
   | inl passes ↦ rw passes (ap (λ ys. g x ++ ys) (filtered_flat q g xs))

@@ -6,16 +6,15 @@ ghost use Rattle.class_diagrams.specs.References.{Reference};
 ghost use Rattle.class_diagrams.specs.Trees.{Tree};
 ghost use Rattle.class_diagrams.specs.Arena.{tree_at, IsIn, IsArena};
 ghost use Rattle.diagram_ops.specs.Compositions.{atoms_of};
-ghost use Rattle.simple_core.specs.declared.rules.Spawn.{Spawn};
-ghost use Rattle.pushdown_sym.specs.CellMap.{place_in, trees_in};
-ghost use Rattle.pushdown_sym.specs.Terms.{down_term};
-ghost use Rattle.pushdown_sym.specs.Adding.{AreIn, Adds, of_down, paired, child_term};
-ghost use Rattle.pushdown_sym.specs.Givers.{of_place};
+ghost use Rattle.pushdown_sym.specs.declared.gathering.Child.{Child};
+ghost use Rattle.pushdown_sym.specs.CellMap.{place_in};
+ghost use Rattle.pushdown_sym.specs.Adding.{AreIn, Adds, paired, child_term};
+ghost use Rattle.pushdown_sym.specs.Children.{term_of};
 
 use crate::cells::Cells;
+use crate::gathering::Child;
 use class_diagrams::{DiagramFault, Diagrams, Ref};
 use diagram_ops::{compose, support};
-use simple_core::{Link, Spawn};
 use std::alloc::Global;
 use tp_base::{Atom, ClassSet, NoMemory};
 
@@ -76,122 +75,50 @@ fn seen_by(
     with_diagrams(alloc, now, kind, &atoms)
 }
 
-// The disjunction so far and the term of one child, by one link from it.
-fn add_spawn(
+// The disjunction so far and the term of one child, by links from it.
+fn add_one(
     alloc: Global,
     d: &mut Diagrams,
     now: &Cells,
     kind: u32,
-    link: &Link,
-    spawn: &Spawn,
+    child: Child,
     sofar: Ref,
 ) -> Result<Ref, DiagramFault>
     requires inside { AreIn d.old.branches now.now }
+    requires child { IsIn d.old.branches child.diagram }
     requires sofar { IsIn d.old.branches sofar }
     requires arena { IsArena d.old }
-    ensures { Adds d.old d.new sofar (down_term (trees_in d.old.branches now.now) kind link.now spawn.now ∷ []) result }
+    ensures { Adds d.old d.new sofar (term_of d.old.branches now.now kind child ∷ []) result }
 {
-    let there = now.get(kind, spawn.needs);
+    let there = now.get(kind, child.needs);
     if d.same(there, Diagrams::leaf(false)) {
         return Ok(sofar);
     }
-    let child = now.get(spawn.kind, link.from);
-    match seen_by(alloc, d, now, kind, child) {
-        Ok(by) => add_child(alloc, d, there, child, &by, sofar),
+    match seen_by(alloc, d, now, kind, child.diagram) {
+        Ok(by) => add_child(alloc, d, there, child.diagram, &by, sofar),
         Err(_) => Err(DiagramFault::Memory),
     }
 }
 
-// The disjunction so far and the terms of these children, by one link from them.
-fn add_spawns(
+// The disjunction so far and the terms of these children.
+pub(crate) fn add_children(
     alloc: Global,
     d: &mut Diagrams,
     now: &Cells,
     kind: u32,
-    link: &Link,
-    spawns: &[Spawn],
+    children: &[Child],
     start: Ref,
 ) -> Result<Ref, DiagramFault>
     requires inside { AreIn d.old.branches now.now }
+    requires children { All (λ c. IsIn d.old.branches c.diagram) children.now }
     requires start { IsIn d.old.branches start }
     requires arena { IsArena d.old }
-    ensures { Adds d.old d.new start (flat_map (λ (c : Spawn). down_term (trees_in d.old.branches now.now) kind link.now c ∷ []) spawns.now) result }
+    ensures { Adds d.old d.new start (flat_map (λ (c : Child). term_of d.old.branches now.now kind c ∷ []) children.now) result }
 {
     let mut sofar = start;
-    for spawn in spawns {
-        sofar = add_spawn(alloc, d, now, kind, link, spawn, sofar)?;
-    }
-    Ok(sofar)
-}
-
-// The disjunction so far and the terms of one link from the children, if that gives the atom.
-fn add_down(
-    alloc: Global,
-    d: &mut Diagrams,
-    now: &Cells,
-    kind: u32,
-    atom: Atom,
-    link: &Link,
-    spawns: &[Spawn],
-    sofar: Ref,
-) -> Result<Ref, DiagramFault>
-    requires inside { AreIn d.old.branches now.now }
-    requires sofar { IsIn d.old.branches sofar }
-    requires arena { IsArena d.old }
-    ensures { Adds d.old d.new sofar (of_down spawns.now (trees_in d.old.branches now.now) kind atom link.now) result }
-{
-    if link.to == atom {
-        add_spawns(alloc, d, now, kind, link, spawns, sofar)
-    } else {
-        Ok(sofar)
-    }
-}
-
-// The same for the link at a place.
-fn add_down_at(
-    alloc: Global,
-    d: &mut Diagrams,
-    now: &Cells,
-    kind: u32,
-    atom: Atom,
-    links: &[Link],
-    place: usize,
-    spawns: &[Spawn],
-    sofar: Ref,
-) -> Result<Ref, DiagramFault>
-    requires inside { AreIn d.old.branches now.now }
-    requires sofar { IsIn d.old.branches sofar }
-    requires arena { IsArena d.old }
-    ensures { Adds d.old d.new sofar (of_place (of_down spawns.now (trees_in d.old.branches now.now) kind atom) links.now place) result }
-{
-    if place < links.len() {
-        add_down(alloc, d, now, kind, atom, &links[place], spawns, sofar)
-    } else {
-        Ok(sofar)
-    }
-}
-
-// The disjunction so far and the terms of the links at these places.
-pub(crate) fn add_downs(
-    alloc: Global,
-    d: &mut Diagrams,
-    now: &Cells,
-    kind: u32,
-    atom: Atom,
-    links: &[Link],
-    places: &[usize],
-    spawns: &[Spawn],
-    start: Ref,
-) -> Result<Ref, DiagramFault>
-    requires inside { AreIn d.old.branches now.now }
-    requires start { IsIn d.old.branches start }
-    requires arena { IsArena d.old }
-    ensures { Adds d.old d.new start (flat_map (of_place (of_down spawns.now (trees_in d.old.branches now.now) kind atom) links.now) places.now) result }
-{
-    let mut sofar = start;
-    for i in 0..places.len() {
-        let place = places[i];
-        sofar = add_down_at(alloc, d, now, kind, atom, links, place, spawns, sofar)?;
+    for i in 0..children.len() {
+        let child = children[i];
+        sofar = add_one(alloc, d, now, kind, child, sofar)?;
     }
     Ok(sofar)
 }

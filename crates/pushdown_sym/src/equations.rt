@@ -4,10 +4,12 @@ ghost use Rattle.class_diagrams.specs.References.{Reference};
 ghost use Rattle.class_diagrams.specs.Arena.{tree_at, IsIn, IsArena, StartsWith};
 ghost use Rattle.diagram_ops.specs.Steps.{held_with_all, AreAmong, Calculates};
 ghost use Rattle.pushdown_sym.specs.Adding.{AreIn, next_in, results_in};
+ghost use Rattle.pushdown_sym.specs.Children.{children_of, different};
 ghost use Rattle.pushdown_sym.specs.Givers.{places_from};
 
 use crate::cells::Cells;
-use crate::children::add_downs;
+use crate::children::add_children;
+use crate::gathering::{Child, Children};
 use crate::givers::Givers;
 use crate::links::add_ups;
 use crate::locals::add_locals;
@@ -51,8 +53,8 @@ impl Equations {
     }
 
     /// The cell of a kind and an atom in the round behind `now`. Of the rules that give the atom: a conjunction for each
-    /// atom that a local one needs, and for each link from a child a look at each kind of child and a composition for
-    /// those that can be there.
+    /// atom that a local one needs, for each link from a child a look at each kind of child, and a composition for each
+    /// different pair of a child's diagram and the atom that makes the child. `Round` looks once for all kinds.
     pub fn next_cell(
         &self,
         alloc: Global,
@@ -74,16 +76,71 @@ impl Equations {
         ensures arena { IsArena d.new }
     {
         let _ = d.held();
-        let locals = self.locals.of(atom);
-        let ups = self.ups.of(atom);
-        let downs = self.downs.of(atom);
+        self.next_alone(alloc, d, now, kind, atom)
+    }
+
+    // The cell, where nothing is kept of the children that its links look at.
+    fn next_alone(
+        &self,
+        alloc: Global,
+        d: &mut Diagrams,
+        now: &Cells,
+        kind: u32,
+        atom: Atom,
+    ) -> Result<Ref, DiagramFault>
+        requires inside { AreIn d.old.branches now.now }
+        requires arena { IsArena d.old }
+        ensures { Calculates d.old d.new (results_in self.now d.old now.now kind atom) (next_in self.now d.old now.now kind atom) result }
+    {
+        match self.children(alloc, now, atom) {
+            Ok(children) => self.next_by(alloc, d, now, (kind, atom), children.items()),
+            Err(_) => Err(DiagramFault::Memory),
+        }
+    }
+
+    // The different children that the links that give the atom look at.
+    pub(crate) fn children(
+        &self,
+        alloc: Global,
+        now: &Cells,
+        atom: Atom,
+    ) -> Result<Children, NoMemory>
+        ensures { IfOk result (λ c. c ≡ different (children_of self.now now.now atom)) }
+    {
+        let places = self.downs.of(atom);
+        Children::of(
+            alloc,
+            now,
+            self.system.down.items(),
+            places,
+            self.system.child.items(),
+        )
+    }
+
+    // The cell, where these are the different children.
+    pub(crate) fn next_by(
+        &self,
+        alloc: Global,
+        d: &mut Diagrams,
+        now: &Cells,
+        cell: (u32, Atom),
+        children: &[Child],
+    ) -> Result<Ref, DiagramFault>
+        requires inside { AreIn d.old.branches now.now }
+        requires arena { IsArena d.old }
+        requires children { children.now ≡ different (children_of self.now now.now cell.1) }
+        ensures { Calculates d.old d.new (results_in self.now d.old now.now cell.0 cell.1) (next_in self.now d.old now.now cell.0 cell.1) result }
+    {
+        let locals = self.locals.of(cell.1);
+        let ups = self.ups.of(cell.1);
         next_of(
             alloc,
             &self.system,
-            (locals, ups, downs),
+            (locals, ups),
+            children,
             d,
             now,
-            (kind, atom),
+            cell,
         )
     }
 }
@@ -92,7 +149,8 @@ impl Equations {
 fn next_of(
     alloc: Global,
     system: &System,
-    givers: (&[usize], &[usize], &[usize]),
+    givers: (&[usize], &[usize]),
+    children: &[Child],
     d: &mut Diagrams,
     now: &Cells,
     cell: (u32, Atom),
@@ -101,22 +159,12 @@ fn next_of(
     requires arena { IsArena d.old }
     requires locals { givers.0.now ≡ places_from (λ r. r.gives == cell.1) 0 system.now.local }
     requires ups { givers.1.now ≡ places_from (λ l. l.to == cell.1) 0 system.now.up }
-    requires downs { givers.2.now ≡ places_from (λ l. l.to == cell.1) 0 system.now.down }
+    requires children { children.now ≡ different (children_of system.now now.now cell.1) }
     ensures { Calculates d.old d.new (results_in system.now d.old now.now cell.0 cell.1) (next_in system.now d.old now.now cell.0 cell.1) result }
 {
     let (kind, atom) = cell;
     let start = now.get(kind, atom);
     let by_locals = add_locals(d, now, kind, atom, system.local.items(), givers.0, start)?;
     let by_ups = add_ups(d, atom, system.up.items(), givers.1, by_locals)?;
-    add_downs(
-        alloc,
-        d,
-        now,
-        kind,
-        atom,
-        system.down.items(),
-        givers.2,
-        system.child.items(),
-        by_ups,
-    )
+    add_children(alloc, d, now, kind, children, by_ups)
 }

@@ -4,9 +4,12 @@
 mod cells;
 mod children;
 mod equations;
+mod gathering;
 mod givers;
 mod links;
 mod locals;
+mod rounds;
 
 pub use cells::Cells;
 pub use equations::Equations;
+pub use rounds::Round;

@@ -1,0 +1,127 @@
+-- The children that links look at, and their terms.
+use Rattle.std.proofs.Common.{◌≡◌, ℕ, suc, ◌+◌, ◌<◌, ◌==◌, Bool, List, [], ◌∷◌, ◌++◌, map, fold, take, length, get_or, All, Contains, Result, refl, sym, ap, subst, ◌∙◌, inl, inr, if◌then◌else◌, append-nil}
+use Rattle.std.specs.List.{list_any, filter, flat_map}
+use Rattle.std.proofs.lemmas.Bool.{cases_Bool, eqb-true}
+use Rattle.std.proofs.lemmas.List.{take_more}
+use Rattle.tree_sem.proofs.NodeLemmas.{map-Contains}
+use Rattle.tp_base.proofs.Rising.{Contains-here, Contains-cons, All-from_Contains}
+use Rattle.class_diagrams.specs.References.{Reference}
+use Rattle.class_diagrams.specs.declared.faults.DiagramFault.{DiagramFault}
+use Rattle.class_diagrams.specs.Trees.{Tree, tand}
+use Rattle.class_diagrams.specs.Arena.{StartsWith, tree_at, IsIn, Arena, IsArena}
+use Rattle.class_diagrams.proofs.ArenaLemmas.{tree_at-further}
+use Rattle.diagram_ops.specs.Compositions.{tcompose, inner_results}
+use Rattle.simple_core.specs.declared.rules.Link.{Link}
+use Rattle.simple_core.specs.declared.rules.Spawn.{Spawn}
+use Rattle.simple_core.specs.declared.system.System.{System}
+use Rattle.pushdown_sym.specs.declared.gathering.Child.{Child}
+use Rattle.pushdown_sym.specs.CellMap.{Entries, place_in, trees_in}
+use Rattle.pushdown_sym.specs.Terms.{Term, down_term}
+use Rattle.pushdown_sym.specs.Adding.{AreIn, Adds, of_down}
+use Rattle.pushdown_sym.specs.Givers.{places_from, of_place}
+use Rattle.pushdown_sym.specs.Children.{child_by, children_by, children_of, with_child, different, term_of}
+use Rattle.pushdown_sym.proofs.AddLemmas.{cells_same, flat_map-append}
+use Rattle.pushdown_sym.proofs.CellLemmas.{flat_map_found}
+use Rattle.pushdown_sym.proofs.GiverLemmas.{filtered_places}
+use Rattle.pushdown_sym.proofs.LinkLemmas.{map-as-flat, map-append, filtered_flat}
+use Rattle.pushdown_sym.proofs.DifferentLemmas.{firsts, fold_is, firsts_among, different_add}
+
+-- ### one more, in a loop
+
+fold-append : {X Y : Type 0} (f : Y → X → Y) (z : Y) (xs ys : List X) → fold f z (xs ++ ys) ≡ fold f (fold f z xs) ys
+fold-append f z [] ys = refl
+fold-append f z (x ∷ xs) ys = fold-append f (f z x) xs ys
+
+taken : {X : Type 0} (xs : List X) (i : ℕ) (x : X) → i < length xs → x ≡ get_or xs i x → take (i + 1) xs ≡ take i xs ++ x ∷ []
+taken xs i x less item = take_more xs i x less ∙ (λ n. take i xs ++ sym item n ∷ [])
+
+pub with_one_more : {X : Type 0} (f : X → Child) (start : List Child) (xs : List X) (i : ℕ) (x : X) (now new : List Child) → i < length xs → x ≡ get_or xs i x
+    → now ≡ fold with_child start (map f (take i xs)) → new ≡ with_child now (f x) → new ≡ fold with_child start (map f (take (i + 1) xs))
+with_one_more f start xs i x now new less item before more =
+    more
+    ∙ ap (λ (cs : List Child). with_child cs (f x)) before
+    ∙ sym (ap (λ ys. fold with_child start (map f ys)) (taken xs i x less item)
+    ∙ ap (fold with_child start) (map-append f (take i xs) (x ∷ []))
+    ∙ fold-append with_child start (map f (take i xs)) (f x ∷ []))
+
+pub with_more : {X : Type 0} (f : X → List Child) (start : List Child) (xs : List X) (i : ℕ) (x : X) (now new : List Child) → i < length xs → x ≡ get_or xs i x
+    → now ≡ fold with_child start (flat_map f (take i xs)) → new ≡ fold with_child now (f x) → new ≡ fold with_child start (flat_map f (take (i + 1) xs))
+with_more f start xs i x now new less item before more =
+    more
+    ∙ ap (λ (cs : List Child). fold with_child cs (f x)) before
+    ∙ sym (ap (λ ys. fold with_child start (flat_map f ys)) (taken xs i x less item)
+    ∙ ap (fold with_child start) (flat_map-append f (take i xs) (x ∷ []) ∙ ap (λ ys. flat_map f (take i xs) ++ ys) (append-nil (f x)))
+    ∙ fold-append with_child start (flat_map f (take i xs)) (f x))
+
+-- ### each is of the arena
+
+child_in : (ts : List Tree) (s : System) (cells : Entries) (a : ℕ) → AreIn ts cells → (c : Child) → Contains (children_of s cells a) c → IsIn ts c.diagram
+child_in ts s cells a inside c there =
+    let of = flat_map_found (children_by cells s.child) (filter (λ (l : Link). l.to == a) s.down) c there in
+    let spawn = map-Contains (child_by cells of.0) s.child c of.2 in
+    subst (λ (d : Child). IsIn ts d.diagram) (sym spawn.2) (inside spawn.0.kind of.0.from)
+
+pub different_in : (ts : List Tree) (s : System) (cells : Entries) (a : ℕ) (children : List Child) → AreIn ts cells → children ≡ different (children_of s cells a)
+    → All (λ c. IsIn ts c.diagram) children
+different_in ts s cells a children inside are =
+    All-from_Contains (λ (c : Child). IsIn ts c.diagram) children (λ c there.
+    child_in ts s cells a inside c (firsts_among [] (children_of s cells a) c (subst (λ (cs : List Child). Contains cs c) (are ∙ fold_is [] (children_of s cells a)) there)))
+
+-- ### the terms of a child stay
+
+pub term_stays : (ts : List Tree) (cells : Entries) (j : ℕ) (children : List Child) → AreIn ts cells → All (λ c. IsIn ts c.diagram) children
+    → (us : List Tree) (i : ℕ) (c : Child) → i < length children → c ≡ get_or children i c → StartsWith ts us → term_of us cells j c ∷ [] ≡ term_of ts cells j c ∷ []
+term_stays ts cells j children inside all us i c less item stays =
+    let now = cells_same ts us cells stays inside in
+    let within : IsIn ts c.diagram = subst (λ (d : Child). IsIn ts d.diagram) (sym item) (all i c less) in
+    let diagram = tree_at-further ts us c.diagram stays within in
+    λ n. record {
+      tree = tand (now n j c.needs) (tcompose (diagram n) (now n j));
+      before = now n j c.needs ∷ inner_results (diagram n) (now n j);
+    } ∷ []
+
+-- ### the terms of the different children are those of all links
+
+map-flat_map : {X Y Z : Type 0} (f : Y → Z) (g : X → List Y) (xs : List X) → map f (flat_map g xs) ≡ flat_map (λ x. map f (g x)) xs
+map-flat_map f g [] = refl
+map-flat_map f g (x ∷ xs) = map-append f (g x) (flat_map g xs) ∙ ap (λ zs. map f (g x) ++ zs) (map-flat_map f g xs)
+
+map-map : {X Y Z : Type 0} (f : Y → Z) (g : X → Y) (xs : List X) → map f (map g xs) ≡ map (λ x. f (g x)) xs
+map-map f g [] = refl
+map-map f g (x ∷ xs) = ap (λ zs. f (g x) ∷ zs) (map-map f g xs)
+
+flat_map-same : {X Y : Type 0} (f g : X → List Y) → ((x : X) → f x ≡ g x) → (xs : List X) → flat_map f xs ≡ flat_map g xs
+flat_map-same f g same [] = refl
+flat_map-same f g same (x ∷ xs) = λ n. same x n ++ flat_map-same f g same xs n
+
+terms_are : (ts : List Tree) (s : System) (cells : Entries) (j a : ℕ) → map (term_of ts cells j) (children_of s cells a) ≡ flat_map (of_down s.child (trees_in ts cells) j a) s.down
+terms_are ts s cells j a =
+    map-flat_map (term_of ts cells j) (children_by cells s.child) (filter (λ (l : Link). l.to == a) s.down)
+    ∙ flat_map-same (λ l. map (term_of ts cells j) (children_by cells s.child l)) (λ l. map (down_term (trees_in ts cells) j l) s.child)
+    (λ l. map-map (term_of ts cells j) (child_by cells l) s.child) (filter (λ (l : Link). l.to == a) s.down)
+    ∙ sym (filtered_flat (λ (l : Link). l.to == a) (λ l. map (down_term (trees_in ts cells) j l) s.child) s.down)
+
+pub children_add : (s : System) (cells : Entries) (j a : ℕ) (c d : Arena) (g : Reference) (r : Result Reference DiagramFault) (children : List Child)
+    → IsArena c → AreIn c.branches cells → IsIn c.branches g → children ≡ different (children_of s cells a)
+    → Adds c d g (flat_map (λ (x : Child). term_of c.branches cells j x ∷ []) children) r
+    → Adds c d g (flat_map (of_down s.child (trees_in c.branches cells) j a) s.down) r
+children_add s cells j a c d g r children arena inside within are adds =
+    subst (λ (ts : List Term). Adds c d g ts r) (terms_are c.branches s cells j a)
+    (different_add c d cells j arena inside g within (children_of s cells a) r
+    (subst (λ (ts : List Term). Adds c d g ts r) (map-as-flat (term_of c.branches cells j) children ∙ ap (map (term_of c.branches cells j)) are) adds))
+
+-- ### what is kept
+
+pub kept_more : (good : ℕ → List Child → Type 0) (old new : ℕ → List Child) (atom : ℕ) (children : List Child)
+    → ((a : ℕ) → new a ≡ (if atom == a then children else old a)) → good atom children → ((a : ℕ) → good a (old a)) → (a : ℕ) → good a (new a)
+kept_more good old new atom children put here before a = elim (cases_Bool (atom == a)) [
+  | inl same ↦ subst (λ (cs : List Child). good a cs) (sym (rw same at (put a))) (subst (λ b. good b children) (eqb-true atom a same) here)
+  | inr other ↦ subst (λ (cs : List Child). good a cs) (sym (rw other at (put a))) (before a)
+]
+
+-- what the links at the places look at is what those that give the atom look at
+pub gathered : (s : System) (cells : Entries) (a : ℕ) (links : List Link) (spawns : List Spawn) (places : List ℕ) → links ≡ s.down → spawns ≡ s.child
+    → places ≡ places_from (λ (l : Link). l.to == a) 0 s.down → fold with_child [] (flat_map (of_place (children_by cells spawns) links) places) ≡ different (children_of s cells a)
+gathered s cells a links spawns places links_are spawns_are places_are =
+    (λ n. fold with_child [] (flat_map (of_place (children_by cells (spawns_are n)) (links_are n)) (places_are n)))
+    ∙ ap (fold with_child []) (filtered_places (children_by cells s.child) (λ (l : Link). l.to == a) s.down)

@@ -1,0 +1,53 @@
+-- The children that links look at, each different one once.
+--     child_by cells l c           the child of a spawn, by a link
+--     children_of s cells a        all that the links that give an atom look at, in order
+--     different children           each of them where it comes first
+--     term_of ts cells j child     what a node of kind j gets by it
+use Rattle.std.specs.Prelude.{◌≡◌, ℕ, Bool, ◌==◌, ◌&&◌, List, [], ◌∷◌, fold, map, filter, unwrap_or, ◌⊎◌}
+use Rattle.std.specs.List.{flat_map}
+use Rattle.std.specs.Map.{lookup}
+use Rattle.indexmap.specs.IndexSet.{insert_key}
+use Rattle.class_diagrams.specs.Numbers.{number_of}
+use Rattle.class_diagrams.specs.Trees.{Tree, tand}
+use Rattle.class_diagrams.specs.Arena.{tree_at}
+use Rattle.diagram_ops.specs.Compositions.{tcompose, inner_results}
+use Rattle.simple_core.specs.declared.rules.Link.{Link}
+use Rattle.simple_core.specs.declared.rules.Spawn.{Spawn}
+use Rattle.simple_core.specs.declared.system.System.{System}
+use Rattle.pushdown_sym.specs.declared.gathering.Child.{Child}
+use Rattle.pushdown_sym.specs.CellMap.{Entries, place_in, trees_in}
+use Rattle.pushdown_sym.specs.Terms.{Term}
+
+abbrev pub child_by : Entries → Link → Spawn → Child
+child_by cells l c = record { needs = c.needs; diagram = place_in cells c.kind l.from }
+
+abbrev pub children_by : Entries → List Spawn → Link → List Child
+children_by cells spawns l = map (child_by cells l) spawns
+
+abbrev pub children_of : System → Entries → ℕ → List Child
+children_of s cells a = flat_map (children_by cells s.child) (filter (λ l. l.to == a) s.down)
+
+abbrev pub same_child : Child → Child → Bool
+same_child c d = (c.needs == d.needs) && (number_of c.diagram == number_of d.diagram)
+
+-- the children, and this one last unless it is there
+abbrev pub with_child : List Child → Child → List Child
+with_child = insert_key same_child
+
+abbrev pub different : List Child → List Child
+different children = fold with_child [] children
+
+-- the child's diagram under the label of the node
+abbrev pub term_of : List Tree → Entries → ℕ → Child → Term
+term_of branches cells j c = record {
+  tree = tand (trees_in branches cells j c.needs) (tcompose (tree_at branches c.diagram) (trees_in branches cells j));
+  before = trees_in branches cells j c.needs ∷ inner_results (tree_at branches c.diagram) (trees_in branches cells j);
+}
+
+-- the children that are kept for an atom, none where nothing is
+abbrev pub kept_in : List (ℕ × List Child) → ℕ → List Child
+kept_in entries a = unwrap_or (lookup (λ key. a == key) entries) []
+
+-- for each atom nothing is kept, or the different children
+abbrev pub AreKept : System → Entries → List (ℕ × List Child) → Type 0
+AreKept s cells entries = (a : ℕ) → (kept_in entries a ≡ []) ⊎ (kept_in entries a ≡ different (children_of s cells a))

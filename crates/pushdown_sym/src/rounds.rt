@@ -1,0 +1,167 @@
+//! The cells of a round, and those behind it.
+ghost use Rattle.std.specs.Prelude.{◌≡◌, ◌<◌, ◌==◌, if◌then◌else◌, length, ℕ, IsErrOf, IfOk, OnOk, OnErr, []};
+ghost use Rattle.class_diagrams.specs.References.{Reference};
+ghost use Rattle.class_diagrams.specs.Arena.{tree_at, IsIn, IsArena, StartsWith};
+ghost use Rattle.diagram_ops.specs.Steps.{held_with_all, AreAmong, Calculates};
+ghost use Rattle.pushdown_sym.specs.CellMap.{place_in};
+ghost use Rattle.pushdown_sym.specs.Adding.{AreIn, next_in, results_in};
+ghost use Rattle.pushdown_sym.specs.Children.{children_of, different, kept_in, AreKept};
+
+use crate::cells::Cells;
+use crate::equations::Equations;
+use crate::gathering::{Child, Children};
+use class_diagrams::{DiagramFault, Diagrams, Ref};
+use indexmap::IndexMap;
+use std::alloc::Global;
+use std::marker::Model;
+use tp_base::{Atom, NoMemory};
+
+// For some atoms the different children that links look at.
+#[derive(Drop)]
+struct Kept {
+    map: IndexMap<Atom, Children>,
+}
+
+impl Model for Kept {
+    ghost use Rattle.std.specs.Prelude.{List, ℕ};
+    ghost use Rattle.pushdown_sym.specs.declared.gathering.Child.{Child};
+
+    ghost Value = { List (ℕ × List Child) };
+
+    ghost view = { λ k. k.map.entries };
+}
+
+impl Kept {
+    fn new(alloc: Global) -> Self
+        ensures { result ≡ [] }
+    {
+        Kept {
+            map: IndexMap::new(alloc),
+        }
+    }
+
+    fn of(&self, atom: Atom) -> &[Child]
+        ensures { result.now ≡ kept_in self.now atom }
+    {
+        match self.map.get(&atom) {
+            None => &[],
+            Some(children) => children.items(),
+        }
+    }
+
+    fn keep(&mut self, atom: Atom, children: Children) -> Result<(), NoMemory>
+        ensures ok { OnOk result ((a : ℕ) → kept_in self.new a ≡ (if atom == a then children else kept_in self.old a)) }
+        ensures err { OnErr result (self.new ≡ self.old) }
+    {
+        self.map.insert(atom, children)?;
+        Ok(())
+    }
+
+    // Sees to it that the children of an atom are there.
+    fn gather(
+        &mut self,
+        alloc: Global,
+        equations: &Equations,
+        now: &Cells,
+        atom: Atom,
+    ) -> Result<(), NoMemory>
+        requires { AreKept equations.now now.now self.old }
+        ensures kept { AreKept equations.now now.now self.new }
+        ensures there { OnOk result (kept_in self.new atom ≡ different (children_of equations.now now.now atom)) }
+    {
+        if self.of(atom).len() == 0 {
+            let children = equations.children(alloc, now, atom)?;
+            self.keep(atom, children)?;
+        }
+        Ok(())
+    }
+}
+
+/// The equations of a system and the cells of one round. What the links that give an atom look at is found once for all
+/// kinds. A contract sees the system and the cells.
+#[derive(Drop)]
+pub struct Round<'e, 'c> {
+    equations: &'e Equations,
+    cells: &'c Cells,
+    kept: Kept,
+}
+
+impl<'e, 'c> Model for Round<'e, 'c> {
+    ghost use Rattle.simple_core.specs.declared.system.System.{System};
+    ghost use Rattle.pushdown_sym.specs.CellMap.{Entries};
+    ghost use Rattle.pushdown_sym.specs.Children.{AreKept};
+
+    ghost Value = { System × Entries };
+
+    ghost view = { λ r. (r.equations.now, r.cells.now) };
+
+    ghost invariant = { λ r. AreKept r.equations.now r.cells.now r.kept };
+}
+
+impl<'e, 'c> Round<'e, 'c> {
+    /// The cells of a round. Nothing is calculated yet.
+    pub fn new(alloc: Global, equations: &'e Equations, cells: &'c Cells) -> Round<'e, 'c>
+        ensures { result ≡ (equations.now, cells.now) }
+    {
+        Round {
+            equations,
+            cells,
+            kept: Kept::new(alloc),
+        }
+    }
+
+    /// The diagram of a cell.
+    pub fn get(&self, kind: u32, atom: Atom) -> Ref
+        ensures { result ≡ place_in self.now.1 kind atom }
+    {
+        self.cells.get(kind, atom)
+    }
+
+    /// The cell of a kind and an atom in the round behind this one, as `Equations::next_cell` gives it. Once for each atom,
+    /// each link that gives it costs a look at each kind of child; and then each cell a composition for each different pair
+    /// of a child's diagram and the atom that makes the child.
+    pub fn next_cell(
+        &mut self,
+        alloc: Global,
+        d: &mut Diagrams,
+        kind: u32,
+        atom: Atom,
+    ) -> Result<Ref, DiagramFault>
+        requires kind { kind < length self.old.0.kinds }
+        requires inside { AreIn d.old.branches self.old.1 }
+        ensures same { self.new ≡ self.old }
+        ensures tree { IfOk result (λ r. tree_at d.new.branches r ≡ next_in self.old.0 d.old self.old.1 kind atom) }
+        ensures inside { IfOk result (λ r. IsIn d.new.branches r) }
+        ensures full { IsErrOf result DiagramFault.Full → d.old.limit < length (held_with_all d.old.branches (results_in self.old.0 d.old self.old.1 kind atom)) }
+        ensures stays { StartsWith d.old.branches d.new.branches }
+        ensures only { AreAmong d.new.branches (held_with_all d.old.branches (results_in self.old.0 d.old self.old.1 kind atom)) }
+        ensures references { (p : Reference) → IsIn d.old.branches p
+            → IsIn d.new.branches p × (tree_at d.new.branches p ≡ tree_at d.old.branches p) }
+        ensures limit { d.new.limit ≡ d.old.limit }
+        ensures arena { IsArena d.new }
+    {
+        let _ = d.held();
+        next_kept(alloc, self.equations, self.cells, &mut self.kept, d, (kind, atom))
+    }
+}
+
+// The cell, and what is kept then.
+fn next_kept(
+    alloc: Global,
+    equations: &Equations,
+    now: &Cells,
+    kept: &mut Kept,
+    d: &mut Diagrams,
+    cell: (u32, Atom),
+) -> Result<Ref, DiagramFault>
+    requires inside { AreIn d.old.branches now.now }
+    requires arena { IsArena d.old }
+    requires kept { AreKept equations.now now.now kept.old }
+    ensures kept { AreKept equations.now now.now kept.new }
+    ensures next { Calculates d.old d.new (results_in equations.now d.old now.now cell.0 cell.1) (next_in equations.now d.old now.now cell.0 cell.1) result }
+{
+    match kept.gather(alloc, equations, now, cell.1) {
+        Ok(()) => equations.next_by(alloc, d, now, cell, kept.of(cell.1)),
+        Err(_) => Err(DiagramFault::Memory),
+    }
+}
