@@ -1,21 +1,21 @@
 -- The children that links look at, and their terms.
-use Rattle.std.proofs.Common.{◌≡◌, ℕ, suc, ◌+◌, ◌<◌, ◌==◌, Bool, List, [], ◌∷◌, ◌++◌, map, fold, take, length, get_or, All, Contains, Result, refl, sym, ap, subst, ◌∙◌, inl, inr, if◌then◌else◌, append-nil}
-use Rattle.std.specs.List.{list_any, filter, flat_map}
+use Rattle.std.proofs.Common.{◌≡◌, ℕ, ◌+◌, ◌<◌, ◌==◌, List, [], ◌∷◌, ◌++◌, map, fold, take, length, get_or, All, Contains, Result, refl, sym, ap, subst, ◌∙◌, inl, inr, if◌then◌else◌, append-nil}
+use Rattle.std.specs.List.{filter, flat_map}
 use Rattle.std.proofs.lemmas.Bool.{cases_Bool, eqb-true}
 use Rattle.std.proofs.lemmas.List.{take_more}
 use Rattle.tree_sem.proofs.NodeLemmas.{map-Contains}
-use Rattle.tp_base.proofs.Rising.{Contains-here, Contains-cons, All-from_Contains}
+use Rattle.tp_base.proofs.Rising.{All-from_Contains}
 use Rattle.class_diagrams.specs.References.{Reference}
 use Rattle.class_diagrams.specs.declared.faults.DiagramFault.{DiagramFault}
 use Rattle.class_diagrams.specs.Trees.{Tree, tand}
-use Rattle.class_diagrams.specs.Arena.{StartsWith, tree_at, IsIn, Arena, IsArena}
+use Rattle.class_diagrams.specs.Arena.{StartsWith, IsIn, Arena, IsArena}
 use Rattle.class_diagrams.proofs.ArenaLemmas.{tree_at-further}
 use Rattle.diagram_ops.specs.Compositions.{tcompose, inner_results}
 use Rattle.simple_core.specs.declared.rules.Link.{Link}
 use Rattle.simple_core.specs.declared.rules.Spawn.{Spawn}
 use Rattle.simple_core.specs.declared.system.System.{System}
 use Rattle.pushdown_sym.specs.declared.gathering.Child.{Child}
-use Rattle.pushdown_sym.specs.CellMap.{Entries, place_in, trees_in}
+use Rattle.pushdown_sym.specs.CellMap.{Entries, trees_in}
 use Rattle.pushdown_sym.specs.Terms.{Term, down_term}
 use Rattle.pushdown_sym.specs.Adding.{AreIn, Adds, of_down}
 use Rattle.pushdown_sym.specs.Givers.{places_from, of_place}
@@ -24,7 +24,7 @@ use Rattle.pushdown_sym.proofs.AddLemmas.{cells_same, flat_map-append}
 use Rattle.pushdown_sym.proofs.CellLemmas.{flat_map_found}
 use Rattle.pushdown_sym.proofs.GiverLemmas.{filtered_places}
 use Rattle.pushdown_sym.proofs.LinkLemmas.{map-as-flat, map-append, filtered_flat}
-use Rattle.pushdown_sym.proofs.DifferentLemmas.{firsts, fold_is, firsts_among, different_add}
+use Rattle.pushdown_sym.proofs.DifferentLemmas.{fold_is, firsts_among, different_add}
 
 -- ### one more, in a loop
 

@@ -1,5 +1,5 @@
 -- Terms of different children give what those of all give.
-use Rattle.std.proofs.Common.{◌≡◌, ◌≢◌, ℕ, eqb, Bool, true, false, ◌&&◌, ◌||◌, List, [], ◌∷◌, ◌++◌, map, fold, Contains, Result, refl, sym, ap, subst, ◌∙◌, inl, inr, if◌then◌else◌, append_assoc, append-nil}
+use Rattle.std.proofs.Common.{◌≡◌, ℕ, eqb, Bool, true, false, ◌&&◌, ◌||◌, List, [], ◌∷◌, ◌++◌, map, fold, Contains, Result, refl, sym, ap, subst, ◌∙◌, inl, inr, if◌then◌else◌, append_assoc, append-nil}
 use Rattle.std.specs.List.{list_any}
 use Rattle.std.proofs.lemmas.Bool.{cases_Bool, and_parts, eqb-true}
 use Rattle.std.proofs.lemmas.List.Elements.{Contains-append_cases}
@@ -7,7 +7,7 @@ use Rattle.tp_base.proofs.Rising.{Contains-here, Contains-cons, Contains-none}
 use Rattle.class_diagrams.specs.References.{Reference}
 use Rattle.class_diagrams.specs.declared.faults.DiagramFault.{DiagramFault}
 use Rattle.class_diagrams.specs.Numbers.{number_of}
-use Rattle.class_diagrams.specs.Trees.{Tree, tand, tor, eval, IsOrdered}
+use Rattle.class_diagrams.specs.Trees.{Tree, tor, eval, IsOrdered}
 use Rattle.class_diagrams.specs.Arena.{tree_at, IsIn, Arena, IsArena}
 use Rattle.class_diagrams.proofs.ReferenceLemmas.{number_of-same}
 use Rattle.class_diagrams.proofs.TreeLemmas.{same_where_agree}

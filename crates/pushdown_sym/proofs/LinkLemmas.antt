@@ -1,5 +1,5 @@
 -- The terms of links.
-use Rattle.std.proofs.Common.{◌≡◌, eqb, ℕ, zero, suc, ◌+◌, ◌<◌, Bool, true, false, List, [], ◌∷◌, ◌++◌, map, take, slice_get, Some, if◌then◌else◌, ◌==◌, Result, Ok, Err, IsErrAnd, All, arith, refl, sym, ap, subst, ◌∙◌, inl, inr, append-nil}
+use Rattle.std.proofs.Common.{◌≡◌, eqb, ℕ, zero, suc, ◌+◌, Bool, true, false, List, [], ◌∷◌, ◌++◌, map, take, slice_get, Some, if◌then◌else◌, ◌==◌, Result, Ok, Err, IsErrAnd, All, arith, refl, sym, ap, subst, ◌∙◌, inl, inr, append-nil}
 use Rattle.std.specs.List.{filter, flat_map}
 use Rattle.std.specs.List.Sorted.{IsStrictlyIncreasing}
 use Rattle.std.proofs.lemmas.Bool.{cases_Bool}
@@ -16,7 +16,6 @@ use Rattle.diagram_ops.proofs.HeldLemmas.{AreCovered}
 use Rattle.diagram_ops.proofs.StepLemmas.{brings_itself, brings_part, calculates_last, calculates_failed, calculates_same_error}
 use Rattle.simple_core.specs.declared.rules.Local.{Local}
 use Rattle.simple_core.specs.declared.rules.Link.{Link}
-use Rattle.simple_core.specs.declared.rules.Spawn.{Spawn}
 use Rattle.simple_core.specs.declared.system.System.{System}
 use Rattle.pushdown_sym.specs.CellMap.{Entries, place_in, trees_in}
 use Rattle.pushdown_sym.specs.Terms.{CellTrees, Term, terms, local_term, up_term, down_term, disjunction, disjunctions, next_tree, partial_results}

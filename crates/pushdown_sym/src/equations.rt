@@ -133,15 +133,7 @@ impl Equations {
     {
         let locals = self.locals.of(cell.1);
         let ups = self.ups.of(cell.1);
-        next_of(
-            alloc,
-            &self.system,
-            (locals, ups),
-            children,
-            d,
-            now,
-            cell,
-        )
+        next_of(alloc, &self.system, (locals, ups), children, d, now, cell)
     }
 }
 

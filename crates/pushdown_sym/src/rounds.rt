@@ -141,7 +141,14 @@ impl<'e, 'c> Round<'e, 'c> {
         ensures arena { IsArena d.new }
     {
         let _ = d.held();
-        next_kept(alloc, self.equations, self.cells, &mut self.kept, d, (kind, atom))
+        next_kept(
+            alloc,
+            self.equations,
+            self.cells,
+            &mut self.kept,
+            d,
+            (kind, atom),
+        )
     }
 }
 

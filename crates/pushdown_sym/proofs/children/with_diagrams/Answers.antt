@@ -1,4 +1,4 @@
-use Rattle.std.proofs.Common.{ℕ, [], ◌∷◌, ◌++◌, ◌∙◌, sym}
+use Rattle.std.proofs.Common.{[], ◌∷◌, ◌++◌, ◌∙◌, sym}
 use Rattle.pushdown_sym.specs.CellMap.{place_in}
 use Rattle.pushdown_sym.proofs.LinkLemmas.{paired_more}
 use Rattle.pushdown_sym.proofs.children.with_diagrams.Goals as goal

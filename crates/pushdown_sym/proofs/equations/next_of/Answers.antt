@@ -52,7 +52,7 @@ returns c =
     c.items-2.result.now c.args.system.now.up c.args.givers.1.now c.add_locals.new.d c.add_ups.new.d c.in_ok-by_locals.by_locals (Ok c.in_ok-by_ups.by_ups)
     c.items-2.ensures c.requires.ups c.in_ok-by_ups.ensures)
     (children_add c.args.system.now c.args.now.now c.args.cell.0 c.args.cell.1 c.add_ups.new.d c.add_children.new.d c.in_ok-by_ups.by_ups c.add_children.result c.args.children.now
-    c.in_ok-by_ups.ensures.brings.arena 
+    c.in_ok-by_ups.ensures.brings.arena
     (cells_in c.args.d.now.branches c.add_ups.new.d.branches c.args.now.now
     (StartsWith-further c.args.d.now.branches c.add_locals.new.d.branches c.add_ups.new.d.branches c.in_ok-by_locals.ensures.brings.stays c.in_ok-by_ups.ensures.brings.stays) c.requires.inside)
     c.in_ok-by_ups.ensures.answer.0 c.requires.children c.add_children.ensures)

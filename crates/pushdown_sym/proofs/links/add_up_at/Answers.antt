@@ -1,4 +1,4 @@
-use Rattle.std.proofs.Common.{List, Some, Ok, [], subst, sym, ap, ◌∙◌, arith}
+use Rattle.std.proofs.Common.{List, Some, Ok, subst, sym, ap, ◌∙◌, arith}
 use Rattle.std.proofs.lemmas.Option.{slice_get-get_or, slice_get_past}
 use Rattle.simple_core.specs.declared.rules.Link.{Link}
 use Rattle.pushdown_sym.specs.Terms.{Term}

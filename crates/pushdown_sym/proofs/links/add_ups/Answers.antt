@@ -1,4 +1,4 @@
-use Rattle.std.proofs.Common.{Ok, arith, [], ◌∷◌}
+use Rattle.std.proofs.Common.{Ok, arith, []}
 use Rattle.std.specs.List.{flat_map}
 use Rattle.std.proofs.lemmas.List.{get_or_default}
 use Rattle.class_diagrams.specs.Arena.{tree_at}

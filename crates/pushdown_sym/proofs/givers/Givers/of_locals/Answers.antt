@@ -1,4 +1,3 @@
-use Rattle.std.proofs.Common.{◌∙◌}
 use Rattle.simple_core.specs.declared.rules.Local.{Local}
 use Rattle.pushdown_sym.proofs.GiverLemmas.{givers_more}
 use Rattle.pushdown_sym.proofs.givers.Givers.of_locals.Goals as goal
