@@ -1,4 +1,11 @@
 //! Reports on one sheet, and one that is cut off.
+ghost use Rattle.std.specs.Prelude.{◌≡◌, length, map, IfOk, IfSome};
+ghost use Rattle.css_read.specs.Sheets as sheets;
+ghost use Rattle.css_read.specs.Places.{IsCauseIn, IsPlaced, ArePlaced};
+ghost use Rattle.css_read.specs.Views.{item_of, outcome_of, sheet_of};
+ghost use Rattle.usage_report.specs.Reportable.{HavePlaces, IsJudged, IsReportable, AreReportable};
+ghost use Rattle.usage_report.specs.Views as view;
+
 use css_read::{Outcome, Ranges, Sheet, SheetItem, SheetItems};
 use proof_check::{Entries, PageItems, Proof, Steps, Unfolded};
 use sel_core::{SelFault, Skip, read_selector};
@@ -27,122 +34,106 @@ static PLACES: [Place; 3] = [
     },
 ];
 
-/// An answer.
+/// An answer on a selector that is judged.
 #[derive(Clone, Copy)]
 enum Said {
     Used(u64),
     Shown(u64, &'static [(u32, &'static [u32])], &'static [u32]),
     UsedUnshown,
     Unused,
-    Skipped(Skip, usize),
     Spent,
 }
 
-/// An item that begins at an offset of the text and has a selector, or none where this is empty, and the lines of its answer.
+/// A selector that is judged, and what is said of it, or why one is skipped, and at which offset of the text.
+#[derive(Clone, Copy)]
+enum Row {
+    Judged(&'static str, Said),
+    Skipped(Skip, usize),
+}
+
+/// An item that begins at an offset of the text, and the lines of its answer.
 #[derive(Clone, Copy)]
 struct Case {
     from: usize,
-    selector: &'static str,
-    said: Said,
+    row: Row,
     lines: &'static str,
 }
 
-static CASES: [Case; 16] = [
+static CASES: [Case; 15] = [
     Case {
         from: 0,
-        selector: ".a",
-        said: Said::Unused,
+        row: Row::Judged(".a", Said::Unused),
         lines: "1:1 unused .a\n",
     },
     Case {
         from: 5,
-        selector: "li.item > #b",
-        said: Said::Spent,
+        row: Row::Judged("li.item > #b", Said::Spent),
         lines: "2:1 spent li.item > #b\n",
     },
     Case {
         from: 19,
-        selector: "",
-        said: Said::Skipped(Skip::Sibling, 21),
+        row: Row::Skipped(Skip::Sibling, 21),
         lines: "2:15 skipped sibling at 2:17\n",
     },
     Case {
         from: 5,
-        selector: ".b .b",
-        said: Said::UsedUnshown,
+        row: Row::Judged(".b .b", Said::UsedUnshown),
         lines: "2:1 used-unshown .b .b\n",
     },
     Case {
         from: 5,
-        selector: ".b .b",
-        said: Said::UsedUnshown,
+        row: Row::Judged(".b .b", Said::UsedUnshown),
         lines: "2:1 used-unshown .b .b\n",
     },
     Case {
         from: 0,
-        selector: "*",
-        said: Said::Shown(0, &[], &[]),
+        row: Row::Judged("*", Said::Shown(0, &[], &[])),
         lines: "1:1 used 0 *\n  match /\n",
     },
     Case {
         from: 5,
-        selector: "form.bad",
-        said: Said::Shown(2, &[(0, &[1, 0, 12]), (2, &[])], &[1, 0]),
+        row: Row::Judged("form.bad", Said::Shown(2, &[(0, &[1, 0, 12]), (2, &[])], &[1, 0])),
         lines: "2:1 used 2 form.bad\n  1 at 1:11 on /1/0/12\n  3 at 10:100 on /\n  match /1/0\n",
     },
     Case {
         from: 0,
-        selector: ".a",
-        said: Said::Used(1001),
+        row: Row::Judged(".a", Said::Used(1001)),
         lines: "1:1 used 1001 .a\n  not listed\n",
     },
     Case {
         from: 0,
-        selector: ".a",
-        said: Said::Used(u64::MAX),
+        row: Row::Judged(".a", Said::Used(u64::MAX)),
         lines: "1:1 used 18446744073709551615+ .a\n  not listed\n",
     },
     Case {
         from: 0,
-        selector: ".a",
-        said: Said::Used(u64::MAX - 1),
+        row: Row::Judged(".a", Said::Used(u64::MAX - 1)),
         lines: "1:1 used 18446744073709551614 .a\n  not listed\n",
     },
     Case {
         from: 0,
-        selector: "",
-        said: Said::Skipped(Skip::Pseudo, 4),
+        row: Row::Skipped(Skip::Pseudo, 4),
         lines: "1:1 skipped pseudo at 1:5\n",
     },
     Case {
         from: 0,
-        selector: "",
-        said: Said::Skipped(Skip::Attribute, 5),
+        row: Row::Skipped(Skip::Attribute, 5),
         lines: "1:1 skipped attribute at 2:1\n",
     },
     Case {
         from: 5,
-        selector: "",
-        said: Said::Skipped(Skip::Escape, 0),
+        row: Row::Skipped(Skip::Escape, 0),
         lines: "2:1 skipped escape at 1:1\n",
     },
     Case {
         from: 5,
-        selector: "",
-        said: Said::Skipped(Skip::Long, 27),
+        row: Row::Skipped(Skip::Long, 27),
         lines: "2:1 skipped long at 3:1\n",
     },
     Case {
         from: 6,
-        selector: "",
-        said: Said::Skipped(Skip::Bad, 100),
-        lines: "2:2 skipped bad at 3:1\n",
-    },
-    Case {
-        from: 26,
-        selector: "",
-        said: Said::Unused,
-        lines: "2:22 unused \n",
+        row: Row::Skipped(Skip::Bad, 22),
+        lines: "2:2 skipped bad at 2:18\n",
     },
 ];
 
@@ -154,13 +145,21 @@ fn path_of(alloc: Global, children: &[u32]) -> Result<Path, NoMemory> {
     Ok(path)
 }
 
-fn unfolded_of(alloc: Global, steps: &[(u32, &[u32])], at: &[u32]) -> Result<Unfolded, NoMemory> {
+/// The steps whose statements have places, and the node.
+fn unfolded_of(
+    alloc: Global,
+    places: &[Place],
+    steps: &[(u32, &[u32])],
+    at: &[u32],
+) -> Result<Unfolded, NoMemory>
+    ensures { IfOk result (λ u. HavePlaces places.now u.steps) }
+{
     let mut listed = Vec::new(alloc);
-    for (stmt, children) in steps {
-        listed.push(Step {
-            stmt: *stmt,
-            at: path_of(alloc, children)?,
-        })?;
+    'steps: for (stmt, children) in steps {
+        let at = path_of(alloc, children)?;
+        if (*stmt as usize) < places.len() {
+            listed.push(Step { stmt: *stmt, at })?;
+        }
     }
     Ok(Unfolded {
         steps: Steps::new(listed),
@@ -176,7 +175,10 @@ fn no_proof(alloc: Global) -> Proof {
     }
 }
 
-fn used(alloc: Global, steps: u64, shown: Option<Unfolded>) -> Answer {
+fn used(alloc: Global, places: &[Place], steps: u64, shown: Option<Unfolded>) -> Answer
+    requires { IfSome shown (λ u. HavePlaces places.now u.steps) }
+    ensures { (o : sheets.Outcome) → IsJudged o → IsReportable places.now o (view.answer_of result) }
+{
     Answer::Used {
         proof: no_proof(alloc),
         steps,
@@ -184,73 +186,110 @@ fn used(alloc: Global, steps: u64, shown: Option<Unfolded>) -> Answer {
     }
 }
 
-fn answer_of(alloc: Global, said: Said) -> Result<Answer, NoMemory> {
-    let answer = match said {
-        Said::Used(steps) => used(alloc, steps, None),
+fn answer_of(alloc: Global, places: &[Place], said: Said) -> Result<Answer, NoMemory>
+    ensures { IfOk result (λ a. (o : sheets.Outcome) → IsJudged o → IsReportable places.now o (view.answer_of a)) }
+{
+    match said {
+        Said::Used(steps) => Ok(used(alloc, places, steps, None)),
         Said::Shown(steps, listed, at) => {
-            let unfolded = unfolded_of(alloc, listed, at)?;
-            used(alloc, steps, Some(unfolded))
+            let unfolded = unfolded_of(alloc, places, listed, at)?;
+            Ok(used(alloc, places, steps, Some(unfolded)))
         }
-        Said::UsedUnshown => Answer::UsedUnshown,
-        Said::Unused => Answer::Unused,
-        Said::Skipped(cause, at) => Answer::Skipped(cause, at),
-        Said::Spent => Answer::Spent,
-    };
-    Ok(answer)
+        Said::UsedUnshown => Ok(Answer::UsedUnshown),
+        Said::Unused => Ok(Answer::Unused),
+        Said::Spent => Ok(Answer::Spent),
+    }
 }
 
-fn item_of(alloc: Global, case: &Case, atoms: &mut AtomTable) -> Result<SheetItem, SelFault> {
-    let outcome = if case.selector.is_empty() {
-        Outcome::Skipped(Skip::Bad, 0)
-    } else {
-        let text = case.selector.as_bytes();
-        Outcome::Judged(read_selector(alloc, text, 0, text.len(), atoms)?)
-    };
-    Ok(SheetItem {
-        from: case.from,
-        to: TEXT.len(),
+fn item(text: &[u8], from: usize, outcome: Outcome) -> SheetItem
+    requires { IsCauseIn (length text.now) (outcome_of outcome) }
+    ensures placed { IsPlaced (length text.now) (item_of result) }
+    ensures same { outcome_of result.outcome ≡ outcome_of outcome }
+{
+    SheetItem {
+        from: from.min(text.len()),
+        to: text.len(),
         rule: 0,
         outcome,
-    })
+    }
+}
+
+/// The item of a case, and its answer.
+fn row_of(
+    alloc: Global,
+    text: &[u8],
+    places: &[Place],
+    case: &Case,
+    atoms: &mut AtomTable,
+) -> Result<(SheetItem, Answer), SelFault>
+    ensures placed { IfOk result (λ r. IsPlaced (length text.now) (item_of r.0)) }
+    ensures reportable { IfOk result (λ r. IsReportable places.now (item_of r.0).outcome (view.answer_of r.1)) }
+{
+    match case.row {
+        Row::Judged(selector, said) => {
+            let bytes = selector.as_bytes();
+            let outcome = Outcome::Judged(read_selector(alloc, bytes, 0, bytes.len(), atoms)?);
+            let answer = answer_of(alloc, places, said)?;
+            Ok((item(text, case.from, outcome), answer))
+        }
+        Row::Skipped(cause, at) => {
+            let at = at.min(text.len());
+            let outcome = Outcome::Skipped(cause, at);
+            Ok((item(text, case.from, outcome), Answer::Skipped(cause, at)))
+        }
+    }
+}
+
+/// The sheet of all cases, and the answers.
+#[tactic(auto, using(crate::proofs::ReportLemmas::one_more))]
+fn rows_of(
+    alloc: Global,
+    text: &[u8],
+    places: &[Place],
+    atoms: &mut AtomTable,
+) -> Result<(Sheet, Vec<Answer>), SelFault>
+    ensures placed { IfOk result (λ r. ArePlaced (length text.now) r.0.items) }
+    ensures reportable { IfOk result (λ r. AreReportable places.now (sheet_of r.0).items (map view.answer_of r.1.items)) }
+{
+    let mut items = Vec::new(alloc);
+    let mut answers = Vec::new(alloc);
+    'cases: for case in &CASES {
+        let (item, answer) = row_of(alloc, text, places, case, atoms)?;
+        items.push(item)?;
+        answers.push(answer)?;
+    }
+    let sheet = Sheet {
+        items: SheetItems::new(items),
+        rules: Ranges::new(Vec::new(alloc)),
+    };
+    Ok((sheet, answers))
+}
+
+/// The lines of all cases.
+fn lines(alloc: Global) -> Result<Vec<u8>, NoMemory> {
+    let mut wanted = Vec::from_slice(alloc, b"treeped 1\n")?;
+    for case in &CASES {
+        wanted.extend_from_slice(case.lines.as_bytes())?;
+    }
+    Ok(wanted)
 }
 
 #[test]
 fn reports(rt: HostRuntime) -> Result<(), Fail> {
     let alloc = rt.alloc();
     let mut atoms = AtomTable::new(alloc);
-    let mut items = Vec::new(alloc);
-    let mut answers = Vec::new(alloc);
-    let mut wanted = Vec::from_slice(alloc, b"treeped 1\n")?;
-    for case in &CASES {
-        items.push(item_of(alloc, case, &mut atoms)?)?;
-        answers.push(answer_of(alloc, case.said)?)?;
-        wanted.extend_from_slice(case.lines.as_bytes())?;
-    }
-    let sheet = Sheet {
-        items: SheetItems::new(items),
-        rules: Ranges::new(Vec::new(alloc)),
-    };
-    assert!(rt; answers.len() == sheet.items.items().len());
+    let text = TEXT.as_bytes();
+    let places: &[Place] = &PLACES;
+    let (sheet, answers) = rows_of(alloc, text, places, &mut atoms)?;
     let mut out = SureSink::new(alloc);
     write_report(
-        alloc,
-        &sheet,
-        TEXT.as_bytes(),
-        &atoms,
-        &PLACES,
-        &answers,
-        &mut out,
+        alloc, &sheet, text, &atoms, places, &answers, &mut out,
     )?;
+    let wanted = lines(alloc)?;
     assert!(rt; out.bytes() == wanted.as_slice());
     let mut cut = MemSink::new(alloc, Vec::from_slice(alloc, &[3])?, 100);
     let fault = write_report(
-        alloc,
-        &sheet,
-        TEXT.as_bytes(),
-        &atoms,
-        &PLACES,
-        &answers,
-        &mut cut,
+        alloc, &sheet, text, &atoms, places, &answers, &mut cut,
     )
     .err();
     assert!(rt; fault == Some(ReportFault::Write));

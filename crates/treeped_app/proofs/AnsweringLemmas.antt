@@ -1,10 +1,17 @@
 -- What the answers for the items of a sheet come to.
-use Rattle.std.proofs.Common.{◌≡◌, ℕ, suc, List, [], ◌∷◌, length, map, Err, refl, sym, ap, subst, inl, inr}
+use Rattle.std.proofs.Common.{◌≡◌, ℕ, ◌<◌, List, [], ◌∷◌, length, map, Option, Some, None, slice_get, IsSomeAnd, Err, refl, sym, subst, inl, inr, arith}
+use Rattle.std.proofs.lemmas.List.{length-map}
+use Rattle.std.proofs.lemmas.List.Elements.{All-nil, All-cons, All-same}
+use Rattle.std.proofs.lemmas.Option.{slice_get_within}
+use Rattle.tp_base.specs.declared.places.Place.{Place}
 use Rattle.tp_io.specs.Sinks.{AddsPrefix, Rose}
 use Rattle.tree_sem.specs.Trees.{LabelTree}
+use Rattle.tree_sem.specs.declared.actions.Step.{Step}
 use Rattle.css_read.specs.Sheets.{Outcome, judged, skipped as left_out, Item}
-use Rattle.jq_sem.specs.Statements.{Statement}
+use Rattle.jq_sem.specs.Reachability.{after_step, AreLegal}
+use Rattle.jq_sem.specs.Statements.{Statement, Selected}
 use Rattle.usage_report.specs.Answers.{Answer, used, used_unshown, unused, skipped, spent}
+use Rattle.usage_report.specs.Reportable.{HavePlaces, IsReportable, AreReportable}
 use Rattle.usage_report.specs.declared.faults.ReportFault.{ReportFault}
 use Rattle.usage_report.specs.declared.faults.ReportFault.TheVariants as report_fault
 use Rattle.limits.specs.declared.budgets.Limits.{Limits}
@@ -12,6 +19,7 @@ use Rattle.judge.specs.declared.faults.JudgeFault.{JudgeFault}
 use Rattle.judge.specs.declared.faults.JudgeFault.TheVariants.{TooManyAtoms, TooManyVisible, Memory}
 use Rattle.judge.specs.Answers.{judged_in, IsAnswer, AreAnswers, spent_for, spent_answers}
 use Rattle.judge.specs.Outcomes as judge
+use Rattle.judge.specs.Witnesses.{trace}
 use Rattle.treeped_app.specs.Answers.{IsRight, AreRight, IsSpent}
 use Rattle.treeped_app.specs.Tasks.{Task}
 use Rattle.treeped_app.specs.Inputs.{IsUnanswered}
@@ -60,16 +68,42 @@ answers_are i ss limits answers same within right =
       exactly = exactly;
     }
 
--- ---- one answer for each item
+-- ---- right answers can be reported
 
-count_right : (t : LabelTree) (ss : List Statement) (items : List Item) (n : ℕ) (limits : Limits) (rest : List Item) (answers : List Answer) → AreRight t ss items n limits rest answers → length answers ≡ length rest
-count_right t ss items n limits [] [] are = refl
-count_right t ss items n limits [] (a ∷ answers) are = absurd are
-count_right t ss items n limits (i ∷ rest) [] are = absurd are
-count_right t ss items n limits (i ∷ rest) (a ∷ answers) are = ap suc (count_right t ss items n limits rest answers are.1)
+module _ (ss : List Statement) where
+  abbrev places : List Place
+  places = map (λ s. s.place) ss
 
-pub count_of : (limits : Limits) (i : Inputs) (answers : List Answer) → AreAnswersOf limits i answers → length answers ≡ length i.sheet.items
-count_of limits i answers are = count_right i.tree i.stmts i.sheet.items (length i.names) limits i.sheet.items answers are.right
+  -- a statement that is there has a place
+  stands : (o : Option Statement) (n : ℕ) (P : Statement → Type 0) → slice_get ss n ≡ o → IsSomeAnd o P → n < length places
+  stands None n P is some = absurd some
+  stands (Some s) n P is some = let within = slice_get_within ss n s is in let same = length-map ss (λ s. s.place) in omega (arith, within, same)
+
+  legal_placed : (t : LabelTree) (steps : List Step) → AreLegal t ss steps → HavePlaces places steps
+  legal_placed t [] legal = All-nil (λ (x : Step). x.stmt < length places)
+  legal_placed t (x ∷ steps) legal =
+      All-cons (λ (x : Step). x.stmt < length places) x steps (stands (slice_get ss x.stmt) x.stmt (λ s. Selected t s x.at) refl legal.0) (legal_placed (after_step t ss x) steps legal.1)
+
+  module _ (t : LabelTree) (items : List Item) (n : ℕ) (limits : Limits) where
+    one_reportable : (o : Outcome) (a : Answer) → IsRight t ss items n limits o a → IsReportable places o a
+    one_reportable (judged s) (used proof steps None) is = (tt, tt)
+    one_reportable (judged s) (used proof steps (Some u)) is =
+        let t' = trace ss (judged_in items) n t s proof in
+        (tt, All-same (λ (x : Step). x.stmt < length places) u.steps t'.0 is.shows.1 (legal_placed t t'.0 is.witness.legal))
+    one_reportable (judged s) used_unshown is = tt
+    one_reportable (judged s) unused is = tt
+    one_reportable (judged s) (skipped cause at) is = absurd is
+    one_reportable (judged s) spent is = tt
+    one_reportable (left_out cause at) a is = rw is refl
+
+    all_reportable : (rest : List Item) (answers : List Answer) → AreRight t ss items n limits rest answers → AreReportable places rest answers
+    all_reportable [] [] are = tt
+    all_reportable [] (a ∷ answers) are = absurd are
+    all_reportable (i ∷ rest) [] are = absurd are
+    all_reportable (i ∷ rest) (a ∷ answers) are = (one_reportable i.outcome a are.0, all_reportable rest answers are.1)
+
+pub reportable_of : (limits : Limits) (i : Inputs) (answers : List Answer) → AreAnswersOf limits i answers → AreReportable (map (λ s. s.place) i.stmts) i.sheet.items answers
+reportable_of limits i answers are = all_reportable i.stmts i.tree i.sheet.items (length i.names) limits i.sheet.items answers are.right
 
 -- ---- no answers
 

@@ -1,5 +1,5 @@
 //! An answer for each item of a sheet, of whatever was read.
-ghost use Rattle.std.specs.Prelude.{◌≡◌, length, map, IfOk, IfErr, vec_len};
+ghost use Rattle.std.specs.Prelude.{map, IfOk, IfErr};
 ghost use Rattle.usage_report.specs.Views.{answer_of};
 ghost use Rattle.limits.specs.Budgets.{IsInRange};
 ghost use Rattle.treeped_app.specs.Inputs.{AreInputs, IsUnanswered, inputs_of};
@@ -20,7 +20,6 @@ pub(crate) fn answers_of(
     requires given { AreInputs (inputs_of inputs.now) }
     requires limits { IsInRange limits.now }
     ensures answers { IfOk result (λ answers. AreAnswersOf limits.now (inputs_of inputs.now) (map answer_of answers.items)) }
-    ensures count { IfOk result (λ answers. vec_len answers ≡ length inputs.now.sheet.items) }
     ensures stop { IfErr result (λ e. IsUnanswered (inputs_of inputs.now) e) }
 {
     let answers = judge(

@@ -8,6 +8,7 @@ ghost use Rattle.tree_sem.specs.Nodes.{IsTreeOver};
 ghost use Rattle.sel_core.specs.Results.{IsFront};
 ghost use Rattle.html_subset.specs.Reading as html;
 ghost use Rattle.css_read.specs.Reading as css;
+ghost use Rattle.css_read.specs.Places.{ArePlaced};
 ghost use Rattle.css_read.specs.Readable.{AllReadable};
 ghost use Rattle.css_read.specs.Views.{sheet_of};
 ghost use Rattle.jq_sem.specs.Tables.{AreStatementsOver};
@@ -118,6 +119,7 @@ pub(crate) fn read_all(alloc: Global, texts: &Texts) -> Result<Inputs, Stop>
     requires script { vec_len texts.now.script ≤ MOST_BYTES }
     ensures read { IsRead (spec.read_inputs (texts_of texts.now)) result }
     ensures given { IfOk result (λ i. AreInputs (inputs_of i)) }
+    ensures placed { IfOk result (λ i. ArePlaced (length texts.now.sheet.items) i.sheet.items) }
 {
     let mut atoms = AtomTable::new(alloc);
     let page = open_page(alloc, &texts.page, &mut atoms)?;
@@ -148,6 +150,7 @@ fn open_sheet(alloc: Global, text: &[u8], atoms: &mut AtomTable) -> Result<Sheet
     requires { length text.now ≤ MOST_BYTES }
     ensures opened { IsOpened sheet_of (spec.read_as (sheet_stop text.now) (css.read_sheet text.now atoms.old)) result atoms.new }
     ensures readable { IfOk result (λ s. AllReadable atoms.new (sheet_of s).items) }
+    ensures placed { IfOk result (λ s. ArePlaced (length text.now) s.items) }
     ensures front { IsFront atoms.old atoms.new }
 {
     match read_sheet(alloc, text, atoms) {

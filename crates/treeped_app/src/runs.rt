@@ -7,7 +7,9 @@ ghost use Rattle.treeped_app.specs.Inputs.{AreInputs, inputs_of, texts_of};
 ghost use Rattle.treeped_app.specs.Commands.{Headline, IsEnded, SaysWhy, Causes};
 ghost use Rattle.tp_io.specs.Sinks.{Adds, AddsPrefix, Rose};
 ghost use Rattle.limits.specs.Budgets.{IsInRange};
+ghost use Rattle.css_read.specs.Places.{ArePlaced};
 ghost use Rattle.usage_report.specs.Report.{report};
+ghost use Rattle.usage_report.specs.Reportable.{AreReportable};
 ghost use Rattle.usage_report.specs.Views.{answer_of};
 ghost use Rattle.treeped_app.specs.Views as view;
 ghost use Rattle.treeped_app.specs.Tasks.{IsFew, task_by, command};
@@ -106,6 +108,7 @@ fn answer<O: Sink>(
     out: &mut O,
 ) -> Result<Status, Stop>
     requires in_limit { vec_len texts.now.sheet ≤ MOST_BYTES }
+    requires placed { ArePlaced (length texts.now.sheet.items) inputs.now.sheet.items }
     requires given { AreInputs (inputs_of inputs.now) }
     requires limits { IsInRange limits.now }
     ensures { Written (task_by (view.source_of source.now) limits.now) (texts_of texts.now) (inputs_of inputs.now)
@@ -126,7 +129,8 @@ fn write_answers<O: Sink>(
     out: &mut O,
 ) -> Result<(), ReportFault>
     requires in_limit { vec_len texts.now.sheet ≤ MOST_BYTES }
-    requires answered { length answers.now ≡ length inputs.now.sheet.items }
+    requires placed { ArePlaced (length texts.now.sheet.items) inputs.now.sheet.items }
+    requires reportable { AreReportable (map (λ s. s.place) (inputs_of inputs.now).stmts) (inputs_of inputs.now).sheet.items (map answer_of answers.now) }
     ensures ok { OnOk result (Adds (O.written out.old) (O.written out.new)
         (spec.text_on (view.source_of source.now) (texts_of texts.now) (inputs_of inputs.now) (map answer_of answers.now))) }
     ensures err { OnErr result (AddsPrefix (O.written out.old) (O.written out.new)
@@ -148,7 +152,8 @@ fn write_files<O: Sink>(
     out: &mut O,
 ) -> Result<(), ReportFault>
     requires in_limit { vec_len texts.now.sheet ≤ MOST_BYTES }
-    requires answered { length answers.now ≡ length inputs.now.sheet.items }
+    requires placed { ArePlaced (length texts.now.sheet.items) inputs.now.sheet.items }
+    requires reportable { AreReportable (map (λ s. s.place) (inputs_of inputs.now).stmts) (inputs_of inputs.now).sheet.items (map answer_of answers.now) }
     ensures ok { OnOk result (Adds (O.written out.old) (O.written out.new)
         (report (texts_of texts.now).sheet (inputs_of inputs.now).names (map (λ s. s.place) (inputs_of inputs.now).stmts) (inputs_of inputs.now).sheet (map answer_of answers.now))) }
     ensures err { OnErr result (AddsPrefix (O.written out.old) (O.written out.new)

@@ -1,9 +1,11 @@
 -- Small reports, written by the definitions.
-use Rattle.std.proofs.Common.{◌≡◌, ℕ, List, [], ◌∷◌, codes, Some, None, refl}
+use Rattle.std.proofs.Common.{◌≡◌, ℕ, ◌<◌, List, [], ◌∷◌, length, codes, Some, None, refl, arith}
+use Rattle.std.proofs.lemmas.List.Elements.{All-head}
 use Rattle.std.specs.Fmt.{digits}
 use Rattle.tp_base.specs.Names.{Named}
 use Rattle.tp_base.specs.declared.atoms.AtomKind.TheVariants as kind
 use Rattle.tp_base.specs.declared.places.Place.{Place}
+use Rattle.tree_sem.specs.declared.actions.Step.{Step}
 use Rattle.sel_core.specs.Selectors.{simple, child}
 use Rattle.sel_core.specs.SelectorText.{selector_text}
 use Rattle.sel_core.specs.declared.faults.Skip.{Skip}
@@ -11,6 +13,7 @@ use Rattle.sel_core.specs.declared.faults.Skip.TheVariants.{Sibling, Pseudo, Att
 use Rattle.proof_check.specs.declared.proofs.Proof.{Proof}
 use Rattle.css_read.specs.Sheets.{judged, skipped, Item}
 use Rattle.usage_report.specs.Answers as answers
+use Rattle.usage_report.specs.Reportable.{IsReportable, AreReportable}
 use Rattle.usage_report.specs.Report.{report, place_text, path_text, step_text, shown_text, count_text, answer_text}
 
 -- `.a` at 1:1, and at 2:1 `.a > b`
@@ -87,12 +90,29 @@ bad : at_cause Bad 7 ≡ codes "treeped 1\n2:1 skipped bad at 2:4\n"
 unfolding digits answer_text place_text
 bad = refl
 
--- past the text's end it is the place of the end
-bad_past_the_end : at_cause Bad 70 ≡ codes "treeped 1\n2:1 skipped bad at 2:4\n"
-unfolding digits answer_text place_text
-bad_past_the_end = refl
+-- ---- what isn't reported
 
--- an item without a selector has an empty text
-no_selector : report (codes "x{}") names places (record { items = record { from = 0; to = 1; rule = 0; outcome = skipped Bad 0 } ∷ []; rules = [] }) (answers.unused ∷ []) ≡ codes "treeped 1\n1:1 unused \n"
-unfolding digits answer_text place_text
-no_selector = refl
+abbrev row : Item
+row = record { from = 0; to = 1; rule = 0; outcome = skipped Bad 0 }
+
+not_skipped : ¬ IsReportable places first.outcome (answers.skipped Bad 0)
+not_skipped is = grind is
+
+no_selector : ¬ IsReportable places row.outcome answers.unused
+no_selector is = is
+
+another_cause : ¬ IsReportable places row.outcome (answers.skipped Long 0)
+another_cause is = grind is
+
+another_offset : ¬ IsReportable places row.outcome (answers.skipped Bad 1)
+another_offset is = grind is
+
+-- there are three statements
+no_place : ¬ IsReportable places first.outcome (answers.used no_proof 1 (Some (record { steps = record { stmt = 3; at = [] } ∷ []; at = [] })))
+no_place is = let less = All-head (λ (s : Step). s.stmt < length places) _ [] is.1 in absurd (omega (arith, less))
+
+no_answer : ¬ AreReportable places (row ∷ []) []
+no_answer is = is
+
+no_item : ¬ AreReportable places [] (answers.skipped Bad 0 ∷ [])
+no_item is = is

@@ -1,5 +1,5 @@
--- The text of a report.
-use Rattle.std.specs.Prelude.{ℕ, ◌+◌, ◌-◌, ◌^◌, ◌==◌, if◌then◌else◌, List, [], ◌∷◌, ◌++◌, codes, Option, Some, None, slice_get}
+-- The text of a report, whose answers are reportable on its items (`Reportable.antt`).
+use Rattle.std.specs.Prelude.{ℕ, ◌+◌, ◌-◌, ◌^◌, ◌==◌, if◌then◌else◌, List, [], ◌∷◌, ◌++◌, codes, get_or, Option, Some, None}
 use Rattle.std.specs.List.{flat_map}
 use Rattle.std.specs.Fmt.{decimal}
 use Rattle.tp_base.specs.Names.{Named}
@@ -22,15 +22,14 @@ unfoldable pub path_text : List ℕ → List ℕ
 path_text [] = codes "/"
 path_text (k ∷ at) = flat_map (λ n. codes "/" ++ decimal n) (k ∷ at)
 
--- the place of a statement, or nothing where no place is known
-abbrev pub statement_place : Option Place → List ℕ
-statement_place None = []
-statement_place (Some place) = place_text place
+-- the place of a statement, by its number
+abbrev pub statement_place : List Place → ℕ → Place
+statement_place places stmt = get_or places stmt (record { line = 1; column = 1 })
 
 -- a line for a step; statements are counted from 1
 unfoldable pub step_text : List Place → Step → List ℕ
 step_text places step =
-    codes "  " ++ decimal (step.stmt + 1) ++ codes " at " ++ statement_place (slice_get places step.stmt) ++ codes " on " ++ path_text step.at ++ codes "\n"
+    codes "  " ++ decimal (step.stmt + 1) ++ codes " at " ++ place_text (statement_place places step.stmt) ++ codes " on " ++ path_text step.at ++ codes "\n"
 
 -- the steps and the match, or that they are not listed
 unfoldable pub shown_text : List Place → Option Unfolded → List ℕ
@@ -57,7 +56,7 @@ answer_text text places place selector unused = place ++ codes " unused " ++ sel
 answer_text text places place selector (skipped cause at) = place ++ codes " skipped " ++ cause_text cause ++ codes " at " ++ place_text (place_at text at) ++ codes "\n"
 answer_text text places place selector spent = place ++ codes " spent " ++ selector ++ codes "\n"
 
--- the selector of an item, or nothing where it has none
+-- the selector of an item that is judged
 abbrev pub outcome_text : List Named → sheets.Outcome → List ℕ
 outcome_text names (sheets.judged s) = selector_text names s
 outcome_text names (sheets.skipped cause at) = []
@@ -68,9 +67,8 @@ item_text text names places i a = answer_text text places (place_text (place_at 
 
 -- the lines of the items, each with its answer
 abbrev pub lines : List ℕ → List Named → List Place → List sheets.Item → List Answer → List ℕ
-lines text names places [] answers = []
-lines text names places (i ∷ items) [] = []
 lines text names places (i ∷ items) (a ∷ answers) = item_text text names places i a ++ lines text names places items answers
+lines text names places _ _ = []
 
 abbrev pub first_line : List ℕ
 first_line = codes "treeped 1\n"

@@ -1,10 +1,11 @@
 //! The lines of an answer.
-ghost use Rattle.std.specs.Prelude.{◌≡◌, ◌≤◌, ◌++◌, codes, length, OnOk, slice_get};
+ghost use Rattle.std.specs.Prelude.{◌≡◌, ◌<◌, ◌≤◌, ◌++◌, codes, length, IfSome, OnOk};
 ghost use Rattle.std.specs.List.{flat_map};
 ghost use Rattle.tp_base.specs.Cursor.{IsAt};
 ghost use Rattle.tp_base.specs.declared.places.TheConstants.{MOST_BYTES};
 ghost use Rattle.css_read.specs.Views.{outcome_of};
 ghost use Rattle.usage_report.specs.Report as spec;
+ghost use Rattle.usage_report.specs.Reportable.{HavePlaces, IsJudged, IsReportable};
 ghost use Rattle.usage_report.specs.Views.{answer_of};
 
 use crate::answers::Answer;
@@ -29,6 +30,7 @@ impl Piece {
     ) -> Result<(), NoMemory>
         requires here { IsAt text.now cursor.old }
         requires in_limit { length text.now ≤ MOST_BYTES }
+        requires reportable { IsReportable places.now (outcome_of outcome.now) (answer_of answer.now) }
         ensures text { OnOk result (self.new.bytes.items ≡ spec.answer_text text.now places.now self.old.bytes.items
             (spec.outcome_text atoms.now (outcome_of outcome.now)) (answer_of answer.now)) }
         ensures here { IsAt text.now cursor.new }
@@ -56,6 +58,7 @@ impl Piece {
 
     /// These bytes, the selector that is judged, and the line's end.
     fn judged(&mut self, front: &[u8], atoms: &AtomTable, outcome: &Outcome) -> Result<(), NoMemory>
+        requires { IsJudged (outcome_of outcome.now) }
         ensures { OnOk result (self.new.bytes.items ≡ self.old.bytes.items ++ front.now ++ spec.outcome_text atoms.now (outcome_of outcome.now) ++ codes "\n") }
     {
         self.put(front)?;
@@ -76,8 +79,9 @@ impl Piece {
         }
     }
 
-    /// The selector that is judged, where there is one.
+    /// The selector that is judged.
     fn selector(&mut self, atoms: &AtomTable, outcome: &Outcome) -> Result<(), NoMemory>
+        requires { IsJudged (outcome_of outcome.now) }
         ensures { OnOk result (self.new.bytes.items ≡ self.old.bytes.items ++ spec.outcome_text atoms.now (outcome_of outcome.now)) }
     {
         match outcome {
@@ -85,7 +89,7 @@ impl Piece {
                 let text = write_selector(*self.bytes.allocator(), selector, atoms)?;
                 self.put(&text)
             }
-            Outcome::Skipped(..) => Ok(()),
+            Outcome::Skipped(..) => unreachable!(),
         }
     }
 
@@ -105,6 +109,7 @@ impl Piece {
     /// The steps and the match, or that they are not listed.
     #[tactic(auto, unfolding(crate::specs::Report::shown_text), using(std::proofs::Common::append_assoc))]
     fn shown(&mut self, places: &[Place], shown: &Option<Unfolded>) -> Result<(), NoMemory>
+        requires { IfSome shown.now (λ u. HavePlaces places.now u.steps) }
         ensures { OnOk result (self.new.bytes.items ≡ self.old.bytes.items ++ spec.shown_text places.now shown.now) }
     {
         match shown {
@@ -128,6 +133,7 @@ impl Piece {
 
     #[tactic(auto, using(crate::proofs::PieceLemmas::one_line_more))]
     fn steps(&mut self, places: &[Place], steps: &[Step]) -> Result<(), NoMemory>
+        requires placed { HavePlaces places.now steps.now }
         ensures { OnOk result (self.new.bytes.items ≡ self.old.bytes.items ++ flat_map (spec.step_text places.now) steps.now) }
     {
         'steps: for step in steps {
@@ -139,23 +145,15 @@ impl Piece {
     /// A line for a step; statements are counted from 1.
     #[tactic(auto, unfolding(crate::specs::Report::step_text), using(std::proofs::Common::append_assoc))]
     fn step(&mut self, places: &[Place], step: &Step) -> Result<(), NoMemory>
+        requires placed { step.now.stmt < length places.now }
         ensures { OnOk result (self.new.bytes.items ≡ self.old.bytes.items ++ spec.step_text places.now step.now) }
     {
         self.put(b"  ")?;
         self.number(u64::from(step.stmt) + 1)?;
         self.put(b" at ")?;
-        self.statement_place(places, step.stmt)?;
+        self.place(places[step.stmt as usize])?;
         self.put(b" on ")?;
         self.path(&step.at)?;
         self.put(b"\n")
-    }
-
-    fn statement_place(&mut self, places: &[Place], stmt: u32) -> Result<(), NoMemory>
-        ensures { OnOk result (self.new.bytes.items ≡ self.old.bytes.items ++ spec.statement_place (slice_get places.now stmt)) }
-    {
-        match places.get(stmt as usize) {
-            Some(place) => self.place(*place),
-            None => Ok(()),
-        }
     }
 }

@@ -3,8 +3,10 @@ ghost use Rattle.std.specs.Prelude.{◌≡◌, ◌≤◌, length, map, IfOk, OnO
 ghost use Rattle.tp_base.specs.Cursor.{IsAt};
 ghost use Rattle.tp_base.specs.declared.places.TheConstants.{MOST_BYTES};
 ghost use Rattle.tp_io.specs.Sinks.{Adds, AddsPrefix, Rose};
+ghost use Rattle.css_read.specs.Places.{ArePlaced};
 ghost use Rattle.css_read.specs.Views.{item_of, sheet_of};
 ghost use Rattle.usage_report.specs.Report as spec;
+ghost use Rattle.usage_report.specs.Reportable.{IsReportable, AreReportable};
 ghost use Rattle.usage_report.specs.Views.{answer_of};
 
 use crate::answers::Answer;
@@ -28,7 +30,8 @@ pub fn write_report<O: Sink>(
     out: &mut O,
 ) -> Result<(), ReportFault>
     requires in_limit { length text.now ≤ MOST_BYTES }
-    requires answered { length answers.now ≡ length sheet.now.items }
+    requires placed { ArePlaced (length text.now) sheet.now.items }
+    requires reportable { AreReportable places.now (sheet_of sheet.now).items (map answer_of answers.now) }
     ensures ok { OnOk result (Adds (O.written out.old) (O.written out.new)
         (spec.report text.now atoms.now places.now (sheet_of sheet.now) (map answer_of answers.now))) }
     ensures err { OnErr result (AddsPrefix (O.written out.old) (O.written out.new)
@@ -49,6 +52,7 @@ pub fn write_report<O: Sink>(
 }
 
 /// Writes the lines of all items.
+#[tactic(auto, using(crate::proofs::ReportLemmas::as_many, crate::proofs::ReportLemmas::reportable_at))]
 fn write_items<O: Sink>(
     alloc: Global,
     items: &[SheetItem],
@@ -59,7 +63,7 @@ fn write_items<O: Sink>(
     out: &mut O,
 ) -> Result<(), ReportFault>
     requires in_limit { length text.now ≤ MOST_BYTES }
-    requires answered { length answers.now ≡ length items.now }
+    requires reportable { AreReportable places.now (map item_of items.now) (map answer_of answers.now) }
     ensures ok { OnOk result (Adds (O.written out.old) (O.written out.new)
         (spec.lines text.now atoms.now places.now (map item_of items.now) (map answer_of answers.now))) }
     ensures err { OnErr result (AddsPrefix (O.written out.old) (O.written out.new)
@@ -95,6 +99,7 @@ fn item_piece(
 ) -> Result<Piece, NoMemory>
     requires here { IsAt text.now cursor.old }
     requires in_limit { length text.now ≤ MOST_BYTES }
+    requires reportable { IsReportable places.now (item_of item.now).outcome (answer_of answer.now) }
     ensures lines { IfOk result (λ p. p.bytes.items ≡ spec.item_text text.now atoms.now places.now (item_of item.now) (answer_of answer.now)) }
     ensures here { IsAt text.now cursor.new }
 {

@@ -1,23 +1,15 @@
-use Rattle.std.proofs.Common.{map, sym, ap, ◌∙◌}
-use Rattle.std.proofs.lemmas.List.{length-map}
+use Rattle.std.proofs.Common.{map, ap}
 use Rattle.std.proofs.lemmas.Result.{err_from_is_err_and}
-use Rattle.css_read.specs.Views.{item_of}
 use Rattle.jq_sem.specs.Views.{statements_of}
 use Rattle.usage_report.specs.Views.{answer_of}
 use Rattle.treeped_app.specs.Inputs.{inputs_of}
-use Rattle.treeped_app.proofs.AnsweringLemmas.{answers_are, count_of, refused_by_system}
+use Rattle.treeped_app.proofs.AnsweringLemmas.{answers_are, refused_by_system}
 use Rattle.treeped_app.proofs.answering.answers_of.Goals as goal
 
 pub returns-clause-answers : goal.returns-clause-answers
 returns-clause-answers c =
     answers_are (inputs_of c.args.inputs.now) (statements_of c.deref.result.now) c.args.limits.now (map answer_of c.in_ok-answers.answers.items) (ap statements_of c.deref.ensures.value) c.in_ok-answers.ensures.within
     c.in_ok-answers.ensures.judged
-
-pub returns-clause-count : goal.returns-clause-count
-returns-clause-count c =
-    let answers = c.in_ok-answers.answers in
-    answers.ok.0 ∙ sym (length-map answers.items answer_of) ∙ count_of c.args.limits.now (inputs_of c.args.inputs.now) (map answer_of answers.items) (returns-clause-answers c)
-    ∙ length-map c.args.inputs.now.sheet.items item_of
 
 pub returns-in_err-answers-clause-stop : goal.returns-in_err-answers-clause-stop
 returns-in_err-answers-clause-stop c =
