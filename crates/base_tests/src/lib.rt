@@ -6,6 +6,10 @@ mod builders;
 #[cfg(test)]
 mod diagrams;
 #[cfg(test)]
+mod losses;
+#[cfg(test)]
 mod selectors;
 #[cfg(test)]
 mod trees;
+#[cfg(test)]
+mod upward;

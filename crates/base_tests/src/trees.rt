@@ -5,7 +5,7 @@ use tree_sem::{Action, Forest, Tree, TreeFault, Trees, go_on};
 
 const CLASS: Atom = Atom(7);
 
-pub fn path_of(alloc: Global, steps: &[u32]) -> Result<Path, NoMemory> {
+pub(crate) fn path_of(alloc: Global, steps: &[u32]) -> Result<Path, NoMemory> {
     let mut at = Path::root(alloc);
     for step in steps {
         at.push(*step)?;
@@ -66,12 +66,27 @@ fn reads_well(alloc: Global, tree: &Tree) -> Result<bool, NoMemory> {
     Ok(right)
 }
 
-pub fn set_of(alloc: Global, atoms: &[u32]) -> Result<ClassSet, NoMemory> {
+pub(crate) fn set_of(alloc: Global, atoms: &[u32]) -> Result<ClassSet, NoMemory> {
     let mut set = ClassSet::new(alloc);
     for atom in atoms {
         set.add(Atom(*atom))?;
     }
     Ok(set)
+}
+
+// A tree of seven nodes, each with a class or two: the root with 1, its children with 2, with 3 and 13 and with 4,
+// those of the second with 5 and 6, and one of 5 with 7.
+pub(crate) fn family(alloc: Global) -> Result<Tree, TreeFault> {
+    let root = Path::root(alloc);
+    let second = path_of(alloc, &[1])?;
+    let mut tree = Tree::new(alloc, set_of(alloc, &[1])?)?;
+    tree.add_child(&root, set_of(alloc, &[2])?)?;
+    tree.add_child(&root, set_of(alloc, &[3, 13])?)?;
+    tree.add_child(&root, set_of(alloc, &[4])?)?;
+    tree.add_child(&second, set_of(alloc, &[5])?)?;
+    tree.add_child(&second, set_of(alloc, &[6])?)?;
+    tree.add_child(&path_of(alloc, &[1, 0])?, set_of(alloc, &[7])?)?;
+    Ok(tree)
 }
 
 // Two trees: one of a node with the class 1 and a child with the class 2, and one of a node with the class 3.
@@ -188,7 +203,7 @@ static ADDITIONS: [Addition; 9] = [
     },
 ];
 
-fn last_class(label: &ClassSet) -> u32 {
+pub(crate) fn last_class(label: &ClassSet) -> u32 {
     if label.len() == 0 {
         9
     } else {
@@ -197,7 +212,7 @@ fn last_class(label: &ClassSet) -> u32 {
 }
 
 // The nodes of a tree, as the rows have them.
-pub fn shape_of(alloc: Global, tree: &Tree) -> Result<Vec<(usize, u32, u32)>, NoMemory> {
+pub(crate) fn shape_of(alloc: Global, tree: &Tree) -> Result<Vec<(usize, u32, u32)>, NoMemory> {
     let mut nodes = Vec::new(alloc);
     let mut at = Path::root(alloc);
     for _ in 0..20 {

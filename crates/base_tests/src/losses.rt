@@ -1,0 +1,308 @@
+use crate::trees::{family, path_of, set_of, shape_of};
+use std::alloc::Global;
+use std::test::Fail;
+use tp_base::{Atom, NoMemory, Path};
+use tree_sem::TreeFault;
+
+// A set, an atom that is taken out of it, whether it was there, and what is left.
+struct Taking {
+    atoms: &'static [u32],
+    taken: u32,
+    had: bool,
+    left: &'static [u32],
+}
+
+static TAKINGS: [Taking; 6] = [
+    Taking {
+        atoms: &[9, 3, 5],
+        taken: 5,
+        had: true,
+        left: &[3, 9],
+    },
+    Taking {
+        atoms: &[3, 5, 9],
+        taken: 3,
+        had: true,
+        left: &[5, 9],
+    },
+    Taking {
+        atoms: &[3, 5, 9],
+        taken: 9,
+        had: true,
+        left: &[3, 5],
+    },
+    Taking {
+        atoms: &[3, 5, 9],
+        taken: 4,
+        had: false,
+        left: &[3, 5, 9],
+    },
+    Taking {
+        atoms: &[2],
+        taken: 2,
+        had: true,
+        left: &[],
+    },
+    Taking {
+        atoms: &[],
+        taken: 2,
+        had: false,
+        left: &[],
+    },
+];
+
+// What the call answers, and the atoms after it.
+fn taken(alloc: Global, row: &Taking) -> Result<(bool, Vec<u32>), NoMemory> {
+    let mut set = set_of(alloc, row.atoms)?;
+    let had = set.take(Atom(row.taken));
+    let mut left = Vec::new(alloc);
+    for i in 0..set.len() {
+        left.push(set.at(i).0)?;
+    }
+    Ok((had, left))
+}
+
+#[test]
+fn takes_an_atom(rt: HostRuntime) -> Result<(), Fail> {
+    for row in &TAKINGS {
+        let (had, left) = taken(rt.alloc(), row)?;
+        assert!(rt; had == row.had);
+        assert!(rt; left.as_slice() == row.left);
+    }
+    Ok(())
+}
+
+// A class that is taken from the node at a path, what the call answers, and what it answers once more.
+// The nodes after it stand as in rows of shapes.
+struct Loss {
+    at: &'static [u32],
+    class: u32,
+    answers: (Option<bool>, Option<bool>),
+    after: &'static [(usize, u32, u32)],
+}
+
+static LOSSES: [Loss; 5] = [
+    Loss {
+        at: &[1],
+        class: 13,
+        answers: (Some(true), Some(false)),
+        after: &[
+            (0, 3, 1),
+            (1, 0, 2),
+            (1, 2, 3),
+            (2, 1, 5),
+            (3, 0, 7),
+            (2, 0, 6),
+            (1, 0, 4),
+        ],
+    },
+    Loss {
+        at: &[1, 0, 0],
+        class: 7,
+        answers: (Some(true), Some(false)),
+        after: &[
+            (0, 3, 1),
+            (1, 0, 2),
+            (1, 2, 13),
+            (2, 1, 5),
+            (3, 0, 9),
+            (2, 0, 6),
+            (1, 0, 4),
+        ],
+    },
+    Loss {
+        at: &[],
+        class: 1,
+        answers: (Some(true), Some(false)),
+        after: &[
+            (0, 3, 9),
+            (1, 0, 2),
+            (1, 2, 13),
+            (2, 1, 5),
+            (3, 0, 7),
+            (2, 0, 6),
+            (1, 0, 4),
+        ],
+    },
+    Loss {
+        at: &[1],
+        class: 5,
+        answers: (Some(false), Some(false)),
+        after: &[
+            (0, 3, 1),
+            (1, 0, 2),
+            (1, 2, 13),
+            (2, 1, 5),
+            (3, 0, 7),
+            (2, 0, 6),
+            (1, 0, 4),
+        ],
+    },
+    Loss {
+        at: &[1, 2],
+        class: 5,
+        answers: (None, None),
+        after: &[
+            (0, 3, 1),
+            (1, 0, 2),
+            (1, 2, 13),
+            (2, 1, 5),
+            (3, 0, 7),
+            (2, 0, 6),
+            (1, 0, 4),
+        ],
+    },
+];
+
+// What the call answers, once and again, and the tree's nodes after it.
+fn lost(
+    alloc: Global,
+    row: &Loss,
+) -> Result<((Option<bool>, Option<bool>), Vec<(usize, u32, u32)>), TreeFault> {
+    let mut tree = family(alloc)?;
+    let at = path_of(alloc, row.at)?;
+    let first = tree.take_class(&at, Atom(row.class));
+    let again = tree.take_class(&at, Atom(row.class));
+    Ok(((first, again), shape_of(alloc, &tree)?))
+}
+
+#[test]
+fn takes_a_class_from_one_node(rt: HostRuntime) -> Result<(), Fail> {
+    for row in &LOSSES {
+        let (answers, after) = lost(rt.alloc(), row)?;
+        assert!(rt; answers == row.answers);
+        assert!(rt; after.as_slice() == row.after);
+    }
+    Ok(())
+}
+
+// A node that is cut off, whether it was, how many nodes are left, and the tree's nodes where then one with the
+// class 8 is added below the root, and one with 10 below its first child.
+struct Cut {
+    at: &'static [u32],
+    was: bool,
+    count: u32,
+    after: &'static [(usize, u32, u32)],
+}
+
+static CUTS: [Cut; 7] = [
+    Cut {
+        at: &[],
+        was: false,
+        count: 7,
+        after: &[
+            (0, 4, 1),
+            (1, 1, 2),
+            (2, 0, 10),
+            (1, 2, 13),
+            (2, 1, 5),
+            (3, 0, 7),
+            (2, 0, 6),
+            (1, 0, 4),
+            (1, 0, 8),
+        ],
+    },
+    Cut {
+        at: &[1, 2],
+        was: false,
+        count: 7,
+        after: &[
+            (0, 4, 1),
+            (1, 1, 2),
+            (2, 0, 10),
+            (1, 2, 13),
+            (2, 1, 5),
+            (3, 0, 7),
+            (2, 0, 6),
+            (1, 0, 4),
+            (1, 0, 8),
+        ],
+    },
+    Cut {
+        at: &[3, 0],
+        was: false,
+        count: 7,
+        after: &[
+            (0, 4, 1),
+            (1, 1, 2),
+            (2, 0, 10),
+            (1, 2, 13),
+            (2, 1, 5),
+            (3, 0, 7),
+            (2, 0, 6),
+            (1, 0, 4),
+            (1, 0, 8),
+        ],
+    },
+    Cut {
+        at: &[1],
+        was: true,
+        count: 3,
+        after: &[(0, 3, 1), (1, 1, 2), (2, 0, 10), (1, 0, 4), (1, 0, 8)],
+    },
+    Cut {
+        at: &[0],
+        was: true,
+        count: 6,
+        after: &[
+            (0, 3, 1),
+            (1, 3, 13),
+            (2, 1, 5),
+            (3, 0, 7),
+            (2, 0, 6),
+            (2, 0, 10),
+            (1, 0, 4),
+            (1, 0, 8),
+        ],
+    },
+    Cut {
+        at: &[1, 0],
+        was: true,
+        count: 5,
+        after: &[
+            (0, 4, 1),
+            (1, 1, 2),
+            (2, 0, 10),
+            (1, 1, 13),
+            (2, 0, 6),
+            (1, 0, 4),
+            (1, 0, 8),
+        ],
+    },
+    Cut {
+        at: &[1, 0, 0],
+        was: true,
+        count: 6,
+        after: &[
+            (0, 4, 1),
+            (1, 1, 2),
+            (2, 0, 10),
+            (1, 2, 13),
+            (2, 0, 5),
+            (2, 0, 6),
+            (1, 0, 4),
+            (1, 0, 8),
+        ],
+    },
+];
+
+// What the call answers, how many nodes are left, and the tree's nodes after both additions.
+fn cut_off(alloc: Global, row: &Cut) -> Result<(bool, u32, Vec<(usize, u32, u32)>), TreeFault> {
+    let mut tree = family(alloc)?;
+    let was = tree.cut(&path_of(alloc, row.at)?);
+    let count = tree.count();
+    tree.add_child(&Path::root(alloc), set_of(alloc, &[8])?)?;
+    tree.add_child(&path_of(alloc, &[0])?, set_of(alloc, &[10])?)?;
+    Ok((was, count, shape_of(alloc, &tree)?))
+}
+
+#[test]
+fn cuts_a_node_off_and_uses_its_place_again(rt: HostRuntime) -> Result<(), Fail> {
+    for row in &CUTS {
+        let (was, count, after) = cut_off(rt.alloc(), row)?;
+        assert!(rt; was == row.was);
+        assert!(rt; count == row.count);
+        assert!(rt; after.as_slice() == row.after);
+    }
+    Ok(())
+}
