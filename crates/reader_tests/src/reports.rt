@@ -92,7 +92,10 @@ static CASES: [Case; 15] = [
     },
     Case {
         from: 5,
-        row: Row::Judged("form.bad", Said::Shown(2, &[(0, &[1, 0, 12]), (2, &[])], &[1, 0])),
+        row: Row::Judged(
+            "form.bad",
+            Said::Shown(2, &[(0, &[1, 0, 12]), (2, &[])], &[1, 0]),
+        ),
         lines: "2:1 used 2 form.bad\n  1 at 1:11 on /1/0/12\n  3 at 10:100 on /\n  match /1/0\n",
     },
     Case {
@@ -282,16 +285,11 @@ fn reports(rt: HostRuntime) -> Result<(), Fail> {
     let places: &[Place] = &PLACES;
     let (sheet, answers) = rows_of(alloc, text, places, &mut atoms)?;
     let mut out = SureSink::new(alloc);
-    write_report(
-        alloc, &sheet, text, &atoms, places, &answers, &mut out,
-    )?;
+    write_report(alloc, &sheet, text, &atoms, places, &answers, &mut out)?;
     let wanted = lines(alloc)?;
     assert!(rt; out.bytes() == wanted.as_slice());
     let mut cut = MemSink::new(alloc, Vec::from_slice(alloc, &[3])?, 100);
-    let fault = write_report(
-        alloc, &sheet, text, &atoms, places, &answers, &mut cut,
-    )
-    .err();
+    let fault = write_report(alloc, &sheet, text, &atoms, places, &answers, &mut cut).err();
     assert!(rt; fault == Some(ReportFault::Write));
     assert!(rt; cut.bytes() == b"treeped 1\n1:1 unused .a\n".as_slice());
     Ok(())
