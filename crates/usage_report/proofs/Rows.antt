@@ -96,16 +96,16 @@ abbrev row : Item
 row = record { from = 0; to = 1; rule = 0; outcome = skipped Bad 0 }
 
 not_skipped : ¬ IsReportable places first.outcome (answers.skipped Bad 0)
-not_skipped is = grind is
+not_skipped is = cc
 
 no_selector : ¬ IsReportable places row.outcome answers.unused
 no_selector is = is
 
 another_cause : ¬ IsReportable places row.outcome (answers.skipped Long 0)
-another_cause is = grind is
+another_cause is = cc
 
 another_offset : ¬ IsReportable places row.outcome (answers.skipped Bad 1)
-another_offset is = grind is
+another_offset is = cc
 
 -- there are three statements
 no_place : ¬ IsReportable places first.outcome (answers.used no_proof 1 (Some (record { steps = record { stmt = 3; at = [] } ∷ []; at = [] })))

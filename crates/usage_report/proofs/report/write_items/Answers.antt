@@ -1,4 +1,5 @@
-use Rattle.std.proofs.Common.{◌<◌, length, arith}
+use Rattle.std.proofs.Common.{◌<◌, ◌≤◌, length, arith}
+use Rattle.std.proofs.lemmas.List.{take_all}
 use Rattle.tp_io.specs.Sinks.{AddsPrefix}
 use Rattle.tp_io.proofs.SinkLemmas.{on_err, adds_more, adds_prefix_more, adds_prefix_of}
 use Rattle.usage_report.proofs.ReportLemmas.{text_of, lines_of, lines_at, as_many, front_of_front}
@@ -31,3 +32,9 @@ items-preserved g c =
       written = rw at.2 (adds_more _ _ _ _ _ c.items.invariant.written piece);
       never_falls = omega (arith, c.in_ok-put_all.ensures.never_falls, c.items.invariant.never_falls);
     }
+
+pub returns-clause-ok : goal.returns-clause-ok
+returns-clause-ok g c =
+    let many = as_many c.args.places.now c.args.items.now c.args.answers.now c.requires.reportable in
+    let past : length c.args.items.now ≤ c.items.i = omega arith in
+    rw (take_all c.items.i c.args.items.now past, take_all c.items.i c.args.answers.now (omega (arith, many, past))) at c.items.invariant.written
