@@ -37,11 +37,11 @@ given_is s kinds locals ups downs none a b c d kinds_are locals_are ups_are down
     (up_ends ∙ ap (λ (xs : List ℕ). union_of xs (map (λ (l : Link). l.to) s.up)) (gives ∙ ap (λ (xs : List ℕ). union_of xs (map (λ (r : Local). r.gives) s.local)) labels))
     ∙ all
 
-map_append : {X Y : Type 0} (g : X → Y) (xs ys : List X) → map g (xs ++ ys) ≡ map g xs ++ map g ys
+pub map_append : {X Y : Type 0} (g : X → Y) (xs ys : List X) → map g (xs ++ ys) ≡ map g xs ++ map g ys
 map_append g [] ys = refl
 map_append g (x ∷ xs) ys = ap (λ zs. g x ∷ zs) (map_append g xs ys)
 
-flat_append : {X Y : Type 0} (f : X → List Y) (xs ys : List X) → flat_map f (xs ++ ys) ≡ flat_map f xs ++ flat_map f ys
+pub flat_append : {X Y : Type 0} (f : X → List Y) (xs ys : List X) → flat_map f (xs ++ ys) ≡ flat_map f xs ++ flat_map f ys
 flat_append f [] ys = refl
 flat_append f (x ∷ xs) ys = ap (λ zs. f x ++ zs) (flat_append f xs ys) ∙ sym (append_assoc (f x) (flat_map f xs) (flat_map f ys))
 
@@ -84,9 +84,3 @@ kinds_more i atoms =
 
 pub at_item : {X : Type 0} (xs : List X) (i : ℕ) (x : X) → i < length xs → x ≡ get_or xs i x → slice_get xs i ≡ Some x
 at_item xs i x less item = slice_get-get_or xs i x less ∙ ap (λ y. Some y) (sym item)
-
-pub three_added : {X : Type 0} (old a b c first second third : List X) → first ≡ old ++ a → second ≡ first ++ b → third ≡ second ++ c → third ≡ old ++ (a ++ b ++ c)
-three_added {X} old a b c first second third f g h =
-    h
-    ∙ ap (λ (t : List X). t ++ c) (g ∙ ap (λ (t : List X). t ++ b) f ∙ append_assoc old a b)
-    ∙ append_assoc old (a ++ b) c

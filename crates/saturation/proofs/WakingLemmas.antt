@@ -1,5 +1,5 @@
 -- Which cells are among those that are calculated again.
-use Rattle.std.proofs.Common.{◌≡◌, ◌≢◌, ℕ, ◌+◌, ◌<◌, ◌≤◌, Bool, true, false, true≢false, List, [], ◌∷◌, ◌++◌, take, length, get_or, ◌&&◌, nat_eq, All, Contains, if◌then◌else◌, refl, sym, ap, subst, ◌∙◌, arith, inl, inr, ◌⊎◌}
+use Rattle.std.proofs.Common.{◌≡◌, ◌≢◌, ℕ, ◌+◌, ◌<◌, ◌≤◌, Bool, true, false, true≢false, List, [], ◌∷◌, ◌++◌, take, length, ◌&&◌, slice_get, Some, append_assoc, append-nil, nat_eq, All, Contains, if◌then◌else◌, refl, sym, ap, subst, ◌∙◌, arith, inl, inr, ◌⊎◌}
 use Rattle.std.specs.List.{flat_map}
 use Rattle.std.proofs.lemmas.Bool.{cases_Bool, cases_order, eqb-true, and_parts}
 use Rattle.std.specs.Cmp.{IsEquivalence}
@@ -7,7 +7,6 @@ use Rattle.std.specs.List.Retain.{IsFiltered, DiffersFromLast}
 use Rattle.std.proofs.lemmas.Cmp.{nat_eq_equiv, on_equiv, and_equiv}
 use Rattle.std.proofs.lemmas.List.Filters.{dedup_is}
 use Rattle.std.proofs.lemmas.List.Kept.{Contains-dedup, Contains-from_dedup}
-use Rattle.std.proofs.lemmas.List.{take_all}
 use Rattle.std.proofs.lemmas.List.Elements.{All-contains, All-append, Contains-append_left, Contains-append_right, Contains-append_cases}
 use Rattle.tp_base.specs.Classes.{has_class}
 use Rattle.tp_base.proofs.ClassLemmas.{has_class-Contains}
@@ -19,13 +18,13 @@ use Rattle.simple_core.specs.declared.system.System.{System}
 use Rattle.pushdown_sym.specs.Terms.{CellTrees}
 use Rattle.pushdown_sym.specs.Rounds.{given_atoms}
 use Rattle.saturation.specs.Reads.{IsRead, by_rule, by_spawn, by_visible, by_child}
-use Rattle.saturation.specs.Tables.{OfSpawns, AreReads}
-use Rattle.saturation.specs.Waking.{CellName, Fits, named, named_each, woken, AreParents, AreReaders}
+use Rattle.saturation.specs.Tables.{AreReads}
+use Rattle.saturation.specs.Waking.{CellName, Fits, named, named_each, by_rules, looking, by_makers, of_each, with_atom, AreMakers, AreAbove, AreReaders}
 use Rattle.saturation.proofs.GivenLemmas.{given_local, given_down}
 use Rattle.saturation.proofs.NoteLemmas.{last_cases}
 use Rattle.saturation.proofs.LoopLemmas.{all_one}
 use Rattle.saturation.proofs.TableLemmas.{longer_by}
-use Rattle.saturation.proofs.NameLemmas.{at_item}
+use Rattle.saturation.proofs.NameLemmas.{map_append, flat_append}
 
 -- ### lists of cells
 
@@ -60,77 +59,89 @@ there_named kinds atoms c there =
     let one = one_named found.0 atoms c found.2 in
     (subst (λ k. Contains kinds k) (sym one.0) found.1, one.1)
 
--- ### the cells that read one
+-- ### the cells that read those that changed
 
-module _ (s : System) (by_needs children makers : ℕ → List ℕ) (ends looked : List ℕ) (reads : AreReads s by_needs children makers ends looked) (now : CellTrees) (i b : ℕ) (parents : List ℕ)
-    (are : AreParents s now i parents) where
-  abbrev first : List CellName
-  first = named i (by_needs b)
+pub each_of_more : {X : Type 0} (f : CellName → List X) (changes : List (CellName × Reference)) (i : ℕ) (c : CellName × Reference) (now new : List X) → slice_get changes i ≡ Some c
+    → now ≡ of_each f (take i changes) → new ≡ now ++ f c.0 → new ≡ of_each f (take (i + 1) changes)
+each_of_more {X} f changes i c now new at before more =
+    more
+    ∙ ap (λ (xs : List X). xs ++ f c.0) before
+    ∙ sym (ap (of_each f) (longer_by changes i c at)
+    ∙ flat_append (λ (d : CellName × Reference). f d.0) (take i changes) (c ∷ [])
+    ∙ ap (λ (xs : List X). of_each f (take i changes) ++ xs) (append-nil (f c.0)))
 
-  abbrev second : List CellName
-  second = if has_class b looked then named i ends else []
+looking_is : (looked : List ℕ) (c : CellName) (k : ℕ) → Contains (looking looked c) k → k ≡ c.0
+looking_is looked c k there =
+    let found : Contains (if has_class c.1 looked then c.0 ∷ [] else []) k = there in
+    elim (cases_Bool (has_class c.1 looked)) [
+      | inl looks ↦ elim ((Contains-cons k c.0 []).0 (rw looks at found)) [ inl here ↦ here | inr none ↦ absurd (Contains-none k none) ]
+      | inr none ↦ absurd (Contains-none k (rw none at found))
+    ]
 
-  abbrev third : List CellName
-  third = named_each parents (children b)
+module _ (s : System) (by_needs by_child makers : ℕ → List ℕ) (ends looked : List ℕ) (reads : AreReads s by_needs by_child makers ends looked) (now : CellTrees)
+    (changes : List (CellName × Reference)) (below : All (λ c. c.0.0 < length s.kinds) changes)
+    (cells : List CellName) (cells_are : cells ≡ of_each (by_rules by_needs) changes)
+    (kinds : List ℕ) (kinds_kept : (k : ℕ) → Contains (of_each (looking looked) changes) k → Contains kinds k) (kinds_only : (k : ℕ) → Contains kinds k → Contains (of_each (looking looked) changes) k)
+    (pairs : List CellName) (pairs_kept : (c : CellName) → Contains (of_each (by_makers makers by_child) changes) c → Contains pairs c)
+    (pairs_only : (c : CellName) → Contains pairs c → Contains (of_each (by_makers makers by_child) changes) c)
+    (more : List CellName) (more_is : more ≡ cells ++ named_each kinds ends)
+    (todo : List CellName) (above : AreAbove now (length s.kinds) pairs more todo) where
+  changed : {X : Type 0} (f : CellName → List X) (c : CellName) (g : Reference) (x : X) → Contains changes (c, g) → Contains (f c) x → Contains (of_each f changes) x
+  changed f c g x there found = flat_there (λ (d : CellName × Reference). f d.0) changes (c, g) x there found
 
-  looked_reader : (j a : ℕ) → i ≡ j → Contains looked b → Contains ends a → Contains {X = CellName} (woken by_needs children ends looked parents (i, b)) (j, a)
-  looked_reader j a same there end =
-      Contains-append_left (first ++ second) third (j, a) (Contains-append_right first second (j, a) (rw (has_class-Contains b looked there) (named_one i j a ends same end)))
+  looked_reader : (i b j a : ℕ) (f : Reference) → Contains changes ((i, b), f) → i ≡ j → Contains looked b → Contains ends a → Contains {X = CellName} todo (j, a)
+  looked_reader i b j a f there same looks end =
+      above.kept (j, a) (subst (λ (cs : List CellName). Contains cs (j, a)) (sym more_is) (Contains-append_right cells (named_each kinds ends) (j, a)
+      (named_there kinds ends j a (kinds_kept j (changed (looking looked) (i, b) f j there
+      (let here : Contains (if has_class b looked then i ∷ [] else []) j = rw (has_class-Contains b looked looks) (Contains-here j i [] (sym same)) in here))) end)))
 
-  pub woken_reader : (j a : ℕ) → j < length s.kinds → IsRead s now i b j a → Contains {X = CellName} (woken by_needs children ends looked parents (i, b)) (j, a)
-  woken_reader j a kind (by_rule r listed gives there same) =
-      Contains-append_left (first ++ second) third (j, a) (Contains-append_left first second (j, a)
-      (named_one i j a (by_needs b) same (subst (λ x. Contains (by_needs b) x) gives (reads.needs.whole r listed b there))))
-  woken_reader j a kind (by_spawn l listed to c in_child needs same) =
-      looked_reader j a same (subst (λ x. Contains looked x) needs (reads.making c in_child)) (subst (λ x. Contains ends x) to (reads.to l listed))
-  woken_reader j a kind (by_visible l listed to there same) =
-      looked_reader j a same (reads.visible b there) (subst (λ x. Contains ends x) to (reads.to l listed))
-  woken_reader j a kind (by_child l listed to c in_child kind_is from can) =
-      Contains-append_right (first ++ second) third (j, a)
-      (named_there parents (children b) j a (are.whole j kind c in_child kind_is can) (subst (λ x. Contains (children b) x) to (reads.child.whole l listed b from)))
+  reader : (i b j a : ℕ) (f : Reference) → Contains changes ((i, b), f) → j < length s.kinds → IsRead s now i b j a → Contains {X = CellName} todo (j, a)
+  reader i b j a f there kind (by_rule r listed gives needed same) =
+      above.kept (j, a) (subst (λ (cs : List CellName). Contains cs (j, a)) (sym more_is) (Contains-append_left cells (named_each kinds ends) (j, a)
+      (subst (λ (cs : List CellName). Contains cs (j, a)) (sym cells_are) (changed (by_rules by_needs) (i, b) f (j, a) there
+      (named_one i j a (by_needs b) same (subst (λ x. Contains (by_needs b) x) gives (reads.needs.whole r listed b needed)))))))
+  reader i b j a f there kind (by_spawn l listed to c in_child needs same) =
+      looked_reader i b j a f there same (subst (λ x. Contains looked x) needs (reads.making c in_child)) (subst (λ x. Contains ends x) to (reads.to l listed))
+  reader i b j a f there kind (by_visible l listed to seen same) =
+      looked_reader i b j a f there same (reads.visible b seen) (subst (λ x. Contains ends x) to (reads.to l listed))
+  reader i b j a f there kind (by_child l listed to c in_child kind_is from can) =
+      above.whole c.needs a j (pairs_kept (c.needs, a) (changed (by_makers makers by_child) (i, b) f (c.needs, a) there
+      (named_there (makers i) (by_child b) c.needs a (reads.spawns.whole c in_child i kind_is) (subst (λ x. Contains (by_child b) x) to (reads.child.whole l listed b from))))) kind can
 
   ends_given : (a : ℕ) → Contains ends a → Contains (given_atoms s) a
   ends_given a there = let l = reads.only_to a there in subst (λ x. Contains (given_atoms s) x) (sym l.2) (given_down s l.0 l.1)
 
-  second_fits : i < length s.kinds → (c : CellName) → Contains second c → Fits s c
-  second_fits kind c there = elim (cases_Bool (has_class b looked)) [
-    | inl looks ↦ let one = one_named i ends c (rw looks at there) in (subst (λ k. k < length s.kinds) (sym one.0) kind, ends_given c.1 one.1)
-    | inr none ↦ absurd (Contains-none c (rw none at there))
+  below_one : (d : CellName × Reference) → Contains changes d → d.0.0 < length s.kinds
+  below_one d there = All-contains (λ (c : CellName × Reference). c.0.0 < length s.kinds) changes d below there
+
+  fits_more : (c : CellName) → Contains more c → Fits s c
+  fits_more c there = elim (Contains-append_cases cells (named_each kinds ends) c (subst (λ (cs : List CellName). Contains cs c) more_is there)) [
+    | inl ruled ↦
+        let found = there_flat (λ (d : CellName × Reference). by_rules by_needs d.0) changes c (subst (λ (cs : List CellName). Contains cs c) cells_are ruled) in
+        let one = one_named found.0.0.0 (by_needs found.0.0.1) c found.2 in
+        let r = reads.needs.only found.0.0.1 c.1 one.1 in
+        (subst (λ k. k < length s.kinds) (sym one.0) (below_one found.0 found.1), subst (λ x. Contains (given_atoms s) x) (sym r.2) (given_local s r.0 r.1))
+    | inr seen ↦
+        let both = there_named kinds ends c seen in
+        let found = there_flat (λ (d : CellName × Reference). looking looked d.0) changes c.0 (kinds_only c.0 both.0) in
+        (subst (λ k. k < length s.kinds) (sym (looking_is looked found.0.0 c.0 found.2)) (below_one found.0 found.1), ends_given c.1 both.1)
   ]
 
-  pub woken_fits : i < length s.kinds → (c : CellName) → Contains (woken by_needs children ends looked parents (i, b)) c → Fits s c
-  woken_fits kind c there = elim (Contains-append_cases (first ++ second) third c there) [
-    | inr last ↦
-        let both = there_named parents (children b) c last in
-        let l = reads.child.only b c.1 both.1 in
-        (All-contains (λ k. k < length s.kinds) parents c.0 are.below both.0, subst (λ x. Contains (given_atoms s) x) (sym l.2) (given_down s l.0 l.1))
-    | inl front ↦ elim (Contains-append_cases first second c front) [
-      | inr middle ↦ second_fits kind c middle
-      | inl start ↦
-          let one = one_named i (by_needs b) c start in
-          let r = reads.needs.only b c.1 one.1 in
-          (subst (λ k. k < length s.kinds) (sym one.0) kind, subst (λ x. Contains (given_atoms s) x) (sym r.2) (given_local s r.0 r.1))
-    ]
+  fits : (c : CellName) → Contains todo c → Fits s c
+  fits c there = elim (above.only c there) [
+    | inl before ↦ fits_more c before
+    | inr up ↦
+        let found = there_flat (λ (d : CellName × Reference). by_makers makers by_child d.0) changes (up.0, c.1) (pairs_only (up.0, c.1) up.1) in
+        let both = there_named (makers found.0.0.0) (by_child found.0.0.1) (up.0, c.1) found.2 in
+        let l = reads.child.only found.0.0.1 c.1 both.1 in
+        (up.2, subst (λ x. Contains (given_atoms s) x) (sym l.2) (given_down s l.0 l.1))
   ]
 
-  -- one change more
-  pub readers_more : (done : List (CellName × Reference)) (f : Reference) (old new : List CellName) → i < length s.kinds → new ≡ old ++ woken by_needs children ends looked parents (i, b)
-      → AreReaders s now done old → AreReaders s now (done ++ ((i, b), f) ∷ []) new
-  readers_more done f old new kind is before = subst (λ (todo : List CellName). AreReaders s now (done ++ ((i, b), f) ∷ []) todo) (sym is) (record {
-    readers = λ m n j a g there below read. elim (last_cases {X = CellName × Reference} done ((i, b), f) ((m, n), g) there) [
-      | inl earlier ↦ Contains-append_left old (woken by_needs children ends looked parents (i, b)) (j, a) (before.readers m n j a g earlier below read)
-      | inr last ↦ Contains-append_right old (woken by_needs children ends looked parents (i, b)) (j, a)
-          (woken_reader j a below (subst (λ (c : CellName × Reference). IsRead s now c.0.0 c.0.1 j a) last read))
-    ];
-    cells = All-append (Fits s) old (woken by_needs children ends looked parents (i, b)) before.cells
-        (All-from_Contains (Fits s) (woken by_needs children ends looked parents (i, b)) (woken_fits kind));
-  })
-
-pub readers_none : (s : System) (now : CellTrees) (changes : List (CellName × Reference)) (todo : List CellName) → changes ≡ [] → todo ≡ [] → AreReaders s now changes todo
-readers_none s now changes todo none empty = record {
-  readers = λ i b j a f there kind read. absurd (Contains-none {X = CellName × Reference} ((i, b), f) (subst (λ (cs : List (CellName × Reference)). Contains cs ((i, b), f)) none there));
-  cells = subst (All (Fits s)) (sym empty) (λ i c less. absurd (omega arith));
-}
+  pub readers_are : AreReaders s now changes todo
+  readers_are = record {
+    readers = λ i b j a f there kind read. reader i b j a f there kind read;
+    cells = All-from_Contains (Fits s) todo fits;
+  }
 
 -- the same cells in another order
 pub readers_kept : (s : System) (now : CellTrees) (changes : List (CellName × Reference)) (todo sorted : List CellName) → AreReaders s now changes todo
@@ -155,52 +166,78 @@ module _ (s : System) (now other : CellTrees) (same : (j a : ℕ) → j < length
     cells = before.cells;
   }
 
--- ### one after another
-
-item_cases : {X : Type 0} (xs : List X) (i : ℕ) (x : X) → i < length xs → x ≡ get_or xs i x → (y : X) → Contains (take (i + 1) xs) y → Contains (take i xs) y ⊎ (y ≡ x)
-item_cases {X} xs i x less item y there =
-    last_cases (take i xs) x y (subst (λ (ys : List X). Contains ys y) (longer_by xs i x (at_item xs i x less item)) there)
-
-pub makers_more : (f : ℕ → Tree) (makers : List ℕ) (i maker : ℕ) → i < length makers → maker ≡ get_or makers i maker → ((b : ℕ) → Contains (take i makers) b → f b ≡ leaf false) → f maker ≡ leaf false
-    → (b : ℕ) → Contains (take (i + 1) makers) b → f b ≡ leaf false
-makers_more f makers i maker less item before here b there = elim (item_cases makers i maker less item b there) [
-  | inl earlier ↦ before b earlier
-  | inr last ↦ subst (λ x. f x ≡ leaf false) (sym last) here
-]
-
-pub no_maker : (f : ℕ → Tree) (makers : List ℕ) (i : ℕ) → length makers ≤ i → ((b : ℕ) → Contains (take i makers) b → f b ≡ leaf false) → (b : ℕ) → Contains makers b → f b ≢ leaf false → false ≡ true
-no_maker f makers i past none b there some = absurd (some (none b (subst (λ (ms : List ℕ). Contains ms b) (sym (take_all i makers past)) there)))
+-- ### the kinds whose nodes may have an atom
 
 -- one kind more
-module _ (f : ℕ → ℕ → Tree) (makers kinds : List ℕ) (count j : ℕ) (below : j < count) where
-  pub kind_kept : (((i : ℕ) → i < j → (b : ℕ) → Contains makers b → f i b ≢ leaf false → Contains kinds i) × All (λ i. i < count) kinds)
-      → ((b : ℕ) → Contains makers b → f j b ≢ leaf false → false ≡ true)
-      → ((i : ℕ) → i < j + 1 → (b : ℕ) → Contains makers b → f i b ≢ leaf false → Contains kinds i) × All (λ i. i < count) kinds
+module _ (f : ℕ → Tree) (kinds : List ℕ) (count j : ℕ) (below : j < count) where
+  pub kind_kept : (((i : ℕ) → i < j → f i ≢ leaf false → Contains kinds i) × All (λ i. i < count) kinds) → (f j ≢ leaf false → false ≡ true)
+      → ((i : ℕ) → i < j + 1 → f i ≢ leaf false → Contains kinds i) × All (λ i. i < count) kinds
   kind_kept before none = (
-    λ i less b there some. elim (cases_order i j) [
-      | inl here ↦ absurd (true≢false (sym (none b there (subst (λ k. f k b ≢ leaf false) here some))))
-      | inr apart ↦ elim apart [ inl earlier ↦ before.0 i earlier b there some | inr later ↦ absurd (omega arith) ]
+    λ i less some. elim (cases_order i j) [
+      | inl here ↦ absurd (true≢false (sym (none (subst (λ k. f k ≢ leaf false) here some))))
+      | inr apart ↦ elim apart [ inl earlier ↦ before.0 i earlier some | inr later ↦ absurd (omega arith) ]
     ],
     before.1,
   )
 
-  pub kind_pushed : (more : List ℕ) → more ≡ kinds ++ j ∷ [] → (((i : ℕ) → i < j → (b : ℕ) → Contains makers b → f i b ≢ leaf false → Contains kinds i) × All (λ i. i < count) kinds)
-      → ((i : ℕ) → i < j + 1 → (b : ℕ) → Contains makers b → f i b ≢ leaf false → Contains more i) × All (λ i. i < count) more
+  pub kind_pushed : (more : List ℕ) → more ≡ kinds ++ j ∷ [] → (((i : ℕ) → i < j → f i ≢ leaf false → Contains kinds i) × All (λ i. i < count) kinds)
+      → ((i : ℕ) → i < j + 1 → f i ≢ leaf false → Contains more i) × All (λ i. i < count) more
   kind_pushed more is before = (
-    λ i less b there some. subst (λ (ks : List ℕ). Contains ks i) (sym is) (elim (cases_order i j) [
+    λ i less some. subst (λ (ks : List ℕ). Contains ks i) (sym is) (elim (cases_order i j) [
       | inl here ↦ Contains-append_right kinds (j ∷ []) i (Contains-here i j [] here)
-      | inr apart ↦ elim apart [ inl earlier ↦ Contains-append_left kinds (j ∷ []) i (before.0 i earlier b there some) | inr later ↦ absurd (omega arith) ]
+      | inr apart ↦ elim apart [ inl earlier ↦ Contains-append_left kinds (j ∷ []) i (before.0 i earlier some) | inr later ↦ absurd (omega arith) ]
     ]),
     subst (λ (ks : List ℕ). All (λ i. i < count) ks) (sym is) (All-append (λ i. i < count) kinds (j ∷ []) before.1 (all_one (λ i. i < count) j below)),
   )
 
--- the kinds that have one of the atoms that make a child
-pub parents_are : (s : System) (now : CellTrees) (i count : ℕ) (of : ℕ → List ℕ) (makers kinds : List ℕ) → makers ≡ of i → count ≡ length s.kinds → OfSpawns s.child of
-    → ((j : ℕ) → j < count → (b : ℕ) → Contains makers b → now j b ≢ leaf false → Contains kinds j) → All (λ j. j < count) kinds → AreParents s now i kinds
-parents_are s now i count of makers kinds same is spawns whole below = record {
-  whole = λ j kind c listed made some. whole j (subst (λ n. j < n) (sym is) kind) c.needs (subst (λ (ms : List ℕ). Contains ms c.needs) (sym same) (spawns.whole c listed i made)) some;
-  below = subst (λ n. All (λ j. j < n) kinds) is below;
+-- ### the cells of those that can make a child
+
+pub with_atom_more : (old now new : List CellName) (atom : ℕ) (kinds : List ℕ) (i kind : ℕ) → slice_get kinds i ≡ Some kind → now ≡ old ++ with_atom atom (take i kinds) → new ≡ now ++ (kind, atom) ∷ []
+    → new ≡ old ++ with_atom atom (take (i + 1) kinds)
+with_atom_more old now new atom kinds i kind at before more =
+    more
+    ∙ ap (λ (cs : List CellName). cs ++ (kind, atom) ∷ []) before
+    ∙ append_assoc old (with_atom atom (take i kinds)) ((kind, atom) ∷ [])
+    ∙ ap (λ (cs : List CellName). old ++ cs) (sym (ap (with_atom atom) (longer_by kinds i kind at) ∙ map_append {X = ℕ} {Y = CellName} (λ k. (k, atom)) (take i kinds) (kind ∷ [])))
+
+pub above_none : (now : CellTrees) (count : ℕ) (cells : List CellName) → AreAbove now count [] cells cells
+above_none now count cells = record {
+  kept = λ c there. there;
+  whole = λ m a j listed kind some. absurd (Contains-none {X = CellName} (m, a) listed);
+  only = λ c there. inl there;
 }
+
+module _ (now : CellTrees) (count : ℕ) (done : List CellName) (pair : CellName) (kinds : List ℕ) (makers : AreMakers now count pair.0 kinds) (old cells new : List CellName)
+    (is : new ≡ cells ++ with_atom pair.1 kinds) (before : AreAbove now count done old cells) where
+  earlier_there : (c : CellName) → Contains cells c → Contains new c
+  earlier_there c there = subst (λ (cs : List CellName). Contains cs c) (sym is) (Contains-append_left cells (with_atom pair.1 kinds) c there)
+
+  pub above_more : AreAbove now count (done ++ pair ∷ []) old new
+  above_more = record {
+    kept = λ c there. earlier_there c (before.kept c there);
+    whole = λ m a j listed kind some. elim (last_cases {X = CellName} done pair (m, a) listed) [
+      | inl earlier ↦ earlier_there (j, a) (before.whole m a j earlier kind some)
+      | inr last ↦
+          let maker : m ≡ pair.0 = ap (λ (c : CellName). c.0) last in
+          let atom : a ≡ pair.1 = ap (λ (c : CellName). c.1) last in
+          subst (λ (cs : List CellName). Contains cs (j, a)) (sym is) (Contains-append_right cells (with_atom pair.1 kinds) (j, a)
+          (subst (λ (b : ℕ). Contains {X = CellName} (with_atom pair.1 kinds) (j, b)) (sym atom)
+          (Contains-map {X = ℕ} {Y = CellName} (λ k. (k, pair.1)) kinds j (makers.whole j kind (subst (λ b. now j b ≢ leaf false) maker some)))))
+    ];
+    only = λ c there. elim (Contains-append_cases cells (with_atom pair.1 kinds) c (subst (λ (cs : List CellName). Contains cs c) is there)) [
+      | inl earlier ↦ elim (before.only c earlier) [
+        | inl first ↦ inl first
+        | inr up ↦ inr (up.0, Contains-append_left done (pair ∷ []) (up.0, c.1) up.1, up.2)
+      ]
+      | inr last ↦
+          let found = map-Contains {X = ℕ} {Y = CellName} (λ k. (k, pair.1)) kinds c last in
+          let kind : c.0 ≡ found.0 = ap (λ (d : CellName). d.0) found.2 in
+          let atom : c.1 ≡ pair.1 = ap (λ (d : CellName). d.1) found.2 in
+          inr (pair.0,
+          Contains-append_right done (pair ∷ []) (pair.0, c.1) (Contains-here {X = CellName} (pair.0, c.1) pair [] (λ n. (pair.0, atom n))),
+          subst (λ k. k < count) (sym kind) (All-contains (λ k. k < count) kinds found.0 makers.below found.1))
+    ];
+  }
 
 -- ### each cell once
 
@@ -224,3 +261,11 @@ once_kept xs ys filtered c there =
 pub once_only : (xs ys : List CellName) → IsFiltered (DiffersFromLast same_cell) [] xs ys → (c : CellName) → Contains ys c → Contains xs c
 once_only xs ys filtered c there =
     Contains-from_dedup same_cell xs c (subst (λ (zs : List CellName). Contains zs c) (dedup_is same_cell xs ys filtered) there)
+
+pub different_kept : (xs ys : List ℕ) → IsFiltered (DiffersFromLast nat_eq) [] xs ys → (k : ℕ) → Contains xs k → Contains ys k
+different_kept xs ys filtered k there =
+    subst (λ (zs : List ℕ). Contains zs k) (sym (dedup_is nat_eq xs ys filtered)) (Contains-dedup nat_eq_equiv (λ x y same. eqb-true x y same) xs k there)
+
+pub different_only : (xs ys : List ℕ) → IsFiltered (DiffersFromLast nat_eq) [] xs ys → (k : ℕ) → Contains ys k → Contains xs k
+different_only xs ys filtered k there =
+    Contains-from_dedup nat_eq xs k (subst (λ (zs : List ℕ). Contains zs k) (dedup_is nat_eq xs ys filtered) there)

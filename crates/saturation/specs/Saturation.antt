@@ -5,7 +5,7 @@
 --     AreNotedUpTo  the histories with these changes
 --     IsBuilt       what is true at the end
 --     IsDone        what is true after k rounds, of the code's state
-use Rattle.std.specs.Prelude.{◌≡◌, ◌≢◌, ℕ, suc, ◌<◌, List, [], length, All, Contains, Result, Ok, Err, ◌⊎◌}
+use Rattle.std.specs.Prelude.{◌≡◌, ◌≢◌, ℕ, suc, ◌<◌, List, [], ◌∷◌, ◌++◌, length, All, Contains, Result, Ok, Err, ◌⊎◌}
 use Rattle.tp_base.specs.declared.atoms.TheConstants.{MOST_ATOMS}
 use Rattle.class_diagrams.specs.References.{Reference}
 use Rattle.class_diagrams.specs.Trees.{Tree}
@@ -14,6 +14,7 @@ use Rattle.class_diagrams.specs.declared.faults.DiagramFault.{DiagramFault}
 use Rattle.class_diagrams.specs.declared.faults.DiagramFault.TheVariants.{Full, Memory}
 use Rattle.diagram_ops.specs.Steps.{held_with_all, Brings}
 use Rattle.simple_core.specs.declared.system.System.{System}
+use Rattle.simple_core.specs.Systems.{IsSound}
 use Rattle.pushdown_sym.specs.CellMap.{Entries, trees_in}
 use Rattle.pushdown_sym.specs.Adding.{AreIn}
 use Rattle.pushdown_sym.specs.Terms.{CellTrees, partial_results}
@@ -85,6 +86,11 @@ abbrev pub IsStep : System → ℕ → Arena → Arena → List CellName → Lis
 IsStep s k old new done changes (Ok u) = AreChanges s k old new done changes
 IsStep s k old new done changes (Err Full) = IsFullIn s k old
 IsStep s k old new done changes (Err Memory) = Unit {0}
+
+-- what a cell of the next round that is looked at adds to the changes, from cells that are of any round
+abbrev pub Steps : System → Entries → Arena → Arena → CellName → List (CellName × Reference) → List (CellName × Reference) → Result (Unit {0}) DiagramFault → Type 0
+Steps s cells old new name before after result = (k : ℕ) (first : Arena) (done : List CellName) → IsSound s → Contains (given_atoms s) name.1 → Tells s old.branches cells k
+    → AreChanges s k first old done before → IsStep s k first new (done ++ name ∷ []) after result
 
 -- what is true at the end: a round at rest, histories that tell all cells up to it, and cells that are those of that round
 pub record IsBuilt (s : System) (d : Arena) (histories : Histories) (cells : Entries) : Type 0 where

@@ -1,15 +1,14 @@
 //! The cells that change in a round.
-ghost use Rattle.std.specs.Prelude.{◌↔◌, ◌≡◌, ℕ, ◌<◌, length, List, [], ◌∷◌, ◌++◌, All, Contains, IfOk, IsErrOf};
-ghost use Rattle.class_diagrams.specs.Arena.{Arena, StartsWith, IsArena};
+ghost use Rattle.std.specs.Prelude.{◌↔◌, ◌≡◌, ℕ, ◌<◌, length, All, Contains, IfOk, IsErrOf};
+ghost use Rattle.class_diagrams.specs.Arena.{StartsWith, IsArena};
 ghost use Rattle.simple_core.specs.Systems.{IsSound};
 ghost use Rattle.pushdown_sym.specs.Adding.{AreIn};
 ghost use Rattle.pushdown_sym.specs.Rounds.{given_atoms};
 ghost use Rattle.saturation.specs.Budgets.{MayBeSpent};
-ghost use Rattle.saturation.specs.Waking.{CellName};
-ghost use Rattle.saturation.specs.Saturation.{AreChanges, Histories, IsDone, Tells, IsStep, IsFullIn};
+ghost use Rattle.saturation.specs.Saturation.{AreChanges, Histories, IsDone, Tells, Steps, IsFullIn};
 
 use class_diagrams::{DiagramFault, Diagrams, Ref};
-use pushdown_sym::{Cells, Equations};
+use pushdown_sym::{Cells, Equations, Round};
 use simple_core::GainFault;
 use std::alloc::Global;
 use tp_base::{Atom, NoMemory};
@@ -17,21 +16,19 @@ use tp_base::{Atom, NoMemory};
 // One cell of the next round, which is noted where it differs.
 fn one_cell(
     alloc: Global,
-    equations: &Equations,
+    round: &mut Round<'_, '_>,
     d: &mut Diagrams,
-    now: &Cells,
     name: (u32, Atom),
     changes: &mut Vec<((u32, Atom), Ref)>,
 ) -> Result<(), DiagramFault>
-    requires kind { name.0 < length equations.now.kinds }
-    requires inside { AreIn d.old.branches now.now }
+    requires kind { name.0 < length round.old.0.kinds }
+    requires inside { AreIn d.old.branches round.old.1 }
+    ensures same { round.new ≡ round.old }
     ensures stays { StartsWith d.old.branches d.new.branches }
-    ensures step { (k : ℕ) (first : Arena) (done : List CellName) → IsSound equations.now → Contains (given_atoms equations.now) name.1
-        → Tells equations.now d.old.branches now.now k → AreChanges equations.now k first d.old done changes.old.items
-        → IsStep equations.now k first d.new (done ++ name ∷ []) changes.new.items result }
+    ensures step { Steps round.old.0 round.old.1 d.old d.new name changes.old.items changes.new.items result }
 {
-    let next = equations.next_cell(alloc, d, now, name.0, name.1)?;
-    if !d.same(next, now.get(name.0, name.1)) {
+    let next = round.next_cell(alloc, d, name.0, name.1)?;
+    if !d.same(next, round.get(name.0, name.1)) {
         changes.push((name, next))?;
     }
     Ok(())
@@ -53,9 +50,10 @@ fn one_round(
     ensures full { (k : ℕ) → IsSound equations.now → All (λ c. Contains (given_atoms equations.now) c.1) todo.now → Tells equations.now d.old.branches now.now k
         → IsErrOf result DiagramFault.Full → IsFullIn equations.now k d.old }
 {
+    let mut round = Round::new(alloc, equations, now);
     let mut changes = Vec::new(alloc);
     for name in todo {
-        one_cell(alloc, equations, d, now, *name, &mut changes)?;
+        one_cell(alloc, &mut round, d, *name, &mut changes)?;
     }
     Ok(changes)
 }

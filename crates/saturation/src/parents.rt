@@ -1,109 +1,128 @@
-//! The kinds below which a child can be.
-ghost use Rattle.std.specs.Prelude.{◌≡◌, ◌≢◌, ◌<◌, ◌≤◌, ℕ, true, false, length, All, Contains, IfOk, IfSome};
+//! The kinds that can make a child.
+ghost use Rattle.std.specs.Prelude.{◌≡◌, ◌≢◌, ◌<◌, ◌≤◌, ◌++◌, ℕ, true, false, All, Contains, IfOk, IfSome, OnOk};
 ghost use Rattle.class_diagrams.specs.Trees.{leaf};
-ghost use Rattle.simple_core.specs.declared.system.System.{System};
 ghost use Rattle.pushdown_sym.specs.CellMap.{trees_in};
 ghost use Rattle.pushdown_sym.specs.Adding.{AreIn};
-ghost use Rattle.saturation.specs.Tables.{noted_in, OfSpawns};
-ghost use Rattle.saturation.specs.Waking.{AreParents};
+ghost use Rattle.saturation.specs.Waking.{with_atom, AreMakers, AreAbove};
 
-use crate::tables::Table;
 use class_diagrams::Diagrams;
 use pushdown_sym::Cells;
 use simple_core::MOST_KINDS;
 use std::alloc::Global;
 use tp_base::{Atom, NoMemory};
 
-/// The kinds below which a child of a kind can be.
+/// The kinds whose nodes may have an atom.
 #[derive(Drop)]
-pub(crate) struct Parents {
-    pub(crate) kind: u32,
-    pub(crate) kinds: Vec<u32>,
+struct Makers {
+    atom: u32,
+    kinds: Vec<u32>,
 }
 
-// Whether the cell of one of these atoms isn't false.
-fn can_make(d: &Diagrams, now: &Cells, kind: u32, makers: &[u32]) -> bool
-    requires { AreIn d.now.branches now.now }
-    ensures { (b : ℕ) → Contains makers.now b → trees_in d.now.branches now.now kind b ≢ leaf false → result ≡ true }
+// The atom with each of these kinds.
+fn add_atom(todo: &mut Vec<(u32, Atom)>, kinds: &[u32], atom: Atom) -> Result<(), NoMemory>
+    ensures { OnOk result (todo.new.items ≡ todo.old.items ++ with_atom atom kinds.now) }
 {
-    for i in 0..makers.len() {
-        let maker = makers[i];
-        let there = now.get(kind, Atom(maker));
-        if !d.same(there, Diagrams::leaf(false)) {
-            return true;
-        }
+    for i in 0..kinds.len() {
+        let kind = kinds[i];
+        todo.push((kind, atom))?;
     }
-    false
+    Ok(())
 }
 
-// The kinds that may have one of these atoms.
+fn may_have(d: &Diagrams, now: &Cells, kind: u32, atom: u32) -> bool
+    requires { AreIn d.now.branches now.now }
+    ensures { trees_in d.now.branches now.now kind atom ≢ leaf false → result ≡ true }
+{
+    let there = now.get(kind, Atom(atom));
+    !d.same(there, Diagrams::leaf(false))
+}
+
+// The kinds whose nodes may have an atom.
 fn kinds_with(
     alloc: Global,
     d: &Diagrams,
     now: &Cells,
     count: usize,
-    makers: &[u32],
+    atom: u32,
 ) -> Result<Vec<u32>, NoMemory>
     requires inside { AreIn d.now.branches now.now }
     requires few { count ≤ MOST_KINDS }
-    ensures whole { IfOk result (λ kinds. (j : ℕ) → j < count → (b : ℕ) → Contains makers.now b
-        → trees_in d.now.branches now.now j b ≢ leaf false → Contains kinds.items j) }
+    ensures whole { IfOk result (λ kinds. (j : ℕ) → j < count → trees_in d.now.branches now.now j atom ≢ leaf false → Contains kinds.items j) }
     ensures below { IfOk result (λ kinds. All (λ j. j < count) kinds.items) }
 {
     let mut kinds = Vec::new(alloc);
     for j in 0..count {
-        if can_make(d, now, j as u32, makers) {
+        if may_have(d, now, j as u32, atom) {
             kinds.push(j as u32)?;
         }
     }
     Ok(kinds)
 }
 
-fn new_parents(
+fn makers_with(
     alloc: Global,
     d: &Diagrams,
     now: &Cells,
     count: usize,
-    makers: &Table,
-    kind: u32,
-) -> Result<Parents, NoMemory>
+    atom: u32,
+) -> Result<Makers, NoMemory>
     requires inside { AreIn d.now.branches now.now }
     requires few { count ≤ MOST_KINDS }
-    ensures kind { IfOk result (λ p. p.kind ≡ kind) }
-    ensures parents { (s : System) → count ≡ length s.kinds → OfSpawns s.child (noted_in makers.now)
-        → IfOk result (λ p. AreParents s (trees_in d.now.branches now.now) kind p.kinds.items) }
+    ensures atom { IfOk result (λ m. m.atom ≡ atom) }
+    ensures makers { IfOk result (λ m. AreMakers (trees_in d.now.branches now.now) count atom m.kinds.items) }
 {
-    Ok(Parents {
-        kind,
-        kinds: kinds_with(alloc, d, now, count, makers.of(kind))?,
+    Ok(Makers {
+        atom,
+        kinds: kinds_with(alloc, d, now, count, atom)?,
     })
 }
 
-/// Those of a kind, for which the ones at hand serve where they are of that kind.
-pub(crate) fn parents_of(
+// Those that may have an atom, for which the ones at hand serve where they are of that atom.
+fn makers_of(
     alloc: Global,
     d: &Diagrams,
     now: &Cells,
     count: usize,
-    makers: &Table,
-    kept: Option<Parents>,
-    kind: u32,
-) -> Result<Parents, NoMemory>
+    kept: Option<Makers>,
+    atom: u32,
+) -> Result<Makers, NoMemory>
     requires inside { AreIn d.now.branches now.now }
     requires few { count ≤ MOST_KINDS }
-    ensures kind { IfOk result (λ p. p.kind ≡ kind) }
-    ensures parents { (s : System) → count ≡ length s.kinds → OfSpawns s.child (noted_in makers.now)
-        → IfSome kept (λ p. AreParents s (trees_in d.now.branches now.now) p.kind p.kinds.items)
-        → IfOk result (λ p. AreParents s (trees_in d.now.branches now.now) kind p.kinds.items) }
+    requires kept { IfSome kept (λ m. AreMakers (trees_in d.now.branches now.now) count m.atom m.kinds.items) }
+    ensures atom { IfOk result (λ m. m.atom ≡ atom) }
+    ensures makers { IfOk result (λ m. AreMakers (trees_in d.now.branches now.now) count atom m.kinds.items) }
 {
     match kept {
-        Some(parents) => {
-            if parents.kind == kind {
-                Ok(parents)
+        Some(makers) => {
+            if makers.atom == atom {
+                Ok(makers)
             } else {
-                new_parents(alloc, d, now, count, makers, kind)
+                makers_with(alloc, d, now, count, atom)
             }
         }
-        None => new_parents(alloc, d, now, count, makers, kind),
+        None => makers_with(alloc, d, now, count, atom),
     }
+}
+
+/// The cells of the second atom of each pair, for the kinds whose nodes may have the first. Where pairs of the same first
+/// atom stand together, their kinds are looked for once.
+pub(crate) fn add_above(
+    alloc: Global,
+    d: &Diagrams,
+    now: &Cells,
+    count: usize,
+    pairs: &[(u32, Atom)],
+    todo: &mut Vec<(u32, Atom)>,
+) -> Result<(), NoMemory>
+    requires inside { AreIn d.now.branches now.now }
+    requires few { count ≤ MOST_KINDS }
+    ensures { OnOk result (AreAbove (trees_in d.now.branches now.now) count pairs.now todo.old.items todo.new.items) }
+{
+    let mut kept = None;
+    for pair in pairs {
+        let makers = makers_of(alloc, d, now, count, kept, pair.0)?;
+        add_atom(todo, &makers.kinds, pair.1)?;
+        kept = Some(makers);
+    }
+    Ok(())
 }

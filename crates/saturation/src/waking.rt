@@ -1,15 +1,13 @@
 //! The cells that are calculated again.
-ghost use Rattle.std.specs.Prelude.{◌≡◌, ◌<◌, ◌≤◌, ◌++◌, ◌∷◌, [], ℕ, List, if◌then◌else◌, length, All, Contains, IfOk, OnOk, IfSome};
-ghost use Rattle.tp_base.specs.Classes.{has_class};
-ghost use Rattle.class_diagrams.specs.References.{Reference};
+ghost use Rattle.std.specs.Prelude.{◌≡◌, ◌<◌, ◌≤◌, ◌++◌, ℕ, length, All, Contains, IfOk, OnOk};
 ghost use Rattle.simple_core.specs.declared.system.System.{System};
 ghost use Rattle.pushdown_sym.specs.CellMap.{trees_in};
 ghost use Rattle.pushdown_sym.specs.Adding.{AreIn};
 ghost use Rattle.saturation.specs.Tables.{noted_in, AreReadsOf};
-ghost use Rattle.saturation.specs.Waking.{CellName, named, named_each, woken, AreParents, AreReaders};
+ghost use Rattle.saturation.specs.Waking.{CellName, named, named_each, by_rules, looking, by_makers, of_each, AreReaders};
 
 use crate::names::add_kind;
-use crate::parents::{Parents, parents_of};
+use crate::parents::add_above;
 use crate::reads::Reads;
 use class_diagrams::{Diagrams, Ref};
 use pushdown_sym::Cells;
@@ -37,89 +35,85 @@ fn add_each(todo: &mut Vec<(u32, Atom)>, kinds: &[u32], atoms: &[u32]) -> Result
     Ok(())
 }
 
-fn add_looked(
+// Each of these kinds with each atom.
+fn add_kinds(
     todo: &mut Vec<(u32, Atom)>,
-    looked: &ClassSet,
-    ends: &ClassSet,
-    name: (u32, Atom),
+    kinds: &[u32],
+    atoms: &ClassSet,
 ) -> Result<(), NoMemory>
-    ensures { OnOk result (todo.new.items ≡ todo.old.items ++ (if has_class name.1 looked.now then named name.0 ends.now else [])) }
+    ensures { OnOk result (todo.new.items ≡ todo.old.items ++ named_each kinds.now atoms.now) }
 {
-    if looked.has(name.1) {
-        add_kind(name.0, ends, todo)?;
+    for i in 0..kinds.len() {
+        let kind = kinds[i];
+        add_kind(kind, atoms, todo)?;
     }
     Ok(())
 }
 
-// The cells that read one that changed.
-fn add_woken(
-    todo: &mut Vec<(u32, Atom)>,
-    reads: &Reads,
-    parents: &[u32],
+fn add_looking(
+    kinds: &mut Vec<u32>,
+    looked: &ClassSet,
     name: (u32, Atom),
 ) -> Result<(), NoMemory>
-    ensures { OnOk result (todo.new.items ≡ todo.old.items
-        ++ woken (noted_in reads.now.by_needs) (noted_in reads.now.by_child) reads.now.ends reads.now.looked parents.now name) }
+    ensures { OnOk result (kinds.new.items ≡ kinds.old.items ++ looking looked.now name) }
 {
-    let (kind, atom) = name;
-    let gives = reads.by_needs.of(atom.0);
-    let above = reads.by_child.of(atom.0);
-    add_named(todo, kind, gives)?;
-    add_looked(todo, &reads.looked, &reads.ends, name)?;
-    add_each(todo, parents, above)?;
+    if looked.has(name.1) {
+        kinds.push(name.0)?;
+    }
     Ok(())
 }
 
-// The same, with the kinds below which a child of the cell's kind can be.
+// What a change wakes: the cells that rules calculate from it, the kind if its links from children look at the atom, and
+// what links give to the parents of the kind, each such atom with those that make a child of the kind.
 fn wake_one(
-    alloc: Global,
-    d: &Diagrams,
-    now: &Cells,
-    count: usize,
     reads: &Reads,
-    kept: Option<Parents>,
     name: (u32, Atom),
-    todo: &mut Vec<(u32, Atom)>,
-) -> Result<Parents, NoMemory>
-    requires inside { AreIn d.now.branches now.now }
-    requires few { count ≤ MOST_KINDS }
-    ensures parents { (s : System) → count ≡ length s.kinds
-        → AreReadsOf s reads.now
-        → IfSome kept (λ p. AreParents s (trees_in d.now.branches now.now) p.kind p.kinds.items)
-        → IfOk result (λ p. AreParents s (trees_in d.now.branches now.now) p.kind p.kinds.items) }
-    ensures woken { (s : System) (done : List (CellName × Reference)) (f : Reference) → count ≡ length s.kinds
-        → AreReadsOf s reads.now
-        → IfSome kept (λ p. AreParents s (trees_in d.now.branches now.now) p.kind p.kinds.items)
-        → name.0 < length s.kinds → AreReaders s (trees_in d.now.branches now.now) done todo.old.items
-        → OnOk result (AreReaders s (trees_in d.now.branches now.now) (done ++ (name, f) ∷ []) todo.new.items) }
+    cells: &mut Vec<(u32, Atom)>,
+    kinds: &mut Vec<u32>,
+    above: &mut Vec<(u32, Atom)>,
+) -> Result<(), NoMemory>
+    ensures cells { OnOk result (cells.new.items ≡ cells.old.items ++ by_rules (noted_in reads.now.by_needs) name) }
+    ensures kinds { OnOk result (kinds.new.items ≡ kinds.old.items ++ looking reads.now.looked name) }
+    ensures above { OnOk result (above.new.items ≡ above.old.items ++ by_makers (noted_in reads.now.makers) (noted_in reads.now.by_child) name) }
 {
-    let parents = parents_of(alloc, d, now, count, &reads.makers, kept, name.0)?;
-    add_woken(todo, reads, &parents.kinds, name)?;
-    Ok(parents)
+    let (kind, atom) = name;
+    let gives = reads.by_needs.of(atom.0);
+    let ends = reads.by_child.of(atom.0);
+    let makers = reads.makers.of(kind);
+    add_named(cells, kind, gives)?;
+    add_looking(kinds, &reads.looked, name)?;
+    add_each(above, makers, ends)?;
+    Ok(())
+}
+
+// What all changes wake.
+#[derive(Drop)]
+struct Woken {
+    cells: Vec<(u32, Atom)>,
+    kinds: Vec<u32>,
+    above: Vec<(u32, Atom)>,
 }
 
 fn woken_by(
     alloc: Global,
-    d: &Diagrams,
-    now: &Cells,
-    count: usize,
     reads: &Reads,
     changes: &[((u32, Atom), Ref)],
-) -> Result<Vec<(u32, Atom)>, NoMemory>
-    requires inside { AreIn d.now.branches now.now }
-    requires few { count ≤ MOST_KINDS }
-    ensures { (s : System) → count ≡ length s.kinds
-        → AreReadsOf s reads.now
-        → All (λ c. c.0.0 < length s.kinds) changes.now
-        → IfOk result (λ todo. AreReaders s (trees_in d.now.branches now.now) changes.now todo.items) }
+) -> Result<Woken, NoMemory>
+    ensures cells { IfOk result (λ w. w.cells.items ≡ of_each (by_rules (noted_in reads.now.by_needs)) changes.now) }
+    ensures kinds { IfOk result (λ w. w.kinds.items ≡ of_each (looking reads.now.looked) changes.now) }
+    ensures above { IfOk result (λ w. w.above.items ≡ of_each (by_makers (noted_in reads.now.makers) (noted_in reads.now.by_child)) changes.now) }
 {
-    let mut todo = Vec::new(alloc);
-    let mut kept = None;
+    let mut cells = Vec::new(alloc);
+    let mut kinds = Vec::new(alloc);
+    let mut above = Vec::new(alloc);
     for change in changes {
-        let parents = wake_one(alloc, d, now, count, reads, kept, change.0, &mut todo)?;
-        kept = Some(parents);
+        wake_one(reads, change.0, &mut cells, &mut kinds, &mut above)?;
     }
-    Ok(todo)
+    Ok(Woken {
+        cells,
+        kinds,
+        above,
+    })
 }
 
 // Each cell once, kind by kind.
@@ -131,6 +125,16 @@ fn sorted(cells: Vec<(u32, Atom)>) -> Result<Vec<(u32, Atom)>, NoMemory>
     in_order.sort()?;
     in_order.dedup();
     Ok(in_order)
+}
+
+// Each kind once, where equal ones stand together.
+fn different(kinds: Vec<u32>) -> Vec<u32>
+    ensures kept { (k : ℕ) → Contains kinds.items k → Contains result.items k }
+    ensures only { (k : ℕ) → Contains result.items k → Contains kinds.items k }
+{
+    let mut once = kinds;
+    once.dedup();
+    once
 }
 
 /// The cells to calculate after these changes: those that read one that changed.
@@ -149,7 +153,12 @@ pub(crate) fn readers(
         → All (λ c. c.0.0 < length s.kinds) changes.now
         → IfOk result (λ todo. AreReaders s (trees_in d.now.branches now.now) changes.now todo.items) }
 {
-    let todo = woken_by(alloc, d, now, count, reads, changes)?;
+    let woken = woken_by(alloc, reads, changes)?;
+    let mut todo = woken.cells;
+    let kinds = different(woken.kinds);
+    add_kinds(&mut todo, &kinds, &reads.ends)?;
+    let pairs = sorted(woken.above)?;
+    add_above(alloc, d, now, count, &pairs, &mut todo)?;
     let once = sorted(todo)?;
     Ok(once)
 }

@@ -10,20 +10,20 @@ use Rattle.saturation.proofs.changes.one_cell.Goals as goal
 
 pub returns-in_err-next-clause-step : goal.returns-in_err-next-clause-step
 returns-in_err-next-clause-step c k first done sound given tells was =
-    step_failed c.args.equations.now k first c.args.d.now c.args.now.now c.args.name done c.args.changes.now.items c.requires.kind sound given tells was
+    step_failed c.args.round.now.0 k first c.args.d.now c.args.round.now.1 c.args.name done c.args.changes.now.items c.requires.kind sound given tells was
     c.next_cell.new.d c.from_residual.result c.in_err-next.field-0.0 c.from_residual.ensures.1 (λ e. c.in_err-next.ensures.full (ap (λ (x : DiagramFault). Err x) e))
 
 pub returns-else-not-same-clause-step : goal.returns-else-not-same-clause-step
 returns-else-not-same-clause-step c k first done sound given tells was =
     let h = c.in_ok-next.ensures in
-    step_kept c.args.equations.now k first c.args.d.now c.args.now.now c.args.name done c.args.changes.now.items c.requires.kind sound given tells was
+    step_kept c.args.round.now.0 k first c.args.d.now c.args.round.now.1 c.args.name done c.args.changes.now.items c.requires.kind sound given tells was
     c.next_cell.new.d c.in_ok-next.next h.inside h.tree (record { stays = h.stays; only = h.only; limit = h.limit; arena = h.arena })
     (c.if-not-same.ensures.same.0 refl ∙ ap (tree_at c.next_cell.new.d.branches) c.get.ensures) (c.requires.inside c.args.name.0 c.args.name.1)
 
 pub returns-in_ok-push-clause-step : goal.returns-in_ok-push-clause-step
 returns-in_ok-push-clause-step c k first done sound given tells was =
     let h = c.in_ok-next.ensures in
-    subst (λ (cs : List (CellName × Reference)). AreChanges c.args.equations.now k first c.next_cell.new.d (done ++ c.args.name ∷ []) cs) (sym c.in_ok-push.ensures.items)
-    (step_pushed c.args.equations.now k first c.args.d.now c.args.now.now c.args.name done c.args.changes.now.items c.requires.kind sound given tells was
+    subst (λ (cs : List (CellName × Reference)). AreChanges c.args.round.now.0 k first c.next_cell.new.d (done ++ c.args.name ∷ []) cs) (sym c.in_ok-push.ensures.items)
+    (step_pushed c.args.round.now.0 k first c.args.d.now c.args.round.now.1 c.args.name done c.args.changes.now.items c.requires.kind sound given tells was
     c.next_cell.new.d c.in_ok-next.next h.inside h.tree (record { stays = h.stays; only = h.only; limit = h.limit; arena = h.arena })
     (λ same. both_ways false refl (c.if-not-same.ensures.same.1 (same ∙ ap (tree_at c.next_cell.new.d.branches) (sym c.get.ensures)))) (c.requires.inside c.args.name.0 c.args.name.1))

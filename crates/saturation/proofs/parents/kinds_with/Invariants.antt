@@ -4,5 +4,5 @@ use Rattle.pushdown_sym.specs.CellMap.{trees_in}
 use Rattle.saturation.proofs.parents.kinds_with.Given as goal
 
 abbrev pub invariant-loop-j : goal.invariant-loop-j
-invariant-loop-j l = ((i : ℕ) → i < l.j → (b : ℕ) → Contains l.makers b → trees_in l.d.branches l.now i b ≢ leaf false → Contains l.kinds.items i)
+invariant-loop-j l = ((i : ℕ) → i < l.j → trees_in l.d.branches l.now i l.atom ≢ leaf false → Contains l.kinds.items i)
     × All (λ i. i < l.count) l.kinds.items

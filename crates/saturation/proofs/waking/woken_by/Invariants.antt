@@ -1,12 +1,9 @@
-use Rattle.std.proofs.Common.{◌≡◌, ◌<◌, length, take, All, IfSome}
-use Rattle.simple_core.specs.declared.system.System.{System}
-use Rattle.pushdown_sym.specs.CellMap.{trees_in}
-use Rattle.saturation.specs.Tables.{AreReadsOf}
-use Rattle.saturation.specs.Waking.{AreParents, AreReaders}
+use Rattle.std.proofs.Common.{◌≡◌, take}
+use Rattle.saturation.specs.Tables.{noted_in}
+use Rattle.saturation.specs.Waking.{by_rules, looking, by_makers, of_each}
 use Rattle.saturation.proofs.waking.woken_by.Given as goal
 
 abbrev pub invariant-loop-change : goal.invariant-loop-change
-invariant-loop-change l = (s : System) → l.count ≡ length s.kinds
-    → AreReadsOf s l.reads
-    → All (λ c. c.0.0 < length s.kinds) l.changes
-    → IfSome l.kept (λ p. AreParents s (trees_in l.d.branches l.now) p.kind p.kinds.items) × AreReaders s (trees_in l.d.branches l.now) (take l.change-index l.changes) l.todo.items
+invariant-loop-change l = (l.cells.items ≡ of_each (by_rules (noted_in l.reads.by_needs)) (take l.change-index l.changes))
+    × (l.kinds.items ≡ of_each (looking l.reads.looked) (take l.change-index l.changes))
+    × (l.above.items ≡ of_each (by_makers (noted_in l.reads.makers) (noted_in l.reads.by_child)) (take l.change-index l.changes))
