@@ -78,12 +78,12 @@ looking_is looked c k there =
       | inr none ↦ absurd (Contains-none k (rw none at found))
     ]
 
-module _ (s : System) (by_needs by_child makers : ℕ → List ℕ) (ends looked : List ℕ) (reads : AreReads s by_needs by_child makers ends looked) (now : CellTrees)
+module _ (s : System) (by_needs by_link makers : ℕ → List ℕ) (ends looked : List ℕ) (reads : AreReads s by_needs by_link makers ends looked) (now : CellTrees)
     (changes : List (CellName × Reference)) (below : All (λ c. c.0.0 < length s.kinds) changes)
     (cells : List CellName) (cells_are : cells ≡ of_each (by_rules by_needs) changes)
     (kinds : List ℕ) (kinds_kept : (k : ℕ) → Contains (of_each (looking looked) changes) k → Contains kinds k) (kinds_only : (k : ℕ) → Contains kinds k → Contains (of_each (looking looked) changes) k)
-    (pairs : List CellName) (pairs_kept : (c : CellName) → Contains (of_each (by_makers makers by_child) changes) c → Contains pairs c)
-    (pairs_only : (c : CellName) → Contains pairs c → Contains (of_each (by_makers makers by_child) changes) c)
+    (pairs : List CellName) (pairs_kept : (c : CellName) → Contains (of_each (by_makers makers by_link) changes) c → Contains pairs c)
+    (pairs_only : (c : CellName) → Contains pairs c → Contains (of_each (by_makers makers by_link) changes) c)
     (more : List CellName) (more_is : more ≡ cells ++ named_each kinds ends)
     (todo : List CellName) (above : AreAbove now (length s.kinds) pairs more todo) where
   changed : {X : Type 0} (f : CellName → List X) (c : CellName) (g : Reference) (x : X) → Contains changes (c, g) → Contains (f c) x → Contains (of_each f changes) x
@@ -105,8 +105,8 @@ module _ (s : System) (by_needs by_child makers : ℕ → List ℕ) (ends looked
   reader i b j a f there kind (by_visible l listed to seen same) =
       looked_reader i b j a f there same (reads.visible b seen) (subst (λ x. Contains ends x) to (reads.to l listed))
   reader i b j a f there kind (by_child l listed to c in_child kind_is from can) =
-      above.whole c.needs a j (pairs_kept (c.needs, a) (changed (by_makers makers by_child) (i, b) f (c.needs, a) there
-      (named_there (makers i) (by_child b) c.needs a (reads.spawns.whole c in_child i kind_is) (subst (λ x. Contains (by_child b) x) to (reads.child.whole l listed b from))))) kind can
+      above.whole c.needs a j (pairs_kept (c.needs, a) (changed (by_makers makers by_link) (i, b) f (c.needs, a) there
+      (named_there (makers i) (by_link b) c.needs a (reads.spawns.whole c in_child i kind_is) (subst (λ x. Contains (by_link b) x) to (reads.child.whole l listed b from))))) kind can
 
   ends_given : (a : ℕ) → Contains ends a → Contains (given_atoms s) a
   ends_given a there = let l = reads.only_to a there in subst (λ x. Contains (given_atoms s) x) (sym l.2) (given_down s l.0 l.1)
@@ -131,8 +131,8 @@ module _ (s : System) (by_needs by_child makers : ℕ → List ℕ) (ends looked
   fits c there = elim (above.only c there) [
     | inl before ↦ fits_more c before
     | inr up ↦
-        let found = there_flat (λ (d : CellName × Reference). by_makers makers by_child d.0) changes (up.0, c.1) (pairs_only (up.0, c.1) up.1) in
-        let both = there_named (makers found.0.0.0) (by_child found.0.0.1) (up.0, c.1) found.2 in
+        let found = there_flat (λ (d : CellName × Reference). by_makers makers by_link d.0) changes (up.0, c.1) (pairs_only (up.0, c.1) up.1) in
+        let both = there_named (makers found.0.0.0) (by_link found.0.0.1) (up.0, c.1) found.2 in
         let l = reads.child.only found.0.0.1 c.1 both.1 in
         (up.2, subst (λ x. Contains (given_atoms s) x) (sym l.2) (given_down s l.0 l.1))
   ]

@@ -40,7 +40,7 @@ loop-name-preserved c = (
       subst (λ (done : List CellName). AreChanges c.args.equations.now k c.args.d.now c.one_cell.new.d done c.one_cell.new.changes.items)
       (sym (take_more c.args.todo.now c.loop-name.name-index c.name-item.result c.loop-name-test.true
       ∙ ap (λ (x : CellName). take c.loop-name.name-index c.args.todo.now ++ x ∷ []) (sym c.name-item.is)))
-      ((subst (λ (p : System × Entries). Steps p.0 p.1 c.loop-name.d c.one_cell.new.d c.name-item.result c.loop-name.changes.items c.one_cell.new.changes.items (Ok ())) c.loop-name.invariant.0 c.in_ok-one_cell.ensures.step) k c.args.d.now (take c.loop-name.name-index c.args.todo.now) sound
+      ((subst (λ (p : System × Entries). Steps p.0 p.1 c.loop-name.d c.one_cell.new.d c.name-item.result c.loop-name.changes.items c.one_cell.new.changes.items (Ok tt)) c.loop-name.invariant.0 c.in_ok-one_cell.ensures.step) k c.args.d.now (take c.loop-name.name-index c.args.todo.now) sound
       (subst (λ (x : CellName). Contains (given_atoms c.args.equations.now) x.1) (sym c.name-item.is) (given c.loop-name.name-index c.name-item.result c.loop-name-test.true))
       (λ j a less. tree_at-further c.args.d.now.branches c.loop-name.d.branches (place_in c.args.now.now j a) c.loop-name.invariant.1 (c.requires.inside j a) ∙ tells j a less)
       (c.loop-name.invariant.2 k sound given tells)),

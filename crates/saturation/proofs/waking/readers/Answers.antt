@@ -13,8 +13,8 @@ returns c s count reads below =
     readers_kept s now c.args.changes.now c.add_above.new.todo.items c.in_ok-once.once.items
     (readers_are s (noted_in r.by_needs) (noted_in r.by_child) (noted_in r.makers) r.ends r.looked reads now c.args.changes.now below
     c.in_ok-woken.woken.cells.items w.cells
-    c.different.result.items (λ k there. c.different.ensures.kept k (subst (λ (ks : List ℕ). Contains ks k) (sym w.kinds) there))
-    (λ k there. subst (λ (ks : List ℕ). Contains ks k) w.kinds (c.different.ensures.only k there))
+    c.different-kinds.result.items (λ k there. c.different-kinds.ensures.kept k (subst (λ (ks : List ℕ). Contains ks k) (sym w.kinds) there))
+    (λ k there. subst (λ (ks : List ℕ). Contains ks k) w.kinds (c.different-kinds.ensures.only k there))
     c.in_ok-pairs.pairs.items (λ x there. c.in_ok-pairs.ensures.kept x (subst (λ (cs : List CellName). Contains cs x) (sym w.above) there))
     (λ x there. subst (λ (cs : List CellName). Contains cs x) w.above (c.in_ok-pairs.ensures.only x there))
     c.add_kinds.new.todo.items (c.in_ok-add_kinds.ensures ∙ ap (λ (ks : List ℕ). c.in_ok-woken.woken.cells.items ++ named_each ks r.ends) c.deref.ensures.value)
