@@ -233,9 +233,11 @@ module _ (now : CellTrees) (count : ℕ) (done : List CellName) (pair : CellName
           let found = map-Contains {X = ℕ} {Y = CellName} (λ k. (k, pair.1)) kinds c last in
           let kind : c.0 ≡ found.0 = ap (λ (d : CellName). d.0) found.2 in
           let atom : c.1 ≡ pair.1 = ap (λ (d : CellName). d.1) found.2 in
-          inr (pair.0,
-          Contains-append_right done (pair ∷ []) (pair.0, c.1) (Contains-here {X = CellName} (pair.0, c.1) pair [] (λ n. (pair.0, atom n))),
-          subst (λ k. k < count) (sym kind) (All-contains (λ k. k < count) kinds found.0 makers.below found.1))
+          inr (
+            pair.0,
+            Contains-append_right done (pair ∷ []) (pair.0, c.1) (Contains-here {X = CellName} (pair.0, c.1) pair [] (λ n. (pair.0, atom n))),
+            subst (λ k. k < count) (sym kind) (All-contains (λ k. k < count) kinds found.0 makers.below found.1),
+          )
     ];
   }
 

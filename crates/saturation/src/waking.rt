@@ -36,11 +36,7 @@ fn add_each(todo: &mut Vec<(u32, Atom)>, kinds: &[u32], atoms: &[u32]) -> Result
 }
 
 // Each of these kinds with each atom.
-fn add_kinds(
-    todo: &mut Vec<(u32, Atom)>,
-    kinds: &[u32],
-    atoms: &ClassSet,
-) -> Result<(), NoMemory>
+fn add_kinds(todo: &mut Vec<(u32, Atom)>, kinds: &[u32], atoms: &ClassSet) -> Result<(), NoMemory>
     ensures { OnOk result (todo.new.items ≡ todo.old.items ++ named_each kinds.now atoms.now) }
 {
     for i in 0..kinds.len() {
@@ -50,11 +46,7 @@ fn add_kinds(
     Ok(())
 }
 
-fn add_looking(
-    kinds: &mut Vec<u32>,
-    looked: &ClassSet,
-    name: (u32, Atom),
-) -> Result<(), NoMemory>
+fn add_looking(kinds: &mut Vec<u32>, looked: &ClassSet, name: (u32, Atom)) -> Result<(), NoMemory>
     ensures { OnOk result (kinds.new.items ≡ kinds.old.items ++ looking looked.now name) }
 {
     if looked.has(name.1) {
@@ -94,11 +86,7 @@ struct Woken {
     above: Vec<(u32, Atom)>,
 }
 
-fn woken_by(
-    alloc: Global,
-    reads: &Reads,
-    changes: &[((u32, Atom), Ref)],
-) -> Result<Woken, NoMemory>
+fn woken_by(alloc: Global, reads: &Reads, changes: &[((u32, Atom), Ref)]) -> Result<Woken, NoMemory>
     ensures cells { IfOk result (λ w. w.cells.items ≡ of_each (by_rules (noted_in reads.now.by_needs)) changes.now) }
     ensures kinds { IfOk result (λ w. w.kinds.items ≡ of_each (looking reads.now.looked) changes.now) }
     ensures above { IfOk result (λ w. w.above.items ≡ of_each (by_makers (noted_in reads.now.makers) (noted_in reads.now.by_child)) changes.now) }
