@@ -9,7 +9,7 @@ use Rattle.class_adding.specs.Filling.{with_gains, news, starts, RestUnmarked, A
 use Rattle.class_adding.specs.Fresh.{AreSettled, AreResting}
 use Rattle.class_adding.proofs.SettledLemmas.{all_labels_are, settled_start, resting_start, settled_next, resting_next}
 use Rattle.class_adding.proofs.AddedLemmas.{on_err}
-use Rattle.class_adding.proofs.WentLemmas.{went_start, ok_spent}
+use Rattle.class_adding.proofs.WentLemmas.{went_start, ok_spent, err_spent}
 use Rattle.class_adding.proofs.GiftLemmas.{no_gifts}
 use Rattle.class_adding.proofs.EndLemmas.{closing_start, closing_next, closing_end, all_known, looked_nodes, went_page, told_page, rest_start, rest_next, few_next}
 use Rattle.class_adding.specs.Views.{firsts_of}
@@ -70,6 +70,10 @@ returns-in_err-round-clause-within g c =
     (g.S.Summaries.told c.args.sums.now) (g.S.Summaries.told c.rounds.sums) (g.S.Summaries.told c.look_at_all.new.sums) (g.S.Summaries.system c.rounds.sums) (g.S.Summaries.system c.look_at_all.new.sums)
     (g.S.Summaries.spent_on c.args.sums.now) (g.S.Summaries.spent_on c.rounds.sums) (g.S.Summaries.spent_on c.look_at_all.new.sums) c.rounds.invariant.closing c.rounds.invariant.went c.look_at_all.ensures.went in
     on_err (TellsWithin c.args.system.now (g.S.Summaries.told c.args.sums.now) (g.S.Summaries.told c.look_at_all.new.sums) (Asked c.args.system.now c.args.page.now)) c.from_residual-in_err-round.result went.within
+
+pub returns-in_err-round-clause-spent : goal.returns-in_err-round-clause-spent
+returns-in_err-round-clause-spent g c = λ none.
+    err_spent c.from_residual-in_err-round.result c.in_err-round.field-0.0 (g.S.Summaries.spent_on c.look_at_all.new.sums) c.from_residual-in_err-round.ensures.1 (c.in_err-round.ensures.spent (c.rounds.invariant.spent ∙ none))
 
 pub closed_of-requires-clause-nodes : goal.closed_of-requires-clause-nodes
 closed_of-requires-clause-nodes g c = firsts_placed c.args.system.now c.args.page.now c.rounds.labels.labels c.rounds.firsts.items c.rounds.k (g.S.Summaries.known c.rounds.sums) c.rounds.labels.nodes c.rounds.invariant.nodes c.rounds.invariant.closing
