@@ -1,5 +1,5 @@
 -- Which cells are calculated again after some changes.
-use Rattle.std.specs.Prelude.{◌≡◌, ◌≢◌, ℕ, ◌<◌, false, List, [], ◌∷◌, map, length, All, Contains, if◌then◌else◌, ◌⊎◌}
+use Rattle.std.specs.Prelude.{◌≢◌, ℕ, ◌<◌, false, List, [], ◌∷◌, map, length, All, Contains, if◌then◌else◌, ◌⊎◌}
 use Rattle.std.specs.List.{flat_map}
 use Rattle.tp_base.specs.Classes.{has_class}
 use Rattle.class_diagrams.specs.References.{Reference}

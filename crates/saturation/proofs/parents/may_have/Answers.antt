@@ -1,4 +1,3 @@
-use Rattle.pushdown_sym.specs.CellMap.{trees_in}
 use Rattle.saturation.proofs.parents.may_have.Goals as goal
 
 pub same-requires-clause-second : goal.same-requires-clause-second
