@@ -244,7 +244,6 @@ fn row_of(
 }
 
 /// The sheet of all cases, and the answers.
-#[tactic(auto, using(crate::proofs::ReportLemmas::one_more))]
 fn rows_of(
     alloc: Global,
     text: &[u8],
