@@ -3,7 +3,7 @@ ghost use Rattle.std.specs.Prelude.{◌≡◌, ◌<◌, ◌≤◌, ◌+◌, ◌�
 ghost use Rattle.tp_base.specs.Names.{IsDistinct, place_in, with_name};
 
 use crate::atoms::{Atom, AtomKind, MOST_ATOMS};
-use crate::names::{Name, NameRef};
+use crate::names::{Name, place_of};
 use indexmap::IndexSet;
 use std::alloc::{AllocError, AllocFailed, Global};
 use std::marker::Model;
@@ -75,8 +75,8 @@ impl AtomTable {
         self.names.len() as u32
     }
 
-    /// The number of a name, which is added where it is new. Linear in its text, and constant on average in the number of names.
-    /// A name that is there already needs no memory.
+    /// The number of a name, which is added where it is new. Linear in its text, and constant on average in the number of names,
+    /// but linear in it where memory is at its end. A name that is there already is found without memory, too.
     pub fn intern(&mut self, kind: AtomKind, name: &[u8]) -> Result<Atom, AtomFault>
         ensures ok { IfOk result (λ a. with_name self.old (kind, name.now) ≡ Some (a, self.new)) }
         ensures place { IfOk result (λ a. slice_get self.new a ≡ Some (kind, name.now)) }
@@ -102,8 +102,20 @@ impl AtomTable {
     fn find(&self, kind: AtomKind, name: &[u8]) -> Option<Atom>
         ensures { result ≡ place_in self.now (kind, name.now) }
     {
-        let place = self.names.get_index_of(NameRef { kind, text: name })?;
+        let place = self.index_of(kind, name)?;
         Some(Atom(place as u32))
+    }
+
+    // Its place: by its hash, or by a look at each where there is no memory for a key.
+    fn index_of(&self, kind: AtomKind, name: &[u8]) -> Option<usize>
+        ensures place { result ≡ place_in self.now (kind, name.now) }
+        ensures within { IfSome result (λ i. i < MOST_ATOMS) }
+    {
+        let Ok(text) = Vec::from_slice(*self.names.allocator(), name) else {
+            return place_of(self.names.as_slice(), kind, name);
+        };
+        let key = Name { kind, text };
+        self.names.get_index_of(&key)
     }
 
     // The number of a name, which goes last where it is new.

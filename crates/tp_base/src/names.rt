@@ -1,7 +1,8 @@
-//! Names as a table keeps them, and as they are looked up.
+//! Names as a table keeps them.
+ghost use Rattle.std.specs.Prelude.{◌≡◌, position};
+ghost use Rattle.tp_base.specs.Names.{named, is_name};
 
 use crate::atoms::AtomKind;
-use indexmap::Equivalent;
 
 /// A name that owns its text.
 #[derive(Debug, PartialEq, Eq, Hash, Drop)]
@@ -10,25 +11,15 @@ pub(crate) struct Name {
     pub(crate) text: Vec<u8>,
 }
 
-/// A name whose text stands elsewhere, by which one that owns its text is found.
-#[derive(Clone, Copy, PartialEq, Eq, Hash)]
-pub(crate) struct NameRef<'a> {
-    pub(crate) kind: AtomKind,
-    pub(crate) text: &'a [u8],
+/// The place of a name among others, by a look at each.
+pub(crate) fn place_of(names: &[Name], kind: AtomKind, name: &[u8]) -> Option<usize>
+    ensures { result ≡ position (λ known. is_name (kind, name.now) (named known)) names.now }
+{
+    names.iter().position(|known| is_named(known, kind, name))
 }
 
-impl Equivalent<Name> for NameRef<'_> {
-    ghost use Rattle.std.proofs.Common.{rules};
-    ghost use Rattle.std.specs.Cmp.Rules.{comparing, hashing};
-    ghost use Rattle.tp_base.specs.Names.{named, is_name};
-
-    ghost equivalent = { λ q k. is_name (q.kind, q.text.now) (named k) };
-
-    ghost respects_hash = { Prim.search (hashing, rules) };
-
-    ghost respects_eq = { Prim.search (comparing, rules) };
-
-    fn equivalent(&self, key: &Name) -> bool {
-        self.kind == key.kind && self.text == key.text.as_slice()
-    }
+fn is_named(known: &Name, kind: AtomKind, name: &[u8]) -> bool
+    ensures { result ≡ is_name (kind, name.now) (named known.now) }
+{
+    kind == known.kind && name == known.text.as_slice()
 }
