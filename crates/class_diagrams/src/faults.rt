@@ -1,8 +1,8 @@
 //! Why an operation on diagrams gives no diagram.
 ghost use Rattle.std.specs.Prelude.{◌≡◌};
 
-use std::alloc::{AllocError, AllocFailed};
 use thiserror::Error;
+use tp_base::OutOfMemory;
 
 /// Why there is no diagram.
 #[derive(Clone, Copy, Debug, PartialEq, Eq, Error)]
@@ -13,22 +13,12 @@ pub enum DiagramFault {
     Memory,
 }
 
-impl From<AllocError> for DiagramFault {
+impl<E: OutOfMemory> From<E> for DiagramFault {
     ghost use Rattle.class_diagrams.specs.declared.faults.DiagramFault.TheVariants.{Memory};
 
     ghost from_gives = { λ _ e. e ≡ Memory };
 
-    fn from(_error: AllocError) -> DiagramFault {
-        DiagramFault::Memory
-    }
-}
-
-impl<T: Drop> From<AllocFailed<T>> for DiagramFault {
-    ghost use Rattle.class_diagrams.specs.declared.faults.DiagramFault.TheVariants.{Memory};
-
-    ghost from_gives = { λ _ e. e ≡ Memory };
-
-    fn from(_error: AllocFailed<T>) -> DiagramFault {
+    fn from(_error: E) -> DiagramFault {
         DiagramFault::Memory
     }
 }

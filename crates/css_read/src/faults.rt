@@ -1,7 +1,6 @@
 //! Why a sheet is not read.
-use std::alloc::{AllocError, AllocFailed};
 use thiserror::Error;
-use tp_base::MOST_ATOMS;
+use tp_base::{MOST_ATOMS, OutOfMemory};
 
 /// How many selectors a sheet may have.
 pub const MOST_SELECTORS: usize = 20_000;
@@ -22,24 +21,13 @@ pub enum SheetFault {
     Memory,
 }
 
-impl From<AllocError> for SheetFault {
+impl<E: OutOfMemory> From<E> for SheetFault {
     ghost use Rattle.std.specs.Prelude.{◌≡◌};
     ghost use Rattle.css_read.specs.declared.faults.SheetFault.TheVariants.{Memory};
 
     ghost from_gives = { λ _ e. e ≡ Memory };
 
-    fn from(_error: AllocError) -> SheetFault {
-        SheetFault::Memory
-    }
-}
-
-impl<T: Drop> From<AllocFailed<T>> for SheetFault {
-    ghost use Rattle.std.specs.Prelude.{◌≡◌};
-    ghost use Rattle.css_read.specs.declared.faults.SheetFault.TheVariants.{Memory};
-
-    ghost from_gives = { λ _ e. e ≡ Memory };
-
-    fn from(_error: AllocFailed<T>) -> SheetFault {
+    fn from(_error: E) -> SheetFault {
         SheetFault::Memory
     }
 }

@@ -1,7 +1,6 @@
 //! Why a page or markup is not read.
-use std::alloc::{AllocError, AllocFailed};
 use thiserror::Error;
-use tp_base::{MOST_ATOMS, NoMemory};
+use tp_base::{MOST_ATOMS, OutOfMemory};
 
 /// How long the path of a node may be. A page's `html` has the length 0, and a top node of markup 1.
 pub const MOST_DEPTH: usize = 512;
@@ -25,35 +24,13 @@ pub enum PageFault {
     Memory,
 }
 
-impl From<NoMemory> for PageFault {
+impl<E: OutOfMemory> From<E> for PageFault {
     ghost use Rattle.std.specs.Prelude.{◌≡◌};
     ghost use Rattle.html_subset.specs.declared.faults.PageFault.TheVariants.{Memory};
 
     ghost from_gives = { λ _ e. e ≡ Memory };
 
-    fn from(_error: NoMemory) -> PageFault {
-        PageFault::Memory
-    }
-}
-
-impl From<AllocError> for PageFault {
-    ghost use Rattle.std.specs.Prelude.{◌≡◌};
-    ghost use Rattle.html_subset.specs.declared.faults.PageFault.TheVariants.{Memory};
-
-    ghost from_gives = { λ _ e. e ≡ Memory };
-
-    fn from(_error: AllocError) -> PageFault {
-        PageFault::Memory
-    }
-}
-
-impl<T: Drop> From<AllocFailed<T>> for PageFault {
-    ghost use Rattle.std.specs.Prelude.{◌≡◌};
-    ghost use Rattle.html_subset.specs.declared.faults.PageFault.TheVariants.{Memory};
-
-    ghost from_gives = { λ _ e. e ≡ Memory };
-
-    fn from(_error: AllocFailed<T>) -> PageFault {
+    fn from(_error: E) -> PageFault {
         PageFault::Memory
     }
 }

@@ -1,5 +1,5 @@
 -- The first words, one by one.
-use Rattle.std.proofs.Common.{◌≡◌, ℕ, Bool, true, false, ◌&&◌, List, [], ◌∷◌, drop, refl, ap, ◌∙◌}
+use Rattle.std.proofs.Common.{◌≡◌, Bool, true, false, ◌&&◌, List, [], ◌∷◌, drop, refl, ap, ◌∙◌}
 use Rattle.jq_words.specs.Words.{Word, fits, first_is, is_form, is_one}
 
 pub fits_no : (p : Word → Bool) (ps : List (Word → Bool)) (ws : List Word) → first_is p ws ≡ false → fits (p ∷ ps) ws ≡ false

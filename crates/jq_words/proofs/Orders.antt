@@ -1,5 +1,5 @@
 -- Tokens in order are within their text.
-use Rattle.std.proofs.Common.{◌≡◌, ℕ, zero, suc, ◌≤◌, ◌<◌, List, [], ◌∷◌, length, take, refl, arith}
+use Rattle.std.proofs.Common.{◌≡◌, ℕ, zero, suc, ◌≤◌, List, [], ◌∷◌, length, take, refl, arith}
 use Rattle.js_scan.specs.declared.token.Token.{Token}
 use Rattle.js_scan.specs.Tokens.{InOrder}
 use Rattle.jq_words.specs.Words.{words_behind}

@@ -1,5 +1,5 @@
 -- Brackets that are kept with the innermost last.
-use Rattle.std.proofs.Common.{◌≡◌, List, [], ◌∷◌, ◌++◌, reverse, ◌∙◌}
+use Rattle.std.proofs.Common.{◌≡◌, List, [], ◌∷◌, ◌++◌, reverse}
 use Rattle.std.proofs.lemmas.List.{reverse-append}
 use Rattle.jq_words.specs.declared.brackets.Bracket.{Bracket}
 

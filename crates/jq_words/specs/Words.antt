@@ -3,7 +3,7 @@
 --     is_mark, is_name, is_text, ..   what a word is
 --     fits            the first words are these
 --     Outcome         what is read, or the first fault
-use Rattle.std.specs.Prelude.{ℕ, ◌==◌, ◌&&◌, ◌||◌, Bool, true, false, if◌then◌else◌, slice_range, List, [], ◌∷◌, length, drop, codes, bytes_eq, Result, Ok, Err}
+use Rattle.std.specs.Prelude.{ℕ, ◌==◌, ◌&&◌, ◌||◌, Bool, true, false, if◌then◌else◌, slice_range, List, [], ◌∷◌, drop, codes, bytes_eq, Result, Ok, Err}
 use Rattle.std.specs.List.{list_any}
 use Rattle.js_scan.specs.declared.token.Token.{Token}
 use Rattle.js_scan.specs.declared.token.TokenKind.{TokenKind}

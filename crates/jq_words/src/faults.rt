@@ -1,8 +1,7 @@
 //! Why a script is not read.
 use js_scan::{Letters, ScanFault};
-use std::alloc::{AllocError, AllocFailed};
 use thiserror::Error;
-use tp_base::{MOST_ATOMS, NoMemory};
+use tp_base::{MOST_ATOMS, OutOfMemory};
 
 /// How many brackets of a script may be open.
 pub const MOST_OPEN: usize = 512;
@@ -47,35 +46,13 @@ pub enum ScriptFault {
     Memory,
 }
 
-impl From<NoMemory> for ScriptFault {
+impl<E: OutOfMemory> From<E> for ScriptFault {
     ghost use Rattle.std.specs.Prelude.{◌≡◌};
     ghost use Rattle.jq_words.specs.declared.faults.ScriptFault.TheVariants.{Memory};
 
     ghost from_gives = { λ _ e. e ≡ Memory };
 
-    fn from(_error: NoMemory) -> ScriptFault {
-        ScriptFault::Memory
-    }
-}
-
-impl From<AllocError> for ScriptFault {
-    ghost use Rattle.std.specs.Prelude.{◌≡◌};
-    ghost use Rattle.jq_words.specs.declared.faults.ScriptFault.TheVariants.{Memory};
-
-    ghost from_gives = { λ _ e. e ≡ Memory };
-
-    fn from(_error: AllocError) -> ScriptFault {
-        ScriptFault::Memory
-    }
-}
-
-impl<T: Drop> From<AllocFailed<T>> for ScriptFault {
-    ghost use Rattle.std.specs.Prelude.{◌≡◌};
-    ghost use Rattle.jq_words.specs.declared.faults.ScriptFault.TheVariants.{Memory};
-
-    ghost from_gives = { λ _ e. e ≡ Memory };
-
-    fn from(_error: AllocFailed<T>) -> ScriptFault {
+    fn from(_error: E) -> ScriptFault {
         ScriptFault::Memory
     }
 }

@@ -4,8 +4,9 @@ ghost use Rattle.tp_base.specs.Names.{IsDistinct, place_in, with_name};
 
 use crate::atoms::{Atom, AtomKind, MOST_ATOMS};
 use crate::names::{Name, place_of};
+use crate::no_memory::OutOfMemory;
 use indexmap::IndexSet;
-use std::alloc::{AllocError, AllocFailed, Global};
+use std::alloc::Global;
 use std::marker::Model;
 use thiserror::Error;
 
@@ -18,22 +19,12 @@ pub enum AtomFault {
     Memory,
 }
 
-impl From<AllocError> for AtomFault {
+impl<E: OutOfMemory> From<E> for AtomFault {
     ghost use Rattle.tp_base.specs.declared.atom_table.AtomFault.TheVariants.{Memory};
 
     ghost from_gives = { λ _ e. e ≡ Memory };
 
-    fn from(_error: AllocError) -> AtomFault {
-        AtomFault::Memory
-    }
-}
-
-impl<T: Drop> From<AllocFailed<T>> for AtomFault {
-    ghost use Rattle.tp_base.specs.declared.atom_table.AtomFault.TheVariants.{Memory};
-
-    ghost from_gives = { λ _ e. e ≡ Memory };
-
-    fn from(_error: AllocFailed<T>) -> AtomFault {
+    fn from(_error: E) -> AtomFault {
         AtomFault::Memory
     }
 }

@@ -14,6 +14,6 @@ pub use atom_table::{AtomFault, AtomTable};
 pub use atoms::{Atom, AtomKind, MOST_ATOMS};
 pub use class_set::ClassSet;
 pub use cursor::Cursor;
-pub use no_memory::NoMemory;
+pub use no_memory::{NoMemory, OutOfMemory};
 pub use paths::Path;
 pub use places::{MOST_BYTES, Place, place_of};

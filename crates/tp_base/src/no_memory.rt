@@ -7,6 +7,15 @@ use thiserror::Error;
 #[error("no memory")]
 pub struct NoMemory;
 
+/// The faults that say this alone. Another fault type takes all of them by one `impl<E: OutOfMemory> From<E>`.
+pub trait OutOfMemory: Drop {}
+
+impl OutOfMemory for NoMemory {}
+
+impl OutOfMemory for AllocError {}
+
+impl<T: Drop> OutOfMemory for AllocFailed<T> {}
+
 impl From<AllocError> for NoMemory {
     fn from(_error: AllocError) -> NoMemory {
         NoMemory

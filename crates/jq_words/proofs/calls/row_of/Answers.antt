@@ -1,4 +1,4 @@
-use Rattle.std.proofs.Common.{◌≡◌, List, ap, ◌∙◌}
+use Rattle.std.proofs.Common.{List, ap, ◌∙◌}
 use Rattle.jq_words.specs.Calls.{Row, row_in, row_of}
 use Rattle.jq_words.proofs.CallTable.{same_table}
 use Rattle.jq_words.proofs.calls.row_of.Goals as goal

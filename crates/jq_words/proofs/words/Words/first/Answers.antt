@@ -1,4 +1,4 @@
-use Rattle.std.proofs.Common.{◌≡◌, ◌≤◌, ◌∷◌, length}
+use Rattle.std.proofs.Common.{◌≡◌, ◌∷◌, length}
 use Rattle.jq_words.proofs.Orders.{first_within}
 use Rattle.jq_words.proofs.words.Words.first.Goals as goal
 
