@@ -1,6 +1,6 @@
 //! Pages and statements from short texts.
-use jq_sem::{Call, Calls, Chain, Chains, Root, Selectors, Stmt};
-use sel_core::{Compounds, SelFault, Selector, read_strict_list};
+use jq_sem::{Call, Calls, Chain, Chains, Root, Selectors, SharedCompounds, Stmt};
+use sel_core::{SelFault, Selector, read_strict_list};
 use std::alloc::Global;
 use tp_base::{AtomTable, ClassSet, NoMemory, Path, Place};
 use tree_sem::{Action, Forest, Tree, TreeFault, Trees};
@@ -89,7 +89,11 @@ pub fn selectors(
 }
 
 // The first compounds of the selectors of a text.
-fn compounds(alloc: Global, text: &str, atoms: &mut AtomTable) -> Result<Compounds, SelFault> {
+fn compounds(
+    alloc: Global,
+    text: &str,
+    atoms: &mut AtomTable,
+) -> Result<SharedCompounds, SelFault> {
     let read = selectors(alloc, text, atoms)?;
     let mut items = Vec::new(alloc);
     for selector in &read {
@@ -97,7 +101,7 @@ fn compounds(alloc: Global, text: &str, atoms: &mut AtomTable) -> Result<Compoun
             items.push(compound.copy()?)?;
         }
     }
-    Ok(Compounds::new(items))
+    Ok(SharedCompounds::new(items)?)
 }
 
 fn call(alloc: Global, piece: &Piece, atoms: &mut AtomTable) -> Result<Call, SelFault> {
@@ -108,14 +112,14 @@ fn call(alloc: Global, piece: &Piece, atoms: &mut AtomTable) -> Result<Call, Sel
         Word::Parents => Call::Parents(compounds(alloc, piece.1, atoms)?),
         Word::Filter => Call::Filter(compounds(alloc, piece.1, atoms)?),
         Word::Has => Call::Has(compounds(alloc, piece.1, atoms)?),
-        Word::Add => Call::Add(Selectors::new(selectors(alloc, piece.1, atoms)?)),
+        Word::Add => Call::Add(Selectors::new(selectors(alloc, piece.1, atoms)?)?),
         _ => Call::End,
     })
 }
 
 fn root(alloc: Global, piece: &Piece, atoms: &mut AtomTable) -> Result<Root, SelFault> {
     match piece.0 {
-        Word::Matched => Ok(Root::List(Selectors::new(selectors(alloc, piece.1, atoms)?))),
+        Word::Matched => Ok(Root::List(Selectors::new(selectors(alloc, piece.1, atoms)?)?)),
         _ => Ok(Root::This),
     }
 }

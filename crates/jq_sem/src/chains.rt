@@ -3,14 +3,15 @@ ghost use Rattle.std.specs.Prelude.{◌≡◌, map, IfOk};
 ghost use Rattle.sel_core.specs.Views.{selector_of};
 ghost use Rattle.jq_sem.specs.Views.{root_of, call_of, chain_of};
 
-use sel_core::{Compounds, Selector};
+use sel_core::{Compound, Selector};
 use std::marker::Model;
+use std::rc::Rc;
 use tp_base::NoMemory;
 
-/// Selectors, one after another. A contract sees the list of them.
+/// Selectors, one after another, which several chains may share. A contract sees the list of them.
 #[derive(Drop)]
 pub struct Selectors {
-    items: Vec<Selector>,
+    items: Rc<Vec<Selector>>,
 }
 
 impl Model for Selectors {
@@ -19,14 +20,16 @@ impl Model for Selectors {
 
     ghost Value = { List Selector };
 
-    ghost view = { λ s. s.items.items };
+    ghost view = { λ s. s.items.value.items };
 }
 
 impl Selectors {
-    pub fn new(items: Vec<Selector>) -> Self
-        ensures { result ≡ items.items }
+    pub fn new(items: Vec<Selector>) -> Result<Self, NoMemory>
+        ensures { IfOk result (λ s. s ≡ items.items) }
     {
-        Selectors { items }
+        Ok(Selectors {
+            items: Rc::new(*items.allocator(), items)?,
+        })
     }
 
     pub fn items(&self) -> &[Selector]
@@ -35,15 +38,53 @@ impl Selectors {
         &self.items
     }
 
-    /// The same selectors once more. Linear in them.
+    /// The same selectors once more. Constant: both share them.
     pub fn copy(&self) -> Result<Selectors, NoMemory>
-        ensures { IfOk result (λ s. map selector_of s ≡ map selector_of self.now) }
+        ensures { IfOk result (λ s. s ≡ self.now) }
     {
-        let mut copies = Vec::new(*self.items.allocator());
-        for selector in &self.items {
-            copies.push(selector.copy()?)?;
-        }
-        Ok(Selectors { items: copies })
+        Ok(Selectors {
+            items: self.items.clone()?,
+        })
+    }
+}
+
+/// Compounds, of which one is to fit, which several chains may share. A contract sees the list of them.
+#[derive(Drop)]
+pub struct SharedCompounds {
+    items: Rc<Vec<Compound>>,
+}
+
+impl Model for SharedCompounds {
+    ghost use Rattle.std.specs.Prelude.{List};
+    ghost use Rattle.sel_core.specs.declared.selectors.Compound.{Compound};
+
+    ghost Value = { List Compound };
+
+    ghost view = { λ c. c.items.value.items };
+}
+
+impl SharedCompounds {
+    pub fn new(items: Vec<Compound>) -> Result<Self, NoMemory>
+        ensures { IfOk result (λ c. c ≡ items.items) }
+    {
+        Ok(SharedCompounds {
+            items: Rc::new(*items.allocator(), items)?,
+        })
+    }
+
+    pub fn items(&self) -> &[Compound]
+        ensures { result.now ≡ self.now }
+    {
+        &self.items
+    }
+
+    /// The same compounds once more. Constant: both share them.
+    pub fn copy(&self) -> Result<SharedCompounds, NoMemory>
+        ensures { IfOk result (λ c. c ≡ self.now) }
+    {
+        Ok(SharedCompounds {
+            items: self.items.clone()?,
+        })
     }
 }
 
@@ -57,7 +98,7 @@ pub enum Root {
 }
 
 impl Root {
-    /// The same root once more. Linear in its selectors.
+    /// The same root once more. Constant: both share the selectors.
     pub fn copy(&self) -> Result<Root, NoMemory>
         ensures { IfOk result (λ r. root_of r ≡ root_of self.now) }
     {
@@ -72,18 +113,18 @@ impl Root {
 /// `parent` and `parents` take every node.
 #[derive(Drop)]
 pub enum Call {
-    Find(Compounds),
-    Children(Compounds),
-    Parent(Compounds),
-    Parents(Compounds),
-    Filter(Compounds),
-    Has(Compounds),
+    Find(SharedCompounds),
+    Children(SharedCompounds),
+    Parent(SharedCompounds),
+    Parents(SharedCompounds),
+    Filter(SharedCompounds),
+    Has(SharedCompounds),
     Add(Selectors),
     End,
 }
 
 impl Call {
-    /// The same call once more. Linear in its compounds or selectors.
+    /// The same call once more. Constant: both share the compounds or selectors.
     pub fn copy(&self) -> Result<Call, NoMemory>
         ensures { IfOk result (λ c. call_of c ≡ call_of self.now) }
     {
@@ -148,7 +189,7 @@ pub struct Chain {
 }
 
 impl Chain {
-    /// The same chain once more. Linear in it.
+    /// The same chain once more. Linear in its calls.
     pub fn copy(&self) -> Result<Chain, NoMemory>
         ensures { IfOk result (λ c. chain_of c ≡ chain_of self.now) }
     {

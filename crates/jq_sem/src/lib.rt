@@ -12,7 +12,7 @@ mod standing_calls;
 mod stmts;
 
 pub use actions::act;
-pub use chains::{Call, Calls, Chain, Root, Selectors};
+pub use chains::{Call, Calls, Chain, Root, Selectors, SharedCompounds};
 pub use laws::{match_is_kept, selection_is_kept, steps_keep_selection};
 pub use runs::run_whole;
 pub use selection::selects;

@@ -1,7 +1,7 @@
 //! Statements from short texts.
 use html_subset::read_forest;
-use jq_sem::{Call, Calls, Chain, Chains, Root, Selectors, Stmt};
-use sel_core::{Compounds, Selector, read_strict_list};
+use jq_sem::{Call, Calls, Chain, Chains, Root, Selectors, SharedCompounds, Stmt};
+use sel_core::{Selector, read_strict_list};
 use std::alloc::Global;
 use std::test::Fail;
 use tp_base::{AtomTable, ClassSet, Place};
@@ -36,7 +36,7 @@ fn selectors(alloc: Global, text: &str, atoms: &mut AtomTable) -> Result<Vec<Sel
 }
 
 // The first compounds of the selectors of a text.
-fn compounds(alloc: Global, text: &str, atoms: &mut AtomTable) -> Result<Compounds, Fail> {
+fn compounds(alloc: Global, text: &str, atoms: &mut AtomTable) -> Result<SharedCompounds, Fail> {
     let read = selectors(alloc, text, atoms)?;
     let mut items = Vec::new(alloc);
     for selector in &read {
@@ -44,7 +44,7 @@ fn compounds(alloc: Global, text: &str, atoms: &mut AtomTable) -> Result<Compoun
             items.push(compound.copy()?)?;
         }
     }
-    Ok(Compounds::new(items))
+    Ok(SharedCompounds::new(items)?)
 }
 
 // The atoms of the compounds of a text.
@@ -60,7 +60,7 @@ fn label(alloc: Global, text: &str, atoms: &mut AtomTable) -> Result<ClassSet, F
 
 fn root(alloc: Global, piece: &Piece, atoms: &mut AtomTable) -> Result<Root, Fail> {
     match piece.0 {
-        Word::Matched => Ok(Root::List(Selectors::new(selectors(alloc, piece.1, atoms)?))),
+        Word::Matched => Ok(Root::List(Selectors::new(selectors(alloc, piece.1, atoms)?)?)),
         _ => Ok(Root::This),
     }
 }
@@ -143,7 +143,7 @@ pub fn appending(
         place: Place { line: 1, column: 1 },
         handlers: Chains::new(Vec::new(alloc)),
         chain: Chain {
-            root: Root::List(Selectors::new(selectors(alloc, list, atoms)?)),
+            root: Root::List(Selectors::new(selectors(alloc, list, atoms)?)?),
             calls: Calls::new(Vec::new(alloc)),
         },
         action: Action::Inside(read_forest(alloc, markup.as_bytes(), atoms)?),
@@ -154,7 +154,7 @@ pub fn appending(
 fn parent_call(alloc: Global, is_parent: bool) -> Result<Calls, Fail> {
     let mut items = Vec::new(alloc);
     if is_parent {
-        items.push(Call::Parent(Compounds::new(Vec::new(alloc))))?;
+        items.push(Call::Parent(SharedCompounds::new(Vec::new(alloc))?))?;
     }
     Ok(Calls::new(items))
 }
@@ -171,7 +171,7 @@ pub fn adding(
         place: Place { line: 1, column: 1 },
         handlers: Chains::new(Vec::new(alloc)),
         chain: Chain {
-            root: Root::List(Selectors::new(selectors(alloc, list, atoms)?)),
+            root: Root::List(Selectors::new(selectors(alloc, list, atoms)?)?),
             calls: parent_call(alloc, is_parent)?,
         },
         action: Action::Classes(label(alloc, class, atoms)?),

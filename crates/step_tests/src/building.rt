@@ -1,6 +1,6 @@
 //! Pages and statements from short lists.
-use jq_sem::{Call, Calls, Chain, Chains, Root, Selectors, Stmt};
-use sel_core::{Atoms, Compound, Compounds, Selector};
+use jq_sem::{Call, Calls, Chain, Chains, Root, Selectors, SharedCompounds, Stmt};
+use sel_core::{Atoms, Compound, Selector};
 use std::alloc::Global;
 use tp_base::{Atom, ClassSet, NoMemory, Path, Place};
 use tree_sem::{Action, Forest, Tree, TreeFault, Trees};
@@ -63,12 +63,12 @@ fn compound(alloc: Global, atom: u32) -> Result<Compound, NoMemory> {
     Ok(Compound { atoms })
 }
 
-fn compounds(alloc: Global, atoms: &[u32]) -> Result<Compounds, NoMemory> {
+fn compounds(alloc: Global, atoms: &[u32]) -> Result<SharedCompounds, NoMemory> {
     let mut items = Vec::new(alloc);
     for atom in atoms {
         items.push(compound(alloc, *atom)?)?;
     }
-    Ok(Compounds::new(items))
+    SharedCompounds::new(items)
 }
 
 fn selectors(alloc: Global, atoms: &[u32]) -> Result<Selectors, NoMemory> {
@@ -76,7 +76,7 @@ fn selectors(alloc: Global, atoms: &[u32]) -> Result<Selectors, NoMemory> {
     for atom in atoms {
         items.push(Selector::of_one(alloc, compound(alloc, *atom)?)?)?;
     }
-    Ok(Selectors::new(items))
+    Selectors::new(items)
 }
 
 fn call(alloc: Global, letter: u8, atoms: &[u32]) -> Result<Call, NoMemory> {
