@@ -14,8 +14,9 @@ use Rattle.simple_core.specs.Pairs.{Pair}
 use Rattle.proof_check.proofs.EntryLemmas.{drop_at, drop_end}
 use Rattle.proof_maker.specs.declared.worlds.Place.{Place}
 use Rattle.proof_maker.specs.declared.worlds.World.{World}
-use Rattle.proof_maker.specs.Choices.{Choice, by_local, by_up, by_real, by_spawn, numbers_of, from_down, ways_down, ways}
-use Rattle.proof_maker.specs.Givers.{places_in}
+use Rattle.proof_maker.specs.Choices.{Choice, by_local, by_up, by_real, by_spawn, from_down, ways_down, ways}
+use Rattle.rule_givers.specs.Givers.{places_from}
+use Rattle.rule_givers.specs.Givers.{places_in}
 use Rattle.proof_maker.specs.Worlds.{setting_of, path_of, IsReady, stands_at, real_has, spawn_has}
 
 pub ok_further : {X E : Type 0} (r : Result X E) (P Q : X → Type 0) → IfOk r P → ((x : X) → P x → Q x) → IfOk r Q
@@ -101,13 +102,13 @@ module _ (world : World) (known : Pair → Type 0) (ready : IsReady world known)
   passes = stands_at world place k
 
   abbrev locals : List ℕ
-  locals = numbers_of (λ (r : rule.Local). r.gives == a) 0 world.system.now.local
+  locals = places_from (λ (r : rule.Local). r.gives == a) 0 world.system.now.local
 
   abbrev ups : List ℕ
-  ups = numbers_of (λ (r : Link). r.to == a) 0 world.system.now.up
+  ups = places_from (λ (r : Link). r.to == a) 0 world.system.now.up
 
   abbrev downs : List ℕ
-  downs = numbers_of (λ (r : Link). r.to == a) 0 world.system.now.down
+  downs = places_from (λ (r : Link). r.to == a) 0 world.system.now.down
 
   abbrev downward : ℕ → List Choice
   downward = ways_down world.system.now (setting_of world.system.now world.page.now place) (path_of place)

@@ -2,7 +2,6 @@ pub mod ChoiceLemmas
 pub mod ValidLemmas
 pub mod UsedLemmas
 pub mod OneLemmas
-pub mod GiverLemmas
 pub mod SetLemmas
 pub mod KeyLemmas
 pub mod RisingLemmas

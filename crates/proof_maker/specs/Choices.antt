@@ -10,6 +10,7 @@ use Rattle.simple_core.specs.declared.system.System.{System}
 use Rattle.simple_core.specs.Labels.{visible_in}
 use Rattle.simple_core.specs.Rounds.{grown}
 use Rattle.simple_core.specs.Pages.{page_round}
+use Rattle.rule_givers.specs.Givers.{places_from}
 
 pub record Setting : Type 0 where
   pub label : ℕ → List ℕ → List ℕ  -- the label of a node after so many rounds
@@ -35,11 +36,6 @@ pub data Choice : Type 0 where
   by_real : (link child : ℕ) → Choice
   by_spawn : (link spawn : ℕ) → Choice
 
--- the numbers of the elements that pass the test
-abbrev pub numbers_of : {X : Type 0} → (X → Bool) → ℕ → List X → List ℕ
-numbers_of test n [] = []
-numbers_of test n (x ∷ xs) = if test x then n ∷ numbers_of test (suc n) xs else numbers_of test (suc n) xs
-
 module _ (s : System) where
   abbrev pub from_up : ℕ → ℕ
   from_up l = unwrap_or (option_map (λ r. r.from) (slice_get s.up l)) 0
@@ -62,8 +58,8 @@ module _ (s : System) where
     ways_down v l = map (by_real l) (range_with_len 0 (set.reals v)) ++ map (by_spawn l) (range_with_len 0 (length s.child))
 
     abbrev pub ways : List ℕ → ℕ → List Choice
-    ways v a = map by_local (numbers_of (λ r. r.gives == a) 0 s.local) ++ map by_up (numbers_of (λ l. l.to == a) 0 s.up)
-        ++ flat_map (ways_down v) (numbers_of (λ l. l.to == a) 0 s.down)
+    ways v a = map by_local (places_from (λ r. r.gives == a) 0 s.local) ++ map by_up (places_from (λ l. l.to == a) 0 s.up)
+        ++ flat_map (ways_down v) (places_from (λ l. l.to == a) 0 s.down)
 
     -- all premises stand in the round k
     abbrev pub stands : ℕ → List ℕ → Choice → Bool

@@ -1,7 +1,6 @@
 pub mod Choices
 pub mod Needs
 pub mod Forests
-pub mod Givers
 pub mod Rules
 pub mod Worlds
 pub mod Reasons

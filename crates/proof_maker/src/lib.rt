@@ -3,7 +3,6 @@
 
 mod choices;
 mod entries;
-mod givers;
 mod glances;
 mod laws;
 mod looking;

@@ -2,7 +2,7 @@
 ghost use Rattle.std.specs.Prelude.{IfOk};
 ghost use Rattle.proof_maker.specs.Rules.{AreRulesOf};
 
-use crate::givers::Givers;
+use rule_givers::Givers;
 use simple_core::System;
 use std::alloc::Global;
 use tp_base::NoMemory;

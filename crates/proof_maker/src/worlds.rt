@@ -9,8 +9,8 @@ ghost use Rattle.simple_core.specs.Knowledge.{KeepsAsking};
 ghost use Rattle.class_adding.specs.ClosedPages.{IsClosedPage};
 ghost use Rattle.proof_maker.specs.Worlds.{setting_of, path_of, labels_of, IsPlace, above_on, IsNodeOf, IsAsking};
 
-use crate::givers::Givers;
 use class_adding::Closed;
+use rule_givers::Givers;
 use simple_core::{Summaries, System};
 use std::alloc::Global;
 use tp_base::{Atom, ClassSet, NoMemory, Path};

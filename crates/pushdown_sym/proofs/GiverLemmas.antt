@@ -1,4 +1,4 @@
--- Rules by the atoms that they give.
+-- What comes of the rules that give an atom.
 use Rattle.std.proofs.Common.{◌≡◌, ℕ, suc, ◌+◌, ◌<◌, Bool, true, false, ◌==◌, cond, if◌then◌else◌, List, [], ◌∷◌, ◌++◌, take, length, get_or, slice_get, Some, None, Option, option_map, unwrap_or, Result, refl, sym, ap, subst, ◌∙◌, arith, inl, inr, append_assoc}
 use Rattle.std.specs.List.{filter, flat_map}
 use Rattle.std.proofs.lemmas.Bool.{cases_Bool, both_ways, eqb-true}
@@ -10,63 +10,8 @@ use Rattle.simple_core.specs.declared.rules.Local.{Local}
 use Rattle.simple_core.specs.declared.rules.Link.{Link}
 use Rattle.pushdown_sym.specs.Terms.{CellTrees, Term}
 use Rattle.pushdown_sym.specs.Adding.{Adds, of_local, of_up}
-use Rattle.pushdown_sym.specs.Givers.{places_from, places_in, AreGivers, of_place}
-
--- ### places
-
-places_from-push : {X : Type 0} (passes : X → Bool) (k : ℕ) (xs : List X) (x : X)
-    → places_from passes k (xs ++ x ∷ []) ≡ (if passes x then places_from passes k xs ++ (k + length xs) ∷ [] else places_from passes k xs)
-places_from-push passes k [] x = elim (cases_Bool (passes x)) [
-  | inl here ↦ rw here (let same : k ≡ k + 0 = omega arith in ap (λ n. n ∷ []) same)
-  | inr other ↦ rw other refl
-]
-places_from-push passes k (y ∷ xs) x =
-    let more = places_from-push passes (suc k) xs x in
-    let place : suc k + length xs ≡ k + suc (length xs) = omega arith in
-    elim (cases_Bool (passes y)) [
-      | inl first ↦ elim (cases_Bool (passes x)) [
-        | inl here ↦ rw (first, here) (ap (λ ns. k ∷ ns) ((rw here at more) ∙ ap (λ n. places_from passes (suc k) xs ++ n ∷ []) place))
-        | inr other ↦ rw (first, other) (ap (λ ns. k ∷ ns) (rw other at more))
-      ]
-      | inr skipped ↦ elim (cases_Bool (passes x)) [
-        | inl here ↦ rw (skipped, here) ((rw here at more) ∙ ap (λ n. places_from passes (suc k) xs ++ n ∷ []) place)
-        | inr other ↦ rw (skipped, other) (rw other at more)
-      ]
-    ]
-
-pub unwrap_cond : {X : Type 0} (b : Bool) (x : X) (o : Option X) (d : X) → unwrap_or (cond b (Some x) o) d ≡ cond b x (unwrap_or o d)
-unwrap_cond true x o d = refl
-unwrap_cond false x o d = refl
-
-pub kept : {X : Type 0} (b : Bool) (x y z : X) → b ≡ false → z ≡ cond b x y → z ≡ y
-kept true x y z other is = absurd (both_ways true other refl)
-kept false x y z other is = is
-
--- first the places are taken, then the longer list is put there
-pub noted : (old taken new : ℕ → List ℕ) (atom : ℕ) (places longer : List ℕ) (place : ℕ) → places ≡ old atom → longer ≡ places ++ place ∷ []
-    → ((a : ℕ) → (atom == a) ≡ false → taken a ≡ old a) → ((a : ℕ) → new a ≡ (if atom == a then longer else taken a))
-    → (a : ℕ) → new a ≡ (if atom == a then old atom ++ place ∷ [] else old a)
-noted old taken new atom places longer place is more others put a = elim (cases_Bool (atom == a)) [
-  | inl here ↦ rw here ((rw here at (put a)) ∙ more ∙ ap (λ ns. ns ++ place ∷ []) is)
-  | inr other ↦ rw other ((rw other at (put a)) ∙ others a other)
-]
-
-module _ {X : Type 0} (gives : X → ℕ) (rules : List X) (i : ℕ) (r : X) (less : i < length rules) (at : r ≡ get_or rules i r) (old new : List (ℕ × List ℕ)) where
-  pub givers_more : AreGivers gives (take i rules) old
-      → ((a : ℕ) → places_in new a ≡ (if gives r == a then places_in old (gives r) ++ i ∷ [] else places_in old a))
-      → AreGivers gives (take (i + 1) rules) new
-  givers_more before put a =
-      let longer : take (i + 1) rules ≡ take i rules ++ r ∷ [] = take_more rules i r less ∙ (λ n. take i rules ++ sym at n ∷ []) in
-      let push = ap (places_from (λ (x : X). gives x == a) 0) longer ∙ places_from-push (λ (x : X). gives x == a) 0 (take i rules) r in
-      let place : 0 + length (take i rules) ≡ i = omega (arith, length-take-le i rules (omega (arith, less))) in
-      elim (cases_Bool (gives r == a)) [
-        | inl here ↦
-            (rw here at (put a))
-            ∙ ap (λ b. places_in old b ++ i ∷ []) (eqb-true (gives r) a here)
-            ∙ (λ n. before a n ++ sym place n ∷ [])
-            ∙ sym (rw here at push)
-        | inr other ↦ (rw other at (put a)) ∙ before a ∙ sym (rw other at push)
-      ]
+use Rattle.rule_givers.specs.Givers.{places_from}
+use Rattle.pushdown_sym.specs.Givers.{of_place}
 
 -- ### what comes of the rules at the places is what comes of all rules
 

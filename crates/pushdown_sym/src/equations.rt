@@ -5,15 +5,15 @@ ghost use Rattle.class_diagrams.specs.Arena.{tree_at, IsIn, IsArena, StartsWith}
 ghost use Rattle.diagram_ops.specs.Steps.{held_with_all, AreAmong, Calculates};
 ghost use Rattle.pushdown_sym.specs.Adding.{AreIn, next_in, results_in};
 ghost use Rattle.pushdown_sym.specs.Children.{children_of, different};
-ghost use Rattle.pushdown_sym.specs.Givers.{places_from};
+ghost use Rattle.rule_givers.specs.Givers.{places_from};
 
 use crate::cells::Cells;
 use crate::children::add_children;
 use crate::gathering::{Child, Children};
-use crate::givers::Givers;
 use crate::links::add_ups;
 use crate::locals::add_locals;
 use class_diagrams::{DiagramFault, Diagrams, Ref};
+use rule_givers::Givers;
 use simple_core::System;
 use std::alloc::Global;
 use std::marker::Model;

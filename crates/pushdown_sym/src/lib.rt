@@ -5,7 +5,6 @@ mod cells;
 mod children;
 mod equations;
 mod gathering;
-mod givers;
 mod links;
 mod locals;
 mod rounds;

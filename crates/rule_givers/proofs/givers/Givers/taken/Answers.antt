@@ -1,7 +1,7 @@
 use Rattle.std.proofs.Common.{ap, ◌∙◌, ◌==◌, eqb, unwrap_or, []}
 use Rattle.std.specs.Map.{lookup}
-use Rattle.proof_maker.proofs.GiverLemmas.{unwrap_cond, kept}
-use Rattle.proof_maker.proofs.givers.Givers.taken.Goals as goal
+use Rattle.rule_givers.proofs.GiverLemmas.{unwrap_cond, kept}
+use Rattle.rule_givers.proofs.givers.Givers.taken.Goals as goal
 
 pub returns-clause-others : goal.returns-clause-others
 returns-clause-others c = rw (← c.self.view_is) (λ a other.

@@ -2,25 +2,24 @@
 use Rattle.std.proofs.Common.{◌≡◌, ℕ, suc, ◌+◌, ◌<◌, Bool, true, false, ◌==◌, cond, if◌then◌else◌, List, [], ◌∷◌, ◌++◌, take, length, get_or, Some, Option, unwrap_or, refl, sym, ap, ◌∙◌, arith, inl, inr}
 use Rattle.std.proofs.lemmas.Bool.{cases_Bool, both_ways, eqb-true}
 use Rattle.std.proofs.lemmas.List.{take_more, length-take-le}
-use Rattle.proof_maker.specs.Choices.{numbers_of}
-use Rattle.proof_maker.specs.Givers.{places_in, AreGivers}
+use Rattle.rule_givers.specs.Givers.{places_from, places_in, AreGivers}
 
-numbers_of-push : {X : Type 0} (test : X → Bool) (k : ℕ) (xs : List X) (x : X)
-    → numbers_of test k (xs ++ x ∷ []) ≡ (if test x then numbers_of test k xs ++ (k + length xs) ∷ [] else numbers_of test k xs)
-numbers_of-push test k [] x = elim (cases_Bool (test x)) [
+places_from-push : {X : Type 0} (passes : X → Bool) (k : ℕ) (xs : List X) (x : X)
+    → places_from passes k (xs ++ x ∷ []) ≡ (if passes x then places_from passes k xs ++ (k + length xs) ∷ [] else places_from passes k xs)
+places_from-push passes k [] x = elim (cases_Bool (passes x)) [
   | inl here ↦ rw here (let same : k ≡ k + 0 = omega arith in ap (λ n. n ∷ []) same)
   | inr other ↦ rw other refl
 ]
-numbers_of-push test k (y ∷ xs) x =
-    let more = numbers_of-push test (suc k) xs x in
+places_from-push passes k (y ∷ xs) x =
+    let more = places_from-push passes (suc k) xs x in
     let place : suc k + length xs ≡ k + suc (length xs) = omega arith in
-    elim (cases_Bool (test y)) [
-      | inl first ↦ elim (cases_Bool (test x)) [
-        | inl here ↦ rw (first, here) (ap (λ ns. k ∷ ns) ((rw here at more) ∙ ap (λ n. numbers_of test (suc k) xs ++ n ∷ []) place))
+    elim (cases_Bool (passes y)) [
+      | inl first ↦ elim (cases_Bool (passes x)) [
+        | inl here ↦ rw (first, here) (ap (λ ns. k ∷ ns) ((rw here at more) ∙ ap (λ n. places_from passes (suc k) xs ++ n ∷ []) place))
         | inr other ↦ rw (first, other) (ap (λ ns. k ∷ ns) (rw other at more))
       ]
-      | inr skipped ↦ elim (cases_Bool (test x)) [
-        | inl here ↦ rw (skipped, here) ((rw here at more) ∙ ap (λ n. numbers_of test (suc k) xs ++ n ∷ []) place)
+      | inr skipped ↦ elim (cases_Bool (passes x)) [
+        | inl here ↦ rw (skipped, here) ((rw here at more) ∙ ap (λ n. places_from passes (suc k) xs ++ n ∷ []) place)
         | inr other ↦ rw (skipped, other) (rw other at more)
       ]
     ]
@@ -48,7 +47,7 @@ module _ {X : Type 0} (gives : X → ℕ) (rules : List X) (i : ℕ) (r : X) (le
       → AreGivers gives (take (i + 1) rules) new
   givers_more before put a =
       let longer : take (i + 1) rules ≡ take i rules ++ r ∷ [] = take_more rules i r less ∙ (λ n. take i rules ++ sym at n ∷ []) in
-      let push = ap (numbers_of (λ (x : X). gives x == a) 0) longer ∙ numbers_of-push (λ (x : X). gives x == a) 0 (take i rules) r in
+      let push = ap (places_from (λ (x : X). gives x == a) 0) longer ∙ places_from-push (λ (x : X). gives x == a) 0 (take i rules) r in
       let place : 0 + length (take i rules) ≡ i = omega (arith, length-take-le i rules (omega (arith, less))) in
       elim (cases_Bool (gives r == a)) [
         | inl here ↦

@@ -1,6 +1,6 @@
 use Rattle.simple_core.specs.declared.rules.Local.{Local}
-use Rattle.pushdown_sym.proofs.GiverLemmas.{givers_more}
-use Rattle.pushdown_sym.proofs.givers.Givers.of_locals.Goals as goal
+use Rattle.rule_givers.proofs.GiverLemmas.{givers_more}
+use Rattle.rule_givers.proofs.givers.Givers.of_locals.Goals as goal
 
 pub loop-i-preserved : goal.loop-i-preserved
 loop-i-preserved c =

@@ -1,8 +1,8 @@
 use Rattle.std.proofs.Common.{ap, ◌∙◌, ◌==◌, eqb, unwrap_or, []}
 use Rattle.std.specs.Map.{lookup}
-use Rattle.pushdown_sym.specs.Givers.{places_in}
-use Rattle.pushdown_sym.proofs.GiverLemmas.{unwrap_cond, noted}
-use Rattle.pushdown_sym.proofs.givers.Givers.note.Goals as goal
+use Rattle.rule_givers.specs.Givers.{places_in}
+use Rattle.rule_givers.proofs.GiverLemmas.{unwrap_cond, noted}
+use Rattle.rule_givers.proofs.givers.Givers.note.Goals as goal
 
 pub returns : goal.returns
 returns c =

@@ -1,6 +1,6 @@
 //! The rules that give each atom.
 ghost use Rattle.std.specs.Prelude.{◌≡◌, ℕ, ◌==◌, ◌++◌, if◌then◌else◌, false, [], ◌∷◌, IfOk, OnOk};
-ghost use Rattle.pushdown_sym.specs.Givers.{places_in, AreGivers};
+ghost use Rattle.rule_givers.specs.Givers.{places_in, AreGivers};
 
 use indexmap::IndexMap;
 use simple_core::{Link, Local};
@@ -9,7 +9,7 @@ use std::marker::Model;
 use tp_base::{Atom, NoMemory};
 
 #[derive(Drop)]
-pub(crate) struct Places {
+struct Places {
     items: Vec<usize>,
 }
 
@@ -23,7 +23,7 @@ impl Model for Places {
 
 /// For each atom the places, in a list of rules, of those that give it.
 #[derive(Drop)]
-pub(crate) struct Givers {
+pub struct Givers {
     map: IndexMap<Atom, Places>,
 }
 
@@ -36,7 +36,7 @@ impl Model for Givers {
 }
 
 impl Givers {
-    pub(crate) fn of_locals(alloc: Global, rules: &[Local]) -> Result<Self, NoMemory>
+    pub fn of_locals(alloc: Global, rules: &[Local]) -> Result<Self, NoMemory>
         ensures { IfOk result (AreGivers (λ r. r.gives) rules.now) }
     {
         let mut givers = Givers {
@@ -49,7 +49,7 @@ impl Givers {
         Ok(givers)
     }
 
-    pub(crate) fn of_links(alloc: Global, links: &[Link]) -> Result<Self, NoMemory>
+    pub fn of_links(alloc: Global, links: &[Link]) -> Result<Self, NoMemory>
         ensures { IfOk result (AreGivers (λ l. l.to) links.now) }
     {
         let mut givers = Givers {
@@ -63,7 +63,7 @@ impl Givers {
     }
 
     // The places of the rules that give the atom.
-    pub(crate) fn of(&self, atom: Atom) -> &[usize]
+    pub fn of(&self, atom: Atom) -> &[usize]
         ensures { result.now ≡ places_in self.now atom }
     {
         match self.map.get(&atom) {

@@ -1,6 +1,6 @@
 use Rattle.simple_core.specs.declared.rules.Link.{Link}
-use Rattle.proof_maker.proofs.GiverLemmas.{givers_more}
-use Rattle.proof_maker.proofs.givers.Givers.of_links.Goals as goal
+use Rattle.rule_givers.proofs.GiverLemmas.{givers_more}
+use Rattle.rule_givers.proofs.givers.Givers.of_links.Goals as goal
 
 pub loop-i-preserved : goal.loop-i-preserved
 loop-i-preserved c =
