@@ -50,7 +50,9 @@ fn read_one<'a>(
     let rest = from_comma(text);
     let piece = text.split_at(text.len() - rest.len()).0;
     let selector = read_piece(alloc, false, size - rest.len(), piece, atoms)?;
-    Ok((selector, rest))
+    // a script can have millions of selectors, and a copy has no room to spare
+    let exact = selector.copy()?;
+    Ok((exact, rest))
 }
 
 /// Reads a list of selectors for a script: they are split at commas, and nothing is dropped, so each pseudo part is

@@ -34,7 +34,7 @@ impl Atoms {
         &self.items
     }
 
-    /// The same atoms once more. Linear in their number.
+    /// The same atoms once more, with no room to spare. Linear in their number.
     pub fn copy(&self) -> Result<Atoms, NoMemory>
         ensures { IfOk result (λ x. x ≡ self.now) }
     {
@@ -99,11 +99,11 @@ impl Compounds {
         &self.items
     }
 
-    /// The same compounds once more. Linear in their atoms.
+    /// The same compounds once more, with no room to spare. Linear in their atoms.
     pub fn copy(&self) -> Result<Compounds, NoMemory>
         ensures { IfOk result (λ x. x ≡ self.now) }
     {
-        let mut copies = Vec::new(*self.items.allocator());
+        let mut copies = Vec::with_capacity(*self.items.allocator(), self.items.len())?;
         for compound in &self.items {
             copies.push(compound.copy()?)?;
         }
@@ -170,7 +170,7 @@ impl Selector {
         })
     }
 
-    /// The same selector once more. Linear in its atoms.
+    /// The same selector once more, with no room to spare. Linear in its atoms.
     pub fn copy(&self) -> Result<Selector, NoMemory>
         ensures { IfOk result (λ s. selector_from s.parts s.joins ≡ selector_from self.now.parts self.now.joins) }
     {
