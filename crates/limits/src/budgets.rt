@@ -16,9 +16,9 @@ pub const MOST_LIST: u32 = 4_000;
 pub struct Limits {
     /// Whether summaries are held in a table of pairs, in place of diagrams.
     pub plain: bool,
-    /// How many pairs of a kind and a parent's label the table may need.
+    /// How many pairs of a kind and a parent's label the table may need. Nothing asks for it but with `plain`.
     pub pairs: u32,
-    /// How many branches the diagrams may need.
+    /// How many branches the diagrams may need. Nothing asks for it with `plain`.
     pub nodes: u32,
     /// How many entries one proof may have.
     pub entries: u32,

@@ -22,18 +22,7 @@ impl Model for Text {
 }
 
 impl Text {
-    pub fn new(items: Vec<u8>) -> Self
-        ensures { result ≡ items.items }
-    {
-        Text { items }
-    }
-
-    pub fn items(&self) -> &[u8]
-        ensures { result.now ≡ self.now }
-    {
-        &self.items
-    }
-
+    /// The bytes.
     pub fn into_items(self) -> Vec<u8>
         ensures { result.items ≡ self }
     {
