@@ -54,7 +54,7 @@ pub fn locals(alloc: Global, rules: &[(u32, u32, u32)]) -> Result<Locals, NoMemo
             stmt: None,
         })?;
     }
-    Ok(Locals::new(items))
+    Locals::new(items)
 }
 
 /// Links, each by what it looks at and gives.

@@ -98,7 +98,7 @@ fn put_together(
     let seen = seen_atoms(alloc, first_seen(counted), &counted.seen, &counted.guards)?;
     Ok(Simplified {
         system: System {
-            local: Locals::new(local),
+            local: Locals::new(local)?,
             up: Links::new(up),
             down: Links::new(down),
             child: Spawns::new(child),

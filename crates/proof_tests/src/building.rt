@@ -46,7 +46,7 @@ fn locals_of(alloc: Global, rows: &[LocalRow]) -> Result<Locals, NoMemory> {
             stmt: *stmt,
         })?;
     }
-    Ok(Locals::new(rules))
+    Locals::new(rules)
 }
 
 pub fn links_of(alloc: Global, rows: &[LinkRow]) -> Result<Links, NoMemory> {

@@ -37,7 +37,7 @@ fn spawns(alloc: Global) -> Result<Spawns, NoMemory> {
 /// A node with the atom 0 gets a child of each kind that may stand there. Its parent gets 1 and 2 from the child's 0, and 1 from its 1.
 pub fn chain_system(alloc: Global) -> Result<System, NoMemory> {
     Ok(System {
-        local: Locals::new(Vec::new(alloc)),
+        local: Locals::new(Vec::new(alloc))?,
         up: links_of(alloc, &[])?,
         down: links_of(alloc, &[(0, 1), (1, 1), (0, 2)])?,
         child: spawns(alloc)?,

@@ -39,7 +39,7 @@ fn locals(alloc: Global, rows: &[LocalRow]) -> Result<Locals, NoMemory> {
             stmt: *stmt,
         })?;
     }
-    Ok(Locals::new(items))
+    Locals::new(items)
 }
 
 fn links(alloc: Global, rows: &[(u32, u32)]) -> Result<Links, NoMemory> {

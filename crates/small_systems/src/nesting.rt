@@ -121,7 +121,7 @@ fn locals(alloc: Global, n: u32) -> Result<Locals, NoMemory>
     add_long(alloc, n, &mut rules)?;
     let last = step(n, n - 1);
     rules.push(rule(alloc, last, last, mark(n, n))?)?;
-    Ok(Locals::new(rules))
+    Locals::new(rules)
 }
 
 fn add_ups(n: u32, i: u32, links: &mut Vec<Link>) -> Result<(), NoMemory>
