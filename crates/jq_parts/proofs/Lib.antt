@@ -3,6 +3,7 @@ pub mod PlaceSteps
 pub mod SelectionSteps
 pub mod ClassSteps
 pub mod NameSteps
+pub mod SharedCallSteps
 pub mod PlacesSteps
 pub mod RootSteps
 pub mod TargetSteps

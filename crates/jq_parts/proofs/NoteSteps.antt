@@ -1,5 +1,5 @@
 -- The arguments in the brackets of a file, noted word by word.
-use Rattle.std.proofs.Common.{◌≡◌, ℕ, zero, suc, ◌+◌, ◌-◌, ◌<◌, Bool, true, false, ◌&&◌, ◌||◌, if◌then◌else◌, List, [], ◌∷◌, ◌++◌, length, map, drop, take, reverse, codes, bytes_eq, nat_eq, Option, Some, None, cond, refl, sym, ap, ◌∙◌, arith, append-nil, length-append}
+use Rattle.std.proofs.Common.{◌≡◌, ℕ, zero, suc, ◌+◌, ◌-◌, ◌<◌, Bool, true, false, ◌&&◌, ◌||◌, if◌then◌else◌, List, [], ◌∷◌, ◌++◌, length, map, drop, take, reverse, codes, bytes_eq, nat_eq, Option, Some, None, Box, cond, refl, sym, ap, ◌∙◌, arith, append-nil, length-append}
 use Rattle.std.proofs.lemmas.List.{map-append, reverse-append}
 use Rattle.std.proofs.lemmas.Bool.{eqb-true}
 use Rattle.std.proofs.lemmas.Slice.Eq.{bytes_eq-Decides}
@@ -7,6 +7,7 @@ use Rattle.std.specs.Map.{lookup}
 use Rattle.std.specs.Option.{option_copied}
 use Rattle.std.specs.Prelude.{IfSome}
 use denote.Bor.{Bor}
+use Rattle.std.specs.Global.{Global}
 use Rattle.jq_words.specs.declared.brackets.Bracket.{Bracket}
 use Rattle.jq_words.specs.Words.{Word, is_mark, is_mark_kind}
 use Rattle.jq_words.specs.Brackets.{is_empty, is_innermost, opened_by, closed_by, closes_outer, brackets_behind, ends_argument}
@@ -18,7 +19,7 @@ use Rattle.jq_parts.specs.declared.open_lists.Pending.{Pending}
 use Rattle.jq_parts.specs.Lists.{Extent, extent}
 use Rattle.jq_parts.specs.Spans.{span, span_at, and_comma, extent_from}
 use Rattle.jq_parts.specs.Notes.{Ascends, extent_in, IsNote, above, GoesOn, Holds, Ends, AllEnd}
-use Rattle.jq_parts.specs.Commas.{with_comma}
+use Rattle.jq_parts.specs.Commas.{pending_in, with_comma}
 use Rattle.jq_parts.proofs.SpanSteps.{more_one, ends_one, over, from_span}
 use Rattle.jq_parts.proofs.OrderSteps.{same_rest}
 
@@ -142,30 +143,30 @@ module _ (all : List Word) where
 
   all_same : (os : List Open) (ws rest : List Word) → ((bs : List Bracket) (n : ℕ) → span bs n ws ≡ span bs n rest) → Holds all os ws → Holds all os rest
   all_same [] ws rest step on = tt
-  all_same (o ∷ os) ws rest step on = (goes_to o.list (above os) (above os) ws rest (step (above os)) on.0, all_same os ws rest step on.1)
+  all_same (o ∷ os) ws rest step on = (goes_to (pending_in o.list) (above os) (above os) ws rest (step (above os)) on.0, all_same os ws rest step on.1)
 
   all_inner : (os : List Open) (old new : Open) (ws rest : List Word) → new.bracket ≡ old.bracket
-      → ((b : Bracket) (bs : List Bracket) (n : ℕ) → span (b ∷ bs) n ws ≡ span (b ∷ bs) n rest) → GoesOn all new.list [] rest
+      → ((b : Bracket) (bs : List Bracket) (n : ℕ) → span (b ∷ bs) n ws ≡ span (b ∷ bs) n rest) → GoesOn all (pending_in new.list) [] rest
       → Holds all (os ++ old ∷ []) ws → Holds all (os ++ new ∷ []) rest
   all_inner [] old new ws rest same step last on = (last, tt)
   all_inner (o ∷ os) old new ws rest same step last on =
       let before = rw (above_more os old) at on.0 in
-      let behind = goes_to o.list (old.bracket ∷ above os) (old.bracket ∷ above os) ws rest (step old.bracket (above os)) before in
+      let behind = goes_to (pending_in o.list) (old.bracket ∷ above os) (old.bracket ∷ above os) ws rest (step old.bracket (above os)) before in
       (rw (above_more os new ∙ ap (λ b. b ∷ above os) same) behind, all_inner os old new ws rest same step last on.1)
 
-  now_open : (os : List Open) (new : Open) (ws rest : List Word) → ((bs : List Bracket) (n : ℕ) → span bs n ws ≡ span (new.bracket ∷ bs) n rest) → GoesOn all new.list [] rest
+  now_open : (os : List Open) (new : Open) (ws rest : List Word) → ((bs : List Bracket) (n : ℕ) → span bs n ws ≡ span (new.bracket ∷ bs) n rest) → GoesOn all (pending_in new.list) [] rest
       → Holds all os ws → Holds all (os ++ new ∷ []) rest
   now_open [] new ws rest step last on = (last, tt)
   now_open (o ∷ os) new ws rest step last on =
-      (rw (above_more os new) (goes_to o.list (above os) (new.bracket ∷ above os) ws rest (step (above os)) on.0), now_open os new ws rest step last on.1)
+      (rw (above_more os new) (goes_to (pending_in o.list) (above os) (new.bracket ∷ above os) ws rest (step (above os)) on.0), now_open os new ws rest step last on.1)
 
   all_close : (os : List Open) (old : Open) (ws rest : List Word) → ((bs : List Bracket) (n : ℕ) → span (old.bracket ∷ bs) n ws ≡ span bs n rest)
       → Holds all (os ++ old ∷ []) ws → Holds all os rest
   all_close [] old ws rest step on = tt
   all_close (o ∷ os) old ws rest step on =
-      (goes_to o.list (old.bracket ∷ above os) (above os) ws rest (step (above os)) (rw (above_more os old) at on.0), all_close os old ws rest step on.1)
+      (goes_to (pending_in o.list) (old.bracket ∷ above os) (above os) ws rest (step (above os)) (rw (above_more os old) at on.0), all_close os old ws rest step on.1)
 
-  last_goes : (os : List Open) (old : Open) (ws : List Word) → Holds all (os ++ old ∷ []) ws → GoesOn all old.list [] ws
+  last_goes : (os : List Open) (old : Open) (ws : List Word) → Holds all (os ++ old ∷ []) ws → GoesOn all (pending_in old.list) [] ws
   last_goes [] old ws on = on.0
   last_goes (o ∷ os) old ws on = last_goes os old ws on.1
 
@@ -178,7 +179,7 @@ module _ (all : List Word) where
       → Holds all (os ++ old ∷ []) ws → AllEnd all os ws
   all_ended [] old ws step on = tt
   all_ended (o ∷ os) old ws step on =
-      (ends_at o.list (old.bracket ∷ above os) false ws refl (step (above os)) (rw (above_more os old) at on.0), all_ended os old ws step on.1)
+      (ends_at (pending_in o.list) (old.bracket ∷ above os) false ws refl (step (above os)) (rw (above_more os old) at on.0), all_ended os old ws step on.1)
 
 -- ---- what each word does
 
@@ -198,17 +199,18 @@ pub opens : (all : List Word) (os : List Open) (ws : List Word) (w : Word) (b : 
 opens all os ws w b here closed semicolon comma opened on =
     now_open all os (record { bracket = b; list = None }) ws (drop 1 ws) (λ bs n. ap (span bs n) here ∙ open_span w (drop 1 ws) b closed opened semicolon comma bs n) tt on
 
-pub opens_call : (all : List Word) (os : List Open) (ws : List Word) (w : Word) (b : Bracket) → ws ≡ w ∷ drop 1 ws → closed_by w ≡ None → is_mark (codes ";") w ≡ false
-    → is_mark (codes ",") w ≡ false → opened_by w ≡ Some b → IsRest all ws → Holds all os ws
-    → Holds all (os ++ record { bracket = b; list = Some (record { list = ws; commas = 0 }) } ∷ []) (drop 1 ws)
-opens_call all os ws w b here closed semicolon comma opened part on =
-    now_open all os (record { bracket = b; list = Some (record { list = ws; commas = 0 }) }) ws (drop 1 ws)
-    (λ bs n. ap (span bs n) here ∙ open_span w (drop 1 ws) b closed opened semicolon comma bs n) (part, refl) on
+pub opens_call : (all : List Word) (os : List Open) (ws : List Word) (w : Word) (b : Bracket) (p : Box Pending Global) → ws ≡ w ∷ drop 1 ws → closed_by w ≡ None
+    → is_mark (codes ";") w ≡ false → is_mark (codes ",") w ≡ false → opened_by w ≡ Some b → p.value ≡ record { list = ws; commas = 0 } → IsRest all ws → Holds all os ws
+    → Holds all (os ++ record { bracket = b; list = Some p } ∷ []) (drop 1 ws)
+opens_call all os ws w b p here closed semicolon comma opened is part on =
+    now_open all os (record { bracket = b; list = Some p }) ws (drop 1 ws)
+    (λ bs n. ap (span bs n) here ∙ open_span w (drop 1 ws) b closed opened semicolon comma bs n)
+    (rw (ap (λ (x : Pending). x.list) is) part, rw (ap (λ (x : Pending). x.list) is, ap (λ (x : Pending). x.commas) is) refl) on
 
 pub closes_last : (all : List Word) (os before : List Open) (o : Open) (ws : List Word) (w : Word) (b : Bracket) → ws ≡ w ∷ drop 1 ws → closed_by w ≡ Some b
-    → before ≡ os ++ o ∷ [] → Holds all before ws → Ends all o.list true ws
+    → before ≡ os ++ o ∷ [] → Holds all before ws → Ends all (pending_in o.list) true ws
 closes_last all os before o ws w b here closed is on =
-    ends_at all o.list [] true ws refl
+    ends_at all (pending_in o.list) [] true ws refl
     (λ n. ap (span [] n) here ∙ ends_one [] n w (drop 1 ws) (closes_ends [] w (last_close w b closed)) ∙ ap (span_at n []) (sym here))
     (last_goes all os o ws (rw is at on))
 
@@ -224,9 +226,9 @@ all_end all os before o ws w b here closed is own on =
     (λ bs n. ap (span (o.bracket ∷ bs) n) here ∙ other_span w (drop 1 ws) b o.bracket closed own bs n ∙ ap (span_at n (o.bracket ∷ bs)) (sym here)) (rw is at on)
 
 pub semicolon_last : (all : List Word) (os before : List Open) (o : Open) (ws : List Word) (w : Word) → ws ≡ w ∷ drop 1 ws → closed_by w ≡ None → is_mark (codes ";") w ≡ true
-    → before ≡ os ++ o ∷ [] → Holds all before ws → Ends all o.list true ws
+    → before ≡ os ++ o ∷ [] → Holds all before ws → Ends all (pending_in o.list) true ws
 semicolon_last all os before o ws w here closed mark is on =
-    ends_at all o.list [] true ws refl (λ n. ap (span [] n) here ∙ ends_one [] n w (drop 1 ws) (last_semicolon w closed mark) ∙ ap (span_at n []) (sym here))
+    ends_at all (pending_in o.list) [] true ws refl (λ n. ap (span [] n) here ∙ ends_one [] n w (drop 1 ws) (last_semicolon w closed mark) ∙ ap (span_at n []) (sym here))
     (last_goes all os o ws (rw is at on))
 
 pub semicolon : (all : List Word) (os before : List Open) (o : Open) (ws : List Word) (w : Word) → ws ≡ w ∷ drop 1 ws → closed_by w ≡ None → is_mark (codes ";") w ≡ true
@@ -240,30 +242,31 @@ counted : (all : List Word) (list : Option Pending) (ws : List Word) (w : Word) 
 counted all None ws w here closed other mark on = tt
 counted all (Some p) ws w here closed other mark on = (on.0, on.1 ∙ ap (span [] p.commas) here ∙ comma_span w (drop 1 ws) p.commas closed other mark)
 
-pub comma : (all : List Word) (os before : List Open) (o : Open) (ws : List Word) (w : Word) → ws ≡ w ∷ drop 1 ws → closed_by w ≡ None → is_mark (codes ";") w ≡ false
-    → is_mark (codes ",") w ≡ true → before ≡ os ++ o ∷ [] → Holds all before ws → Holds all (os ++ record { bracket = o.bracket; list = with_comma o.list } ∷ []) (drop 1 ws)
-comma all os before o ws w here closed other mark is on =
+pub comma : (all : List Word) (os before : List Open) (o : Open) (list : Option (Box Pending Global)) (ws : List Word) (w : Word) → ws ≡ w ∷ drop 1 ws → closed_by w ≡ None
+    → is_mark (codes ";") w ≡ false → is_mark (codes ",") w ≡ true → before ≡ os ++ o ∷ [] → pending_in list ≡ with_comma (pending_in o.list) → Holds all before ws
+    → Holds all (os ++ record { bracket = o.bracket; list = list } ∷ []) (drop 1 ws)
+comma all os before o list ws w here closed other mark is more on =
     let held = rw is at on in
-    all_inner all os o (record { bracket = o.bracket; list = with_comma o.list }) ws (drop 1 ws) refl
+    all_inner all os o (record { bracket = o.bracket; list = list }) ws (drop 1 ws) refl
     (λ b bs n. ap (span (b ∷ bs) n) here ∙ inner_span w (drop 1 ws) closed (comma_opens w mark) b bs n)
-    (counted all o.list ws w here closed other mark (last_goes all os o ws held)) held
+    (rw more (counted all (pending_in o.list) ws w here closed other mark (last_goes all os o ws held))) held
 
 -- ---- the end
 
-pub over_last : (all : List Word) (os before : List Open) (o : Open) (ws : List Word) → ws ≡ [] → before ≡ os ++ o ∷ [] → Holds all before ws → Ends all o.list true ws
-over_last all os before o ws none is on = ends_at all o.list [] true ws refl (λ n. over [] n ws none) (last_goes all os o ws (rw is at on))
+pub over_last : (all : List Word) (os before : List Open) (o : Open) (ws : List Word) → ws ≡ [] → before ≡ os ++ o ∷ [] → Holds all before ws → Ends all (pending_in o.list) true ws
+over_last all os before o ws none is on = ends_at all (pending_in o.list) [] true ws refl (λ n. over [] n ws none) (last_goes all os o ws (rw is at on))
 
 pub all_over : (all : List Word) (os before : List Open) (o : Open) (ws : List Word) → ws ≡ [] → before ≡ os ++ o ∷ [] → Holds all before ws → AllEnd all os ws
 all_over all os before o ws none is on = all_ended all os o ws (λ bs n. over (o.bracket ∷ bs) n ws none) (rw is at on)
 
-last_of : (all : List Word) (os : List Open) (o : Open) (ws : List Word) → AllEnd all (os ++ o ∷ []) ws → AllEnd all os ws × Ends all o.list false ws
+last_of : (all : List Word) (os : List Open) (o : Open) (ws : List Word) → AllEnd all (os ++ o ∷ []) ws → AllEnd all os ws × Ends all (pending_in o.list) false ws
 last_of all [] o ws ends = (tt, ends.0)
 last_of all (x ∷ os) o ws ends = let further = last_of all os o ws ends.1 in ((ends.0, further.0), further.1)
 
 pub one_less_ends : (all : List Word) (os before : List Open) (o : Open) (ws : List Word) → before ≡ os ++ o ∷ [] → AllEnd all before ws → AllEnd all os ws
 one_less_ends all os before o ws is ends = (last_of all os o ws (rw is at ends)).0
 
-pub last_ends : (all : List Word) (os before : List Open) (o : Open) (ws : List Word) → before ≡ os ++ o ∷ [] → AllEnd all before ws → Ends all o.list false ws
+pub last_ends : (all : List Word) (os before : List Open) (o : Open) (ws : List Word) → before ≡ os ++ o ∷ [] → AllEnd all before ws → Ends all (pending_in o.list) false ws
 last_ends all os before o ws is ends = (last_of all os o ws (rw is at ends)).1
 
 pub fewer : (os before : List Open) (o : Open) → before ≡ os ++ o ∷ [] → length os < length before

@@ -7,6 +7,9 @@ pub mod Roots
 pub mod Lists
 pub mod Spans
 pub mod Places
+pub mod Links
+pub mod SharedCalls
+pub mod SharedChains
 pub mod Commas
 pub mod Notes
 pub mod Arguments

@@ -10,6 +10,7 @@ use Rattle.jq_words.specs.Results.{IsRest}
 use Rattle.jq_parts.specs.declared.argument_lists.ArgumentList.{ArgumentList}
 use Rattle.jq_parts.specs.declared.open_lists.Open.{Open}
 use Rattle.jq_parts.specs.declared.open_lists.Pending.{Pending}
+use Rattle.jq_parts.specs.Commas.{pending_in}
 use Rattle.jq_parts.specs.Lists.{Extent, extent}
 use Rattle.jq_parts.specs.Spans.{span, span_at}
 
@@ -42,7 +43,7 @@ GoesOn all (Some p) bs ws = IsRest all p.list × (span [] 0 (drop 1 p.list) ≡ 
 -- so do those in all brackets that are open, which stand from the outermost inward
 abbrev pub Holds : List Word → List Open → List Word → Type 0
 Holds all [] ws = ⊤
-Holds all (o ∷ os) ws = GoesOn all o.list (above os) ws × Holds all os ws
+Holds all (o ∷ os) ws = GoesOn all (pending_in o.list) (above os) ws × Holds all os ws
 
 -- the arguments in a bracket end before these words, with all their brackets closed or not
 abbrev pub Ends : List Word → Option Pending → Bool → List Word → Type 0
@@ -52,4 +53,4 @@ Ends all (Some p) whole ws = IsRest all p.list × (left : List Bracket) × (is_e
 -- those in all of some brackets end so, with brackets that aren't closed
 abbrev pub AllEnd : List Word → List Open → List Word → Type 0
 AllEnd all [] ws = ⊤
-AllEnd all (o ∷ os) ws = Ends all o.list false ws × AllEnd all os ws
+AllEnd all (o ∷ os) ws = Ends all (pending_in o.list) false ws × AllEnd all os ws

@@ -2,18 +2,19 @@
 use Rattle.std.specs.Prelude.{ℕ, map, List, Option, option_map}
 use Rattle.tp_base.specs.Places.{place_at}
 use Rattle.tree_sem.specs.declared.actions.Action.{Action}
-use Rattle.jq_sem.specs.declared.chains.Chain as code_chain
 use Rattle.jq_sem.specs.Views as sem
 use Rattle.jq_sem.specs.Statements.{Statement}
 use Rattle.jq_parts.specs.declared.placing.Stated.{Stated}
 use Rattle.jq_parts.specs.declared.scopes.Handler as code_handler
 use Rattle.jq_parts.specs.declared.scopes.Scope as code_scope
+use Rattle.jq_parts.specs.declared.shared_chains.SharedChain.{SharedChain}
+use Rattle.jq_parts.specs.SharedChains.{shared_of}
 use Rattle.jq_parts.specs.Views.{declarations_of}
 use Rattle.jq_parts.specs.Scopes.{Handler, Scope}
 use Rattle.jq_parts.specs.Stating.{Effect}
 
 abbrev pub handler_of : code_handler.Handler → Handler
-handler_of h = record { chain = sem.chain_of h.chain; at = h.at }
+handler_of h = record { chain = shared_of h.chain; at = h.at }
 
 abbrev pub handlers_of : List code_handler.Handler → List Handler
 handlers_of hs = map handler_of hs
@@ -21,8 +22,8 @@ handlers_of hs = map handler_of hs
 abbrev pub scope_of : code_scope.Scope → Scope
 scope_of s = record { handlers = handlers_of s.handlers.items; has_this = s.has_this; declarations = declarations_of s.declarations }
 
-abbrev pub effect_of : Option (code_chain.Chain × Action) → Effect
-effect_of e = option_map (λ a. (sem.chain_of a.0, a.1)) e
+abbrev pub effect_of : Option (SharedChain × Action) → Effect
+effect_of e = option_map (λ a. (shared_of a.0, a.1)) e
 
 -- a statement of a text, which has an offset in the place of its place
 abbrev pub stated_in : List ℕ → Stated → Statement

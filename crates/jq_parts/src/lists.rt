@@ -8,11 +8,12 @@ ghost use Rattle.jq_words.specs.Results.{IsRest};
 ghost use Rattle.jq_words.specs.declared.faults.ScriptFault.TheVariants.{Memory};
 ghost use Rattle.jq_parts.specs.Lists.{extent};
 ghost use Rattle.jq_parts.specs.Notes.{extent_in, Holds, Ends, AllEnd};
+ghost use Rattle.jq_parts.specs.Commas.{pending_in};
 
 use crate::argument_lists::{ArgumentList, ended};
 use crate::open_lists::{Open, Pending, and_comma};
 use indexmap::IndexMap;
-use jq_words::{Bracket, ScriptFault, Word, Words, closed_by, opened_by};
+use jq_words::{Bracket, MOST_OPEN, ScriptFault, Word, Words, closed_by, opened_by};
 use js_scan::Token;
 use std::alloc::Global;
 use std::marker::Model;
@@ -88,7 +89,7 @@ impl<'a> Lists<'a> {
         self.finish(&mut opened, &rest)
     }
 
-    /// Passes the first word.
+    /// Passes the first word. Where more brackets are open than may be, what is in one is noted no more: the file is refused there.
     #[tactic(auto, using(crate::proofs::NoteSteps::opens, crate::proofs::NoteSteps::opens_call, crate::proofs::NoteSteps::plain, crate::proofs::NoteSteps::no_words))]
     fn pass(
         &mut self,
@@ -117,17 +118,19 @@ impl<'a> Lists<'a> {
         let Some(bracket) = opened_by(&word) else {
             return Ok(());
         };
-        if !names_call || !word.is_mark(b"(") {
+        if !names_call || !word.is_mark(b"(") || opened.len() >= MOST_OPEN {
             opened.push(Open {
                 bracket,
                 list: None,
             })?;
             return Ok(());
         }
+        let alloc = *opened.allocator();
         let list = words.again();
+        let pending = Box::new(alloc, Pending { list, commas: 0 })?;
         opened.push(Open {
             bracket,
-            list: Some(Pending { list, commas: 0 }),
+            list: Some(pending),
         })?;
         Ok(())
     }
@@ -245,11 +248,11 @@ impl<'a> Lists<'a> {
     #[tactic(auto, using(crate::proofs::NoteSteps::one_noted, crate::proofs::NoteSteps::same_noted))]
     fn note(
         &mut self,
-        list: Option<Pending<'a>>,
+        list: Option<Box<Pending<'a>>>,
         whole: bool,
         behind: &Words<'a>,
     ) -> Result<(), ScriptFault>
-        requires { Ends self.old list whole behind.now }
+        requires { Ends self.old (pending_in list) whole behind.now }
         ensures kept { OnOk result (self.new ≡ self.old) }
         ensures only_memory { IfErr result (λ e. e ≡ Memory) }
     {

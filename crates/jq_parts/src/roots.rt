@@ -19,7 +19,7 @@ use jq_words::{ScriptFault, Words, argument_len, is_markup, joined_texts, only, 
 use std::alloc::Global;
 use tp_base::AtomTable;
 
-/// `this`, document or window, or a bound name. What a copy of the name's value costs.
+/// `this`, document or window, or a bound name. A look-up, and a copy where its value is markup.
 #[tactic(auto, using(crate::proofs::RootSteps::no_root, crate::proofs::RootSteps::this_root, crate::proofs::RootSteps::this_refused, crate::proofs::RootSteps::page_root, crate::proofs::RootSteps::name_root, crate::proofs::RootSteps::other_root))]
 fn named_root(
     alloc: Global,
@@ -37,7 +37,7 @@ fn named_root(
         if !scope.has_this {
             return Err(ScriptFault::ThisOutside(at));
         }
-        return Ok(Value::Elements(this_chain(alloc)));
+        return Ok(Value::Elements(this_chain(alloc)?));
     }
     if word.is_name_among(&PAGES) {
         return Ok(Value::Everywhere);
@@ -66,7 +66,7 @@ fn lettered_root(
         return Ok(Value::Markup(trees));
     }
     let list = selectors(alloc, at, letters, atoms)?;
-    Ok(Value::Elements(matched(alloc, list)))
+    Ok(Value::Elements(matched(alloc, list)?))
 }
 
 /// What stands in the brackets of J. Linear in it but for look-ups.

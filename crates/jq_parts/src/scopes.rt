@@ -7,15 +7,15 @@ ghost use Rattle.jq_parts.specs.Views.{value_of, declarations_of};
 ghost use Rattle.jq_parts.specs.ScopeViews.{handlers_of, scope_of};
 
 use crate::declarations::Declarations;
+use crate::shared_chains::SharedChain;
 use crate::values::Value;
-use jq_sem::Chain;
 use jq_words::{ScriptFault, letters};
 use std::alloc::Global;
 
 /// The chain of a handler's elements, and where its function begins.
 #[derive(Drop)]
 pub struct Handler {
-    pub chain: Chain,
+    pub chain: SharedChain,
     pub at: usize,
 }
 
@@ -29,7 +29,7 @@ pub struct Scope<'a> {
 }
 
 /// Whether these are the places of the handlers. Linear in them.
-fn same_places(under: &[usize], handlers: &[Handler]) -> bool
+pub fn same_places(under: &[usize], handlers: &[Handler]) -> bool
     ensures { result ≡ bytes_eq under.now (spec.places_of (handlers_of handlers.now)) }
 {
     let mut left = under;
@@ -47,7 +47,7 @@ fn same_places(under: &[usize], handlers: &[Handler]) -> bool
     others.is_empty()
 }
 
-/// The value of a name that stands at an offset. A look-up, and what a copy of the value costs.
+/// The value of a name that stands at an offset. A look-up, and a copy where it is markup: other values are shared.
 #[tactic(auto, unfolding(crate::specs::Scopes::used, crate::specs::Bindings::bound))]
 pub fn used(alloc: Global, scope: &Scope<'_>, name: &[u8], at: usize) -> Result<Value, ScriptFault>
     ensures { Gives value_of result (spec.used (scope_of scope.now) name.now at) }
@@ -58,7 +58,7 @@ pub fn used(alloc: Global, scope: &Scope<'_>, name: &[u8], at: usize) -> Result<
     let Some(bound) = &declaration.bound else {
         return Err(ScriptFault::UnboundName(letters(alloc, name)?, at));
     };
-    if bound.value.is_this() && !same_places(&bound.under, &scope.handlers) {
+    if bound.value.is_this() && !same_places(bound.under.as_slice(), &scope.handlers) {
         return Err(ScriptFault::ThisOutside(at));
     }
     Ok(bound.value.copy()?)

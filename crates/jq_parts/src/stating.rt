@@ -9,6 +9,7 @@ ghost use Rattle.jq_parts.specs.ScopeViews.{handlers_of, effect_of, stated_in};
 
 use crate::placing::Stated;
 use crate::scopes::Handler;
+use crate::shared_chains::SharedChain;
 use jq_sem::{Chain, Chains};
 use jq_words::{MOST_CALLS, MOST_STATEMENTS, ScriptFault};
 use std::alloc::Global;
@@ -35,19 +36,19 @@ fn chains_of(alloc: Global, handlers: &[Handler]) -> Result<Vec<Chain>, NoMemory
 {
     let mut copy = Vec::new(alloc);
     for handler in handlers {
-        copy.push(handler.chain.copy()?)?;
+        copy.push(handler.chain.copy(alloc)?)?;
     }
     Ok(copy)
 }
 
-/// Adds the statement of a call, where it acts: the call stands in these handlers, and its name at an offset. Linear in the handlers'
-/// chains.
+/// Adds the statement of a call, where it acts: the call stands in these handlers, and its name at an offset. Linear in its chain and
+/// the handlers' chains, which are copied.
 #[tactic(auto, unfolding(crate::specs::Stating::stated), using(crate::proofs::StatingSteps::one_stated))]
 pub fn stated(
     alloc: Global,
     handlers: &[Handler],
     at: usize,
-    effect: Option<(Chain, Action)>,
+    effect: Option<(SharedChain, Action)>,
     statements: &mut Vec<Stated>,
 ) -> Result<(), ScriptFault>
     ensures gives { (text : List ℕ) → Leaves (map (stated_in text) statements.new.items) result (spec.stated text (handlers_of handlers.now) at (effect_of effect) (map (stated_in text) statements.old.items)) }
@@ -59,6 +60,7 @@ pub fn stated(
     if statements.len() >= MOST_STATEMENTS {
         return Err(ScriptFault::TooManyStatements(at));
     }
+    let chain = chain.copy(alloc)?;
     let chains = chains_of(alloc, handlers)?;
     let count = calls_in(&chains)?;
     let all = count

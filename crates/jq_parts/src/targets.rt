@@ -1,12 +1,12 @@
 //! The chain on which markup is placed.
 ghost use Rattle.std.specs.Prelude.{◌≡◌, [], ◌∷◌, Bool, false, codes, drop, IfSome, IfNone};
 ghost use Rattle.sel_core.specs.Results.{IsFront};
-ghost use Rattle.jq_sem.specs.Views.{chain_of};
 ghost use Rattle.jq_words.specs.Words.{Word, is_mark, is_name_among, is_form, spelled};
 ghost use Rattle.jq_words.specs.Results.{Gives, Finds};
 ghost use Rattle.jq_parts.specs.Keywords.{jquery, is_name_besides};
 ghost use Rattle.jq_parts.specs.Bindings.{bound};
 ghost use Rattle.jq_parts.specs.Arguments as spec;
+ghost use Rattle.jq_parts.specs.SharedChains.{shared_of};
 ghost use Rattle.jq_parts.specs.Views.{declarations_of};
 ghost use Rattle.jq_parts.specs.ScopeViews.{scope_of};
 
@@ -14,8 +14,8 @@ use crate::declarations::Declarations;
 use crate::keywords::{PAGES, is_jquery_call, spelled};
 use crate::scopes::{Scope, used};
 use crate::selections::selectors;
+use crate::shared_chains::SharedChain;
 use crate::values::{Value, matched, this_chain};
-use jq_sem::Chain;
 use jq_words::{ScriptFault, Word, Words, joined_texts, only, place, want_open};
 use std::alloc::Global;
 use tp_base::AtomTable;
@@ -42,8 +42,8 @@ fn named_target(
     at: usize,
     name: &[u8],
     name_at: usize,
-) -> Result<Chain, ScriptFault>
-    ensures { Gives chain_of result (spec.named_target (scope_of scope.now) at name.now name_at) }
+) -> Result<SharedChain, ScriptFault>
+    ensures { Gives shared_of result (spec.named_target (scope_of scope.now) at name.now name_at) }
 {
     if is_apart(&scope.declarations, name) {
         return Err(ScriptFault::ComplexArgument(at));
@@ -95,8 +95,8 @@ fn wrapped_target(
     scope: &Scope<'_>,
     at: usize,
     words: &Words<'_>,
-) -> Result<Chain, ScriptFault>
-    ensures { Gives chain_of result (spec.wrapped_target size room (scope_of scope.now) at words.now) }
+) -> Result<SharedChain, ScriptFault>
+    ensures { Gives shared_of result (spec.wrapped_target size room (scope_of scope.now) at words.now) }
 {
     let mut inside = words.again();
     if is_apart(&scope.declarations, spelled(&words.behind())) {
@@ -114,15 +114,15 @@ fn wrapped_this(
     room: usize,
     scope: &Scope<'_>,
     words: &Words<'_>,
-) -> Result<Chain, ScriptFault>
-    ensures { Gives chain_of result (spec.wrapped_this size room (scope_of scope.now) words.now) }
+) -> Result<SharedChain, ScriptFault>
+    ensures { Gives shared_of result (spec.wrapped_this size room (scope_of scope.now) words.now) }
 {
     let mut inside = words.again();
     want_open(size, room, b"(", &mut inside)?;
     if !scope.has_this {
         return Err(ScriptFault::ThisOutside(place(size, &inside)));
     }
-    Ok(this_chain(alloc))
+    Ok(this_chain(alloc)?)
 }
 
 /// A bound name alone, in an argument that begins at an offset.
@@ -132,8 +132,8 @@ fn bare_target(
     scope: &Scope<'_>,
     at: usize,
     words: &Words<'_>,
-) -> Result<Chain, ScriptFault>
-    ensures { Gives chain_of result (spec.bare_target (scope_of scope.now) at words.now) }
+) -> Result<SharedChain, ScriptFault>
+    ensures { Gives shared_of result (spec.bare_target (scope_of scope.now) at words.now) }
 {
     let Some(word) = only(words) else {
         return Err(ScriptFault::ComplexArgument(at));
@@ -155,8 +155,8 @@ fn other_target(
     room: usize,
     scope: &Scope<'_>,
     words: &Words<'_>,
-) -> Result<Chain, ScriptFault>
-    ensures { Gives chain_of result (spec.other_target size room (scope_of scope.now) words.now) }
+) -> Result<SharedChain, ScriptFault>
+    ensures { Gives shared_of result (spec.other_target size room (scope_of scope.now) words.now) }
 {
     let at = place(size, words);
     let Some(word) = wrapped_word(words) else {
@@ -175,7 +175,7 @@ fn other_target(
 }
 
 /// The chain on which markup is placed: that of Texts, `J(this)`, `J(name)` or a bound name, where so many brackets may still be
-/// opened. What a copy of the name's chain costs.
+/// opened. Linear in the letters of Texts but for look-ups.
 #[tactic(auto, unfolding(crate::specs::Arguments::target), using(html_subset::proofs::Fronts::front_itself))]
 pub fn target(
     alloc: Global,
@@ -184,13 +184,13 @@ pub fn target(
     scope: &Scope<'_>,
     words: &Words<'_>,
     atoms: &mut AtomTable,
-) -> Result<Chain, ScriptFault>
-    ensures gives { Finds chain_of atoms.new result (spec.target size room (scope_of scope.now) words.now atoms.old) }
+) -> Result<SharedChain, ScriptFault>
+    ensures gives { Finds shared_of atoms.new result (spec.target size room (scope_of scope.now) words.now atoms.old) }
     ensures front { IsFront atoms.old atoms.new }
 {
     let Some(letters) = joined_texts(alloc, words)? else {
         return other_target(alloc, size, room, scope, words);
     };
     let list = selectors(alloc, place(size, words), &letters, atoms)?;
-    Ok(matched(alloc, list))
+    Ok(matched(alloc, list)?)
 }

@@ -1,20 +1,22 @@
 //! What a chain has come to, and the names that are bound to it.
 ghost use Rattle.std.specs.Prelude.{◌≡◌, map, IfOk};
 ghost use Rattle.sel_core.specs.Views.{selector_of};
-ghost use Rattle.jq_sem.specs.Views.{chain_of};
 ghost use Rattle.jq_parts.specs.Scopes as spec;
+ghost use Rattle.jq_parts.specs.SharedChains.{shared_of};
 ghost use Rattle.jq_parts.specs.Views.{value_of};
 
-use jq_sem::{Calls, Chain, Root, Selectors};
+use crate::shared_chains::SharedChain;
+use jq_sem::{Root, Selectors};
 use sel_core::Selector;
 use std::alloc::Global;
+use std::rc::Rc;
 use tp_base::NoMemory;
 use tree_sem::Forest;
 
 /// What a chain has come to.
 #[derive(Drop)]
 pub enum Value {
-    Elements(Chain),
+    Elements(SharedChain),
     /// Document or window.
     Everywhere,
     /// Markup that is still to be placed.
@@ -24,12 +26,12 @@ pub enum Value {
 }
 
 impl Value {
-    /// The same value once more. Linear in it.
+    /// The same value once more. Constant, but for markup.
     pub fn copy(&self) -> Result<Value, NoMemory>
         ensures { IfOk result (λ v. value_of v ≡ value_of self.now) }
     {
         match self {
-            Value::Elements(chain) => Ok(Value::Elements(chain.copy()?)),
+            Value::Elements(chain) => Ok(Value::Elements(chain.share()?)),
             Value::Everywhere => Ok(Value::Everywhere),
             Value::Markup(forest) => Ok(Value::Markup(forest.copy()?)),
             Value::Placed => Ok(Value::Placed),
@@ -41,17 +43,17 @@ impl Value {
         ensures { result ≡ spec.is_this (value_of self.now) }
     {
         match self {
-            Value::Elements(chain) => matches!(chain.root, Root::This),
+            Value::Elements(chain) => chain.is_this(),
             _ => false,
         }
     }
 }
 
-/// The chain to which a name is bound, and the places of the handlers round the declaration.
+/// The chain to which a name is bound, and the places of the handlers round the declaration, which others share.
 #[derive(Drop)]
 pub struct Bound {
     pub value: Value,
-    pub under: Vec<usize>,
+    pub under: Rc<Vec<usize>>,
 }
 
 /// A name, and to what it is bound, if it is to a chain. Small, since a script can have millions of declarations.
@@ -62,21 +64,15 @@ pub struct Declaration<'a> {
 }
 
 /// The chain of some selectors, without calls. Constant.
-pub fn matched(alloc: Global, selectors: Vec<Selector>) -> Chain
-    ensures { chain_of result ≡ spec.matched_chain (map selector_of selectors.items) }
+pub fn matched(alloc: Global, selectors: Vec<Selector>) -> Result<SharedChain, NoMemory>
+    ensures { IfOk result (λ c. shared_of c ≡ spec.matched_chain (map selector_of selectors.items)) }
 {
-    Chain {
-        root: Root::List(Selectors::new(selectors)),
-        calls: Calls::new(Vec::new(alloc)),
-    }
+    SharedChain::new(alloc, Root::List(Selectors::new(selectors)?))
 }
 
 /// The chain of `this`, without calls. Constant.
-pub fn this_chain(alloc: Global) -> Chain
-    ensures { chain_of result ≡ spec.this_chain }
+pub fn this_chain(alloc: Global) -> Result<SharedChain, NoMemory>
+    ensures { IfOk result (λ c. shared_of c ≡ spec.this_chain) }
 {
-    Chain {
-        root: Root::This,
-        calls: Calls::new(Vec::new(alloc)),
-    }
+    SharedChain::new(alloc, Root::This)
 }

@@ -1,4 +1,3 @@
-pub mod CallSteps
 pub mod ChainSteps
 pub mod DeclarationSteps
 pub mod HandlerSteps

@@ -1,15 +1,14 @@
 -- What a chain has come to in the code is to the definitions.
-use Rattle.std.specs.Prelude.{map}
-use Rattle.jq_sem.specs.Views as sem
 use Rattle.jq_parts.specs.Bindings.{Value, elements, everywhere, markup, placed}
 use Rattle.jq_parts.specs.Stating.{Effect}
 use Rattle.jq_parts.specs.ScopeViews.{effect_of}
+use Rattle.jq_parts.specs.SharedChains.{shared_of}
 use Rattle.jq_read.specs.declared.values.Reached.{Reached}
 use Rattle.jq_read.specs.declared.values.Reached.TheVariants as code
 use Rattle.jq_read.specs.declared.values.Done.{Done}
 
 abbrev pub reached_of : Reached → Value
-reached_of (code.Elements root calls) = elements (record { root = sem.root_of root; calls = map sem.call_of calls.items })
+reached_of (code.Elements chain) = elements (shared_of chain)
 reached_of code.Everywhere = everywhere
 reached_of (code.Markup forest) = markup forest.tops
 reached_of code.Placed = placed

@@ -18,18 +18,19 @@ use crate::functions::list_in;
 use crate::states::{Reader, State};
 use crate::values::{Done, Reached, elements, with_call};
 use jq_parts::{Cursor, class_set, compounds, markup_argument, selectors, target, text_argument};
-use jq_sem::{Call, Selectors};
+use jq_sem::{Call, Selectors, SharedCompounds};
 use jq_words::{Form, ScriptFault, Words, argument_len, begins, place};
-use sel_core::{Compound, Compounds};
-use tp_base::AtomTable;
+use sel_core::Compound;
+use std::alloc::Global;
+use tp_base::{AtomTable, NoMemory};
 use tree_sem::{Action, Forest, Trees};
 
 /// The call of a form that makes a set, by a list of compounds or by going back.
-fn made(form: Form, compounds: Vec<Compound>) -> Call
-    ensures { sem.call_of result ≡ spec.made (form_of form) (sem.atoms_of compounds.items) }
+fn made(form: Form, compounds: Vec<Compound>) -> Result<Call, NoMemory>
+    ensures { IfOk result (λ c. sem.call_of c ≡ spec.made (form_of form) (sem.atoms_of compounds.items)) }
 {
-    let compounds = Compounds::new(compounds);
-    match form {
+    let compounds = SharedCompounds::new(compounds)?;
+    Ok(match form {
         Form::Find => Call::Find(compounds),
         Form::Children => Call::Children(compounds),
         Form::Parent => Call::Parent(compounds),
@@ -37,7 +38,7 @@ fn made(form: Form, compounds: Vec<Compound>) -> Call
         Form::Filter => Call::Filter(compounds),
         Form::Has => Call::Has(compounds),
         _ => Call::End,
-    }
+    })
 }
 
 /// A list of compounds, or no argument where there may be none.
@@ -77,7 +78,7 @@ pub(crate) fn move_arguments(
     ensures front { IsFront atoms.old atoms.new }
 {
     let found = compounds_argument(reader, none, atoms, words)?;
-    let reached = with_call(reached, made(form, found))?;
+    let reached = with_call(reader.alloc, reached, made(form, found)?)?;
     Ok(Done {
         reached,
         effect: None,
@@ -85,11 +86,11 @@ pub(crate) fn move_arguments(
 }
 
 /// A call that goes back one set.
-pub(crate) fn go_back(reached: Reached) -> Result<Done, ScriptFault>
+pub(crate) fn go_back(alloc: Global, reached: Reached) -> Result<Done, ScriptFault>
     ensures gives { IfOk result (λ d. done_of d ≡ (spec.and_call (reached_of reached) back, None)) }
     ensures only_memory { IfErr result (λ e. e ≡ Memory) }
 {
-    let reached = with_call(reached, Call::End)?;
+    let reached = with_call(alloc, reached, Call::End)?;
     Ok(Done {
         reached,
         effect: None,
@@ -112,7 +113,7 @@ pub(crate) fn unite_arguments(
     let at = place(reader.text.len(), words.words());
     let letters = text_argument(reader.alloc, reader.text.len(), words)?;
     let found = selectors(reader.alloc, at, &letters, atoms)?;
-    let reached = with_call(reached, Call::Add(Selectors::new(found)))?;
+    let reached = with_call(reader.alloc, reached, Call::Add(Selectors::new(found)?))?;
     Ok(Done {
         reached,
         effect: None,
@@ -139,12 +140,12 @@ fn and_list(
 }
 
 /// What a call does to the elements of a value.
-fn acting(reader: Reader<'_>, reached: Reached, action: Action) -> Result<Done, ScriptFault>
+fn acting(reached: Reached, action: Action) -> Result<Done, ScriptFault>
     ensures reached { IfOk result (λ d. reached_of d.reached ≡ reached_of reached) }
     ensures effect { IfOk result (λ d. spec.acting (elements_in (reached_of reached)) action ≡ effect_of d.effect) }
     ensures only_memory { IfErr result (λ e. e ≡ Memory) }
 {
-    match elements(reader.alloc, &reached)? {
+    match elements(&reached)? {
         None => Ok(Done {
             reached,
             effect: None,
@@ -174,7 +175,7 @@ pub(crate) fn class_arguments(
     let letters = text_argument(reader.alloc, reader.text.len(), words)?;
     let classes = class_set(reader.alloc, at, &letters, atoms)?;
     and_list(reader, room, state, words)?;
-    let done = acting(reader, reached, Action::Classes(classes))?;
+    let done = acting(reached, Action::Classes(classes))?;
     Ok(done)
 }
 
@@ -231,7 +232,7 @@ pub(crate) fn grow_arguments(
         &mut state.nodes,
         atoms,
     )?;
-    let done = acting(reader, reached, added(beside, forest))?;
+    let done = acting(reached, added(beside, forest))?;
     Ok(done)
 }
 

@@ -1,6 +1,5 @@
 //! Functions, where they stand and where they are handed over.
 ghost use Rattle.std.specs.Prelude.{◌≡◌, true, false, length, option_map, None, OnOk, IfOk, IfErr};
-ghost use Rattle.jq_sem.specs.Views.{chain_of};
 ghost use Rattle.sel_core.specs.Results.{IsFront};
 ghost use Rattle.jq_words.specs.Results.{Leaves, IsRest, IsBehind};
 ghost use Rattle.jq_words.specs.declared.faults.ScriptFault.TheVariants.{Memory};
@@ -93,15 +92,11 @@ pub(crate) fn named_function<'a>(
 }
 
 /// The handler that a function is which is handed to a call with these elements, and begins at an offset.
-pub(crate) fn handler_at(
-    reader: Reader<'_>,
-    at: usize,
-    reached: &Reached,
-) -> Result<Option<Handler>, ScriptFault>
+pub(crate) fn handler_at(at: usize, reached: &Reached) -> Result<Option<Handler>, ScriptFault>
     ensures gives { IfOk result (λ h. functions.handler_at at (functions.elements_in (reached_of reached.now)) ≡ option_map handler_of h) }
     ensures only_memory { IfErr result (λ e. e ≡ Memory) }
 {
-    match elements(reader.alloc, reached)? {
+    match elements(reached)? {
         None => Ok(None),
         Some(chain) => Ok(Some(Handler { chain, at })),
     }
@@ -126,7 +121,7 @@ pub(crate) fn handed<'a>(
 {
     if begins_name(words.words(), b"function") {
         let at = place(reader.text.len(), words.words());
-        let handler = handler_at(reader, at, reached)?;
+        let handler = handler_at(at, reached)?;
         function(reader, handler, room, state, atoms, words)?;
         return Ok(());
     }

@@ -1,10 +1,8 @@
 //! The names of calls, whether they may stand where they do, and what they listen to.
-ghost use Rattle.std.specs.Prelude.{◌≡◌, ◌≤◌, not, [], drop, length, map, option_map, IfOk, IfErr, OnOk};
+ghost use Rattle.std.specs.Prelude.{◌≡◌, ◌≤◌, drop, length, map, option_map, IfOk, IfErr, OnOk};
 ghost use Rattle.sel_core.specs.Selectors.{simple};
 ghost use Rattle.sel_core.specs.Views.{selector_of};
-ghost use Rattle.jq_sem.specs.Statements.{standing};
 ghost use Rattle.jq_sem.specs.Views as sem;
-ghost use Rattle.jq_words.specs.Brackets.{is_empty};
 ghost use Rattle.jq_words.specs.CallViews.{form_of, row_from};
 ghost use Rattle.sel_core.specs.Results.{IsFront};
 ghost use Rattle.jq_words.specs.Results.{Gives, Finds, Leaves, Turns, IsRest, IsBehind};
@@ -17,26 +15,13 @@ ghost use Rattle.jq_read.specs.Views.{reached_of};
 
 use crate::states::{Reader, State};
 use crate::values::{Reached, copy_reached, with_call};
-use jq_parts::{Cursor, compounds, counts, stated, text_argument};
-use jq_sem::{Call, Chain, Root, Selectors, standing};
+use jq_parts::{Cursor, SharedChain, compounds, counts, stated, text_argument};
+use jq_sem::{Call, Root, Selectors, SharedCompounds};
 use jq_words::{Form, Row, ScriptFault, begins, place, row_of};
 use sel_core::{Compound, Compounds, Joins, Selector};
 use std::alloc::Global;
 use tp_base::{AtomTable, NoMemory};
 use tree_sem::Action;
-
-/// Whether a set stands before that of the last of these calls. Linear in them.
-#[tactic(auto, using(crate::proofs::CallSteps::some_before, crate::proofs::CallSteps::none_before))]
-fn has_set_before(alloc: Global, calls: &[Call]) -> Result<bool, ScriptFault>
-    ensures gives { IfOk result (λ b. (root : _) → not (is_empty (standing root [] (map sem.call_of calls.now)).1) ≡ b) }
-    ensures only_memory { IfErr result (λ e. e ≡ Memory) }
-{
-    let (_emptied, stack) = standing(alloc, calls)?;
-    if stack.is_empty() {
-        return Ok(false);
-    }
-    Ok(true)
-}
 
 fn is_placing(form: Form) -> bool
     ensures { result ≡ spec.is_placing (form_of form) }
@@ -50,24 +35,20 @@ fn is_listening(form: Form) -> bool
     matches!(form, Form::Listens)
 }
 
-/// Whether a call may stand behind a value. Constant, but for `end`.
+/// Whether a call may stand behind a value. Constant.
 #[tactic(auto, unfolding(crate::specs::Chains::may_stand))]
-fn may_stand(alloc: Global, form: Form, reached: &Reached) -> Result<bool, ScriptFault>
-    ensures gives { IfOk result (λ b. spec.may_stand (form_of form) (reached_of reached.now) ≡ b) }
-    ensures only_memory { IfErr result (λ e. e ≡ Memory) }
+fn may_stand(form: Form, reached: &Reached) -> bool
+    ensures { spec.may_stand (form_of form) (reached_of reached.now) ≡ result }
 {
     match reached {
-        Reached::Elements(_, calls) => match form {
-            Form::Places => Ok(false),
-            Form::GoesBack => {
-                let before = has_set_before(alloc, calls)?;
-                Ok(before)
-            }
-            _ => Ok(true),
+        Reached::Elements(chain) => match form {
+            Form::Places => false,
+            Form::GoesBack => chain.calls.any_stands(),
+            _ => true,
         },
-        Reached::Everywhere => Ok(is_listening(form)),
-        Reached::Markup(_) => Ok(is_placing(form)),
-        Reached::Placed => Ok(false),
+        Reached::Everywhere => is_listening(form),
+        Reached::Markup(_) => is_placing(form),
+        Reached::Placed => false,
     }
 }
 
@@ -128,7 +109,7 @@ pub(crate) fn admitted(
 ) -> Result<usize, ScriptFault>
     ensures { Gives (λ n. n) result (spec.admitted (length reader.entry.text.now) (reached_of reached.now) (row_from row.now.0.now row.now.1 row.now.2 row.now.3) at words.now) }
 {
-    if !may_stand(reader.alloc, row.3, reached)? {
+    if !may_stand(row.3, reached) {
         return Err(ScriptFault::UnknownForm(at));
     }
     if !begins(words.words(), b"(") {
@@ -146,7 +127,7 @@ pub(crate) fn admitted(
 pub(crate) fn and_stated(
     reader: Reader<'_>,
     at: usize,
-    effect: Option<(Chain, Action)>,
+    effect: Option<(SharedChain, Action)>,
     state: &mut State<'_>,
 ) -> Result<(), ScriptFault>
     ensures gives { (names : _) → Leaves (state_of reader.entry state.new names) result (spec.and_stated (context_of reader.entry state.old) at (effect_of effect) (state_of reader.entry state.old names)) }
@@ -226,7 +207,7 @@ fn is_everywhere(reached: &Reached) -> bool
     matches!(reached, Reached::Everywhere)
 }
 
-/// The elements below a value that one of the compounds fits; below document and window, those anywhere. Linear in the value.
+/// The elements below a value that one of the compounds fits; below document and window, those anywhere. Linear in the compounds.
 #[tactic(auto, unfolding(crate::specs::Chains::below))]
 fn below(alloc: Global, reached: &Reached, compounds: Vec<Compound>) -> Result<Reached, ScriptFault>
     ensures gives { IfOk result (λ r. spec.below (reached_of reached.now) (sem.atoms_of compounds.items) ≡ reached_of r) }
@@ -234,10 +215,11 @@ fn below(alloc: Global, reached: &Reached, compounds: Vec<Compound>) -> Result<R
 {
     if is_everywhere(reached) {
         let selectors = simple_selectors(alloc, &compounds)?;
-        return Ok(Reached::Elements(Root::List(Selectors::new(selectors)), Vec::new(alloc)));
+        let chain = SharedChain::new(alloc, Root::List(Selectors::new(selectors)?))?;
+        return Ok(Reached::Elements(chain));
     }
-    let copy = copy_reached(alloc, reached)?;
-    let found = with_call(copy, Call::Find(Compounds::new(compounds)))?;
+    let copy = copy_reached(reached)?;
+    let found = with_call(alloc, copy, Call::Find(SharedCompounds::new(compounds)?))?;
     Ok(found)
 }
 
@@ -256,7 +238,7 @@ fn listened(
     ensures front { IsFront atoms.old atoms.new }
 {
     if !narrowed {
-        let copy = copy_reached(reader.alloc, reached)?;
+        let copy = copy_reached(reached)?;
         return Ok(copy);
     }
     let at = place(reader.text.len(), words.words());

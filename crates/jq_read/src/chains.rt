@@ -121,7 +121,7 @@ pub(crate) fn call_arguments<'a>(
         }
         Form::Unites => unite_arguments(reader, reached, state, atoms, words),
         Form::GoesBack => {
-            let done = go_back(reached)?;
+            let done = go_back(reader.alloc, reached)?;
             Ok(done)
         }
         Form::Classes => class_arguments(reader, room, reached, state, atoms, words),
@@ -217,7 +217,7 @@ pub(crate) fn chain<'a>(
         atoms,
         words,
     )?;
-    let reached = begin(reader.alloc, value)?;
+    let reached = begin(value);
     let reached = calls(reader, reached, room, state, atoms, words)?;
     Ok(finish(reached))
 }

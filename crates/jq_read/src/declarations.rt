@@ -14,9 +14,10 @@ use crate::bodies::function;
 use crate::chains::chain;
 use crate::functions::list_in;
 use crate::states::{Reader, State};
-use jq_parts::{Bound, Cursor, Declaration, Handler, Value, is_chain};
+use jq_parts::{Bound, Cursor, Declaration, Handler, Value, is_chain, same_places};
 use jq_words::{ScriptFault, begins, begins_name};
 use std::alloc::Global;
+use std::rc::Rc;
 use tp_base::{AtomTable, NoMemory};
 
 /// The places of handlers, outermost first.
@@ -30,11 +31,29 @@ fn places(alloc: Global, handlers: &[Handler]) -> Result<Vec<usize>, NoMemory>
     Ok(found)
 }
 
+/// The places of handlers, shared with the last declaration where it stands under the same ones. Linear in them.
+#[tactic(auto, using(crate::proofs::HandlerSteps::same_places))]
+fn shared_places(
+    alloc: Global,
+    handlers: &[Handler],
+    last: &mut Rc<Vec<usize>>,
+) -> Result<Rc<Vec<usize>>, NoMemory>
+    ensures { IfOk result (λ v. v.value.items ≡ places_of (handlers_of handlers.now)) }
+{
+    if same_places(last.as_slice(), handlers) {
+        return Ok(last.clone()?);
+    }
+    let found = Rc::new(alloc, places(alloc, handlers)?)?;
+    *last = found.clone()?;
+    Ok(found)
+}
+
 /// What a value binds a name to, under the handlers round it.
 fn bound_to(
     alloc: Global,
     value: Option<Value>,
     handlers: &[Handler],
+    last: &mut Rc<Vec<usize>>,
 ) -> Result<Option<Box<Bound>>, NoMemory>
     ensures value { IfOk result (λ b. bound_value b ≡ option_map value_of value) }
     ensures under { IfOk result (λ b. bound_under b ≡ under_bound (option_map value_of value) (places_of (handlers_of handlers.now))) }
@@ -42,7 +61,7 @@ fn bound_to(
     let Some(value) = value else {
         return Ok(None);
     };
-    let under = places(alloc, handlers)?;
+    let under = shared_places(alloc, handlers, last)?;
     Ok(Some(Box::new(alloc, Bound { value, under })?))
 }
 
@@ -58,7 +77,12 @@ fn declare<'a>(
     ensures kept { OnOk result (context_of reader.entry state.new ≡ context_of reader.entry state.old) }
     ensures only_memory { IfErr result (λ e. e ≡ Memory) }
 {
-    let bound = bound_to(reader.alloc, value, &state.scope.handlers)?;
+    let bound = bound_to(
+        reader.alloc,
+        value,
+        &state.scope.handlers,
+        &mut state.places,
+    )?;
     let declaration = Declaration { name, bound };
     state.scope.declarations.push(declaration)?;
     Ok(())

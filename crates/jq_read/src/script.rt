@@ -18,6 +18,7 @@ use jq_sem::Stmt;
 use jq_words::{MOST_OPEN, ScriptFault, declared_in};
 use js_scan::{ScanFault, Token, scan};
 use std::alloc::Global;
+use std::rc::Rc;
 use tp_base::AtomTable;
 
 /// The tokens of a file.
@@ -73,6 +74,7 @@ fn read_words(
         },
         nodes: 0,
         statements: Vec::new(alloc),
+        places: Rc::new(alloc, Vec::new(alloc))?,
     };
     sequence(reader, false, MOST_OPEN, &mut state, atoms, &mut words)?;
     let statements = placed(alloc, text, state.statements)?;

@@ -4,6 +4,7 @@ ghost use Rattle.tp_base.specs.declared.places.TheConstants.{MOST_BYTES};
 
 use jq_parts::{Scope, Stated};
 use std::alloc::Global;
+use std::rc::Rc;
 
 /// What was read up to a place, and what is seen there.
 #[derive(Drop)]
@@ -12,6 +13,8 @@ pub(crate) struct State<'a> {
     /// How many nodes all markup has.
     pub(crate) nodes: usize,
     pub(crate) statements: Vec<Stated>,
+    /// The places of the handlers round the last declaration of a chain.
+    pub(crate) places: Rc<Vec<usize>>,
 }
 
 /// What stays the same while a script is read.

@@ -8,6 +8,7 @@ use jq_parts::{
 use jq_sem::{Chain, Root};
 use jq_words::{ScriptFault, Words, place};
 use std::alloc::Global;
+use std::rc::Rc;
 use tp_base::{AtomTable, ClassSet, MOST_BYTES};
 use tree_sem::Action;
 
@@ -15,7 +16,7 @@ fn scope<'a>(alloc: Global) -> Result<Scope<'a>, ScriptFault> {
     let mut declarations = Declarations::new(alloc);
     let bound = Bound {
         value: Value::Everywhere,
-        under: Vec::new(alloc),
+        under: Rc::new(alloc, Vec::new(alloc))?,
     };
     declarations.push(Declaration {
         name: b"a",
@@ -89,7 +90,8 @@ pub(crate) fn grown(alloc: Global, text: &[u8]) -> Result<String, ScriptFault> {
 fn aim(alloc: Global, size: usize, words: &Words<'_>) -> Result<Chain, ScriptFault> {
     let mut atoms = AtomTable::new(alloc);
     let scope = scope(alloc)?;
-    target(alloc, size, 1, &scope, words, &mut atoms)
+    let chain = target(alloc, size, 1, &scope, words, &mut atoms)?;
+    Ok(chain.copy(alloc)?)
 }
 
 /// How many selectors a target has, or `this`.
@@ -133,7 +135,7 @@ pub(crate) fn chosen(alloc: Global, text: &[u8]) -> Result<String, ScriptFault> 
 
 /// Adds the statement of a call that acts, whose name stands at an offset.
 fn acting(alloc: Global, at: usize, statements: &mut Vec<Stated>) -> Result<(), ScriptFault> {
-    let effect = Some((this_chain(alloc), Action::Classes(ClassSet::new(alloc))));
+    let effect = Some((this_chain(alloc)?, Action::Classes(ClassSet::new(alloc))));
     stated(alloc, &[], at, effect, statements)
 }
 

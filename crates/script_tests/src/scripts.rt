@@ -95,7 +95,7 @@ static FORMS: [(&str, &str); 40] = [
 ];
 
 // Chains without functions.
-static CHAINS: [(&str, &str); 59] = [
+static CHAINS: [(&str, &str); 62] = [
     ("$('.a').wrap('<p>');", "UnknownCall wrap 8"),
     ("$('.a').append('<p>' + x);", "DynamicMarkup 15"),
     ("$('#' + id).show();", "ComplexArgument 2"),
@@ -141,6 +141,18 @@ static CHAINS: [(&str, &str); 59] = [
     (
         "var a = $('.a').find('b').children().parent('p').parents().filter('.q').has('i').add('u > v, w').end().end(); a.toggleClass('k l  k', 1); a.prepend('<b>')",
         "1:113 1:141 ",
+    ),
+    (
+        "var a = $('.a'), b = a.find('b'), c = b.parent().end(); c.end().addClass('x'); b.end().addClass('y'); b.addClass('z')",
+        "1:65 1:88 1:105 ",
+    ),
+    (
+        "var a = $('.a'), b = a.find('b'); b.end().addClass('x'); a.end().addClass('y')",
+        "UnknownForm 59",
+    ),
+    (
+        "$('.a').each(function(){ var t = $(this); $('.b').each(function(){ var u = $(this); u.addClass('u') }); t.addClass('t') })",
+        "1:87 1:107 ",
     ),
     (
         "var a = $('.a'), b = $('.b'), c = 3; a = b",
