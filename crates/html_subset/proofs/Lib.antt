@@ -2,7 +2,11 @@ pub mod ElementNames
 pub mod Fronts
 pub mod LabelLemmas
 pub mod ClassSteps
-pub mod OpenLemmas
+pub mod OutwardLemmas
+pub mod NearestLemmas
+pub mod StackLemmas
+pub mod NameLemmas
+pub mod EndLemmas
 pub mod StandLemmas
 pub mod MachineLemmas
 pub mod GrowthLemmas

@@ -1,36 +1,27 @@
 -- What stays open is no more than was open.
 use Rattle.std.proofs.Common.{ℕ, ◌≤◌, Bool, true, false, List, [], ◌∷◌, length, Option, Some, None, arith}
-use Rattle.std.specs.Prelude.{if◌then◌else◌, ◌&&◌, unwrap_or, IfSome}
+use Rattle.std.specs.Prelude.{if◌then◌else◌, ◌&&◌, IfSome}
+use Rattle.text_bytes.specs.Rests.{IsRest}
 use Rattle.html_subset.specs.declared.elements.Kind.{Kind}
 use Rattle.html_subset.specs.declared.elements.Kind.TheVariants as k
 use Rattle.html_subset.specs.declared.scopes.Scope.{Scope}
 use Rattle.html_subset.specs.declared.scopes.Scope.TheVariants as within
 use Rattle.html_subset.specs.Elements.{is, ends_paragraph, Element}
-use Rattle.html_subset.specs.TreeTable.{stops, behind, has_kind, without, without_current, without_paragraph, closed_by, is_held_by, holder, is_bare, is_in_table, in_table, Place, place, has_name, end_scope, closed_at_end}
+use Rattle.html_subset.specs.TreeTable.{behind, has_kind, without, without_current, without_paragraph, closed_by, holder, is_bare, is_in_table, in_table, Place, place, has_name, end_scope, closed_at_end}
+use Rattle.html_subset.proofs.OutwardLemmas.{behind_rest, without_rest, holder_rest}
 
 abbrev pub NoMore : ℕ → Option (List Element) → Type 0
 NoMore n o = IfSome o (λ es. length es ≤ n)
 
-more_room : (n m : ℕ) (o : Option (List Element)) → NoMore n o → n ≤ m → NoMore m o
-more_room n m None less le = tt
-more_room n m (Some es) less le = omega (arith, less)
-
 pub behind_no_more : (x : Element → Bool) (scope : Scope) (es : List Element) → NoMore (length es) (behind x scope es)
-unfolding behind
-behind_no_more x scope [] = tt
-behind_no_more x scope (e ∷ es) = by (x e) (stops scope e.kind) (more_room (length es) (length (e ∷ es)) (behind x scope es) (behind_no_more x scope es) (omega arith))
+behind_no_more x scope es = by (behind x scope es) (behind_rest x scope es)
   where
-    by : (a b : Bool) → NoMore (length (e ∷ es)) (behind x scope es) → NoMore (length (e ∷ es)) (if a then Some es else (if b then None else behind x scope es))
-    by true b further = omega arith
-    by false true further = tt
-    by false false further = further
-
-unwrapped : (o : Option (List Element)) (es : List Element) → NoMore (length es) o → length (unwrap_or o es) ≤ length es
-unwrapped None es less = omega arith
-unwrapped (Some rest) es less = less
+    by : (o : Option (List Element)) → IfSome o (λ r. IsRest es r) → NoMore (length es) o
+    by None is = tt
+    by (Some rest) is = is.shorter
 
 pub without_no_more : (x : Element → Bool) (scope : Scope) (es : List Element) → length (without x scope es) ≤ length es
-without_no_more x scope es = unwrapped (behind x scope es) es (behind_no_more x scope es)
+without_no_more x scope es = (without_rest x scope es).shorter
 
 current_no_more : (t : Kind) (es : List Element) → length (without_current t es) ≤ length es
 current_no_more t [] = omega arith
@@ -57,13 +48,7 @@ closed_no_more k.Choices es = omega (arith, current_no_more k.Choices (without_c
 closed_no_more t es = paragraph_if (ends_paragraph t) es
 
 holder_no_more : (t : Kind) (es : List Element) → length (holder t es) ≤ length es
-unfolding holder
-holder_no_more t [] = omega arith
-holder_no_more t (e ∷ es) = by (is_held_by t e.kind) (holder_no_more t es)
-  where
-    by : (b : Bool) → length (holder t es) ≤ length es → length (if b then e ∷ es else holder t es) ≤ length (e ∷ es)
-    by true further = omega arith
-    by false further = omega (arith, further)
+holder_no_more t es = (holder_rest t es).shorter
 
 abbrev pub IsWithin : ℕ → Option Place → Type 0
 IsWithin n o = IfSome o (λ p. length p.0 ≤ n)

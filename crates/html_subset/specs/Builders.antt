@@ -1,5 +1,5 @@
 -- What a builder of the code is to the definitions, and what is true of each.
-use Rattle.std.specs.Prelude.{◌≡◌, ℕ, ◌+◌, ◌≤◌, true, false, List, [], ◌∷◌, ◌++◌, length, map, IsSome, Option, option_map, option_to_list}
+use Rattle.std.specs.Prelude.{◌≡◌, ℕ, ◌+◌, ◌≤◌, true, false, List, [], ◌∷◌, ◌++◌, length, reverse, IsSome, Option, option_map, option_to_list}
 use Rattle.tp_base.specs.Names.{Named}
 use Rattle.tree_sem.specs.Trees.{node_at, count_of}
 use Rattle.html_subset.specs.declared.builder.Builder.{Builder}
@@ -7,7 +7,6 @@ use Rattle.html_subset.specs.Machine.{Machine}
 use Rattle.html_subset.specs.declared.elements.Kind.TheVariants as k
 use Rattle.html_subset.specs.declared.scopes.Scope.TheVariants as within
 use Rattle.html_subset.specs.TreeTable.{behind, has_kind}
-use Rattle.html_subset.specs.Views.{element_of, elements_of}
 
 abbrev pub machine_of : Builder → List Named → Machine
 machine_of b table = record {
@@ -15,7 +14,7 @@ machine_of b table = record {
   done = b.done.items;
   tree = b.growing.tree;
   at = b.growing.at;
-  elements = map element_of b.open.items;
+  elements = b.open;
   nodes = b.nodes;
   begun = b.begun;
   html = b.html;
@@ -32,7 +31,7 @@ pub record Stands (b : Builder) : Type 0 where
   pub head : b.is_forest ≡ false → IsSome (node_at (0 ∷ []) b.growing.tree)
   pub body : b.is_forest ≡ false → IsSome (node_at (1 ∷ []) b.growing.tree)
   pub begun : b.is_forest ≡ true → b.begun ≡ true
-  pub shallow : b.is_forest ≡ true → length b.growing.at ≤ length b.open.items
+  pub shallow : b.is_forest ≡ true → length b.growing.at ≤ length b.open
 
 -- the node that was added last is there
 abbrev pub IsThere : Builder → Option ℕ → Type 0
@@ -40,4 +39,4 @@ IsThere b step = IsSome (node_at (b.growing.at ++ option_to_list step) b.growing
 
 -- how many elements stay open behind the end tag of a paragraph, if it closes one
 abbrev pub paragraphs_left : Builder → Option ℕ
-paragraphs_left b = option_map length (behind (has_kind k.Paragraph) within.Walls (elements_of b.«open».items))
+paragraphs_left b = option_map length (behind (has_kind k.Paragraph) within.Walls (reverse b.«open»))

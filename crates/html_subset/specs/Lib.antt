@@ -6,6 +6,8 @@ pub mod Labels
 pub mod Results
 pub mod Building
 pub mod Pages
+pub mod NamePlaces
+pub mod Outward
 pub mod Machine
 pub mod Builders
 pub mod Reading

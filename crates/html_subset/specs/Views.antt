@@ -1,5 +1,5 @@
 -- What the code keeps of open elements is to the definitions.
-use Rattle.std.specs.Prelude.{ℕ, List, [], ◌∷◌, length, map, reverse, codes}
+use Rattle.std.specs.Prelude.{ℕ, List, [], ◌∷◌, length, codes}
 use Rattle.html_subset.specs.declared.elements.Element as code_element
 use Rattle.html_subset.specs.declared.open_elements.Implied.{Implied}
 use Rattle.html_subset.specs.declared.open_elements.Implied.TheVariants as implied
@@ -10,10 +10,6 @@ use Rattle.html_subset.specs.TreeTable.{Place}
 
 abbrev pub element_of : code_element.Element → Element
 element_of e = record { kind = e.kind; name = lowered e.name.now }
-
--- the open elements, from the innermost outward
-abbrev pub elements_of : List code_element.Element → List Element
-elements_of open_elements = reverse (map element_of open_elements)
 
 abbrev pub implied_names : Implied → List (List ℕ)
 implied_names implied.Nothing = []

@@ -18,6 +18,7 @@ use crate::elements::{Element, Kind, kind_of};
 use crate::faults::{MOST_DEPTH, MOST_PAGE_NODES, PageFault};
 use crate::labels::{add_given, element_label, node_label};
 use crate::open_elements::{Implied, Place, behind_paragraph, closed_at_end, is_opened, place_for};
+use crate::stack::OpenElements;
 use html_tokens::{StartTag, Token};
 use std::alloc::Global;
 use std::mem::replace;
@@ -40,7 +41,7 @@ pub(crate) struct Builder<'a> {
     growing: TreeBuilder,
     done: Vec<Tree>,
     /// The open elements, the innermost last. Those of a page are below its body.
-    open: Vec<Element<'a>>,
+    open: OpenElements<'a>,
     nodes: u32,
     is_forest: bool,
     begun: bool,
@@ -95,7 +96,7 @@ fn path_to(alloc: Global, child: Option<u32>) -> Result<Path, NoMemory>
 }
 
 /// How many elements are open besides so many.
-fn levels_above(open: &[Element<'_>], left: usize) -> usize
+fn levels_above(open: &OpenElements<'_>, left: usize) -> usize
     ensures { result ≡ length open.now - left }
 {
     open.len().saturating_sub(left)
@@ -161,7 +162,7 @@ impl<'a> Builder<'a> {
         Builder {
             growing,
             done: Vec::new(alloc),
-            open: Vec::new(alloc),
+            open: OpenElements::new(alloc),
             nodes,
             is_forest,
             begun: is_forest,
@@ -227,7 +228,7 @@ impl<'a> Builder<'a> {
         ensures there { IfOk result (λ step. IsThere self.new step) }
     {
         if self.is_forest && self.open.is_empty() {
-            let tree = Tree::new(*self.open.allocator(), label)?;
+            let tree = Tree::new(self.open.alloc(), label)?;
             let last = replace(&mut self.growing, TreeBuilder::new(tree));
             self.done.push(last.finish())?;
             self.nodes += 1;
@@ -244,7 +245,7 @@ impl<'a> Builder<'a> {
     }
 
     /// Opens the node that was added last.
-    #[tactic(auto, unfolding(crate::specs::Machine::opened), using(crate::proofs::OpenLemmas::one_more))]
+    #[tactic(auto, unfolding(crate::specs::Machine::opened))]
     fn enter(&mut self, element: Element<'a>, step: Option<u32>) -> Result<(), NoMemory>
         requires stands { Stands self.old }
         requires there { IsThere self.old step }
@@ -293,7 +294,7 @@ impl<'a> Builder<'a> {
         if self.nodes >= MOST_PAGE_NODES {
             return Err(PageFault::TooManyNodes(tag.at));
         }
-        let label = node_label(*self.open.allocator(), tag, atoms)?;
+        let label = node_label(self.open.alloc(), tag, atoms)?;
         let step = self.grow(label)?;
         Ok(step)
     }
@@ -398,7 +399,7 @@ impl<'a> Builder<'a> {
         ensures gives { OnOk result ((table : _) → spec.united (option_to_list child) classes.now (machine_of self.old table) ≡ machine_of self.new table) }
         ensures stands { OnOk result (Stands self.new) }
     {
-        let at = path_to(*self.open.allocator(), child)?;
+        let at = path_to(self.open.alloc(), child)?;
         match self.growing.add_classes_at(&at, classes) {
             Ok(_) => Ok(()),
             Err(TreeFault::Memory) => Err(NoMemory),
@@ -421,7 +422,7 @@ impl<'a> Builder<'a> {
         ensures stands { OnOk result (Stands self.new) }
         ensures front { IsFront atoms.old atoms.new }
     {
-        let mut names = ClassSet::new(*self.open.allocator());
+        let mut names = ClassSet::new(self.open.alloc());
         let id = unless_given(given.id, tag.id);
         let class = unless_given(given.class, tag.class);
         add_given(&mut names, id, class, tag.at, atoms)?;
@@ -485,7 +486,7 @@ impl<'a> Builder<'a> {
         ensures gives { OnOk result ((table : _) → spec.with_head_node label (machine_of self.old table) ≡ machine_of self.new table) }
         ensures stands { OnOk result (Stands self.new) }
     {
-        let at = path_to(*self.open.allocator(), Some(0))?;
+        let at = path_to(self.open.alloc(), Some(0))?;
         match self.growing.add_child_at(&at, label) {
             Ok(_) => {
                 self.nodes += 1;
@@ -508,7 +509,7 @@ impl<'a> Builder<'a> {
         if self.nodes >= MOST_PAGE_NODES {
             return Err(PageFault::TooManyNodes(tag.at));
         }
-        let label = node_label(*self.open.allocator(), tag, atoms)?;
+        let label = node_label(self.open.alloc(), tag, atoms)?;
         self.add_to_head(label)?;
         Ok(())
     }
@@ -553,7 +554,7 @@ impl<'a> Builder<'a> {
         }
     }
 
-    #[tactic(auto, unfolding(crate::specs::Machine::end_tag), using(crate::proofs::OpenLemmas::counted_length, crate::proofs::Fronts::front_itself))]
+    #[tactic(auto, unfolding(crate::specs::Machine::end_tag), using(crate::proofs::Fronts::front_itself))]
     fn end(&mut self, name: &[u8], at: usize, atoms: &mut AtomTable) -> Result<(), PageFault>
         requires stands { Stands self.old }
         ensures does { Does (λ _. machine_of self.new atoms.new) result atoms.new (spec.end_tag (element (lowered name.now)) at (machine_of self.old atoms.old)) }
@@ -567,13 +568,13 @@ impl<'a> Builder<'a> {
         if ended.kind == Kind::Paragraph {
             return self.end_paragraph(at, atoms);
         }
-        let left = closed_at_end(&self.open, ended).len();
+        let left = closed_at_end(&self.open, ended)?;
         self.cut(left);
         Ok(())
     }
 
-    /// Goes on by one token. A node is added, and elements are closed, in time that grows with the depth and the tag
-    /// alone. After a fault the builder is of no use; the names that were read stay in the table.
+    /// Goes on by one token. Linear in the token, on average, and in the elements that it closes: how many are open doesn't
+    /// matter. After a fault the builder is of no use; the names that were read stay in the table.
     #[tactic(auto, unfolding(crate::specs::Machine::token), using(crate::proofs::Fronts::front_itself))]
     pub(crate) fn take_token(
         &mut self,

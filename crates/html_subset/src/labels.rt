@@ -10,6 +10,7 @@ ghost use Rattle.html_subset.specs.Results.{Does, IsFront};
 ghost use Rattle.html_tokens.specs.Views.{bytes_of, start_tag_of};
 
 use crate::faults::PageFault;
+use crate::name_places::lowered;
 use html_tokens::{StartTag, word_len};
 use std::alloc::Global;
 use text_bytes::is_blank;
@@ -114,15 +115,6 @@ pub(crate) fn add_given(
         None => Ok(()),
         Some(value) => add_classes(label, value, at, atoms),
     }
-}
-
-fn lowered(alloc: Global, name: &[u8]) -> Result<Vec<u8>, PageFault>
-    ensures ok { IfOk result (λ v. v.items ≡ lowered name.now) }
-    ensures memory { IfErr result (λ e. e ≡ PageFault.Memory) }
-{
-    let mut bytes = Vec::from_slice(alloc, name)?;
-    bytes.as_mut_slice().make_ascii_lowercase();
-    Ok(bytes)
 }
 
 /// The label of an element of this name without attributes, for a tag at `at`.

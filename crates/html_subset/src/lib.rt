@@ -5,9 +5,12 @@ mod builder;
 mod elements;
 mod faults;
 mod labels;
+mod name_places;
+mod nearest;
 mod open_elements;
 mod reading;
 mod scopes;
+mod stack;
 
 pub use faults::{MOST_DEPTH, MOST_PAGE_NODES, PageFault};
 pub use reading::{read_forest, read_page};

@@ -1,8 +1,9 @@
-use Rattle.std.proofs.Common.{◌∙◌}
-use Rattle.html_subset.specs.declared.elements.Kind.TheVariants as k
-use Rattle.html_subset.specs.TreeTable.{has_kind}
-use Rattle.html_subset.proofs.OpenLemmas.{any_outward}
+use Rattle.std.proofs.Common.{ap, ◌∙◌}
+use Rattle.html_subset.specs.declared.nearest.Nearest.{Nearest}
+use Rattle.html_subset.specs.Outward.{nearest}
+use Rattle.html_subset.proofs.OutwardLemmas.{whole}
 use Rattle.html_subset.proofs.open_elements.is_in_foreign.Goals as goal
 
 pub returns : goal.returns
-returns c = c.any_foreign.ensures ∙ any_outward c.args.«open».now (has_kind k.Foreign)
+unfolding nearest
+returns c = ap (λ (n : Nearest). n.«foreign») (c.nearest.ensures ∙ ap nearest (whole c.args.«open».now _ c.len.ensures.gives))

@@ -1,7 +1,5 @@
 use Rattle.std.proofs.Common.{◌-◌, length, refl, ap, arith, length-take}
-use Rattle.std.proofs.lemmas.List.{length-map, take-map}
 use Rattle.tree_sem.proofs.PathLemmas.{IsSome-take}
-use Rattle.html_subset.specs.Views.{element_of}
 use Rattle.html_subset.specs.Machine.{cut}
 use Rattle.html_subset.proofs.builder.Builder.cut.Goals as goal
 
@@ -9,7 +7,7 @@ pub returns-clause-cut : goal.returns-clause-cut
 unfolding cut
 returns-clause-cut c = λ table.
     let b = c.args.self.now in
-    rw (c.truncate.ensures.items, c.go_up.ensures.tree, c.go_up.ensures.at, c.levels_above-levels.ensures, c.deref.ensures.value, take-map element_of c.args.left b.«open».items, length-map b.«open».items element_of) refl
+    rw (c.truncate.ensures, c.go_up.ensures.tree, c.go_up.ensures.at, c.levels_above-levels.ensures) refl
 
 pub returns-clause-stands : goal.returns-clause-stands
 returns-clause-stands c =
@@ -21,5 +19,5 @@ returns-clause-stands c =
       head = rw c.go_up.ensures.tree c.requires.head;
       body = rw c.go_up.ensures.tree c.requires.body;
       begun = c.requires.begun;
-      shallow = λ forest. omega (arith, c.requires.shallow forest, ap length c.go_up.ensures.at, length-take (length b.growing.at - levels) b.growing.at, ap length c.truncate.ensures.items, length-take c.args.left b.«open».items, c.levels_above-levels.ensures, ap length c.deref.ensures.value);
+      shallow = λ forest. omega (arith, c.requires.shallow forest, ap length c.go_up.ensures.at, length-take (length b.growing.at - levels) b.growing.at, ap length c.truncate.ensures, length-take c.args.left b.«open», c.levels_above-levels.ensures);
     }
