@@ -1,6 +1,6 @@
 -- Rules by the atoms that they give: one rule more.
-use Rattle.std.proofs.Common.{◌≡◌, ℕ, suc, ◌+◌, ◌<◌, Bool, true, false, ◌==◌, cond, if◌then◌else◌, List, [], ◌∷◌, ◌++◌, take, length, get_or, Some, Option, unwrap_or, refl, sym, ap, ◌∙◌, arith, inl, inr}
-use Rattle.std.proofs.lemmas.Bool.{cases_Bool, both_ways, eqb-true}
+use Rattle.std.proofs.Common.{◌≡◌, ℕ, suc, ◌+◌, ◌<◌, Bool, ◌==◌, if◌then◌else◌, List, [], ◌∷◌, ◌++◌, take, length, get_or, refl, sym, ap, ◌∙◌, arith, inl, inr}
+use Rattle.std.proofs.lemmas.Bool.{cases_Bool, eqb-true}
 use Rattle.std.proofs.lemmas.List.{take_more, length-take-le}
 use Rattle.rule_givers.specs.Givers.{places_from, places_in, AreGivers}
 
@@ -23,23 +23,6 @@ places_from-push passes k (y ∷ xs) x =
         | inr other ↦ rw (skipped, other) (rw other at more)
       ]
     ]
-
-pub unwrap_cond : {X : Type 0} (b : Bool) (x : X) (o : Option X) (d : X) → unwrap_or (cond b (Some x) o) d ≡ cond b x (unwrap_or o d)
-unwrap_cond true x o d = refl
-unwrap_cond false x o d = refl
-
-pub kept : {X : Type 0} (b : Bool) (x y z : X) → b ≡ false → z ≡ cond b x y → z ≡ y
-kept true x y z other is = absurd (both_ways true other refl)
-kept false x y z other is = is
-
--- first the places are taken, then the longer list is put there
-pub noted : (old taken new : ℕ → List ℕ) (atom : ℕ) (places longer : List ℕ) (place : ℕ) → places ≡ old atom → longer ≡ places ++ place ∷ []
-    → ((a : ℕ) → (atom == a) ≡ false → taken a ≡ old a) → ((a : ℕ) → new a ≡ (if atom == a then longer else taken a))
-    → (a : ℕ) → new a ≡ (if atom == a then old atom ++ place ∷ [] else old a)
-noted old taken new atom places longer place is more others put a = elim (cases_Bool (atom == a)) [
-  | inl here ↦ rw here ((rw here at (put a)) ∙ more ∙ ap (λ ns. ns ++ place ∷ []) is)
-  | inr other ↦ rw other ((rw other at (put a)) ∙ others a other)
-]
 
 module _ {X : Type 0} (gives : X → ℕ) (rules : List X) (i : ℕ) (r : X) (less : i < length rules) (at : r ≡ get_or rules i r) (old new : List (ℕ × List ℕ)) where
   pub givers_more : AreGivers gives (take i rules) old

@@ -1,1 +1,1 @@
-pub mod GiverLemmas
+mod GiverLemmas

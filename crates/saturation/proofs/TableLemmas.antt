@@ -1,6 +1,6 @@
 -- What is noted in tables.
-use Rattle.std.proofs.Common.{◌≡◌, ℕ, ◌+◌, ◌<◌, Bool, true, false, ◌==◌, cond, if◌then◌else◌, List, [], ◌∷◌, ◌++◌, take, length, get_or, slice_get, Some, Option, unwrap_or, Contains, refl, sym, ap, subst, ◌∙◌, inl, inr}
-use Rattle.std.proofs.lemmas.Bool.{cases_Bool, both_ways, eqb-true, eq-eqb}
+use Rattle.std.proofs.Common.{◌≡◌, ℕ, ◌+◌, ◌<◌, true, false, ◌==◌, if◌then◌else◌, List, [], ◌∷◌, ◌++◌, take, length, get_or, slice_get, Some, Contains, refl, sym, ap, subst, ◌∙◌, inl, inr}
+use Rattle.std.proofs.lemmas.Bool.{cases_Bool, eqb-true, eq-eqb}
 use Rattle.std.proofs.lemmas.List.{take_more}
 use Rattle.std.proofs.lemmas.List.Elements.{Contains-append_left, Contains-append_right}
 use Rattle.std.proofs.lemmas.Option.{slice_get_within, get_or_from_slice_get}
@@ -8,22 +8,13 @@ use Rattle.tp_base.proofs.Rising.{Contains-here, Contains-none}
 use Rattle.saturation.specs.Tables.{IsNoted, HasAll}
 use Rattle.saturation.proofs.NoteLemmas.{last_cases}
 
-pub unwrap_cond : {X : Type 0} (b : Bool) (x : X) (o : Option X) (d : X) → unwrap_or (cond b (Some x) o) d ≡ cond b x (unwrap_or o d)
-unwrap_cond true x o d = refl
-unwrap_cond false x o d = refl
-
-pub kept : {X : Type 0} (b : Bool) (x y z : X) → b ≡ false → z ≡ cond b x y → z ≡ y
-kept true x y z other is = absurd (both_ways true other refl)
-kept false x y z other is = is
-
--- first the numbers are taken, then the longer list is put there
-module _ (old taken new : ℕ → List ℕ) (key : ℕ) (numbers longer : List ℕ) (number : ℕ) (is : numbers ≡ old key) (more : longer ≡ numbers ++ number ∷ [])
-    (others : (a : ℕ) → (key == a) ≡ false → taken a ≡ old a) (put : (a : ℕ) → new a ≡ (if key == a then longer else taken a)) where
+-- one number more for a key
+module _ (old new : ℕ → List ℕ) (key number : ℕ) (put : (a : ℕ) → new a ≡ (if key == a then old key ++ number ∷ [] else old a)) where
   at_key : (b : ℕ) → (key == b) ≡ true → new b ≡ old b ++ number ∷ []
-  at_key b here = (rw here at (put b)) ∙ more ∙ ap (λ (ns : List ℕ). ns ++ number ∷ []) (is ∙ ap old (eqb-true key b here))
+  at_key b here = (rw here at (put b)) ∙ ap (λ k. old k ++ number ∷ []) (eqb-true key b here)
 
   at_other : (b : ℕ) → (key == b) ≡ false → new b ≡ old b
-  at_other b other = (rw other at (put b)) ∙ others b other
+  at_other b other = rw other at (put b)
 
   pub noted : IsNoted (λ b. key ≡ b) number old new
   noted = record {

@@ -4,8 +4,8 @@
 --     HasAll keys n xs f     each x of the list has its n noted for its keys, and nothing else is noted
 --     AreReads s ..          for each cell, which cells of the round behind it are calculated from it
 --     AreReadsOf s reads     the same of what the code keeps
-use Rattle.std.specs.Prelude.{◌≡◌, ℕ, ◌==◌, List, [], Contains, ◌⊎◌, unwrap_or}
-use Rattle.std.specs.Map.{lookup}
+use Rattle.std.specs.Prelude.{◌≡◌, ℕ, ◌==◌, List, Contains, ◌⊎◌}
+use Rattle.multimap.specs.Values.{values_at}
 use Rattle.simple_core.specs.declared.rules.Local.{Local}
 use Rattle.simple_core.specs.declared.rules.Link.{Link}
 use Rattle.simple_core.specs.declared.rules.Spawn.{Spawn}
@@ -16,7 +16,7 @@ abbrev pub Entries : Type 0
 Entries = List (ℕ × List ℕ)
 
 abbrev pub noted_in : List (ℕ × List ℕ) → ℕ → List ℕ
-noted_in entries a = unwrap_or (lookup (λ key. a == key) entries) []
+noted_in = values_at (λ a key. a == key)
 
 pub record IsNoted (keys : ℕ → Type 0) (number : ℕ) (old new : ℕ → List ℕ) : Type 0 where
   pub kept : (b a : ℕ) → Contains (old b) a → Contains (new b) a

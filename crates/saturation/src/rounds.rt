@@ -23,7 +23,6 @@ use tp_base::{Atom, NoMemory};
 
 // One change noted, unless the cell has it.
 fn note_one(
-    alloc: Global,
     d: &Diagrams,
     cells: &mut Cells,
     histories: &mut Histories,
@@ -39,7 +38,7 @@ fn note_one(
 {
     let ((kind, atom), to) = change;
     if !d.same(to, cells.get(kind, atom)) {
-        histories.push(alloc, kind, atom, round, to)?;
+        histories.push(kind, atom, round, to)?;
         cells.set(kind, atom, to)?;
     }
     Ok(())
@@ -47,7 +46,6 @@ fn note_one(
 
 // All changes of a round noted.
 fn note_all(
-    alloc: Global,
     d: &Diagrams,
     cells: &mut Cells,
     histories: &mut Histories,
@@ -62,7 +60,7 @@ fn note_all(
         → OnOk result (AreNotedUpTo s d.now.branches k changes.now (history_in histories.new) (trees_in d.now.branches cells.new)) }
 {
     for change in changes {
-        note_one(alloc, d, cells, histories, round, *change)?;
+        note_one(d, cells, histories, round, *change)?;
     }
     Ok(())
 }
@@ -87,7 +85,7 @@ pub(crate) fn noted(
         → (c : CellName × Reference) → Contains changes.now c
         → IfOk result (λ next. IsDone s nodes (suc k) d.now (history_in histories.new) cells.new next.items) }
 {
-    note_all(alloc, d, cells, histories, round, changes)?;
+    note_all(d, cells, histories, round, changes)?;
     let next = readers(alloc, d, cells, count, reads, changes)?;
     Ok(next)
 }

@@ -10,7 +10,7 @@ ghost use Rattle.saturation.specs.Budgets.{MayBeSpent, HasToBeSpent};
 ghost use Rattle.saturation.specs.HistoryMap.{history_in};
 ghost use Rattle.saturation.specs.Saturation.{IsBuilt};
 
-use crate::histories::Histories;
+use crate::histories::{Histories, first_round_under};
 use crate::labels::label_of;
 use crate::names::given;
 use crate::saturating::saturate;
@@ -138,8 +138,8 @@ impl SharedSummaries {
         if self.starts_with(kind, atom) {
             return Some(0);
         }
-        let history = self.histories.of(kind, atom)?;
-        history.first_holding(&self.diagrams, parent)
+        let history = self.histories.of(kind, atom);
+        first_round_under(history, &self.diagrams, parent)
     }
 }
 

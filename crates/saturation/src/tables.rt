@@ -1,30 +1,17 @@
 //! For each number a list of numbers.
-ghost use Rattle.std.specs.Prelude.{◌≡◌, ℕ, ◌==◌, ◌++◌, if◌then◌else◌, false, [], ◌∷◌, Contains, IfOk, OnOk};
+ghost use Rattle.std.specs.Prelude.{◌≡◌, [], Contains, IfOk, OnOk};
 ghost use Rattle.saturation.specs.Tables.{noted_in, IsNoted, OfNeeds, OfLinks, OfSpawns};
 
-use indexmap::IndexMap;
+use multimap::Multimap;
 use simple_core::{Link, Local, Spawn};
 use std::alloc::Global;
 use std::marker::Model;
 use tp_base::{ClassSet, NoMemory};
 
-#[derive(Drop)]
-pub(crate) struct Numbers {
-    items: Vec<u32>,
-}
-
-impl Model for Numbers {
-    ghost use Rattle.std.specs.Prelude.{List, ℕ};
-
-    ghost Value = { List ℕ };
-
-    ghost view = { λ n. n.items.items };
-}
-
 /// The numbers that are noted for each number, in order.
 #[derive(Drop)]
 pub(crate) struct Table {
-    map: IndexMap<u32, Numbers>,
+    map: Multimap<u32, u32>,
 }
 
 impl Model for Table {
@@ -32,7 +19,7 @@ impl Model for Table {
 
     ghost Value = { List (ℕ × List ℕ) };
 
-    ghost view = { λ t. t.map.entries };
+    ghost view = { λ t. t.map };
 }
 
 impl Table {
@@ -40,7 +27,7 @@ impl Table {
         ensures { result ≡ [] }
     {
         Table {
-            map: IndexMap::new(alloc),
+            map: Multimap::new(alloc),
         }
     }
 
@@ -51,7 +38,7 @@ impl Table {
         let mut table = Table::new(alloc);
         for i in 0..rules.len() {
             let rule = &rules[i];
-            table.note_each(alloc, &rule.needs, rule.gives.0)?;
+            table.note_each(&rule.needs, rule.gives.0)?;
         }
         Ok(table)
     }
@@ -63,7 +50,7 @@ impl Table {
         let mut table = Table::new(alloc);
         for i in 0..links.len() {
             let link = &links[i];
-            table.note(alloc, link.from.0, link.to.0)?;
+            table.note(link.from.0, link.to.0)?;
         }
         Ok(table)
     }
@@ -75,7 +62,7 @@ impl Table {
         let mut table = Table::new(alloc);
         for i in 0..spawns.len() {
             let spawn = &spawns[i];
-            table.note(alloc, spawn.kind, spawn.needs.0)?;
+            table.note(spawn.kind, spawn.needs.0)?;
         }
         Ok(table)
     }
@@ -83,43 +70,24 @@ impl Table {
     pub(crate) fn of(&self, key: u32) -> &[u32]
         ensures { result.now ≡ noted_in self.now key }
     {
-        match self.map.get(&key) {
-            None => &[],
-            Some(numbers) => &numbers.items,
-        }
+        self.map.of(key)
     }
 
     // A number for each of these keys.
-    fn note_each(&mut self, alloc: Global, keys: &ClassSet, number: u32) -> Result<(), NoMemory>
+    fn note_each(&mut self, keys: &ClassSet, number: u32) -> Result<(), NoMemory>
         ensures { OnOk result (IsNoted (Contains keys.now) number (noted_in self.old) (noted_in self.new)) }
     {
         for i in 0..keys.len() {
             let key = keys.at(i);
-            self.note(alloc, key.0, number)?;
+            self.note(key.0, number)?;
         }
         Ok(())
     }
 
-    fn note(&mut self, alloc: Global, key: u32, number: u32) -> Result<(), NoMemory>
+    fn note(&mut self, key: u32, number: u32) -> Result<(), NoMemory>
         ensures { OnOk result (IsNoted (λ b. key ≡ b) number (noted_in self.old) (noted_in self.new)) }
     {
-        let mut numbers = self.taken(alloc, key)?;
-        numbers.items.push(number)?;
-        self.map.insert(key, numbers)?;
+        self.map.push(key, number)?;
         Ok(())
-    }
-
-    // The numbers of a key, which has none from then on.
-    fn taken(&mut self, alloc: Global, key: u32) -> Result<Numbers, NoMemory>
-        ensures taken { IfOk result (λ n. n ≡ noted_in self.old key) }
-        ensures others { OnOk result ((a : ℕ) → (key == a) ≡ false → noted_in self.new a ≡ noted_in self.old a) }
-    {
-        let none = Numbers {
-            items: Vec::new(alloc),
-        };
-        let old = self.map.insert(key, none)?;
-        Ok(old.unwrap_or(Numbers {
-            items: Vec::new(alloc),
-        }))
     }
 }

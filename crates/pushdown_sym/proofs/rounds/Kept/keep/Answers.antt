@@ -1,6 +1,6 @@
 use Rattle.std.proofs.Common.{ap, ◌∙◌, ◌==◌, eqb, unwrap_or, []}
 use Rattle.std.specs.Map.{lookup}
-use Rattle.rule_givers.proofs.GiverLemmas.{unwrap_cond}
+use Rattle.pushdown_sym.proofs.MapLemmas.{unwrap_cond}
 use Rattle.pushdown_sym.proofs.rounds.Kept.keep.Goals as goal
 
 pub returns-clause-ok : goal.returns-clause-ok

@@ -4,4 +4,4 @@ use Rattle.rule_givers.specs.Givers.{AreGivers}
 use Rattle.rule_givers.proofs.givers.Givers.of_links.Given as goal
 
 abbrev pub invariant-loop-i : goal.invariant-loop-i
-invariant-loop-i l = AreGivers (λ (r : Link). r.to) (take l.i l.links) l.givers
+invariant-loop-i l = AreGivers (λ (r : Link). r.to) (take l.i l.links) l.places

@@ -1,0 +1,6 @@
+//! Maps from keys to lists.
+#![tactic(auto)]
+
+mod multimap;
+
+pub use multimap::Multimap;
