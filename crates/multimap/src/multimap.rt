@@ -61,7 +61,7 @@ impl<K: Copy + Eq + Hash, V: Drop> Multimap<K, V> {
         }
     }
 
-    /// One value more, the last of its key's. A refusal changes nothing that `of` gives.
+    /// One value more, the last of its key's. A refusal changes nothing that `of` gives. Two looks by its hash.
     pub fn push(&mut self, key: K, value: V) -> Result<(), NoMemory>
         ensures ok { OnOk result ((k : K) → values_at K.eq self.new k ≡ (if K.eq key k then values_at K.eq self.old key ++ value ∷ [] else values_at K.eq self.old k)) }
         ensures err { OnErr result ((k : K) → values_at K.eq self.new k ≡ values_at K.eq self.old k) }
