@@ -1,4 +1,4 @@
-use crate::trees::{path_of, set_of, shape_of};
+use crate::trees::{has_shape, path_of, set_of};
 use std::alloc::Global;
 use std::test::Fail;
 use tp_base::{ClassSet, Path};
@@ -132,35 +132,38 @@ fn is_at(path: &Path, steps: &[u32]) -> bool {
     true
 }
 
-// Whether each turn answers and ends as its row says, and what is built then.
-fn built(alloc: Global) -> Result<(bool, Tree), TreeFault> {
-    let root = Tree::new(alloc, ClassSet::new(alloc))?;
-    let mut builder = TreeBuilder::new(root);
+// Whether each turn answers and ends as its row says.
+fn turns(alloc: Global, builder: &mut TreeBuilder) -> bool {
     let mut right = true;
     for row in &TURNS {
-        let answer = done(alloc, &mut builder, &row.turn);
+        let answer = done(alloc, builder, &row.turn);
         right = right && answer == row.answer && is_at(builder.path(), row.at);
     }
-    Ok((right, builder.finish()))
+    right
+}
+
+static BUILT: [(usize, u32, u32); 8] = [
+    (0, 3, 9),
+    (1, 3, 1),
+    (2, 0, 2),
+    (2, 1, 3),
+    (3, 0, 4),
+    (2, 0, 7),
+    (1, 0, 8),
+    (1, 0, 2),
+];
+
+// Whether each turn is right, and so is what is built then.
+fn builds(alloc: Global) -> Result<bool, TreeFault> {
+    let root = Tree::new(alloc, ClassSet::new(alloc))?;
+    let mut builder = TreeBuilder::new(root);
+    let right = turns(alloc, &mut builder);
+    let tree = builder.finish();
+    Ok(right && has_shape(alloc, &tree, &BUILT)?)
 }
 
 #[test]
 fn a_builder_grows_where_it_stands(rt: HostRuntime) -> Result<(), Fail> {
-    let (right, tree) = built(rt.alloc())?;
-    assert!(rt; right);
-    assert!(rt;
-        shape_of(rt.alloc(), &tree)?.as_slice()
-            == [
-                (0, 3, 9),
-                (1, 3, 1),
-                (2, 0, 2),
-                (2, 1, 3),
-                (3, 0, 4),
-                (2, 0, 7),
-                (1, 0, 8),
-                (1, 0, 2)
-            ]
-            .as_slice()
-    );
+    assert!(rt; builds(rt.alloc())?);
     Ok(())
 }

@@ -1,8 +1,8 @@
-use crate::trees::{family, path_of, set_of, shape_of};
+use crate::trees::{add_child, family, has_shape, path_of, set_of};
 use std::alloc::Global;
 use std::test::Fail;
-use tp_base::{Atom, NoMemory, Path};
-use tree_sem::TreeFault;
+use tp_base::{Atom, ClassSet, NoMemory};
+use tree_sem::{Tree, TreeFault};
 
 // A set, an atom that is taken out of it, whether it was there, and what is left.
 struct Taking {
@@ -51,23 +51,25 @@ static TAKINGS: [Taking; 6] = [
     },
 ];
 
-// What the call answers, and the atoms after it.
-fn taken(alloc: Global, row: &Taking) -> Result<(bool, Vec<u32>), NoMemory> {
+fn atoms_of(alloc: Global, set: &ClassSet) -> Result<Vec<u32>, NoMemory> {
+    let mut atoms = Vec::new(alloc);
+    for i in 0..set.len() {
+        atoms.push(set.at(i).0)?;
+    }
+    Ok(atoms)
+}
+
+// Whether the call answers as its row says, and leaves what it says.
+fn takes(alloc: Global, row: &Taking) -> Result<bool, NoMemory> {
     let mut set = set_of(alloc, row.atoms)?;
     let had = set.take(Atom(row.taken));
-    let mut left = Vec::new(alloc);
-    for i in 0..set.len() {
-        left.push(set.at(i).0)?;
-    }
-    Ok((had, left))
+    Ok(had == row.had && atoms_of(alloc, &set)?.as_slice() == row.left)
 }
 
 #[test]
 fn takes_an_atom(rt: HostRuntime) -> Result<(), Fail> {
     for row in &TAKINGS {
-        let (had, left) = taken(rt.alloc(), row)?;
-        assert!(rt; had == row.had);
-        assert!(rt; left.as_slice() == row.left);
+        assert!(rt; takes(rt.alloc(), row)?);
     }
     Ok(())
 }
@@ -154,24 +156,27 @@ static LOSSES: [Loss; 5] = [
     },
 ];
 
-// What the call answers, once and again, and the tree's nodes after it.
-fn lost(
+// What the call answers, once and again.
+fn take_twice(
     alloc: Global,
+    tree: &mut Tree,
     row: &Loss,
-) -> Result<((Option<bool>, Option<bool>), Vec<(usize, u32, u32)>), TreeFault> {
-    let mut tree = family(alloc)?;
+) -> Result<(Option<bool>, Option<bool>), NoMemory> {
     let at = path_of(alloc, row.at)?;
     let first = tree.take_class(&at, Atom(row.class));
-    let again = tree.take_class(&at, Atom(row.class));
-    Ok(((first, again), shape_of(alloc, &tree)?))
+    Ok((first, tree.take_class(&at, Atom(row.class))))
+}
+
+fn loses(alloc: Global, row: &Loss) -> Result<bool, TreeFault> {
+    let mut tree = family(alloc)?;
+    let answers = take_twice(alloc, &mut tree, row)?;
+    Ok(answers == row.answers && has_shape(alloc, &tree, row.after)?)
 }
 
 #[test]
 fn takes_a_class_from_one_node(rt: HostRuntime) -> Result<(), Fail> {
     for row in &LOSSES {
-        let (answers, after) = lost(rt.alloc(), row)?;
-        assert!(rt; answers == row.answers);
-        assert!(rt; after.as_slice() == row.after);
+        assert!(rt; loses(rt.alloc(), row)?);
     }
     Ok(())
 }
@@ -286,23 +291,25 @@ static CUTS: [Cut; 7] = [
     },
 ];
 
-// What the call answers, how many nodes are left, and the tree's nodes after both additions.
-fn cut_off(alloc: Global, row: &Cut) -> Result<(bool, u32, Vec<(usize, u32, u32)>), TreeFault> {
+fn cut_at(alloc: Global, tree: &mut Tree, at: &[u32]) -> Result<bool, NoMemory> {
+    let at = path_of(alloc, at)?;
+    Ok(tree.cut(&at))
+}
+
+// Whether the call answers as its row says, and the tree is as it says after both additions.
+fn cuts(alloc: Global, row: &Cut) -> Result<bool, TreeFault> {
     let mut tree = family(alloc)?;
-    let was = tree.cut(&path_of(alloc, row.at)?);
+    let was = cut_at(alloc, &mut tree, row.at)?;
     let count = tree.count();
-    tree.add_child(&Path::root(alloc), set_of(alloc, &[8])?)?;
-    tree.add_child(&path_of(alloc, &[0])?, set_of(alloc, &[10])?)?;
-    Ok((was, count, shape_of(alloc, &tree)?))
+    add_child(alloc, &mut tree, &[], &[8])?;
+    add_child(alloc, &mut tree, &[0], &[10])?;
+    Ok(was == row.was && count == row.count && has_shape(alloc, &tree, row.after)?)
 }
 
 #[test]
 fn cuts_a_node_off_and_uses_its_place_again(rt: HostRuntime) -> Result<(), Fail> {
     for row in &CUTS {
-        let (was, count, after) = cut_off(rt.alloc(), row)?;
-        assert!(rt; was == row.was);
-        assert!(rt; count == row.count);
-        assert!(rt; after.as_slice() == row.after);
+        assert!(rt; cuts(rt.alloc(), row)?);
     }
     Ok(())
 }

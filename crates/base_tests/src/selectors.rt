@@ -6,8 +6,10 @@ use std::test::Fail;
 use tp_base::{AtomKind, AtomTable, ClassSet, NoMemory, Path};
 use tree_sem::Tree;
 
+type Text = (&'static str, Result<&'static str, (Skip, usize)>);
+
 // A text, and how the selector that it is reads when it is written; or the cause and the place where it is none.
-const TEXTS: [(&str, Result<&str, (Skip, usize)>); 28] = [
+static TEXTS: [Text; 28] = [
     ("a:hover", Ok("a")),
     ("LI.Item#Top", Ok("li.Item#Top")),
     ("  ul >li  .x:AFTER /* all */", Ok("ul > li .x")),
@@ -38,8 +40,10 @@ const TEXTS: [(&str, Result<&str, (Skip, usize)>); 28] = [
     ("a, b", Err((Skip::Bad, 1))),
 ];
 
+type Match = (&'static str, &'static [u32], bool, bool);
+
 // A selector, a node of the tree below, whether it matches there, and whether its last compound fits.
-const MATCHES: [(&str, &[u32], bool, bool); 10] = [
+static MATCHES: [Match; 10] = [
     ("c", &[0, 0, 0], true, true),
     ("c", &[0, 0], false, false),
     ("*", &[], true, true),
@@ -58,30 +62,54 @@ fn label_of(alloc: Global, atoms: &mut AtomTable, name: &[u8]) -> Result<ClassSe
     Ok(label)
 }
 
-// A tree of one branch: a, then b, a and c.
-fn branch(alloc: Global, atoms: &mut AtomTable) -> Result<Option<Tree>, SelFault> {
-    let mut tree = Tree::new(alloc, label_of(alloc, atoms, b"a")?)?;
+fn add_child(
+    alloc: Global,
+    atoms: &mut AtomTable,
+    tree: &mut Tree,
+    at: &Path,
+    name: &[u8],
+) -> Result<bool, SelFault> {
+    let label = label_of(alloc, atoms, name)?;
+    Ok(tree.add_child(at, label).is_ok())
+}
+
+// Whether each child was added.
+fn grow(alloc: Global, atoms: &mut AtomTable, tree: &mut Tree) -> Result<bool, SelFault> {
     let mut at = Path::root(alloc);
     for name in [b"b", b"a", b"c"] {
-        if tree.add_child(&at, label_of(alloc, atoms, name)?).is_err() {
-            return Ok(None);
+        if !add_child(alloc, atoms, tree, &at, name)? {
+            return Ok(false);
         }
         at.push(0)?;
     }
-    Ok(Some(tree))
+    Ok(true)
+}
+
+// A tree of one branch: a, then b, a and c.
+fn branch(alloc: Global, atoms: &mut AtomTable) -> Result<Tree, SelFault> {
+    let mut tree = Tree::new(alloc, label_of(alloc, atoms, b"a")?)?;
+    if grow(alloc, atoms, &mut tree)? {
+        Ok(tree)
+    } else {
+        Err(SelFault::Memory)
+    }
+}
+
+fn subject_fits(tree: &Tree, at: &Path, selector: &Selector) -> bool {
+    match selector.parts.items().last() {
+        None => false,
+        Some(compound) => fits(tree, at, compound),
+    }
 }
 
 // Whether the selector matches at the node, and so does a copy of it, and whether its last compound fits there.
 fn matches_at(tree: &Tree, at: &Path, selector: &Selector) -> Result<(bool, bool, bool), SelFault> {
     let copy = selector.copy()?;
-    let subject = match copy.parts.items().last() {
-        None => false,
-        Some(compound) => fits(tree, at, compound),
-    };
+    let copied = matches(tree, at, &copy);
     Ok((
         matches(tree, at, selector),
-        matches(tree, at, &copy),
-        subject,
+        copied,
+        subject_fits(tree, at, &copy),
     ))
 }
 
@@ -93,54 +121,93 @@ fn path_of(alloc: Global, steps: &[u32]) -> Result<Path, NoMemory> {
     Ok(at)
 }
 
-// How the text reads when it is written: the selector, and a copy of it.
-fn written(
+fn is_match(
     alloc: Global,
-    text: &str,
+    tree: &Tree,
+    selector: &Selector,
+    row: &Match,
+) -> Result<bool, SelFault> {
+    let at = path_of(alloc, row.1)?;
+    Ok(matches_at(tree, &at, selector)? == (row.2, row.2, row.3))
+}
+
+fn is_right(
+    alloc: Global,
+    tree: &Tree,
     atoms: &mut AtomTable,
-) -> Result<(Vec<u8>, Vec<u8>), SelFault> {
+    row: &Match,
+) -> Result<bool, SelFault> {
+    let selector = read_selector(alloc, row.0.as_bytes(), 0, row.0.len(), atoms)?;
+    is_match(alloc, tree, &selector, row)
+}
+
+fn is_written(
+    alloc: Global,
+    selector: &Selector,
+    atoms: &AtomTable,
+    wanted: &str,
+) -> Result<bool, SelFault> {
+    let text = write_selector(alloc, selector, atoms)?;
+    Ok(text.as_slice() == wanted.as_bytes())
+}
+
+// Whether the selector that the text is, and a copy of it, read so when they are written.
+fn reads(alloc: Global, text: &str, atoms: &mut AtomTable, wanted: &str) -> Result<bool, SelFault> {
     let selector = read_selector(alloc, text.as_bytes(), 0, text.len(), atoms)?;
     let copy = selector.copy()?;
-    Ok((
-        write_selector(alloc, &selector, atoms)?,
-        write_selector(alloc, &copy, atoms)?,
-    ))
+    Ok(is_written(alloc, &selector, atoms, wanted)? && is_written(alloc, &copy, atoms, wanted)?)
+}
+
+fn is_refused(alloc: Global, text: &str, atoms: &mut AtomTable, cause: Skip, at: usize) -> bool {
+    let fault = read_selector(alloc, text.as_bytes(), 0, text.len(), atoms).err();
+    fault == Some(SelFault::Skipped(cause, at))
+}
+
+fn is_read(alloc: Global, atoms: &mut AtomTable, row: &Text) -> Result<bool, SelFault> {
+    match row.1 {
+        Ok(wanted) => reads(alloc, row.0, atoms, wanted),
+        Err((cause, at)) => Ok(is_refused(alloc, row.0, atoms, cause, at)),
+    }
+}
+
+// Whether a list's second selector is read, and a list with a name that a strict list refuses is refused.
+fn reads_lists(alloc: Global, atoms: &mut AtomTable) -> Result<bool, SelFault> {
+    let refused = read_strict_list(alloc, b"a, b:hover", atoms).err();
+    let list = read_strict_list(alloc, b"a.b , /*,*/ #c > d", atoms)?;
+    match list.as_slice() {
+        [_, second] => Ok(
+            refused == Some(SelFault::Skipped(Skip::Pseudo, 4))
+                && is_written(alloc, second, atoms, "#c > d")?,
+        ),
+        _ => Ok(false),
+    }
 }
 
 #[test]
 fn selectors_read_and_write(rt: HostRuntime) -> Result<(), Fail> {
-    let alloc = rt.alloc();
-    let mut atoms = AtomTable::new(alloc);
-    for (text, wanted) in TEXTS {
-        match (written(alloc, text, &mut atoms), wanted) {
-            (Ok((text, copy)), Ok(written)) => {
-                assert_eq!(rt; text.as_slice(), written.as_bytes());
-                assert_eq!(rt; copy.as_slice(), written.as_bytes());
-            }
-            (Err(fault), Err((cause, at))) => assert_eq!(rt; fault, SelFault::Skipped(cause, at)),
-            _ => assert!(rt; false, "{text}"),
+    let mut atoms = AtomTable::new(rt.alloc());
+    for row in &TEXTS {
+        assert!(rt; is_read(rt.alloc(), &mut atoms, row)?, "{}", row.0);
+    }
+    assert!(rt; reads_lists(rt.alloc(), &mut atoms)?);
+    Ok(())
+}
+
+// The text of a row that isn't right, where there is one.
+fn wrong_row(alloc: Global, atoms: &mut AtomTable) -> Result<&'static str, SelFault> {
+    let tree = branch(alloc, atoms)?;
+    for row in &MATCHES {
+        if !is_right(alloc, &tree, atoms, row)? {
+            return Ok(row.0);
         }
     }
-    let list = read_strict_list(alloc, b"a.b , /*,*/ #c > d", &mut atoms)?;
-    assert_eq!(rt; list.len(), 2);
-    assert_eq!(rt;
-        write_selector(alloc, &list[1], &atoms)?.as_slice(),
-        b"#c > d".as_slice()
-    );
-    let strict = read_strict_list(alloc, b"a, b:hover", &mut atoms).err();
-    assert_eq!(rt; strict, Some(SelFault::Skipped(Skip::Pseudo, 4)));
-    Ok(())
+    Ok("")
 }
 
 #[test]
 fn selectors_match(rt: HostRuntime) -> Result<(), Fail> {
-    let alloc = rt.alloc();
-    let mut atoms = AtomTable::new(alloc);
-    let tree = branch(alloc, &mut atoms)?.ok_or(SelFault::Memory)?;
-    for (text, steps, wanted, subject) in MATCHES {
-        let selector = read_selector(alloc, text.as_bytes(), 0, text.len(), &mut atoms)?;
-        let found = matches_at(&tree, &path_of(alloc, steps)?, &selector)?;
-        assert!(rt; found == (wanted, wanted, subject), "{text}");
-    }
+    let mut atoms = AtomTable::new(rt.alloc());
+    let wrong = wrong_row(rt.alloc(), &mut atoms)?;
+    assert!(rt; wrong.is_empty(), "{wrong}");
     Ok(())
 }

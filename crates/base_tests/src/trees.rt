@@ -13,31 +13,49 @@ pub(crate) fn path_of(alloc: Global, steps: &[u32]) -> Result<Path, NoMemory> {
     Ok(at)
 }
 
-// A root with two children, where the first has two classes and one child; what each call answered.
-fn build(alloc: Global) -> Result<(Tree, [u32; 3], [bool; 4]), TreeFault> {
-    let root = Path::root(alloc);
-    let first = path_of(alloc, &[0])?;
-    let mut tree = Tree::new(alloc, ClassSet::new(alloc))?;
-    let outer = tree.add_child(&root, ClassSet::new(alloc))?;
-    let new = tree.add_class(&first, CLASS)?;
-    let again = tree.add_class(&first, CLASS)?;
-    let mut both = ClassSet::new(alloc);
-    both.add(Atom(8))?;
-    both.add(CLASS)?;
-    let one_new = tree.add_classes(&first, &both)?;
-    let none_new = tree.add_classes(&first, &both)?;
-    let next = tree.add_child(&root, ClassSet::new(alloc))?;
-    let inner = tree.add_child(&first, ClassSet::new(alloc))?;
-    Ok((tree, [outer, next, inner], [new, again, one_new, none_new]))
+// One child more for the node at a path, with these classes; its number.
+pub(crate) fn add_child(
+    alloc: Global,
+    tree: &mut Tree,
+    parent: &[u32],
+    classes: &[u32],
+) -> Result<u32, TreeFault> {
+    let at = path_of(alloc, parent)?;
+    tree.add_child(&at, set_of(alloc, classes)?)
 }
 
-// What `add_child` answers where no node is there, and then at the root; and how many nodes there are after each.
-fn first_child(alloc: Global) -> Result<(Result<u32, TreeFault>, u32, u32, u32), TreeFault> {
+// Whether each call answers that the label grew the first time, and not again.
+fn grows_once(tree: &mut Tree, at: &Path, both: &ClassSet) -> Result<bool, TreeFault> {
+    let new = tree.add_class(at, CLASS)?;
+    let again = tree.add_class(at, CLASS)?;
+    let one_new = tree.add_classes(at, both)?;
+    let none_new = tree.add_classes(at, both)?;
+    Ok(new && !again && one_new && !none_new)
+}
+
+fn first_grows_once(alloc: Global, tree: &mut Tree) -> Result<bool, TreeFault> {
+    let first = path_of(alloc, &[0])?;
+    let both = set_of(alloc, &[8, 7])?;
+    grows_once(tree, &first, &both)
+}
+
+// A root with two children, where the first has two classes and one child, and whether each call answered as it should.
+fn build(alloc: Global) -> Result<(Tree, bool), TreeFault> {
     let mut tree = Tree::new(alloc, ClassSet::new(alloc))?;
-    let refused = tree.add_child(&path_of(alloc, &[5])?, ClassSet::new(alloc));
+    let outer = add_child(alloc, &mut tree, &[], &[])?;
+    let grew = first_grows_once(alloc, &mut tree)?;
+    let next = add_child(alloc, &mut tree, &[], &[])?;
+    let inner = add_child(alloc, &mut tree, &[0], &[])?;
+    Ok((tree, grew && outer == 0 && next == 1 && inner == 0))
+}
+
+// Whether no child is added where no node is, and then one at the root.
+fn adds_a_first_child(alloc: Global) -> Result<bool, TreeFault> {
+    let mut tree = Tree::new(alloc, ClassSet::new(alloc))?;
+    let refused = add_child(alloc, &mut tree, &[5], &[]);
     let before = tree.count();
-    let number = tree.add_child(&Path::root(alloc), ClassSet::new(alloc))?;
-    Ok((refused, before, number, tree.count()))
+    let number = add_child(alloc, &mut tree, &[], &[])?;
+    Ok(refused == Err(TreeFault::NoSuchNode) && before == 1 && number == 0 && tree.count() == 2)
 }
 
 // How many children are there, and whether the label there and the one of the first `len` numbers have the class.
@@ -49,21 +67,35 @@ fn seen(tree: &Tree, at: &Path, len: usize) -> (Option<u32>, Option<bool>, Optio
     (tree.children(at), here, above)
 }
 
-// Whether each path shows what it should: with a length, how many children and which labels are seen.
+type Read = (
+    &'static [u32],
+    usize,
+    (Option<u32>, Option<bool>, Option<bool>),
+);
+
+// A path and a length, how many children and which labels are seen.
+static READS: [Read; 6] = [
+    (&[], 0, (Some(2), Some(false), Some(false))),
+    (&[], 1, (Some(2), Some(false), None)),
+    (&[0], 0, (Some(1), Some(true), Some(false))),
+    (&[0, 0], 1, (Some(0), Some(false), Some(true))),
+    (&[1], 1, (Some(0), Some(false), Some(false))),
+    (&[1, 0], 1, (None, None, Some(false))),
+];
+
+fn shows(alloc: Global, tree: &Tree, row: &Read) -> Result<bool, NoMemory> {
+    let at = path_of(alloc, row.0)?;
+    Ok(seen(tree, &at, row.1) == row.2)
+}
+
+// Whether each path shows what it should.
 fn reads_well(alloc: Global, tree: &Tree) -> Result<bool, NoMemory> {
-    let rows: [(&[u32], usize, (Option<u32>, Option<bool>, Option<bool>)); 6] = [
-        (&[], 0, (Some(2), Some(false), Some(false))),
-        (&[], 1, (Some(2), Some(false), None)),
-        (&[0], 0, (Some(1), Some(true), Some(false))),
-        (&[0, 0], 1, (Some(0), Some(false), Some(true))),
-        (&[1], 1, (Some(0), Some(false), Some(false))),
-        (&[1, 0], 1, (None, None, Some(false))),
-    ];
-    let mut right = true;
-    for (steps, len, want) in rows {
-        right = right && seen(tree, &path_of(alloc, steps)?, len) == want;
+    for row in &READS {
+        if !shows(alloc, tree, row)? {
+            return Ok(false);
+        }
     }
-    Ok(right)
+    Ok(true)
 }
 
 pub(crate) fn set_of(alloc: Global, atoms: &[u32]) -> Result<ClassSet, NoMemory> {
@@ -74,26 +106,39 @@ pub(crate) fn set_of(alloc: Global, atoms: &[u32]) -> Result<ClassSet, NoMemory>
     Ok(set)
 }
 
+static FAMILY: [(&[u32], &[u32]); 6] = [
+    (&[], &[2]),
+    (&[], &[3, 13]),
+    (&[], &[4]),
+    (&[1], &[5]),
+    (&[1], &[6]),
+    (&[1, 0], &[7]),
+];
+
 // A tree of seven nodes, each with a class or two: the root with 1, its children with 2, with 3 and 13 and with 4,
 // those of the second with 5 and 6, and one of 5 with 7.
 pub(crate) fn family(alloc: Global) -> Result<Tree, TreeFault> {
-    let root = Path::root(alloc);
-    let second = path_of(alloc, &[1])?;
-    let mut tree = Tree::new(alloc, set_of(alloc, &[1])?)?;
-    tree.add_child(&root, set_of(alloc, &[2])?)?;
-    tree.add_child(&root, set_of(alloc, &[3, 13])?)?;
-    tree.add_child(&root, set_of(alloc, &[4])?)?;
-    tree.add_child(&second, set_of(alloc, &[5])?)?;
-    tree.add_child(&second, set_of(alloc, &[6])?)?;
-    tree.add_child(&path_of(alloc, &[1, 0])?, set_of(alloc, &[7])?)?;
+    let mut tree = leaf(alloc, 1)?;
+    for (parent, classes) in &FAMILY {
+        add_child(alloc, &mut tree, parent, classes)?;
+    }
+    Ok(tree)
+}
+
+fn leaf(alloc: Global, class: u32) -> Result<Tree, TreeFault> {
+    Ok(Tree::new(alloc, set_of(alloc, &[class])?)?)
+}
+
+fn with_child(alloc: Global) -> Result<Tree, TreeFault> {
+    let mut tree = leaf(alloc, 1)?;
+    add_child(alloc, &mut tree, &[], &[2])?;
     Ok(tree)
 }
 
 // Two trees: one of a node with the class 1 and a child with the class 2, and one of a node with the class 3.
 fn two_trees(alloc: Global) -> Result<Trees, TreeFault> {
-    let mut first = Tree::new(alloc, set_of(alloc, &[1])?)?;
-    first.add_child(&Path::root(alloc), set_of(alloc, &[2])?)?;
-    let second = Tree::new(alloc, set_of(alloc, &[3])?)?;
+    let first = with_child(alloc)?;
+    let second = leaf(alloc, 3)?;
     Ok(in_a_row(alloc, first, second)?)
 }
 
@@ -211,9 +256,11 @@ pub(crate) fn last_class(label: &ClassSet) -> u32 {
     }
 }
 
-// The nodes of a tree, as the rows have them.
-pub(crate) fn shape_of(alloc: Global, tree: &Tree) -> Result<Vec<(usize, u32, u32)>, NoMemory> {
-    let mut nodes = Vec::new(alloc);
+fn push_nodes(
+    alloc: Global,
+    tree: &Tree,
+    nodes: &mut Vec<(usize, u32, u32)>,
+) -> Result<(), NoMemory> {
     let mut at = Path::root(alloc);
     for _ in 0..20 {
         let Some(label) = tree.label(&at) else {
@@ -224,35 +271,60 @@ pub(crate) fn shape_of(alloc: Global, tree: &Tree) -> Result<Vec<(usize, u32, u3
             break;
         }
     }
-    Ok(nodes)
+    Ok(())
 }
 
-// What the call answers, and the tree's nodes after it.
-fn added(
+// Whether the nodes of a tree are as the rows have them.
+pub(crate) fn has_shape(
     alloc: Global,
-    row: &Addition,
-) -> Result<(Result<(), TreeFault>, Vec<(usize, u32, u32)>), TreeFault> {
-    let root = Path::root(alloc);
+    tree: &Tree,
+    rows: &[(usize, u32, u32)],
+) -> Result<bool, NoMemory> {
+    let mut nodes = Vec::new(alloc);
+    push_nodes(alloc, tree, &mut nodes)?;
+    Ok(nodes.as_slice() == rows)
+}
+
+fn two_leaves(alloc: Global) -> Result<Tree, TreeFault> {
     let mut tree = Tree::new(alloc, ClassSet::new(alloc))?;
-    tree.add_child(&root, ClassSet::new(alloc))?;
-    tree.add_child(&root, ClassSet::new(alloc))?;
+    add_child(alloc, &mut tree, &[], &[])?;
+    add_child(alloc, &mut tree, &[], &[])?;
+    Ok(tree)
+}
+
+fn add_class(alloc: Global, tree: &mut Tree, at: &[Path]) -> Result<(), TreeFault> {
+    let class = set_of(alloc, &[5])?;
+    tree.add_classes_to_each(at, &class)
+}
+
+fn add_trees(alloc: Global, tree: &mut Tree, at: &[Path]) -> Result<(), TreeFault> {
+    let trees = two_trees(alloc)?;
+    match at {
+        [one] => tree.add_trees(one, trees.items()),
+        _ => tree.add_trees_to_each(at, trees.items()),
+    }
+}
+
+fn add(alloc: Global, tree: &mut Tree, row: &Addition) -> Result<(), TreeFault> {
     let at = paths_of(alloc, row.at)?;
-    let answer = if !row.trees {
-        tree.add_classes_to_each(&at, &set_of(alloc, &[5])?)
-    } else if let [one] = at.as_slice() {
-        tree.add_trees(one, two_trees(alloc)?.items())
+    if row.trees {
+        add_trees(alloc, tree, &at)
     } else {
-        tree.add_trees_to_each(&at, two_trees(alloc)?.items())
-    };
-    Ok((answer, shape_of(alloc, &tree)?))
+        add_class(alloc, tree, &at)
+    }
+}
+
+// Whether the call answers as its row says, and the tree is then as it says.
+fn adds(alloc: Global, row: &Addition) -> Result<bool, TreeFault> {
+    let mut tree = two_leaves(alloc)?;
+    let answer = add(alloc, &mut tree, row);
+    Ok(answer.err() == row.fault && has_shape(alloc, &tree, row.after)?)
 }
 
 #[test]
 fn adds_to_each_node_or_to_none(rt: HostRuntime) -> Result<(), Fail> {
     for row in &ADDITIONS {
-        let (answer, after) = added(rt.alloc(), row)?;
-        assert!(rt; answer.err() == row.fault);
-        assert!(rt; after.as_slice() == row.after);
+        assert!(rt; adds(rt.alloc(), row)?);
     }
     Ok(())
 }
@@ -273,34 +345,49 @@ fn first_count(forest: &Forest) -> u32 {
     }
 }
 
+fn amounts_of_copy(action: &Action) -> Result<(usize, u32, usize), NoMemory> {
+    let copy = action.copy()?;
+    Ok(amounts(&copy))
+}
+
+fn copied_classes(alloc: Global) -> Result<(usize, u32, usize), NoMemory> {
+    let classes = Action::Classes(set_of(alloc, &[4, 6])?);
+    amounts_of_copy(&classes)
+}
+
+fn copied_inside(alloc: Global) -> Result<(usize, u32, usize), TreeFault> {
+    let tops = two_trees(alloc)?;
+    Ok(amounts_of_copy(&Action::Inside(Forest { tops }))?)
+}
+
+fn copied_beside(alloc: Global) -> Result<(usize, u32, usize), TreeFault> {
+    let tops = two_trees(alloc)?;
+    Ok(amounts_of_copy(&Action::Beside(Forest { tops }))?)
+}
+
 #[test]
 fn copies_are_the_same(rt: HostRuntime) -> Result<(), Fail> {
-    let alloc = rt.alloc();
-    let classes = Action::Classes(set_of(alloc, &[4, 6])?);
-    assert!(rt; amounts(&classes.copy()?) == (0, 0, 2));
-    let tops = two_trees(alloc)?;
-    let inside = Action::Inside(Forest { tops });
-    assert!(rt; amounts(&inside.copy()?) == (2, 2, 0));
-    let tops = two_trees(alloc)?;
-    let beside = Action::Beside(Forest { tops });
-    assert!(rt; amounts(&beside.copy()?) == (2, 2, 1));
+    assert!(rt; copied_classes(rt.alloc())? == (0, 0, 2));
+    assert!(rt; copied_inside(rt.alloc())? == (2, 2, 0));
+    assert!(rt; copied_beside(rt.alloc())? == (2, 2, 1));
     Ok(())
+}
+
+fn reads_and_walks(alloc: Global, tree: &Tree) -> Result<bool, NoMemory> {
+    let rows = [(0, 2, 9), (1, 1, 8), (2, 0, 9), (1, 0, 9)];
+    Ok(reads_well(alloc, tree)? && has_shape(alloc, tree, &rows)?)
+}
+
+// Whether the tree is built as it should, and it and its copy are read so.
+fn is_built(alloc: Global) -> Result<bool, TreeFault> {
+    let (tree, right) = build(alloc)?;
+    let copy = tree.copy()?;
+    Ok(right && reads_and_walks(alloc, &tree)? && reads_and_walks(alloc, &copy)?)
 }
 
 #[test]
 fn builds_reads_and_walks_a_tree(rt: HostRuntime) -> Result<(), Fail> {
-    let alloc = rt.alloc();
-    assert!(rt; first_child(alloc)? == (Err(TreeFault::NoSuchNode), 1, 0, 2));
-    let (tree, numbers, grew) = build(alloc)?;
-    assert!(rt; numbers == [0, 1, 0]);
-    assert!(rt; grew == [true, false, true, false]);
-    let copy = tree.copy()?;
-    for tree in [&tree, &copy] {
-        assert!(rt; reads_well(alloc, tree)?);
-        assert!(rt;
-            shape_of(alloc, tree)?.as_slice()
-                == [(0, 2, 9), (1, 1, 8), (2, 0, 9), (1, 0, 9)].as_slice()
-        );
-    }
+    assert!(rt; adds_a_first_child(rt.alloc())?);
+    assert!(rt; is_built(rt.alloc())?);
     Ok(())
 }

@@ -33,12 +33,21 @@ fn climbed(alloc: Global, tree: &Tree, steps: &[u32]) -> Result<Option<Vec<u32>>
     Ok(Some(classes))
 }
 
+fn climbs(
+    alloc: Global,
+    tree: &Tree,
+    steps: &[u32],
+    wanted: &Option<&'static [u32]>,
+) -> Result<bool, NoMemory> {
+    let found = climbed(alloc, tree, steps)?;
+    Ok(found.as_ref().map(|classes| classes.as_slice()) == *wanted)
+}
+
 #[test]
 fn climbs_to_the_root(rt: HostRuntime) -> Result<(), Fail> {
     let tree = family(rt.alloc())?;
     for (steps, wanted) in &UPWARD {
-        let found = climbed(rt.alloc(), &tree, steps)?;
-        assert!(rt; found.as_ref().map(|classes| classes.as_slice()) == *wanted);
+        assert!(rt; climbs(rt.alloc(), &tree, steps, wanted)?);
     }
     Ok(())
 }

@@ -15,11 +15,23 @@ pub fn path_of(alloc: Global, numbers: &[u32]) -> Result<Path, NoMemory> {
     Ok(at)
 }
 
+fn add_node(
+    alloc: Global,
+    tree: &mut Tree,
+    parent: &[u32],
+    label: &[u32],
+) -> Result<(), TreeFault> {
+    let at = path_of(alloc, parent)?;
+    let label = set_of(alloc, label)?;
+    tree.add_child(&at, label)?;
+    Ok(())
+}
+
 /// A page whose root has one atom.
 pub fn page_of(alloc: Global, root: u32, nodes: Nodes) -> Result<Tree, TreeFault> {
     let mut tree = Tree::new(alloc, set_of(alloc, &[root])?)?;
     for (parent, label) in nodes {
-        tree.add_child(&path_of(alloc, parent)?, set_of(alloc, label)?)?;
+        add_node(alloc, &mut tree, parent, label)?;
     }
     Ok(tree)
 }

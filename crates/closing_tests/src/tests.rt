@@ -1,4 +1,4 @@
-ghost use Rattle.std.specs.Prelude.{◌≡◌, Contains, IfOk, OnOk};
+ghost use Rattle.std.specs.Prelude.{◌≡◌, [], Contains, IfOk, OnOk};
 ghost use Rattle.simple_core.specs.Systems.{IsSound};
 
 use crate::pages::{nodes_of, page_of, path_of};
@@ -8,7 +8,7 @@ use simple_core::{GainFault, Summaries, System};
 use small_systems::{Script, is_sound, rules_of, set_of, system_of};
 use std::alloc::Global;
 use std::test::Fail;
-use tp_base::{Atom, ClassSet};
+use tp_base::{Atom, ClassSet, NoMemory, Path};
 use tree_sem::{Tree, TreeFault};
 
 // No atom of a row has this number.
@@ -25,36 +25,63 @@ fn sound_of(alloc: Global, script: Script) -> Result<System, GainFault>
     Ok(system)
 }
 
+// A sound system, and a table for it.
+#[derive(Drop)]
+struct Asking {
+    system: System,
+    sums: PlainSummaries,
+}
+
+// The system of a row, and a table of so many pairs that knows none.
+fn asking_of(alloc: Global, script: Script, pairs: u32) -> Result<Asking, GainFault>
+    ensures sound { IfOk result (λ a. IsSound a.system) }
+    ensures system { IfOk result (λ a. a.sums.system ≡ a.system) }
+    ensures known { IfOk result (λ a. a.sums.known ≡ []) }
+{
+    let system = sound_of(alloc, script)?;
+    let sums = PlainSummaries::new(alloc, &system, pairs)?;
+    Ok(Asking { system, sums })
+}
+
 // The atoms of a label in order, each with its first round.
 type Firsts = &'static [(u32, u64)];
 
 // Whether a label has just these atoms.
 fn has_just(label: &ClassSet, firsts: &[(u32, u64)]) -> bool {
-    label.len() == firsts.len() && firsts.iter().all(|first| label.has(Atom(first.0)))
+    for (atom, _) in firsts {
+        if !label.has(Atom(*atom)) {
+            return false;
+        }
+    }
+    label.len() == firsts.len()
+}
+
+// What is left of the first rounds behind this one, if it is the next.
+fn behind(firsts: &[(u32, u64)], atom: u32, round: u64) -> Option<&[(u32, u64)]> {
+    match firsts.split_first() {
+        Some((first, rest)) if *first == (atom, round) => Some(rest),
+        _ => None,
+    }
 }
 
 // Whether the table tells these first rounds of a pair, and no other.
-fn tells(
-    alloc: Global,
-    sums: &PlainSummaries,
-    kind: u32,
-    parent: &ClassSet,
-    firsts: &[(u32, u64)],
-) -> Result<bool, GainFault>
+fn tells(sums: &PlainSummaries, kind: u32, parent: &ClassSet, firsts: &[(u32, u64)]) -> bool
     requires { Contains sums.now.known (kind, parent.now) }
 {
-    let mut told = Vec::new(alloc);
+    let mut left = firsts;
     for atom in 0..END {
         if let Some(round) = sums.first_round(kind, parent, Atom(atom)) {
-            told.push((atom, round))?;
+            let Some(rest) = behind(left, atom, round) else {
+                return false;
+            };
+            left = rest;
         }
     }
-    Ok(told.as_slice() == firsts)
+    left.is_empty()
 }
 
 // What a table answers about a kind below a label.
 fn ask(
-    alloc: Global,
     system: &System,
     sums: &mut PlainSummaries,
     kind: u32,
@@ -120,26 +147,85 @@ static GAINS: [Gain; 8] = [
     (Script::Errors, 1, &[], 1, &[(9, 0), (10, 0)]),
 ];
 
+// Whether a table tells what comes of a kind below this label.
+fn tells_gain(
+    system: &System,
+    sums: &mut PlainSummaries,
+    parent: &ClassSet,
+    row: &Gain,
+) -> Result<bool, GainFault>
+    requires { sums.old.system ≡ system.now }
+{
+    let label = ask(system, sums, row.1, parent)?;
+    Ok(has_just(&label, row.4) && tells(sums, row.1, parent, row.4))
+}
+
+fn tells_row(
+    alloc: Global,
+    system: &System,
+    sums: &mut PlainSummaries,
+    row: &Gain,
+) -> Result<bool, GainFault>
+    requires { sums.old.system ≡ system.now }
+{
+    let parent = set_of(alloc, row.2)?;
+    tells_gain(system, sums, &parent, row)
+}
+
 fn gains(alloc: Global, row: &Gain) -> Result<bool, GainFault> {
-    let system = sound_of(alloc, row.0)?;
-    let parent = set_of(alloc, row.2)?;
-    let mut sums = PlainSummaries::new(alloc, &system, row.3)?;
-    let label = ask(alloc, &system, &mut sums, row.1, &parent)?;
-    Ok(has_just(&label, row.4) && tells(alloc, &sums, row.1, &parent, row.4)?)
+    let Asking { system, mut sums } = asking_of(alloc, row.0, row.3)?;
+    tells_row(alloc, &system, &mut sums, row)
 }
 
-// Whether a smaller table is spent, and stays so.
+// Whether a table answers. Where it doesn't, it is spent.
+fn answers(
+    system: &System,
+    sums: &mut PlainSummaries,
+    kind: u32,
+    parent: &ClassSet,
+) -> Result<bool, GainFault>
+    requires { sums.old.system ≡ system.now }
+    ensures { sums.new.system ≡ system.now }
+{
+    match ask(system, sums, kind, parent) {
+        Ok(_) => Ok(true),
+        Err(GainFault::Spent) => Ok(false),
+        Err(GainFault::Memory) => Err(GainFault::Memory),
+    }
+}
+
+fn can_answer(
+    alloc: Global,
+    system: &System,
+    sums: &mut PlainSummaries,
+    kind: u32,
+    parent: &[u32],
+) -> Result<bool, GainFault>
+    requires { sums.old.system ≡ system.now }
+    ensures { sums.new.system ≡ system.now }
+{
+    let parent = set_of(alloc, parent)?;
+    answers(system, sums, kind, &parent)
+}
+
+// Whether a table is spent, and stays so.
+fn stays_spent(
+    alloc: Global,
+    system: &System,
+    sums: &mut PlainSummaries,
+    row: &Gain,
+) -> Result<bool, GainFault>
+    requires { sums.old.system ≡ system.now }
+{
+    let first = can_answer(alloc, system, sums, row.1, row.2)?;
+    let second = can_answer(alloc, system, sums, row.1, row.2)?;
+    Ok(!first && !second)
+}
+
+// Whether a smaller table is too small.
 fn is_too_small(alloc: Global, row: &Gain) -> Result<bool, GainFault> {
-    let system = sound_of(alloc, row.0)?;
-    let parent = set_of(alloc, row.2)?;
-    let mut sums = PlainSummaries::new(alloc, &system, row.3.saturating_sub(1))?;
-    let first = ask(alloc, &system, &mut sums, row.1, &parent);
-    let second = ask(alloc, &system, &mut sums, row.1, &parent);
-    Ok(is_spent(&first) && is_spent(&second))
-}
-
-fn is_spent(answer: &Result<ClassSet, GainFault>) -> bool {
-    matches!(answer, Err(GainFault::Spent))
+    let Asking { system, mut sums } = asking_of(alloc, row.0, row.3.saturating_sub(1))?;
+    stays_spent(alloc, &system, &mut sums, row)
 }
 
 #[test]
@@ -170,37 +256,29 @@ static QUESTIONS: [(&[u32], bool); 7] = [
     (&[4], false),
 ];
 
-fn can_answer(
+fn answers_as_wanted(
     alloc: Global,
     system: &System,
     sums: &mut PlainSummaries,
-    parent: &[u32],
 ) -> Result<bool, GainFault>
     requires { sums.old.system ≡ system.now }
-    ensures { sums.new.system ≡ system.now }
 {
-    let parent = set_of(alloc, parent)?;
-    match ask(alloc, system, sums, 0, &parent) {
-        Ok(_) => Ok(true),
-        Err(GainFault::Spent) => Ok(false),
-        Err(GainFault::Memory) => Err(GainFault::Memory),
-    }
-}
-
-fn answers_as_wanted(alloc: Global) -> Result<bool, GainFault> {
-    let system = sound_of(alloc, Script::Boxes)?;
-    let mut sums = PlainSummaries::new(alloc, &system, 5)?;
     'questions: for (parent, wanted) in &QUESTIONS {
-        if can_answer(alloc, &system, &mut sums, parent)? != *wanted {
+        if can_answer(alloc, system, sums, 0, parent)? != *wanted {
             return Ok(false);
         }
     }
     Ok(true)
 }
 
+fn boxes_answer_as_wanted(alloc: Global) -> Result<bool, GainFault> {
+    let Asking { system, mut sums } = asking_of(alloc, Script::Boxes, 5)?;
+    answers_as_wanted(alloc, &system, &mut sums)
+}
+
 #[test]
 fn knows_what_a_question_needs(rt: HostRuntime) -> Result<(), Fail> {
-    assert!(rt; answers_as_wanted(rt.alloc())?);
+    assert!(rt; boxes_answer_as_wanted(rt.alloc())?);
     Ok(())
 }
 
@@ -211,34 +289,52 @@ fn closed_page(
     page: &Tree,
     pairs: u32,
 ) -> Result<Closed, GainFault> {
-    let system = sound_of(alloc, script)?;
-    let mut sums = PlainSummaries::new(alloc, &system, pairs)?;
+    let Asking { system, mut sums } = asking_of(alloc, script, pairs)?;
     close_page(alloc, page, &system, &mut sums)
 }
 
-// What comes of a node of the page, and nothing where no node is there.
-fn is_closed(
-    alloc: Global,
-    closed: &Closed,
-    numbers: &[u32],
-    firsts: &[(u32, u64)],
-) -> Result<bool, GainFault> {
-    let at = path_of(alloc, numbers)?;
-    let mut told = Vec::new(alloc);
+// Whether these first rounds are told of a node, and no other.
+fn tells_of_node(closed: &Closed, at: &Path, firsts: &[(u32, u64)]) -> bool {
+    let mut left = firsts;
     for atom in 0..END {
-        if let Some(round) = closed.first_round(&at, Atom(atom)) {
-            told.push((atom, round))?;
+        if let Some(round) = closed.first_round(at, Atom(atom)) {
+            let Some(rest) = behind(left, atom, round) else {
+                return false;
+            };
+            left = rest;
         }
     }
-    let same = match closed.label(&at) {
-        Some(label) => has_just(label, firsts),
-        None => firsts.len() == 0,
-    };
-    Ok(same && told.as_slice() == firsts)
+    left.is_empty()
 }
 
-// A page, how many pairs it asks and needs, and what comes of a node.
-type Closing = (Script, u32, &'static [(&'static [u32], Firsts)]);
+// What comes of a node of the page, and nothing where no node is there.
+fn is_closed_at(closed: &Closed, at: &Path, firsts: &[(u32, u64)]) -> bool {
+    let same = match closed.label(at) {
+        Some(label) => has_just(label, firsts),
+        None => firsts.is_empty(),
+    };
+    same && tells_of_node(closed, at, firsts)
+}
+
+// A node, and what comes of it.
+type Node = (&'static [u32], Firsts);
+
+fn is_closed(alloc: Global, closed: &Closed, node: &Node) -> Result<bool, NoMemory> {
+    let at = path_of(alloc, node.0)?;
+    Ok(is_closed_at(closed, &at, node.1))
+}
+
+fn are_closed(alloc: Global, closed: &Closed, nodes: &[Node]) -> Result<bool, GainFault> {
+    for node in nodes {
+        if !is_closed(alloc, closed, node)? {
+            return Ok(false);
+        }
+    }
+    Ok(true)
+}
+
+// A page, how many pairs it asks and needs, and what comes of its nodes.
+type Closing = (Script, u32, &'static [Node]);
 
 static CLOSINGS: [Closing; 3] = [
     (
@@ -278,17 +374,14 @@ static CLOSINGS: [Closing; 3] = [
     ),
 ];
 
+fn closes_page(alloc: Global, page: &Tree, row: &Closing) -> Result<bool, GainFault> {
+    let closed = closed_page(alloc, row.0, page, row.1)?;
+    are_closed(alloc, &closed, row.2)
+}
+
 fn closes(alloc: Global, row: &Closing) -> Result<bool, TreeFault> {
     let page = page_of(alloc, 0, nodes_of(row.0))?;
-    let Ok(closed) = closed_page(alloc, row.0, &page, row.1) else {
-        return Ok(false);
-    };
-    for (numbers, firsts) in row.2 {
-        if is_closed(alloc, &closed, numbers, firsts) != Ok(true) {
-            return Ok(false);
-        }
-    }
-    Ok(true)
+    Ok(matches!(closes_page(alloc, &page, row), Ok(true)))
 }
 
 #[test]
@@ -302,28 +395,49 @@ fn closes_pages(rt: HostRuntime) -> Result<(), Fail> {
 // How many pairs the page needs whose box gets boxes of three classes.
 const COUNT: u32 = 176;
 
-fn is_spent_with(alloc: Global, page: &Tree, pairs: u32) -> bool {
-    matches!(
-        closed_page(alloc, Script::Three, page, pairs),
-        Err(GainFault::Spent)
-    )
+// Limits, and whether they are as many as it needs.
+static LIMITS: [(u32, bool); 14] = [
+    (0, false),
+    (1, false),
+    (2, false),
+    (3, false),
+    (4, false),
+    (5, false),
+    (6, false),
+    (7, false),
+    (20, false),
+    (60, false),
+    (174, false),
+    (COUNT - 1, false),
+    (COUNT, true),
+    (COUNT + 1, true),
+];
+
+// Whether the page is closed within so many pairs. Where it isn't, the table is spent.
+fn is_enough(alloc: Global, page: &Tree, pairs: u32) -> Result<bool, GainFault> {
+    match closed_page(alloc, Script::Three, page, pairs) {
+        Ok(_) => Ok(true),
+        Err(GainFault::Spent) => Ok(false),
+        Err(GainFault::Memory) => Err(GainFault::Memory),
+    }
 }
 
-fn is_closed_with(alloc: Global, page: &Tree, pairs: u32) -> bool {
-    closed_page(alloc, Script::Three, page, pairs).is_ok()
+fn are_limits(alloc: Global, page: &Tree) -> Result<bool, GainFault> {
+    for (pairs, wanted) in &LIMITS {
+        if is_enough(alloc, page, *pairs)? != *wanted {
+            return Ok(false);
+        }
+    }
+    Ok(true)
 }
 
-// Limits that are too small.
-static TOO_FEW: [u32; 12] = [0, 1, 2, 3, 4, 5, 6, 7, 20, 60, 174, COUNT - 1];
+fn is_spent_below_the_need(alloc: Global) -> Result<bool, TreeFault> {
+    let page = page_of(alloc, 0, nodes_of(Script::Three))?;
+    Ok(matches!(are_limits(alloc, &page), Ok(true)))
+}
 
 #[test]
 fn is_spent_exactly_below_the_count(rt: HostRuntime) -> Result<(), Fail> {
-    let alloc = rt.alloc();
-    let page = page_of(alloc, 0, nodes_of(Script::Three))?;
-    for pairs in &TOO_FEW {
-        assert!(rt; is_spent_with(alloc, &page, *pairs));
-    }
-    assert!(rt; is_closed_with(alloc, &page, COUNT));
-    assert!(rt; is_closed_with(alloc, &page, COUNT + 1));
+    assert!(rt; is_spent_below_the_need(rt.alloc())?);
     Ok(())
 }

@@ -37,36 +37,51 @@ fn parts(d: &mut Diagrams) -> Result<(Ref, Ref), DiagramFault>
 }
 
 // Each operation goes down by all atoms, taking them from both in turn.
-fn sizes(alloc: Global) -> Result<[u32; 4], Fail> {
-    let mut d = Diagrams::new(alloc, 65_532)?;
-    let (first, second) = parts(&mut d)?;
+fn are_sized(alloc: Global, d: &mut Diagrams) -> Result<bool, DiagramFault> {
+    let (first, second) = parts(d)?;
     let either = d.or(first, second)?;
     let both = d.and(first, second)?;
-    let of_first = size(alloc, &d, first)?;
-    let of_either = size(alloc, &d, either)?;
-    Ok([of_first, of_either, size(alloc, &d, both)?, d.held()])
+    let of_first = size(alloc, d, first)?;
+    let of_either = size(alloc, d, either)?;
+    let of_both = size(alloc, d, both)?;
+    Ok([of_first, of_either, of_both, d.held()] == [8_192, 16_384, 32_766, 65_532])
 }
 
 // The last two atoms become the two parts again: the composition goes down by all atoms, and from there once more.
-fn parts_again(alloc: Global) -> Result<bool, Fail> {
-    let mut d = Diagrams::new(alloc, 65_532)?;
-    let (first, second) = parts(&mut d)?;
+fn parts_again(alloc: Global, d: &mut Diagrams) -> Result<bool, DiagramFault> {
+    let (first, second) = parts(d)?;
     let either = d.or(first, second)?;
     let by = [(Atom(MOST - 2), first), (Atom(MOST - 1), second)];
-    Ok(compose(alloc, &mut d, either, &by)? == either)
+    Ok(compose(alloc, d, either, &by)? == either)
 }
 
-fn count_atoms(alloc: Global) -> Result<usize, Fail> {
-    let mut d = Diagrams::new(alloc, 65_532)?;
-    let (first, second) = parts(&mut d)?;
+fn has_all_atoms(alloc: Global, d: &mut Diagrams) -> Result<bool, DiagramFault> {
+    let (first, second) = parts(d)?;
     let either = d.or(first, second)?;
-    Ok(support(alloc, &d, either)?.len())
+    Ok(support(alloc, d, either)?.len() == 16_384)
+}
+
+#[derive(Clone, Copy)]
+enum Case {
+    Sizes,
+    Parts,
+    Atoms,
+}
+
+// Tries a case in an arena of its own.
+fn holds(alloc: Global, case: Case) -> Result<bool, DiagramFault> {
+    let mut d = Diagrams::new(alloc, 65_532)?;
+    match case {
+        Case::Sizes => are_sized(alloc, &mut d),
+        Case::Parts => parts_again(alloc, &mut d),
+        Case::Atoms => has_all_atoms(alloc, &mut d),
+    }
 }
 
 #[test]
 fn diagrams_of_all_atoms(rt: HostRuntime) -> Result<(), Fail> {
-    assert_eq!(rt; sizes(rt.alloc())?, [8_192, 16_384, 32_766, 65_532]);
-    assert!(rt; parts_again(rt.alloc())?);
-    assert_eq!(rt; count_atoms(rt.alloc())?, 16_384);
+    assert!(rt; holds(rt.alloc(), Case::Sizes)?);
+    assert!(rt; holds(rt.alloc(), Case::Parts)?);
+    assert!(rt; holds(rt.alloc(), Case::Atoms)?);
     Ok(())
 }

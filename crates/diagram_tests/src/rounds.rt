@@ -2,7 +2,7 @@ ghost use Rattle.std.specs.Prelude.{◌≤◌, ◌<◌, length, IfOk, OnOk};
 ghost use Rattle.pushdown_sym.specs.Adding.{AreIn};
 
 use crate::examples::{Example, diagram_of, has, system_of};
-use class_diagrams::{Diagrams, Ref};
+use class_diagrams::{DiagramFault, Diagrams, Ref};
 use pushdown_sym::{Cells, Equations};
 use simple_core::{MOST_KINDS, System};
 use std::alloc::Global;
@@ -19,7 +19,7 @@ fn cells_of(
     system: &System,
     example: Example,
     round: u32,
-) -> Result<Cells, Fail>
+) -> Result<Cells, DiagramFault>
     requires { length system.now.kinds ≤ MOST_KINDS }
     ensures inside { IfOk result (AreIn d.new.branches) }
 {
@@ -36,7 +36,7 @@ fn set_kind(
     example: Example,
     round: u32,
     kind: u32,
-) -> Result<(), Fail>
+) -> Result<(), DiagramFault>
     requires { AreIn d.old.branches all.old }
     ensures { OnOk result (AreIn d.new.branches all.new) }
 {
@@ -53,7 +53,7 @@ fn set_cell(
     round: u32,
     kind: u32,
     atom: u32,
-) -> Result<(), Fail>
+) -> Result<(), DiagramFault>
     requires { AreIn d.old.branches all.old }
     ensures { OnOk result (AreIn d.new.branches all.new) }
 {
@@ -71,17 +71,17 @@ fn first_cell(alloc: Global, system: &System, kind: u32, atom: u32) -> Result<Re
 // Whether a cell of the first round is as written.
 fn is_first(
     alloc: Global,
+    d: &mut Diagrams,
     system: &System,
     example: Example,
     kind: u32,
     atom: u32,
-) -> Result<bool, Fail> {
+) -> Result<bool, DiagramFault> {
     if system.kinds.items().len() > MOST_KINDS as usize {
         return Ok(false);
     }
     let first = first_cell(alloc, system, kind, atom)?;
-    let mut d = Diagrams::new(alloc, 100)?;
-    let wanted = diagram_of(&mut d, has(example, 0, kind, atom))?;
+    let wanted = diagram_of(d, has(example, 0, kind, atom))?;
     Ok(first == wanted)
 }
 
@@ -92,13 +92,12 @@ fn next_cell(
     now: &Cells,
     kind: u32,
     atom: u32,
-) -> Result<Ref, Fail>
+) -> Result<Ref, DiagramFault>
     requires kind { kind < length system.now.kinds }
     requires inside { AreIn d.old.branches now.now }
 {
     let equations = Equations::new(alloc, system)?;
-    let next = equations.next_cell(alloc, d, now, kind, Atom(atom))?;
-    Ok(next)
+    equations.next_cell(alloc, d, now, kind, Atom(atom))
 }
 
 fn cell_behind(
@@ -109,7 +108,7 @@ fn cell_behind(
     before: u32,
     kind: u32,
     atom: u32,
-) -> Result<Ref, Fail>
+) -> Result<Ref, DiagramFault>
     requires kinds { length system.now.kinds ≤ MOST_KINDS }
     requires kind { kind < length system.now.kinds }
 {
@@ -120,20 +119,20 @@ fn cell_behind(
 // Whether a cell behind a round as written is as written for the next.
 fn is_next(
     alloc: Global,
+    d: &mut Diagrams,
     system: &System,
     example: Example,
     before: u32,
     kind: u32,
     atom: u32,
-) -> Result<bool, Fail> {
+) -> Result<bool, DiagramFault> {
     let kinds = system.kinds.items().len();
     if kinds > MOST_KINDS as usize || kind as usize >= kinds {
         return Ok(false);
     }
-    let mut d = Diagrams::new(alloc, 100)?;
-    let next = cell_behind(alloc, &mut d, system, example, before, kind, atom)?;
+    let next = cell_behind(alloc, d, system, example, before, kind, atom)?;
     let after = has(example, before.saturating_add(1), kind, atom);
-    Ok(next == diagram_of(&mut d, after)?)
+    Ok(next == diagram_of(d, after)?)
 }
 
 fn is_right(
@@ -143,33 +142,39 @@ fn is_right(
     round: u32,
     kind: u32,
     atom: u32,
-) -> Result<bool, Fail> {
+) -> Result<bool, DiagramFault> {
+    let mut d = Diagrams::new(alloc, 100)?;
     match round.checked_sub(1) {
-        None => is_first(alloc, system, example, kind, atom),
-        Some(before) => is_next(alloc, system, example, before, kind, atom),
+        None => is_first(alloc, &mut d, system, example, kind, atom),
+        Some(before) => is_next(alloc, &mut d, system, example, before, kind, atom),
     }
 }
 
-// The first atom whose cell in a round isn't as written.
-fn first_wrong(
+fn are_right(
     alloc: Global,
+    system: &System,
     example: Example,
     round: u32,
     kind: u32,
-) -> Result<Option<u32>, Fail> {
-    let system = system_of(alloc, example)?;
+) -> Result<bool, DiagramFault> {
     for atom in 0..ATOMS {
-        if !is_right(alloc, &system, example, round, kind, atom)? {
-            return Ok(Some(atom));
+        if !is_right(alloc, system, example, round, kind, atom)? {
+            return Ok(false);
         }
     }
-    Ok(None)
+    Ok(true)
+}
+
+// Whether the cells of a kind in a round are as written.
+fn is_round(alloc: Global, example: Example, round: u32, kind: u32) -> Result<bool, DiagramFault> {
+    let system = system_of(alloc, example)?;
+    are_right(alloc, &system, example, round, kind)
 }
 
 #[test]
 fn boxes_in_boxes(rt: HostRuntime) -> Result<(), Fail> {
     for round in 0..7 {
-        assert_eq!(rt; first_wrong(rt.alloc(), Example::Boxes, round, 0)?, None);
+        assert!(rt; is_round(rt.alloc(), Example::Boxes, round, 0)?);
     }
     Ok(())
 }
@@ -177,8 +182,8 @@ fn boxes_in_boxes(rt: HostRuntime) -> Result<(), Fail> {
 #[test]
 fn errors_below_forms(rt: HostRuntime) -> Result<(), Fail> {
     for round in 0..4 {
-        assert_eq!(rt; first_wrong(rt.alloc(), Example::Forms, round, 0)?, None);
-        assert_eq!(rt; first_wrong(rt.alloc(), Example::Forms, round, 1)?, None);
+        assert!(rt; is_round(rt.alloc(), Example::Forms, round, 0)?);
+        assert!(rt; is_round(rt.alloc(), Example::Forms, round, 1)?);
     }
     Ok(())
 }

@@ -1,6 +1,6 @@
 //! Pages and statements from short texts.
 use jq_sem::{Call, Calls, Chain, Chains, Root, Selectors, SharedCompounds, Stmt};
-use sel_core::{SelFault, Selector, read_strict_list};
+use sel_core::{Compound, SelFault, Selector, read_strict_list};
 use std::alloc::Global;
 use tp_base::{AtomTable, ClassSet, NoMemory, Path, Place};
 use tree_sem::{Action, Forest, Tree, TreeFault, Trees};
@@ -39,15 +39,43 @@ pub fn path_of(alloc: Global, numbers: &[u32]) -> Result<Path, NoMemory> {
     Ok(at)
 }
 
-// The atoms of the first compound of a text.
-fn label_of(alloc: Global, text: &str, atoms: &mut AtomTable) -> Result<ClassSet, SelFault> {
+// Adds the atoms of a compound.
+fn add_atoms(set: &mut ClassSet, compound: &Compound) -> Result<(), NoMemory> {
+    for atom in compound.atoms.items() {
+        set.add(*atom)?;
+    }
+    Ok(())
+}
+
+fn atoms_of(alloc: Global, list: &[Compound]) -> Result<ClassSet, SelFault> {
     let mut set = ClassSet::new(alloc);
-    for compound in compounds(alloc, text, atoms)?.items() {
-        for atom in compound.atoms.items() {
-            set.add(*atom)?;
-        }
+    for compound in list {
+        add_atoms(&mut set, compound)?;
     }
     Ok(set)
+}
+
+// The atoms of the first compound of a text.
+fn label_of(alloc: Global, text: &str, atoms: &mut AtomTable) -> Result<ClassSet, SelFault> {
+    let list = compounds(alloc, text, atoms)?;
+    atoms_of(alloc, list.items())
+}
+
+// Adds a node below the one at the path.
+fn add_below(
+    alloc: Global,
+    tree: &mut Tree,
+    parent: &Path,
+    text: &str,
+    atoms: &mut AtomTable,
+) -> Result<(), TreeFault> {
+    match label_of(alloc, text, atoms) {
+        Err(_) => Err(TreeFault::Memory),
+        Ok(label) => {
+            tree.add_child(parent, label)?;
+            Ok(())
+        }
+    }
 }
 
 // Adds a node, with the atoms of a text.
@@ -58,9 +86,8 @@ fn add_node(
     text: &str,
     atoms: &mut AtomTable,
 ) -> Result<(), TreeFault> {
-    let label = label_of(alloc, text, atoms).map_err(|_| TreeFault::Memory)?;
-    tree.add_child(&path_of(alloc, parent)?, label)?;
-    Ok(())
+    let parent = path_of(alloc, parent)?;
+    add_below(alloc, tree, &parent, text, atoms)
 }
 
 /// A tree of a root with no atoms, and of these nodes: the parent's path, and the atoms.
@@ -88,15 +115,10 @@ pub fn selectors(
     read_strict_list(alloc, text.as_bytes(), atoms)
 }
 
-// The first compounds of the selectors of a text.
-fn compounds(
-    alloc: Global,
-    text: &str,
-    atoms: &mut AtomTable,
-) -> Result<SharedCompounds, SelFault> {
-    let read = selectors(alloc, text, atoms)?;
+// The first compounds of some selectors.
+fn firsts_of(alloc: Global, list: &[Selector]) -> Result<SharedCompounds, SelFault> {
     let mut items = Vec::new(alloc);
-    for selector in &read {
+    for selector in list {
         if let Some(compound) = selector.parts.items().first() {
             items.push(compound.copy()?)?;
         }
@@ -104,22 +126,44 @@ fn compounds(
     Ok(SharedCompounds::new(items)?)
 }
 
+// The first compounds of the selectors of a text.
+fn compounds(
+    alloc: Global,
+    text: &str,
+    atoms: &mut AtomTable,
+) -> Result<SharedCompounds, SelFault> {
+    let read = selectors(alloc, text, atoms)?;
+    firsts_of(alloc, read.as_slice())
+}
+
+fn shared(alloc: Global, text: &str, atoms: &mut AtomTable) -> Result<Selectors, SelFault> {
+    let read = selectors(alloc, text, atoms)?;
+    Ok(Selectors::new(read)?)
+}
+
+// A call with compounds; any other word is `Has` here.
+fn narrowing(word: Word, by: SharedCompounds) -> Call {
+    match word {
+        Word::Find => Call::Find(by),
+        Word::Children => Call::Children(by),
+        Word::Parent => Call::Parent(by),
+        Word::Parents => Call::Parents(by),
+        Word::Filter => Call::Filter(by),
+        _ => Call::Has(by),
+    }
+}
+
 fn call(alloc: Global, piece: &Piece, atoms: &mut AtomTable) -> Result<Call, SelFault> {
-    Ok(match piece.0 {
-        Word::Find => Call::Find(compounds(alloc, piece.1, atoms)?),
-        Word::Children => Call::Children(compounds(alloc, piece.1, atoms)?),
-        Word::Parent => Call::Parent(compounds(alloc, piece.1, atoms)?),
-        Word::Parents => Call::Parents(compounds(alloc, piece.1, atoms)?),
-        Word::Filter => Call::Filter(compounds(alloc, piece.1, atoms)?),
-        Word::Has => Call::Has(compounds(alloc, piece.1, atoms)?),
-        Word::Add => Call::Add(Selectors::new(selectors(alloc, piece.1, atoms)?)?),
-        _ => Call::End,
-    })
+    match piece.0 {
+        Word::Matched | Word::This | Word::End => Ok(Call::End),
+        Word::Add => Ok(Call::Add(shared(alloc, piece.1, atoms)?)),
+        word => Ok(narrowing(word, compounds(alloc, piece.1, atoms)?)),
+    }
 }
 
 fn root(alloc: Global, piece: &Piece, atoms: &mut AtomTable) -> Result<Root, SelFault> {
     match piece.0 {
-        Word::Matched => Ok(Root::List(Selectors::new(selectors(alloc, piece.1, atoms)?)?)),
+        Word::Matched => Ok(Root::List(shared(alloc, piece.1, atoms)?)),
         _ => Ok(Root::This),
     }
 }
@@ -159,8 +203,9 @@ fn chains(
 
 // A forest of one node.
 fn forest(alloc: Global, label: ClassSet) -> Result<Forest, NoMemory> {
+    let tree = Tree::new(alloc, label)?;
     let mut tops = Vec::new(alloc);
-    tops.push(Tree::new(alloc, label)?)?;
+    tops.push(tree)?;
     Ok(Forest {
         tops: Trees::new(tops),
     })

@@ -1,10 +1,11 @@
 use crate::building::{Deed, Word, path_of, statement, tree_of};
 use guard_sem::{Guard, GuardNode, holds};
+use jq_sem::Stmt;
 use rule_translate::translate;
 use sel_core::SelFault;
 use std::alloc::Global;
 use std::test::Fail;
-use tp_base::{AtomTable, NoMemory};
+use tp_base::AtomTable;
 use tree_sem::Tree;
 
 // Where a guard is asked, seen from a node.
@@ -18,7 +19,7 @@ enum Round {
     Somewhere,
 }
 
-fn asked(alloc: Global, round: Round, g: Guard) -> Result<Guard, NoMemory> {
+fn asked(alloc: Global, round: Round, g: Guard) -> Result<Guard, SelFault> {
     let inner = Box::new(alloc, g)?;
     let node = match round {
         Round::Here => return Ok(Box::into_inner(inner)),
@@ -60,23 +61,49 @@ static ROWS: [Row; 20] = [
     (Round::Here, "", &[1, 0], false),
 ];
 
+fn guard_in(alloc: Global, round: Round, stmt: &Stmt) -> Result<Guard, SelFault> {
+    let rule = translate(alloc, stmt)?;
+    asked(alloc, round, rule.guard)
+}
+
+fn guard_of(alloc: Global, row: &Row, atoms: &mut AtomTable) -> Result<Guard, SelFault> {
+    let stmt = statement(alloc, &[], &[(Word::Matched, row.1)], Deed::Adds, atoms)?;
+    guard_in(alloc, row.0, &stmt)
+}
+
+fn holds_so(alloc: Global, tree: &Tree, row: &Row, guard: &Guard) -> Result<bool, SelFault> {
+    let at = path_of(alloc, row.2)?;
+    Ok(holds(alloc, tree, &at, guard)? == row.3)
+}
+
 fn is_right(
     alloc: Global,
     tree: &Tree,
     row: &Row,
     atoms: &mut AtomTable,
 ) -> Result<bool, SelFault> {
-    let stmt = statement(alloc, &[], &[(Word::Matched, row.1)], Deed::Adds, atoms)?;
-    let guard = asked(alloc, row.0, translate(alloc, &stmt)?.guard)?;
-    Ok(holds(alloc, tree, &path_of(alloc, row.2)?, &guard)? == row.3)
+    let guard = guard_of(alloc, row, atoms)?;
+    holds_so(alloc, tree, row, &guard)
+}
+
+fn are_right(alloc: Global, tree: &Tree, atoms: &mut AtomTable) -> Result<bool, Fail> {
+    for row in &ROWS {
+        if !is_right(alloc, tree, row, atoms)? {
+            return Ok(false);
+        }
+    }
+    Ok(true)
+}
+
+// Whether all rows are right on the page.
+fn all_right(alloc: Global, atoms: &mut AtomTable) -> Result<bool, Fail> {
+    let tree = tree_of(alloc, &PAGE, atoms)?;
+    are_right(alloc, &tree, atoms)
 }
 
 #[test]
 fn guards_hold(rt: HostRuntime) -> Result<(), Fail> {
     let mut atoms = AtomTable::new(rt.alloc());
-    let tree = tree_of(rt.alloc(), &PAGE, &mut atoms)?;
-    for row in &ROWS {
-        assert!(rt; is_right(rt.alloc(), &tree, row, &mut atoms)?);
-    }
+    assert!(rt; all_right(rt.alloc(), &mut atoms)?);
     Ok(())
 }

@@ -3,6 +3,7 @@ use node_marks::{Marks, NumberedTree};
 use std::alloc::Global;
 use std::test::Fail;
 use tp_base::{Atom, AtomTable, NoMemory};
+use tree_sem::TreeFault;
 
 // How a set is made of two others.
 #[derive(Clone, Copy)]
@@ -40,7 +41,9 @@ const B: u32 = 1;
 const NONE: u32 = 2;
 
 // How a set is made, the atoms of the nodes of the two that it is made of, and the marks of the six nodes.
-static ROWS: [(Made, u32, u32, [bool; 6]); 14] = [
+type Row = (Made, u32, u32, [bool; 6]);
+
+static ROWS: [Row; 14] = [
     (Made::Only, A, B, [false, false, false, false, true, false]),
     (Made::Every, A, B, [true, true, true, true, true, true]),
     (Made::No, A, B, [false, false, false, false, false, false]),
@@ -67,6 +70,11 @@ static ROWS: [(Made, u32, u32, [bool; 6]); 14] = [
     ),
 ];
 
+fn only(alloc: Global, nodes: &NumberedTree) -> Result<Marks, NoMemory> {
+    let at = path_of(alloc, &[0, 0, 1])?;
+    nodes.only(&at)
+}
+
 fn make(
     alloc: Global,
     nodes: &NumberedTree,
@@ -75,7 +83,7 @@ fn make(
     second: &Marks,
 ) -> Result<Marks, NoMemory> {
     match how {
-        Made::Only => nodes.only(&path_of(alloc, &[0, 0, 1])?),
+        Made::Only => only(alloc, nodes),
         Made::Every => nodes.every_node(),
         Made::No => nodes.no_node(),
         Made::First => nodes.in_both(first, first),
@@ -90,24 +98,36 @@ fn make(
     }
 }
 
-fn is_right(
-    alloc: Global,
-    nodes: &NumberedTree,
-    row: &(Made, u32, u32, [bool; 6]),
-) -> Result<bool, NoMemory> {
+fn marks_of(alloc: Global, nodes: &NumberedTree, row: &Row) -> Result<Marks, NoMemory> {
     let first = nodes.with_atoms(&[Atom(row.1)])?;
     let second = nodes.with_atoms(&[Atom(row.2)])?;
-    let marks = make(alloc, nodes, row.0, &first, &second)?;
+    make(alloc, nodes, row.0, &first, &second)
+}
+
+fn is_right(alloc: Global, nodes: &NumberedTree, row: &Row) -> Result<bool, NoMemory> {
+    let marks = marks_of(alloc, nodes, row)?;
     Ok(marks.items() == row.3.as_slice())
+}
+
+fn are_right(alloc: Global, nodes: &NumberedTree) -> Result<bool, TreeFault> {
+    for row in &ROWS {
+        if !is_right(alloc, nodes, row)? {
+            return Ok(false);
+        }
+    }
+    Ok(true)
+}
+
+// Whether all rows are right on the page.
+fn all_right(alloc: Global, atoms: &mut AtomTable) -> Result<bool, TreeFault> {
+    let tree = tree_of(alloc, &PAGE, atoms)?;
+    let nodes = NumberedTree::new(alloc, &tree)?;
+    are_right(alloc, &nodes)
 }
 
 #[test]
 fn sets_are_made(rt: HostRuntime) -> Result<(), Fail> {
     let mut atoms = AtomTable::new(rt.alloc());
-    let tree = tree_of(rt.alloc(), &PAGE, &mut atoms)?;
-    let nodes = NumberedTree::new(rt.alloc(), &tree)?;
-    for row in &ROWS {
-        assert!(rt; is_right(rt.alloc(), &nodes, row)?);
-    }
+    assert!(rt; all_right(rt.alloc(), &mut atoms)?);
     Ok(())
 }

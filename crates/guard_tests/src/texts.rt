@@ -2,7 +2,7 @@
 use guard_sem::{Guard, GuardNode, Rule};
 use std::alloc::Global;
 use tp_base::{Atom, AtomKind, AtomTable, ClassSet, NoMemory, Path};
-use tree_sem::{Action, Forest};
+use tree_sem::{Action, Forest, Tree};
 
 fn put(out: &mut Vec<u8>, text: &[u8]) -> Result<(), NoMemory> {
     out.extend_from_slice(text)?;
@@ -72,18 +72,45 @@ fn put_label(out: &mut Vec<u8>, atoms: &AtomTable, label: &ClassSet) -> Result<(
     Ok(())
 }
 
-// The labels of the trees' roots, and how many nodes each tree has where it has more.
+// The label of the tree's root, and two dots where there are more nodes.
+fn put_tree(
+    out: &mut Vec<u8>,
+    atoms: &AtomTable,
+    tree: &Tree,
+    root: &Path,
+) -> Result<(), NoMemory> {
+    if let Some(label) = tree.label(root) {
+        put_label(out, atoms, label)?;
+    }
+    if tree.count() > 1 {
+        put(out, b"..")?;
+    }
+    Ok(())
+}
+
 fn put_forest(out: &mut Vec<u8>, atoms: &AtomTable, forest: &Forest) -> Result<(), NoMemory> {
     let root = Path::root(*out.allocator());
     for tree in forest.tops.items() {
-        if let Some(label) = tree.label(&root) {
-            put_label(out, atoms, label)?;
-        }
-        if tree.count() > 1 {
-            put(out, b"..")?;
-        }
+        put_tree(out, atoms, tree, &root)?;
     }
     Ok(())
+}
+
+fn put_action(out: &mut Vec<u8>, atoms: &AtomTable, action: &Action) -> Result<(), NoMemory> {
+    match action {
+        Action::Classes(classes) => {
+            put(out, b" adds")?;
+            put_label(out, atoms, classes)
+        }
+        Action::Inside(forest) => {
+            put(out, b" inside")?;
+            put_forest(out, atoms, forest)
+        }
+        Action::Beside(forest) => {
+            put(out, b" beside")?;
+            put_forest(out, atoms, forest)
+        }
+    }
 }
 
 /// The text of a guard.
@@ -96,19 +123,6 @@ pub fn guard_text(alloc: Global, g: &Guard, atoms: &AtomTable) -> Result<Vec<u8>
 /// The text of a rule: where it acts, and what it does there.
 pub fn rule_text(alloc: Global, rule: &Rule, atoms: &AtomTable) -> Result<Vec<u8>, NoMemory> {
     let mut out = guard_text(alloc, &rule.guard, atoms)?;
-    match &rule.action {
-        Action::Classes(classes) => {
-            put(&mut out, b" adds")?;
-            put_label(&mut out, atoms, classes)?;
-        }
-        Action::Inside(forest) => {
-            put(&mut out, b" inside")?;
-            put_forest(&mut out, atoms, forest)?;
-        }
-        Action::Beside(forest) => {
-            put(&mut out, b" beside")?;
-            put_forest(&mut out, atoms, forest)?;
-        }
-    }
+    put_action(&mut out, atoms, &rule.action)?;
     Ok(out)
 }

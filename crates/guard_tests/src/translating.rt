@@ -1,6 +1,7 @@
 use crate::building::{Deed, Piece, Word, selectors, statement};
 use crate::texts::{guard_text, rule_text};
-use guard_sem::{Guard, of_compound, of_selector};
+use guard_sem::{Guard, Rule, of_compound, of_selector};
+use jq_sem::Stmt;
 use rule_translate::translate;
 use sel_core::{Compound, SelFault, Selector};
 use std::alloc::Global;
@@ -8,7 +9,9 @@ use std::test::Fail;
 use tp_base::{AtomTable, NoMemory};
 
 // A selector, its guard, and the guard of its last compound.
-static SELECTORS: [(&str, &str, &str); 4] = [
+type Row = (&'static str, &'static str, &'static str);
+
+static SELECTORS: [Row; 4] = [
     ("*", "true", "true"),
     (".a", ".a", ".a"),
     ("p.a", "all( p .a )", "all( p .a )"),
@@ -48,24 +51,34 @@ fn last_asks(
     }
 }
 
-fn all_ask(alloc: Global, row: &(&str, &str, &str)) -> Result<bool, SelFault> {
-    let mut atoms = AtomTable::new(alloc);
-    let list = selectors(alloc, row.0, &mut atoms)?;
-    for selector in &list {
-        if !asks(alloc, selector, &atoms, row.1)? {
+// Whether the guards of the selectors read so; there is to be one.
+fn all_ask(
+    alloc: Global,
+    list: &[Selector],
+    atoms: &AtomTable,
+    row: &Row,
+) -> Result<bool, SelFault> {
+    for selector in list {
+        if !asks(alloc, selector, atoms, row.1)? {
             return Ok(false);
         }
-        if !last_asks(alloc, selector.parts.items(), &atoms, row.2)? {
+        if !last_asks(alloc, selector.parts.items(), atoms, row.2)? {
             return Ok(false);
         }
     }
     Ok(list.len() == 1)
 }
 
+fn is_right(alloc: Global, row: &Row) -> Result<bool, SelFault> {
+    let mut atoms = AtomTable::new(alloc);
+    let list = selectors(alloc, row.0, &mut atoms)?;
+    all_ask(alloc, list.as_slice(), &atoms, row)
+}
+
 #[test]
 fn selectors_ask(rt: HostRuntime) -> Result<(), Fail> {
     for row in &SELECTORS {
-        assert!(rt; all_ask(rt.alloc(), row)?);
+        assert!(rt; is_right(rt.alloc(), row)?);
     }
     Ok(())
 }
@@ -189,17 +202,35 @@ static TRANSLATIONS: [Translation; 17] = [
     ),
 ];
 
-fn translates(alloc: Global, row: &Translation) -> Result<bool, SelFault> {
+fn rule_reads(alloc: Global, rule: &Rule, atoms: &AtomTable, text: &str) -> Result<bool, SelFault> {
+    let written = rule_text(alloc, rule, atoms)?;
+    Ok(written.as_slice() == text.as_bytes())
+}
+
+fn is_translated(
+    alloc: Global,
+    stmt: &Stmt,
+    atoms: &AtomTable,
+    text: &str,
+) -> Result<bool, SelFault> {
+    let rule = translate(alloc, stmt)?;
+    rule_reads(alloc, &rule, atoms, text)
+}
+
+fn translates(alloc: Global, row: &Translation, atoms: &mut AtomTable) -> Result<bool, SelFault> {
+    let stmt = statement(alloc, row.0, row.1, row.2, atoms)?;
+    is_translated(alloc, &stmt, atoms, row.3)
+}
+
+fn translates_alone(alloc: Global, row: &Translation) -> Result<bool, SelFault> {
     let mut atoms = AtomTable::new(alloc);
-    let stmt = statement(alloc, row.0, row.1, row.2, &mut atoms)?;
-    let rule = translate(alloc, &stmt)?;
-    Ok(rule_text(alloc, &rule, &atoms)?.as_slice() == row.3.as_bytes())
+    translates(alloc, row, &mut atoms)
 }
 
 #[test]
 fn statements_are_rules(rt: HostRuntime) -> Result<(), Fail> {
     for row in &TRANSLATIONS {
-        assert!(rt; translates(rt.alloc(), row)?);
+        assert!(rt; translates_alone(rt.alloc(), row)?);
     }
     Ok(())
 }

@@ -1,10 +1,10 @@
 //! Statements from short texts.
 use html_subset::read_forest;
 use jq_sem::{Call, Calls, Chain, Chains, Root, Selectors, SharedCompounds, Stmt};
-use sel_core::{Selector, read_strict_list};
+use sel_core::{Compound, Selector, read_strict_list};
 use std::alloc::Global;
 use std::test::Fail;
-use tp_base::{AtomTable, ClassSet, Place};
+use tp_base::{Atom, AtomTable, ClassSet, NoMemory, Place};
 use tree_sem::Action;
 
 /// The root of a chain, or a call.
@@ -35,26 +35,42 @@ fn selectors(alloc: Global, text: &str, atoms: &mut AtomTable) -> Result<Vec<Sel
     Ok(read_strict_list(alloc, text.as_bytes(), atoms)?)
 }
 
-// The first compounds of the selectors of a text.
-fn compounds(alloc: Global, text: &str, atoms: &mut AtomTable) -> Result<SharedCompounds, Fail> {
-    let read = selectors(alloc, text, atoms)?;
+// The first compound of each selector.
+fn first_compounds(alloc: Global, selectors: &[Selector]) -> Result<Vec<Compound>, NoMemory> {
     let mut items = Vec::new(alloc);
-    for selector in &read {
+    for selector in selectors {
         if let Some(compound) = selector.parts.items().first() {
             items.push(compound.copy()?)?;
         }
     }
-    Ok(SharedCompounds::new(items)?)
+    Ok(items)
+}
+
+// The first compounds of the selectors of a text.
+fn compounds(alloc: Global, text: &str, atoms: &mut AtomTable) -> Result<SharedCompounds, Fail> {
+    let read = selectors(alloc, text, atoms)?;
+    Ok(SharedCompounds::new(first_compounds(alloc, &read)?)?)
+}
+
+fn add_atoms(set: &mut ClassSet, atoms: &[Atom]) -> Result<(), NoMemory> {
+    for atom in atoms {
+        set.add(*atom)?;
+    }
+    Ok(())
+}
+
+fn add_compounds(set: &mut ClassSet, compounds: &[Compound]) -> Result<(), NoMemory> {
+    for compound in compounds {
+        add_atoms(set, compound.atoms.items())?;
+    }
+    Ok(())
 }
 
 // The atoms of the compounds of a text.
 fn label(alloc: Global, text: &str, atoms: &mut AtomTable) -> Result<ClassSet, Fail> {
+    let list = compounds(alloc, text, atoms)?;
     let mut set = ClassSet::new(alloc);
-    for compound in compounds(alloc, text, atoms)?.items() {
-        for atom in compound.atoms.items() {
-            set.add(*atom)?;
-        }
-    }
+    add_compounds(&mut set, list.items())?;
     Ok(set)
 }
 
@@ -132,24 +148,6 @@ pub fn statements(alloc: Global, lines: &[Line], atoms: &mut AtomTable) -> Resul
     Ok(stmts)
 }
 
-/// A statement that puts this markup into each node that the list matches.
-pub fn appending(
-    alloc: Global,
-    list: &str,
-    markup: &str,
-    atoms: &mut AtomTable,
-) -> Result<Stmt, Fail> {
-    Ok(Stmt {
-        place: Place { line: 1, column: 1 },
-        handlers: Chains::new(Vec::new(alloc)),
-        chain: Chain {
-            root: Root::List(Selectors::new(selectors(alloc, list, atoms)?)?),
-            calls: Calls::new(Vec::new(alloc)),
-        },
-        action: Action::Inside(read_forest(alloc, markup.as_bytes(), atoms)?),
-    })
-}
-
 // The call `parent()`, or none.
 fn parent_call(alloc: Global, is_parent: bool) -> Result<Calls, Fail> {
     let mut items = Vec::new(alloc);
@@ -159,21 +157,55 @@ fn parent_call(alloc: Global, is_parent: bool) -> Result<Calls, Fail> {
     Ok(Calls::new(items))
 }
 
-/// A statement that adds a class to each node that the list matches, or to its parent.
-pub fn adding(
+// The nodes that the list matches, or their parents.
+fn matched(
+    alloc: Global,
+    list: &str,
+    is_parent: bool,
+    atoms: &mut AtomTable,
+) -> Result<Chain, Fail> {
+    let calls = parent_call(alloc, is_parent)?;
+    let read = Selectors::new(selectors(alloc, list, atoms)?)?;
+    Ok(Chain {
+        root: Root::List(read),
+        calls,
+    })
+}
+
+// Adds a statement outside of handlers.
+fn put(alloc: Global, chain: Chain, action: Action, stmts: &mut Vec<Stmt>) -> Result<(), Fail> {
+    stmts.push(Stmt {
+        place: Place { line: 1, column: 1 },
+        handlers: Chains::new(Vec::new(alloc)),
+        chain,
+        action,
+    })?;
+    Ok(())
+}
+
+/// Adds a statement that puts this markup into each node that the list matches.
+pub fn append(
+    alloc: Global,
+    list: &str,
+    markup: &str,
+    stmts: &mut Vec<Stmt>,
+    atoms: &mut AtomTable,
+) -> Result<(), Fail> {
+    let chain = matched(alloc, list, false, atoms)?;
+    let forest = read_forest(alloc, markup.as_bytes(), atoms)?;
+    put(alloc, chain, Action::Inside(forest), stmts)
+}
+
+/// Adds a statement that adds a class to each node that the list matches, or to its parent.
+pub fn add_class(
     alloc: Global,
     list: &str,
     is_parent: bool,
     class: &str,
+    stmts: &mut Vec<Stmt>,
     atoms: &mut AtomTable,
-) -> Result<Stmt, Fail> {
-    Ok(Stmt {
-        place: Place { line: 1, column: 1 },
-        handlers: Chains::new(Vec::new(alloc)),
-        chain: Chain {
-            root: Root::List(Selectors::new(selectors(alloc, list, atoms)?)?),
-            calls: parent_call(alloc, is_parent)?,
-        },
-        action: Action::Classes(label(alloc, class, atoms)?),
-    })
+) -> Result<(), Fail> {
+    let chain = matched(alloc, list, is_parent, atoms)?;
+    let set = label(alloc, class, atoms)?;
+    put(alloc, chain, Action::Classes(set), stmts)
 }

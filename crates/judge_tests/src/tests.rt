@@ -2,7 +2,7 @@ ghost use Rattle.std.specs.Prelude.{◌≤◌};
 ghost use Rattle.class_diagrams.specs.declared.refs.TheConstants.{MOST_BRANCHES};
 ghost use Rattle.judge.specs.declared.proving.TheConstants.{MOST_LISTED};
 
-use crate::building::{adding, appending, statements};
+use crate::building::{add_class, append, statements};
 use crate::checks::is_given;
 use crate::rows::{Budget, ROWS, Row, SPENT};
 use crate::texts::text_of;
@@ -11,7 +11,7 @@ use css_read::{Sheet, read_sheet};
 use html_subset::read_page;
 use jq_sem::Stmt;
 use judge::{JudgeFault, Limits, MOST_LISTED, judge};
-use std::alloc::Global;
+use std::alloc::{AllocError, Global};
 use std::test::Fail;
 use tp_base::AtomTable;
 use tree_sem::Tree;
@@ -67,6 +67,20 @@ fn judged(
     judge(alloc, page, sheet, stmts, atoms, &limits_of(engine, budget))
 }
 
+// The same as text.
+fn told(
+    alloc: Global,
+    page: &Tree,
+    sheet: &Sheet,
+    stmts: &[Stmt],
+    atoms: &AtomTable,
+    engine: Engine,
+    budget: Budget,
+) -> Result<String, Fail> {
+    let found = judged(alloc, page, sheet, stmts, atoms, engine, budget);
+    text_of(alloc, &found)
+}
+
 fn said_by(
     alloc: Global,
     engine: Engine,
@@ -76,10 +90,7 @@ fn said_by(
     atoms: &mut AtomTable,
 ) -> Result<String, Fail> {
     let stmts = statements(alloc, row.2, atoms)?;
-    text_of(
-        alloc,
-        judged(alloc, page, sheet, &stmts, atoms, engine, row.3),
-    )
+    told(alloc, page, sheet, &stmts, atoms, engine, row.3)
 }
 
 fn said_of(
@@ -99,9 +110,13 @@ fn said(alloc: Global, engine: Engine, row: &Row) -> Result<String, Fail> {
     said_of(alloc, engine, row, &page, &mut atoms)
 }
 
+fn is_row_said(alloc: Global, engine: Engine, row: &Row) -> Result<bool, Fail> {
+    Ok(said(alloc, engine, row)?.as_str() == row.4)
+}
+
 fn are_said(alloc: Global, engine: Engine, rows: &[Row]) -> Result<bool, Fail> {
     for row in rows {
-        if said(alloc, engine, row)?.as_str() != row.4 {
+        if !is_row_said(alloc, engine, row)? {
             return Ok(false);
         }
     }
@@ -125,27 +140,47 @@ fn answers_by_diagrams(rt: HostRuntime) -> Result<(), Fail> {
     Ok(())
 }
 
-// So many selectors `.c1 .z`, `.c2 .z` and so on, and one that wants a `.z` below all of the classes.
-fn sheet_of_all(alloc: Global, count: u32) -> Result<String, Fail> {
+// So many selectors `.c1 .z`, `.c2 .z` and so on.
+fn put_each(text: &mut String, count: u32) -> Result<(), AllocError> {
+    for number in 1..=count {
+        write!(text, ".c{number} .z{{}} ")?;
+    }
+    Ok(())
+}
+
+// A selector that wants a `.z` below all of the classes.
+fn put_whole(text: &mut String, count: u32) -> Result<(), AllocError> {
+    for number in 1..=count {
+        write!(text, ".c{number} ")?;
+    }
+    text.push_str(".z{}")
+}
+
+fn sheet_of_all(alloc: Global, count: u32) -> Result<String, AllocError> {
     let mut text = String::new(alloc);
-    for number in 1..=count {
-        text.push_str(format!(in alloc; ".c{number} .z{{}} ")?.as_str())?;
-    }
-    for number in 1..=count {
-        text.push_str(format!(in alloc; ".c{number} ")?.as_str())?;
-    }
-    text.push_str(".z{}")?;
+    put_each(&mut text, count)?;
+    put_whole(&mut text, count)?;
     Ok(text)
+}
+
+// A box gets a box of the class of this number.
+fn add_box(
+    alloc: Global,
+    number: u32,
+    stmts: &mut Vec<Stmt>,
+    atoms: &mut AtomTable,
+) -> Result<(), Fail> {
+    let markup = format!(in alloc; "<div class='box c{number}'></div>")?;
+    append(alloc, ".box", markup.as_str(), stmts, atoms)
 }
 
 // A box gets boxes of so many classes, and an `i` of the class `z`.
 fn script_of_all(alloc: Global, count: u32, atoms: &mut AtomTable) -> Result<Vec<Stmt>, Fail> {
     let mut stmts = Vec::new(alloc);
     for number in 1..=count {
-        let markup = format!(in alloc; "<div class='box c{number}'></div>")?;
-        stmts.push(appending(alloc, ".box", markup.as_str(), atoms)?)?;
+        add_box(alloc, number, &mut stmts, atoms)?;
     }
-    stmts.push(appending(alloc, ".box", "<i class='z'></i>", atoms)?)?;
+    append(alloc, ".box", "<i class='z'></i>", &mut stmts, atoms)?;
     Ok(stmts)
 }
 
@@ -159,10 +194,7 @@ fn said_of_all(
 ) -> Result<String, Fail> {
     let stmts = script_of_all(alloc, count, atoms)?;
     let budget = (500, 100_000, 1_000);
-    text_of(
-        alloc,
-        judged(alloc, page, sheet, &stmts, atoms, engine, budget),
-    )
+    told(alloc, page, sheet, &stmts, atoms, engine, budget)
 }
 
 fn said_below_all(
@@ -184,46 +216,62 @@ fn said_with(alloc: Global, engine: Engine, count: u32) -> Result<String, Fail> 
 }
 
 // So many times the word.
-fn repeated(alloc: Global, word: &str, count: u32) -> Result<String, Fail> {
+fn repeated(alloc: Global, word: &str, count: u32) -> Result<String, AllocError> {
     let mut text = String::from_str(alloc, word)?;
     for _ in 1..count {
-        text.push_str(", ")?;
-        text.push_str(word)?;
+        write!(text, ", {word}")?;
     }
     Ok(text)
 }
 
-const OF_THREE: &str =
+static OF_THREE: &str =
     "used 2 (1 on /1/0, 4 on /1/0/0, match /1/0/0/0), used 2 (2 on /1/0, 4 on /1/0/0, match /1/0/0/0), used 2 (3 on /1/0, 4 on /1/0/0, match /1/0/0/0), used 4 (1 on /1/0, 2 on /1/0/0, 3 on /1/0/0/0, 4 on /1/0/0/0/0, match /1/0/0/0/0/0)";
 
-// So many steps, each of the statement of its number and one level deeper than the one before, and the match.
-fn deep_trace(alloc: Global, count: u64) -> Result<String, Fail> {
-    let mut text = String::new(alloc);
-    let mut path = String::from_str(alloc, "/1/0")?;
-    for number in 1..=count {
-        let at = path.as_str();
-        text.push_str(format!(in alloc; "{number} on {at}, ")?.as_str())?;
-        path.push_str("/0")?;
+// The path of a node so many levels below the first box.
+fn put_depth(text: &mut String, depth: u64) -> Result<(), AllocError> {
+    text.push_str("/1/0")?;
+    for _ in 0..depth {
+        text.push_str("/0")?;
+    }
+    Ok(())
+}
+
+// A step so deep, of the statement of the next number.
+fn put_deep_step(text: &mut String, depth: u32) -> Result<(), AllocError> {
+    let number = u64::from(depth) + 1;
+    write!(text, "{number} on ")?;
+    put_depth(text, u64::from(depth))?;
+    text.push_str(", ")
+}
+
+// So many steps and one more, each of them one level deeper than the one before, and the match.
+fn put_deep_trace(text: &mut String, count: u32) -> Result<(), AllocError> {
+    for depth in 0..=count {
+        put_deep_step(text, depth)?;
     }
     text.push_str("match ")?;
-    text.push_str(path.as_str())?;
-    Ok(text)
+    put_depth(text, u64::from(count) + 1)
+}
+
+// What is to be said of each of so many classes, and how what is said of all of them begins.
+fn put_pairs(text: &mut String, count: u32) -> Result<(), AllocError> {
+    let last = u64::from(count) + 1;
+    for number in 1..=count {
+        write!(
+            text,
+            "used 2 ({number} on /1/0, {last} on /1/0/0, match /1/0/0/0), "
+        )?;
+    }
+    write!(text, "used {last} (")
 }
 
 // What is to be said of so many classes: each stands above a `.z` after two steps, and all of them after one step for each
 // and one more.
-fn wanted_of_all(alloc: Global, count: u32) -> Result<String, Fail> {
-    let last = u64::from(count) + 1;
+fn wanted_of_all(alloc: Global, count: u32) -> Result<String, AllocError> {
     let mut text = String::new(alloc);
-    for number in 1..=count {
-        let said = format!(in alloc;
-            "used 2 ({number} on /1/0, {last} on /1/0/0, match /1/0/0/0), "
-        )?;
-        text.push_str(said.as_str())?;
-    }
-    let trace = deep_trace(alloc, last)?;
-    let listed = trace.as_str();
-    text.push_str(format!(in alloc; "used {last} ({listed})")?.as_str())?;
+    put_pairs(&mut text, count)?;
+    put_deep_trace(&mut text, count)?;
+    text.push_str(")")?;
     Ok(text)
 }
 
@@ -239,27 +287,40 @@ fn three_classes(rt: HostRuntime) -> Result<(), Fail> {
     Ok(())
 }
 
+fn are_labels_judged(alloc: Global) -> Result<bool, Fail> {
+    let wanted = wanted_of_all(alloc, 32)?;
+    is_said(alloc, ROOMY, 32, wanted.as_str())
+}
+
+fn are_labels_too_many(alloc: Global, engine: Engine) -> Result<bool, Fail> {
+    let spent = repeated(alloc, "spent", 33)?;
+    is_said(alloc, engine, 32, spent.as_str())
+}
+
 // Any of 32 classes may stand above a node, so there are more than four billion labels of parents.
 #[test]
 fn four_billion_labels(rt: HostRuntime) -> Result<(), Fail> {
     let alloc = rt.alloc();
-    let wanted = wanted_of_all(alloc, 32)?;
-    let spent = repeated(alloc, "spent", 33)?;
-    assert!(rt; is_said(alloc, ROOMY, 32, wanted.as_str())?);
-    assert!(rt; is_said(alloc, Engine::Diagrams(2), 32, spent.as_str())?);
-    assert!(rt; is_said(alloc, Engine::Table, 32, spent.as_str())?);
+    assert!(rt; are_labels_judged(alloc)?);
+    assert!(rt; are_labels_too_many(alloc, Engine::Diagrams(2))?);
+    assert!(rt; are_labels_too_many(alloc, Engine::Table)?);
     Ok(())
 }
 
+// A selector of 512 compounds.
+fn put_long(text: &mut String, number: u32) -> Result<(), AllocError> {
+    write!(text, ".c{number}")?;
+    for _ in 1..512 {
+        text.push_str(" > *")?;
+    }
+    text.push_str("{}")
+}
+
 // So many selectors of 512 compounds.
-fn long_sheet(alloc: Global, count: u32) -> Result<String, Fail> {
+fn long_sheet(alloc: Global, count: u32) -> Result<String, AllocError> {
     let mut text = String::new(alloc);
     for number in 0..count {
-        text.push_str(format!(in alloc; ".c{number}")?.as_str())?;
-        for _ in 1..512 {
-            text.push_str(" > *")?;
-        }
-        text.push_str("{}")?;
+        put_long(&mut text, number)?;
     }
     Ok(text)
 }
@@ -272,10 +333,7 @@ fn said_below_long(
 ) -> Result<String, Fail> {
     let text = long_sheet(alloc, count)?;
     let sheet = read_sheet(alloc, text.as_bytes(), atoms)?;
-    text_of(
-        alloc,
-        judged(alloc, page, &sheet, &[], atoms, ROOMY, (0, 0, 0)),
-    )
+    told(alloc, page, &sheet, &[], atoms, ROOMY, (0, 0, 0))
 }
 
 fn said_of_long(alloc: Global, count: u32) -> Result<String, Fail> {
@@ -284,25 +342,43 @@ fn said_of_long(alloc: Global, count: u32) -> Result<String, Fail> {
     said_below_long(alloc, count, &page, &mut atoms)
 }
 
+fn is_long_said(alloc: Global, count: u32, wanted: &str) -> Result<bool, Fail> {
+    Ok(said_of_long(alloc, count)?.as_str() == wanted)
+}
+
 // A compound looks at its parent by one visible atom, and takes two atoms in all.
 #[test]
 fn limits_of_the_system(rt: HostRuntime) -> Result<(), Fail> {
     let alloc = rt.alloc();
-    assert!(rt; said_of_long(alloc, 33)?.as_str() == "TooManyVisible");
-    assert!(rt; said_of_long(alloc, 65)?.as_str() == "TooManyAtoms");
+    assert!(rt; is_long_said(alloc, 33, "TooManyVisible")?);
+    assert!(rt; is_long_said(alloc, 65, "TooManyAtoms")?);
     Ok(())
 }
 
-// A class of one level comes from both children of a node that have the class of the level below.
-fn doubling(alloc: Global, levels: u32, atoms: &mut AtomTable) -> Result<Vec<Stmt>, Fail> {
-    let mut stmts = Vec::new(alloc);
-    stmts.push(appending(alloc, ".n", "<div class='n l'></div>", atoms)?)?;
-    stmts.push(appending(alloc, ".n", "<div class='n r'></div>", atoms)?)?;
-    stmts.push(adding(alloc, ".n", false, ".d1", atoms)?)?;
-    for level in 1..=levels {
-        add_level(alloc, level, &mut stmts, atoms)?;
-    }
-    Ok(stmts)
+// A node of this class and the class of the level gives its parent a class of that level.
+fn add_side(
+    alloc: Global,
+    (side, given): (&str, &str),
+    level: u32,
+    stmts: &mut Vec<Stmt>,
+    atoms: &mut AtomTable,
+) -> Result<(), Fail> {
+    let list = format!(in alloc; ".{side}.d{level}")?;
+    let class = format!(in alloc; ".{given}{level}")?;
+    add_class(alloc, list.as_str(), true, class.as_str(), stmts, atoms)
+}
+
+// A node with what both sides of a level give has the class of the next one.
+fn add_both(
+    alloc: Global,
+    level: u32,
+    stmts: &mut Vec<Stmt>,
+    atoms: &mut AtomTable,
+) -> Result<(), Fail> {
+    let next = u64::from(level) + 1;
+    let list = format!(in alloc; ".p{level}.q{level}")?;
+    let class = format!(in alloc; ".d{next}")?;
+    add_class(alloc, list.as_str(), false, class.as_str(), stmts, atoms)
 }
 
 fn add_level(
@@ -311,17 +387,26 @@ fn add_level(
     stmts: &mut Vec<Stmt>,
     atoms: &mut AtomTable,
 ) -> Result<(), Fail> {
-    let next = u64::from(level) + 1;
-    let left = format!(in alloc; ".l.d{level}")?;
-    let right = format!(in alloc; ".r.d{level}")?;
-    let both = format!(in alloc; ".p{level}.q{level}")?;
-    let from_left = format!(in alloc; ".p{level}")?;
-    let from_right = format!(in alloc; ".q{level}")?;
-    let class = format!(in alloc; ".d{next}")?;
-    stmts.push(adding(alloc, left.as_str(), true, from_left.as_str(), atoms)?)?;
-    stmts.push(adding(alloc, right.as_str(), true, from_right.as_str(), atoms)?)?;
-    stmts.push(adding(alloc, both.as_str(), false, class.as_str(), atoms)?)?;
-    Ok(())
+    add_side(alloc, ("l", "p"), level, stmts, atoms)?;
+    add_side(alloc, ("r", "q"), level, stmts, atoms)?;
+    add_both(alloc, level, stmts, atoms)
+}
+
+// A node gets a child of each side, and the class of the first level.
+fn add_start(alloc: Global, stmts: &mut Vec<Stmt>, atoms: &mut AtomTable) -> Result<(), Fail> {
+    append(alloc, ".n", "<div class='n l'></div>", stmts, atoms)?;
+    append(alloc, ".n", "<div class='n r'></div>", stmts, atoms)?;
+    add_class(alloc, ".n", false, ".d1", stmts, atoms)
+}
+
+// A class of one level comes from both children of a node that have the class of the level below.
+fn doubling(alloc: Global, levels: u32, atoms: &mut AtomTable) -> Result<Vec<Stmt>, Fail> {
+    let mut stmts = Vec::new(alloc);
+    add_start(alloc, &mut stmts, atoms)?;
+    for level in 1..=levels {
+        add_level(alloc, level, &mut stmts, atoms)?;
+    }
+    Ok(stmts)
 }
 
 fn said_by_doubling(
@@ -331,10 +416,7 @@ fn said_by_doubling(
     atoms: &mut AtomTable,
 ) -> Result<String, Fail> {
     let stmts = doubling(alloc, 30, atoms)?;
-    text_of(
-        alloc,
-        judged(alloc, page, sheet, &stmts, atoms, ROOMY, AMPLE),
-    )
+    told(alloc, page, sheet, &stmts, atoms, ROOMY, AMPLE)
 }
 
 fn said_below_doubling(alloc: Global, page: &Tree, atoms: &mut AtomTable) -> Result<String, Fail> {
@@ -348,9 +430,13 @@ fn said_doubling(alloc: Global) -> Result<String, Fail> {
     said_below_doubling(alloc, &page, &mut atoms)
 }
 
+fn is_doubling_said(alloc: Global, wanted: &str) -> Result<bool, Fail> {
+    Ok(said_doubling(alloc)?.as_str() == wanted)
+}
+
 // A class costs two appends, twice the steps of the class below, and three classes more: 6 * 2^30 - 5 for the 31st.
 #[test]
 fn six_billion_steps(rt: HostRuntime) -> Result<(), Fail> {
-    assert!(rt; said_doubling(rt.alloc())?.as_str() == "used 6442450939");
+    assert!(rt; is_doubling_said(rt.alloc(), "used 6442450939")?);
     Ok(())
 }

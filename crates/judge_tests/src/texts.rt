@@ -1,76 +1,79 @@
 //! Answers as text.
 use judge::JudgeFault;
 use proof_check::Unfolded;
-use std::alloc::Global;
+use std::alloc::{AllocError, Global};
 use std::test::Fail;
 use tp_base::Path;
 use tree_sem::Step;
 use usage_report::Answer;
 
-fn path_text(alloc: Global, at: &Path) -> Result<String, Fail> {
-    let mut text = String::new(alloc);
+fn put_path(text: &mut String, at: &Path) -> Result<(), AllocError> {
     for i in 0..at.len() {
         let number = at.at(i);
-        text.push_str(format!(in alloc; "/{number}")?.as_str())?;
+        write!(text, "/{number}")?;
     }
-    Ok(text)
+    Ok(())
 }
 
-fn step_text(alloc: Global, step: &Step) -> Result<String, Fail> {
+fn put_step(text: &mut String, step: &Step) -> Result<(), AllocError> {
     let number = u64::from(step.stmt) + 1;
-    let path = path_text(alloc, &step.at)?;
-    let at = path.as_str();
-    Ok(format!(in alloc; "{number} on {at}, ")?)
+    write!(text, "{number} on ")?;
+    put_path(text, &step.at)?;
+    text.push_str(", ")
 }
 
 // The steps, with statements counted from 1, and the match.
-fn trace_text(alloc: Global, trace: &Unfolded) -> Result<String, Fail> {
-    let mut text = String::new(alloc);
+fn put_trace(text: &mut String, trace: &Unfolded) -> Result<(), AllocError> {
     for step in trace.steps.items() {
-        text.push_str(step_text(alloc, step)?.as_str())?;
+        put_step(text, step)?;
     }
     text.push_str("match ")?;
-    text.push_str(path_text(alloc, &trace.at)?.as_str())?;
-    Ok(text)
+    put_path(text, &trace.at)
 }
 
-fn used_text(alloc: Global, steps: u64, shown: &Option<Unfolded>) -> Result<String, Fail> {
+fn put_used(text: &mut String, steps: u64, shown: &Option<Unfolded>) -> Result<(), AllocError> {
+    write!(text, "used {steps}")?;
     match shown {
-        None => Ok(format!(in alloc; "used {steps}")?),
+        None => Ok(()),
         Some(trace) => {
-            let listed = trace_text(alloc, trace)?;
-            let text = listed.as_str();
-            Ok(format!(in alloc; "used {steps} ({text})")?)
+            text.push_str(" (")?;
+            put_trace(text, trace)?;
+            text.push_str(")")
         }
     }
 }
 
-fn answer_text(alloc: Global, answer: &Answer) -> Result<String, Fail> {
+fn put_answer(text: &mut String, answer: &Answer) -> Result<(), AllocError> {
     match answer {
-        Answer::Used { steps, shown, .. } => used_text(alloc, *steps, shown),
-        Answer::UsedUnshown => Ok(String::from_str(alloc, "used-unshown")?),
-        Answer::Unused => Ok(String::from_str(alloc, "unused")?),
-        Answer::Skipped(cause, at) => Ok(format!(in alloc; "skipped {cause:?} {at}")?),
-        Answer::Spent => Ok(String::from_str(alloc, "spent")?),
+        Answer::Used { steps, shown, .. } => put_used(text, *steps, shown),
+        Answer::UsedUnshown => text.push_str("used-unshown"),
+        Answer::Unused => text.push_str("unused"),
+        Answer::Skipped(cause, at) => write!(text, "skipped {cause:?} {at}"),
+        Answer::Spent => text.push_str("spent"),
     }
 }
 
 // The answers, with commas between them.
-fn answers_text(alloc: Global, answers: &[Answer]) -> Result<String, Fail> {
-    let mut text = String::new(alloc);
+fn put_answers(text: &mut String, answers: &[Answer]) -> Result<(), AllocError> {
     for answer in answers {
         if !text.is_empty() {
             text.push_str(", ")?;
         }
-        text.push_str(answer_text(alloc, answer)?.as_str())?;
+        put_answer(text, answer)?;
     }
-    Ok(text)
+    Ok(())
+}
+
+fn put_found(text: &mut String, found: &Result<Vec<Answer>, JudgeFault>) -> Result<(), AllocError> {
+    match found {
+        Ok(answers) => put_answers(text, answers),
+        Err(fault) => write!(text, "{fault:?}"),
+    }
 }
 
 /// The answers as text, or the fault.
-pub fn text_of(alloc: Global, found: Result<Vec<Answer>, JudgeFault>) -> Result<String, Fail> {
-    match found {
-        Ok(answers) => answers_text(alloc, &answers),
-        Err(fault) => Ok(format!(in alloc; "{fault:?}")?),
-    }
+pub fn text_of(alloc: Global, found: &Result<Vec<Answer>, JudgeFault>) -> Result<String, Fail> {
+    let mut text = String::new(alloc);
+    put_found(&mut text, found)?;
+    Ok(text)
 }

@@ -26,11 +26,17 @@ pub fn set_of(alloc: Global, atoms: &[u32]) -> Result<ClassSet, NoMemory> {
     Ok(set)
 }
 
+fn add_node(alloc: Global, row: &NodeRow, tree: &mut Tree) -> Result<(), TreeFault> {
+    let at = path_of(alloc, row.0)?;
+    tree.add_child(&at, set_of(alloc, row.1)?)?;
+    Ok(())
+}
+
 /// A page whose root is html, 0.
 pub fn page_of(alloc: Global, nodes: &[NodeRow]) -> Result<Tree, TreeFault> {
     let mut tree = Tree::new(alloc, set_of(alloc, &[0])?)?;
-    for (parent, label) in nodes {
-        tree.add_child(&path_of(alloc, parent)?, set_of(alloc, label)?)?;
+    for row in nodes {
+        add_node(alloc, row, &mut tree)?;
     }
     Ok(tree)
 }
@@ -94,14 +100,38 @@ fn visible_of(alloc: Global, up: &[LinkRow]) -> Result<ClassSet, NoMemory> {
     Ok(set)
 }
 
+// The rules that look at one node, and what they see of its parent.
+fn at_nodes(alloc: Global, row: &SystemRow) -> Result<(Locals, ClassSet), NoMemory> {
+    let local = locals_of(alloc, row.local)?;
+    let visible = visible_of(alloc, row.up)?;
+    Ok((local, visible))
+}
+
+// The links up, and those down.
+fn between_nodes(alloc: Global, row: &SystemRow) -> Result<(Links, Links), NoMemory> {
+    let up = links_of(alloc, row.up)?;
+    let down = links_of(alloc, row.down)?;
+    Ok((up, down))
+}
+
+// The rules that add nodes, and their kinds.
+fn below_nodes(alloc: Global, row: &SystemRow) -> Result<(Spawns, Kinds), NoMemory> {
+    let child = spawns_of(alloc, row.child)?;
+    let kinds = kinds_of(alloc, row.kinds)?;
+    Ok((child, kinds))
+}
+
 pub fn system_of(alloc: Global, row: &SystemRow) -> Result<System, NoMemory> {
+    let (local, visible) = at_nodes(alloc, row)?;
+    let (up, down) = between_nodes(alloc, row)?;
+    let (child, kinds) = below_nodes(alloc, row)?;
     Ok(System {
-        local: locals_of(alloc, row.local)?,
-        up: links_of(alloc, row.up)?,
-        down: links_of(alloc, row.down)?,
-        child: spawns_of(alloc, row.child)?,
-        kinds: kinds_of(alloc, row.kinds)?,
-        visible: visible_of(alloc, row.up)?,
+        local,
+        up,
+        down,
+        child,
+        kinds,
+        visible,
     })
 }
 
@@ -123,15 +153,19 @@ fn items_of(alloc: Global, rows: &[ItemRow]) -> Result<ProofItems, NoMemory> {
     Ok(ProofItems::new(items))
 }
 
+fn entry_of(alloc: Global, row: &EntryRow) -> Result<Entry, NoMemory> {
+    Ok(Entry {
+        kind: row.kind,
+        parent: set_of(alloc, row.parent)?,
+        items: items_of(alloc, row.items)?,
+        steps: row.steps,
+    })
+}
+
 fn entries_of(alloc: Global, rows: &[EntryRow]) -> Result<Entries, NoMemory> {
     let mut entries = Vec::new(alloc);
     for row in rows {
-        entries.push(Entry {
-            kind: row.kind,
-            parent: set_of(alloc, row.parent)?,
-            items: items_of(alloc, row.items)?,
-            steps: row.steps,
-        })?;
+        entries.push(entry_of(alloc, row)?)?;
     }
     Ok(Entries::new(entries))
 }

@@ -3,7 +3,7 @@ use crate::building::{links_of, set_of};
 use proof_core::Below::Grown;
 use proof_core::Reason::{Down, Start};
 use proof_core::{Entries, Entry, PageItem, PageItems, Proof, ProofItem, ProofItems};
-use simple_core::{Kind, Kinds, Locals, Spawn, Spawns, System};
+use simple_core::{Kind, Kinds, Links, Locals, Spawn, Spawns, System};
 use std::alloc::Global;
 use tp_base::{Atom, ClassSet, NoMemory, Path};
 
@@ -34,14 +34,24 @@ fn spawns(alloc: Global) -> Result<Spawns, NoMemory> {
     Ok(Spawns::new(spawns))
 }
 
+// The rules that add nodes, and their kinds.
+fn below_nodes(alloc: Global) -> Result<(Spawns, Kinds), NoMemory> {
+    let child = spawns(alloc)?;
+    let kinds = kinds(alloc)?;
+    Ok((child, kinds))
+}
+
 /// A node with the atom 0 gets a child of each kind that may stand there. Its parent gets 1 and 2 from the child's 0, and 1 from its 1.
 pub fn chain_system(alloc: Global) -> Result<System, NoMemory> {
+    let down = links_of(alloc, &[(0, 1), (1, 1), (0, 2)])?;
+    let local = Locals::new(Vec::new(alloc))?;
+    let (child, kinds) = below_nodes(alloc)?;
     Ok(System {
-        local: Locals::new(Vec::new(alloc))?,
-        up: links_of(alloc, &[])?,
-        down: links_of(alloc, &[(0, 1), (1, 1), (0, 2)])?,
-        child: spawns(alloc)?,
-        kinds: kinds(alloc)?,
+        local,
+        up: Links::new(Vec::new(alloc)),
+        down,
+        child,
+        kinds,
         visible: ClassSet::new(alloc),
     })
 }
@@ -67,18 +77,23 @@ fn chain_items(alloc: Global, number: u32, kind: u32) -> Result<ProofItems, NoMe
     Ok(ProofItems::new(items))
 }
 
+fn chain_entry(alloc: Global, number: u32, kind: u32, steps: u64) -> Result<Entry, NoMemory> {
+    let items = chain_items(alloc, number, kind)?;
+    Ok(Entry {
+        kind,
+        parent: ClassSet::new(alloc),
+        items,
+        steps,
+    })
+}
+
 // Each entry names the one before it. The last one is of the kind 0.
 fn chain_entries(alloc: Global, count: u32) -> Result<Entries, NoMemory> {
     let mut entries = Vec::new(alloc);
     let mut steps = 0u64;
     for number in 0..count {
         let kind = (count - 1 - number) % DEPTH;
-        entries.push(Entry {
-            kind,
-            parent: ClassSet::new(alloc),
-            items: chain_items(alloc, number, kind)?,
-            steps,
-        })?;
+        entries.push(chain_entry(alloc, number, kind, steps)?)?;
         if kind == 0 {
             steps = steps.saturating_add(1);
         }
@@ -126,21 +141,30 @@ fn twice_items(alloc: Global, number: u32) -> Result<ProofItems, NoMemory> {
     Ok(ProofItems::new(items))
 }
 
-/// So many entries, each of which stands below the next twice.
-pub fn twice(alloc: Global, count: u32) -> Result<Proof, NoMemory> {
+fn twice_entry(alloc: Global, number: u32, steps: u64) -> Result<Entry, NoMemory> {
+    let items = twice_items(alloc, number)?;
+    Ok(Entry {
+        kind: 0,
+        parent: ClassSet::new(alloc),
+        items,
+        steps,
+    })
+}
+
+fn twice_entries(alloc: Global, count: u32) -> Result<Entries, NoMemory> {
     let mut entries = Vec::new(alloc);
     let mut steps = 0u64;
     for number in 0..count {
-        entries.push(Entry {
-            kind: 0,
-            parent: ClassSet::new(alloc),
-            items: twice_items(alloc, number)?,
-            steps,
-        })?;
+        entries.push(twice_entry(alloc, number, steps)?)?;
         steps = steps.saturating_add(1).saturating_mul(2);
     }
+    Ok(Entries::new(entries))
+}
+
+/// So many entries, each of which stands below the next twice.
+pub fn twice(alloc: Global, count: u32) -> Result<Proof, NoMemory> {
     Ok(Proof {
-        entries: Entries::new(entries),
+        entries: twice_entries(alloc, count)?,
         page: page_items(alloc, 0, count)?,
     })
 }

@@ -27,11 +27,30 @@ fn told(
     Ok(Some((count, unfold(proof, system, page, target, limit))))
 }
 
+fn told_on_page(
+    alloc: Global,
+    row: &ProofRow,
+    limit: u64,
+    proof: &Proof,
+    system: &System,
+) -> Result<Option<Told>, TreeFault> {
+    let page = page_of(alloc, row.page)?;
+    Ok(told(proof, system, &page, row.target, limit)?)
+}
+
+fn told_by(
+    alloc: Global,
+    row: &ProofRow,
+    limit: u64,
+    proof: &Proof,
+) -> Result<Option<Told>, TreeFault> {
+    let system = system_of(alloc, system_row(row.script))?;
+    told_on_page(alloc, row, limit, proof, &system)
+}
+
 fn told_of(alloc: Global, row: &ProofRow, limit: u64) -> Result<Option<Told>, TreeFault> {
     let proof = proof_of(alloc, row)?;
-    let system = system_of(alloc, system_row(row.script))?;
-    let page = page_of(alloc, row.page)?;
-    Ok(told(&proof, &system, &page, row.target, limit)?)
+    told_by(alloc, row, limit, &proof)
 }
 
 fn is_path(path: &Path, numbers: &[u32]) -> bool {
@@ -61,12 +80,20 @@ fn is_over(told: &Option<Told>, want: u64) -> bool {
     }
 }
 
+fn is_whole(alloc: Global, row: &ProofRow, want: &WantRow) -> Result<bool, TreeFault> {
+    let whole = told_of(alloc, row, want.0.len() as u64)?;
+    Ok(is_told(&whole, want))
+}
+
+fn is_short(alloc: Global, row: &ProofRow, want: &WantRow) -> Result<bool, TreeFault> {
+    let count = want.0.len() as u64;
+    let short = told_of(alloc, row, count.saturating_sub(1))?;
+    Ok(is_over(&short, count))
+}
+
 // With a limit of its steps a proof is unfolded, with one less it isn't.
 fn is_right(alloc: Global, row: &ProofRow, want: &WantRow) -> Result<bool, TreeFault> {
-    let count = want.0.len() as u64;
-    let whole = told_of(alloc, row, count)?;
-    let short = told_of(alloc, row, count.saturating_sub(1))?;
-    Ok(is_told(&whole, want) && is_over(&short, count))
+    Ok(is_whole(alloc, row, want)? && is_short(alloc, row, want)?)
 }
 
 #[test]
@@ -99,19 +126,29 @@ static TWICE: [(u32, u64); 5] = [
     (65, 18_446_744_073_709_551_615),
 ];
 
-// A proof over the system of chains, and a page of one node.
-fn told_long(alloc: Global, proof: Proof) -> Result<Option<Told>, TreeFault> {
-    let system = chain_system(alloc)?;
+// A proof on a page of one node.
+fn told_on_node(alloc: Global, proof: &Proof, system: &System) -> Result<Option<Told>, TreeFault> {
     let page = Tree::new(alloc, set_of(alloc, &[0])?)?;
-    Ok(told(&proof, &system, &page, 1, 1_000)?)
+    Ok(told(proof, system, &page, 1, 1_000)?)
+}
+
+// The same over the system of chains.
+fn told_long(alloc: Global, proof: &Proof) -> Result<Option<Told>, TreeFault> {
+    let system = chain_system(alloc)?;
+    told_on_node(alloc, proof, &system)
+}
+
+fn has_steps(told: &Option<Told>, want: u64) -> bool {
+    match told {
+        Some((steps, Ok(u))) => *steps == want && u.steps.items().len() as u64 == want,
+        _ => is_over(told, want),
+    }
 }
 
 fn is_counted(alloc: Global, count: u32, want: u64) -> Result<bool, TreeFault> {
-    let told = told_long(alloc, twice(alloc, count)?)?;
-    Ok(match told {
-        Some((steps, Ok(u))) => steps == want && u.steps.items().len() as u64 == want,
-        other => is_over(&other, want),
-    })
+    let proof = twice(alloc, count)?;
+    let told = told_long(alloc, &proof)?;
+    Ok(has_steps(&told, want))
 }
 
 #[test]
@@ -137,11 +174,17 @@ fn is_chain(u: &Unfolded, count: usize) -> bool {
         && is_deep(&u.at, count)
 }
 
-fn is_unfolded(alloc: Global, count: u32, want: u64) -> Result<bool, TreeFault> {
-    Ok(match told_long(alloc, chain(alloc, count)?)? {
-        Some((steps, Ok(u))) => steps == want && is_chain(&u, count as usize),
+fn has_chain(told: &Option<Told>, count: u32, want: u64) -> bool {
+    match told {
+        Some((steps, Ok(u))) => *steps == want && is_chain(u, count as usize),
         _ => false,
-    })
+    }
+}
+
+fn is_unfolded(alloc: Global, count: u32, want: u64) -> Result<bool, TreeFault> {
+    let proof = chain(alloc, count)?;
+    let told = told_long(alloc, &proof)?;
+    Ok(has_chain(&told, count, want))
 }
 
 #[test]

@@ -1,11 +1,35 @@
 //! Calls with ample memory, and the system's files and streams once.
 use std::alloc::{AllocError, Global};
+use std::path::{Path, PathBuf};
 use std::test::Fail;
 use std::{env, fs, process};
 use tp_io::{
     Files, HostFiles, HostSink, LoadFault, MOST_BYTES, MemFiles, MemSink, Sink, SinkFault,
     SureFiles, SureSink, put_all,
 };
+
+// Two entries have one name: the first counts.
+static ENTRIES: [(&str, &[u8]); 3] = [("page", b"<p></p>"), ("sheet", b""), ("page", b"<a></a>")];
+
+// Loads one after the other: a name, the answer where the third load fails, the bytes then, and those where none fails.
+static LOADS: [(&str, Result<(), LoadFault>, &[u8], &[u8]); 5] = [
+    ("page", Ok(()), b"<p></p>", b"<p></p>"),
+    ("script", Err(LoadFault::Failed), b"", b""),
+    ("page", Err(LoadFault::Failed), b"", b"<p></p>"),
+    ("sheet", Ok(()), b"", b""),
+    ("page", Ok(()), b"<p></p>", b"<p></p>"),
+];
+
+// The put that fails, how many bytes one takes, a piece, the answer, and the bytes that are kept.
+static PUTS: [(u64, usize, &[u8], Result<(), SinkFault>, &[u8]); 7] = [
+    (0, 1, b"treeped", Ok(()), b"treeped"),
+    (0, 3, b"treeped", Ok(()), b"treeped"),
+    (0, 100, b"treeped", Ok(()), b"treeped"),
+    (0, 0, b"treeped", Err(SinkFault::Failed), b""),
+    (2, 3, b"treeped", Err(SinkFault::Failed), b"tre"),
+    (2, 100, b"treeped", Ok(()), b"treeped"),
+    (1, 0, b"", Ok(()), b""),
+];
 
 fn entry(alloc: Global, name: &str, bytes: &[u8]) -> Result<(String, Vec<u8>), AllocError> {
     Ok((
@@ -14,96 +38,174 @@ fn entry(alloc: Global, name: &str, bytes: &[u8]) -> Result<(String, Vec<u8>), A
     ))
 }
 
-// Two entries have one name: the first counts.
 fn entries(alloc: Global) -> Result<Vec<(String, Vec<u8>)>, AllocError> {
     let mut entries = Vec::new(alloc);
-    entries.push(entry(alloc, "page", b"<p></p>")?)?;
-    entries.push(entry(alloc, "sheet", b"")?)?;
-    entries.push(entry(alloc, "page", b"<a></a>")?)?;
+    for (name, bytes) in &ENTRIES {
+        entries.push(entry(alloc, name, bytes)?)?;
+    }
     Ok(entries)
 }
 
-// The answer of a load, and what it loaded.
-fn loaded<F: Files>(files: &mut F, alloc: Global, name: &str) -> (Result<(), LoadFault>, Vec<u8>) {
+fn answer_of<F: Files>(files: &mut F, alloc: Global, name: &str) -> Result<(), LoadFault> {
     let mut into = Vec::new(alloc);
-    let answer = files.load(name, &mut into);
-    (answer, into)
+    files.load(name, &mut into)
+}
+
+// Whether a load has this answer, and loads these bytes.
+fn loads<F: Files>(
+    files: &mut F,
+    alloc: Global,
+    name: &str,
+    answer: Result<(), LoadFault>,
+    bytes: &[u8],
+) -> bool {
+    let mut into = Vec::new(alloc);
+    files.load(name, &mut into) == answer && into.as_slice() == bytes
+}
+
+fn other_load(files: &mut MemFiles, alloc: Global) -> Option<&'static str> {
+    for (name, answer, bytes, _) in &LOADS {
+        if !loads(files, alloc, name, *answer, bytes) {
+            return Some(*name);
+        }
+    }
+    None
+}
+
+fn other_sure_load(files: &mut SureFiles, alloc: Global) -> Option<&'static str> {
+    for (name, _, _, bytes) in &LOADS {
+        if !loads(files, alloc, name, Ok(()), bytes) {
+            return Some(*name);
+        }
+    }
+    None
+}
+
+fn files_in_memory(alloc: Global) -> Result<MemFiles, AllocError> {
+    let third = Vec::from_slice(alloc, &[3])?;
+    Ok(MemFiles::new(alloc, entries(alloc)?, third))
+}
+
+// The first name whose load goes otherwise.
+fn other_name(alloc: Global) -> Result<Option<&'static str>, AllocError> {
+    let mut files = files_in_memory(alloc)?;
+    Ok(other_load(&mut files, alloc))
+}
+
+fn other_sure_name(alloc: Global) -> Result<Option<&'static str>, AllocError> {
+    let mut files = SureFiles::new(alloc, entries(alloc)?);
+    Ok(other_sure_load(&mut files, alloc))
+}
+
+fn puts(
+    alloc: Global,
+    fail: u64,
+    most: usize,
+    piece: &[u8],
+    answer: Result<(), SinkFault>,
+    kept: &[u8],
+) -> Result<bool, AllocError> {
+    let fails = Vec::from_slice(alloc, &[fail])?;
+    let mut sink = MemSink::new(alloc, fails, most);
+    Ok(put_all(&mut sink, piece) == answer && sink.bytes() == kept)
+}
+
+// The first put that goes otherwise.
+fn other_put(alloc: Global) -> Result<Option<(u64, usize)>, AllocError> {
+    for (fail, most, piece, answer, kept) in &PUTS {
+        if !puts(alloc, *fail, *most, piece, *answer, kept)? {
+            return Ok(Some((*fail, *most)));
+        }
+    }
+    Ok(None)
+}
+
+fn puts_surely(alloc: Global) -> bool {
+    let mut sink = SureSink::new(alloc);
+    put_all(&mut sink, b"treeped") == Ok(())
+        && sink.put(b"!") == Ok(1)
+        && sink.bytes() == b"treeped!".as_slice()
 }
 
 #[test]
 fn in_memory(rt: HostRuntime) -> Result<(), Fail> {
-    let alloc = rt.alloc();
-    let mut third = Vec::new(alloc);
-    third.push(3)?;
-    let mut files = MemFiles::new(alloc, entries(alloc)?, third);
-    let mut sure = SureFiles::new(alloc, entries(alloc)?);
-    let failed = Err(LoadFault::Failed);
-    let page: &[u8] = b"<p></p>";
-    let none: &[u8] = b"";
-    for (name, answer, bytes, sure_bytes) in [
-        ("page", Ok(()), page, page),
-        ("script", failed, none, none),
-        ("page", failed, none, page),
-        ("sheet", Ok(()), none, none),
-        ("page", Ok(()), page, page),
-    ] {
-        let got = loaded(&mut files, alloc, name);
-        assert!(rt; got.0 == answer, "at {name}");
-        assert!(rt; got.1.as_slice() == bytes, "at {name}");
-        let got = loaded(&mut sure, alloc, name);
-        assert!(rt; got.0 == Ok(()), "surely at {name}");
-        assert!(rt; got.1.as_slice() == sure_bytes, "surely at {name}");
-    }
-    let piece: &[u8] = b"treeped";
-    let failed = Err(SinkFault::Failed);
-    for (fail, most, piece, answer, kept) in [
-        (0, 1, piece, Ok(()), piece),
-        (0, 3, piece, Ok(()), piece),
-        (0, 100, piece, Ok(()), piece),
-        (0, 0, piece, failed, none),
-        (2, 3, piece, failed, b"tre"),
-        (2, 100, piece, Ok(()), piece),
-        (1, 0, none, Ok(()), none),
-    ] {
-        let mut puts = Vec::new(alloc);
-        puts.push(fail)?;
-        let mut sink = MemSink::new(alloc, puts, most);
-        let got = put_all(&mut sink, piece);
-        assert!(rt; got == answer, "at {fail} and {most}");
-        assert!(rt; sink.bytes() == kept, "at {fail} and {most}");
-    }
-    let mut sink = SureSink::new(alloc);
-    assert!(rt; put_all(&mut sink, piece) == Ok(()));
-    assert!(rt; sink.put(b"!") == Ok(1));
-    assert!(rt; sink.bytes() == b"treeped!".as_slice());
+    let other = other_name(rt.alloc())?;
+    assert!(rt; other.is_none(), "at {other:?}");
+    let other = other_sure_name(rt.alloc())?;
+    assert!(rt; other.is_none(), "surely at {other:?}");
+    let other = other_put(rt.alloc())?;
+    assert!(rt; other.is_none(), "at {other:?}");
+    assert!(rt; puts_surely(rt.alloc()));
     Ok(())
+}
+
+fn file_name(rt: &HostRuntime) -> Result<String, AllocError> {
+    format!(in rt.alloc(); "tp_io-{}", process::id(rt.process()))
+}
+
+fn file_path(rt: &HostRuntime) -> Result<PathBuf, Fail> {
+    let mut path = env::temp_dir(rt)?;
+    path.push(file_name(rt)?.as_str())?;
+    Ok(path)
+}
+
+// Writes so many bytes to a file.
+fn file_of(rt: &HostRuntime, path: Path<'_>, count: usize) -> Result<Vec<u8>, Fail> {
+    let bytes = vec![in rt.alloc(); b'a'; count]?;
+    fs::write(rt, path, bytes.as_slice())?;
+    Ok(bytes)
+}
+
+fn loads_most<F: Files>(rt: &HostRuntime, files: &mut F, path: Path<'_>) -> Result<bool, Fail> {
+    let bytes = file_of(rt, path, MOST_BYTES as usize)?;
+    Ok(loads(files, rt.alloc(), path.as_str(), Ok(()), &bytes))
+}
+
+fn refuses_more<F: Files>(rt: &HostRuntime, files: &mut F, path: Path<'_>) -> Result<bool, Fail> {
+    file_of(rt, path, MOST_BYTES as usize + 1)?;
+    Ok(answer_of(files, rt.alloc(), path.as_str()) == Err(LoadFault::TooLarge))
+}
+
+fn refuses_gone<F: Files>(rt: &HostRuntime, files: &mut F, path: Path<'_>) -> Result<bool, Fail> {
+    fs::remove_file(rt, path)?;
+    Ok(answer_of(files, rt.alloc(), path.as_str()) == Err(LoadFault::Failed))
+}
+
+// A folder opens, and then can't be read.
+fn refuses_folder<F: Files>(rt: &HostRuntime, files: &mut F) -> Result<bool, Fail> {
+    let folder = env::temp_dir(rt)?;
+    Ok(loads(
+        files,
+        rt.alloc(),
+        folder.as_str(),
+        Err(LoadFault::Failed),
+        b"",
+    ))
+}
+
+// A file of the most bytes, of one more, and one that is gone.
+fn file_answers<F: Files>(rt: &HostRuntime, files: &mut F) -> Result<(bool, bool, bool), Fail> {
+    let path = file_path(rt)?;
+    let most = loads_most(rt, files, path.as_path())?;
+    let more = refuses_more(rt, files, path.as_path())?;
+    let gone = refuses_gone(rt, files, path.as_path())?;
+    Ok((most, more, gone))
+}
+
+// A file without an end, and a folder.
+fn other_answers<F: Files>(rt: &HostRuntime, files: &mut F) -> Result<(bool, bool), Fail> {
+    let endless = answer_of(files, rt.alloc(), "/dev/zero") == Err(LoadFault::TooLarge);
+    let folder = refuses_folder(rt, files)?;
+    Ok((endless, folder))
 }
 
 #[test]
 fn of_the_system(rt: HostRuntime) -> Result<(), Fail> {
-    let alloc = rt.alloc();
-    let mut path = env::temp_dir(&rt)?;
-    path.push(format!(in alloc; "tp_io-{}", process::id(rt.process()))?.as_str())?;
-    let mut bytes = vec![in alloc; b'a'; MOST_BYTES as usize]?;
-    let mut files = HostFiles::new(alloc, &rt);
-    fs::write(&rt, path.as_path(), bytes.as_slice())?;
-    let most = loaded(&mut files, alloc, path.as_str());
-    bytes.push(b'a')?;
-    fs::write(&rt, path.as_path(), bytes.as_slice())?;
-    let more = loaded(&mut files, alloc, path.as_str());
-    fs::remove_file(&rt, path.as_path())?;
-    let gone = loaded(&mut files, alloc, path.as_str());
-    let endless = loaded(&mut files, alloc, "/dev/zero");
-    // A folder opens, and then can't be read.
-    let folder = loaded(&mut files, alloc, env::temp_dir(&rt)?.as_str());
-    bytes.truncate(MOST_BYTES as usize);
-    assert!(rt; most.0 == Ok(()));
-    assert!(rt; most.1 == bytes);
-    assert!(rt; more.0 == Err(LoadFault::TooLarge));
-    assert!(rt; gone.0 == Err(LoadFault::Failed));
-    assert!(rt; endless.0 == Err(LoadFault::TooLarge));
-    assert!(rt; folder.0 == Err(LoadFault::Failed));
-    assert!(rt; folder.1.is_empty());
+    let mut files = HostFiles::new(rt.alloc(), &rt);
+    let answers = file_answers(&rt, &mut files)?;
+    assert!(rt; answers == (true, true, true), "{answers:?}");
+    let answers = other_answers(&rt, &mut files)?;
+    assert!(rt; answers == (true, true), "{answers:?}");
     Ok(())
 }
 

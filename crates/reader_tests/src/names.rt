@@ -1,44 +1,67 @@
 //! Each public call once, with ample memory.
 use std::alloc::Global;
-use std::process::Abort;
 use std::test::Fail;
 use tp_base::{Atom, AtomFault, AtomKind, AtomTable, ClassSet, NoMemory, Path, Place, place_of};
 
-fn check_set(rt: &impl Abort, set: &ClassSet, want: &[u32]) {
-    assert_eq!(rt; set.len(), want.len());
+// A name, and its number.
+static NAMES: [(AtomKind, &str, u32); 4] = [
+    (AtomKind::Class, "a", 0),
+    (AtomKind::Ident, "a", 1),
+    (AtomKind::Class, "a", 0),
+    (AtomKind::Class, "b", 2),
+];
+
+// An atom, and whether the set grows by it.
+static ADDED: [(u32, bool); 3] = [(3, true), (1, true), (3, false)];
+
+// A place of the text, and its line and column.
+static PLACES: [(usize, u32, u32); 3] = [(0, 1, 1), (3, 2, 1), (5, 2, 3)];
+
+fn has_atom(set: &ClassSet, i: usize, atom: u32) -> bool {
+    i < set.len() && set.at(i) == Atom(atom)
+}
+
+fn is_set(set: &ClassSet, want: &[u32]) -> bool {
     for (i, atom) in want.iter().enumerate() {
-        assert!(rt; i < set.len());
-        assert_eq!(rt; set.at(i), Atom(*atom));
+        if !has_atom(set, i, *atom) {
+            return false;
+        }
     }
+    set.len() == want.len()
 }
 
-fn check_path(rt: &impl Abort, path: &Path, want: &[u32]) {
-    assert_eq!(rt; path.len(), want.len());
+fn has_child(path: &Path, i: usize, child: u32) -> bool {
+    i < path.len() && path.at(i) == child
+}
+
+fn is_path(path: &Path, want: &[u32]) -> bool {
     for (i, child) in want.iter().enumerate() {
-        assert!(rt; i < path.len());
-        assert_eq!(rt; path.at(i), *child);
+        if !has_child(path, i, *child) {
+            return false;
+        }
     }
+    path.len() == want.len()
 }
 
-fn check_names(rt: &impl Abort, alloc: Global) -> Result<(), AtomFault> {
-    let mut table = AtomTable::new(alloc);
-    let names = [
-        (AtomKind::Class, "a", 0),
-        (AtomKind::Ident, "a", 1),
-        (AtomKind::Class, "a", 0),
-        (AtomKind::Class, "b", 2),
-    ];
-    for (kind, name, number) in names {
-        assert_eq!(rt;
-            table.intern(kind, name.as_bytes())?,
-            Atom(number),
-            "{name}"
-        );
+fn interns(table: &mut AtomTable) -> Result<bool, AtomFault> {
+    for (kind, name, number) in &NAMES {
+        if table.intern(*kind, name.as_bytes())? != Atom(*number) {
+            return Ok(false);
+        }
     }
-    assert_eq!(rt; table.count(), 3);
-    assert!(rt; table.name_of(Atom(1)) == Some((AtomKind::Ident, b"a".as_slice())));
-    assert!(rt; table.name_of(Atom(3)).is_none());
-    Ok(())
+    Ok(true)
+}
+
+fn is_named(table: &AtomTable) -> bool {
+    table.count() == 3
+        && table.name_of(Atom(1)) == Some((AtomKind::Ident, b"a".as_slice()))
+        && table.name_of(Atom(3)).is_none()
+}
+
+fn are_names(alloc: Global) -> Result<bool, AtomFault> {
+    let mut table = AtomTable::new(alloc);
+    let interned = interns(&mut table)?;
+    Ok(interned && is_named(&table))
 }
 
 fn set_of(alloc: Global, atoms: &[u32]) -> Result<ClassSet, NoMemory> {
@@ -49,57 +72,89 @@ fn set_of(alloc: Global, atoms: &[u32]) -> Result<ClassSet, NoMemory> {
     Ok(set)
 }
 
-fn check_adding(rt: &impl Abort, alloc: Global) -> Result<(), NoMemory> {
-    let mut set = ClassSet::new(alloc);
-    for (atom, grew) in [(3, true), (1, true), (3, false)] {
-        assert_eq!(rt; set.add(Atom(atom))?, grew, "{atom}");
+fn adds(set: &mut ClassSet) -> Result<bool, NoMemory> {
+    for (atom, grew) in &ADDED {
+        if set.add(Atom(*atom))? != *grew {
+            return Ok(false);
+        }
     }
-    check_set(rt, &set, &[1, 3]);
-    Ok(())
+    Ok(true)
 }
 
-fn check_both(rt: &impl Abort, alloc: Global) -> Result<(), NoMemory> {
-    let other = set_of(alloc, &[1, 2])?;
-    let set = set_of(alloc, &[1, 3])?;
+fn is_added(alloc: Global) -> Result<bool, NoMemory> {
+    let mut set = ClassSet::new(alloc);
+    let added = adds(&mut set)?;
+    Ok(added && is_set(&set, &[1, 3]))
+}
+
+fn joins(set: &ClassSet, other: &ClassSet, both: &mut ClassSet) -> Result<bool, NoMemory> {
+    let grew = both.union(other)?;
+    let joined = is_set(both, &[1, 2, 3]);
+    let again = both.union(set)?;
+    Ok(grew && joined && !again)
+}
+
+fn is_within(set: &ClassSet, both: &ClassSet) -> bool {
+    set.within(both) && !both.within(set) && both.has(Atom(2))
+}
+
+fn cuts(both: &mut ClassSet, other: &ClassSet) -> bool {
+    both.cut(other);
+    is_set(both, &[1, 2])
+}
+
+fn is_joined(set: &ClassSet, other: &ClassSet) -> Result<bool, NoMemory> {
     let mut both = set.copy()?;
-    assert!(rt; both.union(&other)?);
-    check_set(rt, &both, &[1, 2, 3]);
-    assert!(rt; !both.union(&set)?);
-    assert!(rt; set.within(&both));
-    assert!(rt; !both.within(&set));
-    assert!(rt; both.has(Atom(2)));
-    both.cut(&other);
-    check_set(rt, &both, &[1, 2]);
-    Ok(())
+    let joined = joins(set, other, &mut both)?;
+    Ok(joined && is_within(set, &both) && cuts(&mut both, other))
 }
 
-fn check_paths(rt: &impl Abort, alloc: Global) -> Result<(), NoMemory> {
+fn are_joined(alloc: Global) -> Result<bool, NoMemory> {
+    let set = set_of(alloc, &[1, 3])?;
+    let other = set_of(alloc, &[1, 2])?;
+    is_joined(&set, &other)
+}
+
+fn path_of(alloc: Global) -> Result<Path, NoMemory> {
     let mut path = Path::root(alloc);
     path.push(1)?;
     path.push(0)?;
-    let mut child = path.copy()?;
-    child.push(4)?;
-    check_path(rt, &child, &[1, 0, 4]);
-    assert_eq!(rt; child.pop(), Some(4));
-    check_path(rt, &child, &[1, 0]);
-    Ok(())
+    Ok(path)
 }
 
-fn check_places(rt: &impl Abort) {
+fn goes_down_and_up(child: &mut Path) -> Result<bool, NoMemory> {
+    child.push(4)?;
+    let down = is_path(child, &[1, 0, 4]);
+    let last = child.pop();
+    Ok(down && last == Some(4) && is_path(child, &[1, 0]))
+}
+
+fn are_paths(alloc: Global) -> Result<bool, NoMemory> {
+    let path = path_of(alloc)?;
+    let mut child = path.copy()?;
+    goes_down_and_up(&mut child)
+}
+
+fn is_place(at: usize, line: u32, column: u32) -> bool {
     let text = b"ab\ncd";
-    for (at, line, column) in [(0, 1, 1), (3, 2, 1), (5, 2, 3)] {
-        assert!(rt; at <= text.len());
-        assert_eq!(rt; place_of(text, at), Place { line, column });
+    at <= text.len() && place_of(text, at) == Place { line, column }
+}
+
+fn are_places() -> bool {
+    for (at, line, column) in &PLACES {
+        if !is_place(*at, *line, *column) {
+            return false;
+        }
     }
+    true
 }
 
 #[test]
 fn worked_examples(rt: HostRuntime) -> Result<(), Fail> {
-    let alloc = rt.alloc();
-    check_names(&rt, alloc)?;
-    check_adding(&rt, alloc)?;
-    check_both(&rt, alloc)?;
-    check_paths(&rt, alloc)?;
-    check_places(&rt);
+    assert!(rt; are_names(rt.alloc())?);
+    assert!(rt; is_added(rt.alloc())?);
+    assert!(rt; are_joined(rt.alloc())?);
+    assert!(rt; are_paths(rt.alloc())?);
+    assert!(rt; are_places());
     Ok(())
 }

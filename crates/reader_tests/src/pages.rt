@@ -1,26 +1,54 @@
 use html_subset::{PageFault, read_forest, read_page};
-use std::alloc::Global;
+use std::alloc::{AllocError, Global};
 use std::test::Fail;
 use tp_base::{AtomKind, AtomTable, ClassSet, Path};
 use tree_sem::{Tree, go_on};
 
-fn push_names(out: &mut String, label: &ClassSet, atoms: &AtomTable) -> Result<(), PageFault> {
+fn mark_of(kind: AtomKind) -> &'static str {
+    match kind {
+        AtomKind::Element => "",
+        AtomKind::Ident => "#",
+        AtomKind::Class => ".",
+        _ => "?",
+    }
+}
+
+fn push_name(out: &mut String, kind: AtomKind, name: &[u8]) -> Result<(), AllocError> {
+    out.push_str(mark_of(kind))?;
+    out.push_str(str::from_utf8(name).unwrap_or("not utf-8"))
+}
+
+fn push_names(out: &mut String, label: &ClassSet, atoms: &AtomTable) -> Result<(), AllocError> {
     for i in 0..label.len() {
         if let Some((kind, name)) = atoms.name_of(label.at(i)) {
-            let mark = match kind {
-                AtomKind::Element => "",
-                AtomKind::Ident => "#",
-                AtomKind::Class => ".",
-                _ => "?",
-            };
-            out.push_str(mark)?;
-            out.push_str(str::from_utf8(name).unwrap_or("not utf-8"))?;
+            push_name(out, kind, name)?;
         }
     }
     Ok(())
 }
 
-// The nodes in document order, each with the length of its path below `above` and its names.
+fn push_depth(alloc: Global, out: &mut String, depth: usize) -> Result<(), AllocError> {
+    let text = format!(in alloc; "{depth}")?;
+    out.push_str(&text)
+}
+
+// A node: the length of its path below `above`, and its names.
+fn push_node(
+    alloc: Global,
+    out: &mut String,
+    above: usize,
+    tree: &Tree,
+    at: &Path,
+    atoms: &AtomTable,
+) -> Result<(), AllocError> {
+    push_depth(alloc, out, above.saturating_add(at.len()))?;
+    if let Some(label) = tree.label(at) {
+        push_names(out, label, atoms)?;
+    }
+    out.push_str(" ")
+}
+
+// The nodes in document order.
 fn push_tree(
     alloc: Global,
     out: &mut String,
@@ -30,37 +58,50 @@ fn push_tree(
 ) -> Result<(), PageFault> {
     let mut at = Path::root(alloc);
     'nodes: loop {
-        let depth = format!(in alloc; "{}", above.saturating_add(at.len()))?;
-        out.push_str(&depth)?;
-        if let Some(label) = tree.label(&at) {
-            push_names(out, label, atoms)?;
-        }
-        out.push_str(" ")?;
+        push_node(alloc, out, above, tree, &at, atoms)?;
         if !go_on(tree, &mut at)? {
             return Ok(());
         }
     }
 }
 
+fn tree_outline(alloc: Global, tree: &Tree, atoms: &AtomTable) -> Result<String, PageFault> {
+    let mut out = String::new(alloc);
+    push_tree(alloc, &mut out, 0, tree, atoms)?;
+    Ok(out)
+}
+
 fn page_outline(alloc: Global, text: &[u8]) -> Result<String, PageFault> {
     let mut atoms = AtomTable::new(alloc);
     let tree = read_page(alloc, text, &mut atoms)?;
+    tree_outline(alloc, &tree, &atoms)
+}
+
+fn trees_outline(alloc: Global, trees: &[Tree], atoms: &AtomTable) -> Result<String, PageFault> {
     let mut out = String::new(alloc);
-    push_tree(alloc, &mut out, 0, &tree, &atoms)?;
+    for tree in trees {
+        push_tree(alloc, &mut out, 1, tree, atoms)?;
+    }
     Ok(out)
 }
 
 fn forest_outline(alloc: Global, text: &[u8]) -> Result<String, PageFault> {
     let mut atoms = AtomTable::new(alloc);
     let forest = read_forest(alloc, text, &mut atoms)?;
-    let mut out = String::new(alloc);
-    for tree in forest.tops.items() {
-        push_tree(alloc, &mut out, 1, tree, &atoms)?;
-    }
-    Ok(out)
+    trees_outline(alloc, forest.tops.items(), &atoms)
 }
 
-fn repeated(alloc: Global, text: &[u8], count: usize) -> Result<Vec<u8>, PageFault> {
+fn is_page(alloc: Global, text: &[u8], want: &str) -> Result<bool, PageFault> {
+    let outline = page_outline(alloc, text)?;
+    Ok(outline.as_str() == want)
+}
+
+fn is_forest(alloc: Global, text: &[u8], want: &str) -> Result<bool, PageFault> {
+    let outline = forest_outline(alloc, text)?;
+    Ok(outline.as_str() == want)
+}
+
+fn repeated(alloc: Global, text: &[u8], count: usize) -> Result<Vec<u8>, AllocError> {
     let mut all = Vec::new(alloc);
     for _ in 0..count {
         all.extend_from_slice(text)?;
@@ -200,31 +241,48 @@ static TAGS: [(&[u8], &str); 24] = [
 ];
 
 #[test]
-fn pages_and_forests(rt: HostRuntime) -> Result<(), Fail> {
-    let alloc = rt.alloc();
-    for (text, want) in PAGES.iter() {
-        assert_eq!(rt; page_outline(alloc, text)?.as_str(), *want);
-    }
-    for (text, want) in FORESTS.iter() {
-        assert_eq!(rt; forest_outline(alloc, text)?.as_str(), *want);
-    }
-    for (text, want) in TAGS.iter() {
-        assert_eq!(rt; forest_outline(alloc, text)?.as_str(), *want);
+fn pages(rt: HostRuntime) -> Result<(), Fail> {
+    for (text, want) in &PAGES {
+        assert!(rt; is_page(rt.alloc(), text, want)?, "{want}");
     }
     Ok(())
 }
 
 #[test]
-fn refusals(rt: HostRuntime) -> Result<(), Fail> {
-    let alloc = rt.alloc();
+fn forests(rt: HostRuntime) -> Result<(), Fail> {
+    for (text, want) in &FORESTS {
+        assert!(rt; is_forest(rt.alloc(), text, want)?, "{want}");
+    }
+    Ok(())
+}
+
+#[test]
+fn tags(rt: HostRuntime) -> Result<(), Fail> {
+    for (text, want) in &TAGS {
+        assert!(rt; is_forest(rt.alloc(), text, want)?, "{want}");
+    }
+    Ok(())
+}
+
+fn page_fault(alloc: Global, text: &[u8]) -> Option<PageFault> {
+    page_outline(alloc, text).err()
+}
+
+fn forest_fault(alloc: Global, text: &[u8]) -> Option<PageFault> {
+    forest_outline(alloc, text).err()
+}
+
+fn refuses_deep(alloc: Global) -> Result<bool, AllocError> {
     let deep = repeated(alloc, b"<div>", 513)?;
-    let page = page_outline(alloc, &deep).err();
-    assert_eq!(rt; page, Some(PageFault::TooDeep(2555)));
-    let forest = forest_outline(alloc, &deep).err();
-    assert_eq!(rt; forest, Some(PageFault::TooDeep(2560)));
-    let page = page_outline(alloc, b"<p>\xff").err();
-    assert_eq!(rt; page, Some(PageFault::NotUtf8(3)));
-    let forest = forest_outline(alloc, b"a\xe2\x82").err();
-    assert_eq!(rt; forest, Some(PageFault::NotUtf8(1)));
+    let page = page_fault(alloc, &deep);
+    let forest = forest_fault(alloc, &deep);
+    Ok(page == Some(PageFault::TooDeep(2555)) && forest == Some(PageFault::TooDeep(2560)))
+}
+
+#[test]
+fn refusals(rt: HostRuntime) -> Result<(), Fail> {
+    assert!(rt; refuses_deep(rt.alloc())?);
+    assert!(rt; page_fault(rt.alloc(), b"<p>\xff") == Some(PageFault::NotUtf8(3)));
+    assert!(rt; forest_fault(rt.alloc(), b"a\xe2\x82") == Some(PageFault::NotUtf8(1)));
     Ok(())
 }

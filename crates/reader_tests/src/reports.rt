@@ -1,5 +1,6 @@
 //! Reports on one sheet, and one that is cut off.
-ghost use Rattle.std.specs.Prelude.{◌≡◌, length, map, IfOk, IfSome};
+ghost use Rattle.std.specs.Prelude.{◌≡◌, ◌≤◌, length, map, IfOk, IfSome};
+ghost use Rattle.tp_base.specs.declared.places.TheConstants.{MOST_BYTES};
 ghost use Rattle.css_read.specs.Sheets as sheets;
 ghost use Rattle.css_read.specs.Places.{IsCauseIn, IsPlaced, ArePlaced};
 ghost use Rattle.css_read.specs.Views.{item_of, outcome_of, sheet_of};
@@ -276,20 +277,67 @@ fn lines(alloc: Global) -> Result<Vec<u8>, NoMemory> {
     Ok(wanted)
 }
 
+fn are_lines(alloc: Global, bytes: &[u8]) -> Result<bool, NoMemory> {
+    let wanted = lines(alloc)?;
+    Ok(bytes == wanted.as_slice())
+}
+
+/// Whether the report has the lines of all cases.
+fn is_whole(
+    alloc: Global,
+    sheet: &Sheet,
+    text: &[u8],
+    atoms: &AtomTable,
+    places: &[Place],
+    answers: &[Answer],
+) -> Result<bool, ReportFault>
+    requires in_limit { length text.now ≤ MOST_BYTES }
+    requires placed { ArePlaced (length text.now) sheet.now.items }
+    requires reportable { AreReportable places.now (sheet_of sheet.now).items (map view.answer_of answers.now) }
+{
+    let mut out = SureSink::new(alloc);
+    write_report(alloc, sheet, text, atoms, places, answers, &mut out)?;
+    Ok(are_lines(alloc, out.bytes())?)
+}
+
+/// Whether the report ends where the third put fails.
+fn is_cut(
+    alloc: Global,
+    sheet: &Sheet,
+    text: &[u8],
+    atoms: &AtomTable,
+    places: &[Place],
+    answers: &[Answer],
+) -> Result<bool, NoMemory>
+    requires in_limit { length text.now ≤ MOST_BYTES }
+    requires placed { ArePlaced (length text.now) sheet.now.items }
+    requires reportable { AreReportable places.now (sheet_of sheet.now).items (map view.answer_of answers.now) }
+{
+    let third = Vec::from_slice(alloc, &[3])?;
+    let mut cut = MemSink::new(alloc, third, 100);
+    let fault = write_report(alloc, sheet, text, atoms, places, answers, &mut cut).err();
+    Ok(fault == Some(ReportFault::Write) && cut.bytes() == b"treeped 1\n1:1 unused .a\n".as_slice())
+}
+
+/// Whether a whole report is right, and one that is cut off.
+fn are_reported(
+    alloc: Global,
+    text: &[u8],
+    places: &[Place],
+    atoms: &mut AtomTable,
+) -> Result<(bool, bool), Fail>
+    requires in_limit { length text.now ≤ MOST_BYTES }
+{
+    let (sheet, answers) = rows_of(alloc, text, places, atoms)?;
+    let whole = is_whole(alloc, &sheet, text, atoms, places, &answers)?;
+    let cut = is_cut(alloc, &sheet, text, atoms, places, &answers)?;
+    Ok((whole, cut))
+}
+
 #[test]
 fn reports(rt: HostRuntime) -> Result<(), Fail> {
-    let alloc = rt.alloc();
-    let mut atoms = AtomTable::new(alloc);
-    let text = TEXT.as_bytes();
-    let places: &[Place] = &PLACES;
-    let (sheet, answers) = rows_of(alloc, text, places, &mut atoms)?;
-    let mut out = SureSink::new(alloc);
-    write_report(alloc, &sheet, text, &atoms, places, &answers, &mut out)?;
-    let wanted = lines(alloc)?;
-    assert!(rt; out.bytes() == wanted.as_slice());
-    let mut cut = MemSink::new(alloc, Vec::from_slice(alloc, &[3])?, 100);
-    let fault = write_report(alloc, &sheet, text, &atoms, places, &answers, &mut cut).err();
-    assert!(rt; fault == Some(ReportFault::Write));
-    assert!(rt; cut.bytes() == b"treeped 1\n1:1 unused .a\n".as_slice());
+    let mut atoms = AtomTable::new(rt.alloc());
+    let found = are_reported(rt.alloc(), TEXT.as_bytes(), &PLACES, &mut atoms)?;
+    assert!(rt; found == (true, true), "{found:?}");
     Ok(())
 }

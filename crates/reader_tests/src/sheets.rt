@@ -1,9 +1,8 @@
-use css_read::{MOST_SELECTORS, Outcome, Sheet, SheetFault, read_sheet};
-use sel_core::write_selector;
-use std::alloc::Global;
-use std::process::Abort;
+use css_read::{MOST_SELECTORS, Outcome, Range, Sheet, SheetFault, SheetItem, read_sheet};
+use sel_core::{Selector, Skip, write_selector};
+use std::alloc::{AllocError, Global};
 use std::test::Fail;
-use tp_base::{AtomKind, AtomTable};
+use tp_base::{AtomFault, AtomKind, AtomTable, NoMemory};
 
 // A sheet, and what is read of it: for each selector where it stands, its rule and how it is written, or why it is
 // skipped and where; and for each rule where it stands.
@@ -97,32 +96,75 @@ static SHEETS: [(&[u8], &str); 36] = [
     (b".a{}\xc3", "NotUtf8(4)"),
 ];
 
-// What is read of a sheet, in the words of the table.
-fn written(alloc: Global, sheet: &Sheet, atoms: &AtomTable) -> Result<String, Fail> {
-    let mut out = String::new(alloc);
-    for item in sheet.items.items().iter() {
-        let head = format!(in alloc; "{}-{} of {} ", item.from, item.to, item.rule)?;
-        out.push_str(&head)?;
-        match &item.outcome {
-            Outcome::Judged(selector) => {
-                let text = write_selector(alloc, selector, atoms)?;
-                out.push_str(str::from_utf8(&text).unwrap_or("not utf-8"))?;
-            }
-            Outcome::Skipped(why, at) => {
-                let text = format!(in alloc; "{why:?} at {at}")?;
-                out.push_str(&text)?;
-            }
-        }
+fn push_head(alloc: Global, out: &mut String, item: &SheetItem) -> Result<(), AllocError> {
+    let head = format!(in alloc; "{}-{} of {} ", item.from, item.to, item.rule)?;
+    out.push_str(&head)
+}
+
+fn push_selector(
+    alloc: Global,
+    out: &mut String,
+    selector: &Selector,
+    atoms: &AtomTable,
+) -> Result<(), NoMemory> {
+    let text = write_selector(alloc, selector, atoms)?;
+    out.push_str(str::from_utf8(&text).unwrap_or("not utf-8"))?;
+    Ok(())
+}
+
+fn push_skip(alloc: Global, out: &mut String, why: &Skip, at: usize) -> Result<(), NoMemory> {
+    let text = format!(in alloc; "{why:?} at {at}")?;
+    out.push_str(&text)?;
+    Ok(())
+}
+
+fn push_outcome(
+    alloc: Global,
+    out: &mut String,
+    outcome: &Outcome,
+    atoms: &AtomTable,
+) -> Result<(), NoMemory> {
+    match outcome {
+        Outcome::Judged(selector) => push_selector(alloc, out, selector, atoms),
+        Outcome::Skipped(why, at) => push_skip(alloc, out, why, *at),
+    }
+}
+
+fn push_items(
+    alloc: Global,
+    out: &mut String,
+    items: &[SheetItem],
+    atoms: &AtomTable,
+) -> Result<(), NoMemory> {
+    for item in items {
+        push_head(alloc, out, item)?;
+        push_outcome(alloc, out, &item.outcome, atoms)?;
         out.push_str("; ")?;
     }
-    for rule in sheet.rules.items() {
-        let text = format!(in alloc; "rule {}-{}; ", rule.from, rule.to)?;
-        out.push_str(&text)?;
+    Ok(())
+}
+
+fn push_rule(alloc: Global, out: &mut String, rule: &Range) -> Result<(), AllocError> {
+    let text = format!(in alloc; "rule {}-{}; ", rule.from, rule.to)?;
+    out.push_str(&text)
+}
+
+fn push_rules(alloc: Global, out: &mut String, rules: &[Range]) -> Result<(), AllocError> {
+    for rule in rules {
+        push_rule(alloc, out, rule)?;
     }
+    Ok(())
+}
+
+// What is read of a sheet, in the words of the table.
+fn written(alloc: Global, sheet: &Sheet, atoms: &AtomTable) -> Result<String, NoMemory> {
+    let mut out = String::new(alloc);
+    push_items(alloc, &mut out, sheet.items.items(), atoms)?;
+    push_rules(alloc, &mut out, sheet.rules.items())?;
     Ok(out)
 }
 
-fn read(alloc: Global, text: &[u8]) -> Result<String, Fail> {
+fn read(alloc: Global, text: &[u8]) -> Result<String, NoMemory> {
     let mut atoms = AtomTable::new(alloc);
     match read_sheet(alloc, text, &mut atoms) {
         Ok(sheet) => written(alloc, &sheet, &atoms),
@@ -130,8 +172,13 @@ fn read(alloc: Global, text: &[u8]) -> Result<String, Fail> {
     }
 }
 
+fn reads(alloc: Global, text: &[u8], wanted: &str) -> Result<bool, NoMemory> {
+    let found = read(alloc, text)?;
+    Ok(found.as_str() == wanted)
+}
+
 // A text so many times.
-fn times(alloc: Global, count: usize, text: &[u8]) -> Result<Vec<u8>, Fail> {
+fn times(alloc: Global, count: usize, text: &[u8]) -> Result<Vec<u8>, AllocError> {
     let mut out = Vec::new(alloc);
     for _ in 0..count {
         out.extend_from_slice(text)?;
@@ -139,20 +186,19 @@ fn times(alloc: Global, count: usize, text: &[u8]) -> Result<Vec<u8>, Fail> {
     Ok(out)
 }
 
-// A table with room for so many names.
-fn almost_full(alloc: Global, room: u32) -> Result<AtomTable, Fail> {
-    let mut atoms = AtomTable::new(alloc);
-    for number in room..tp_base::MOST_ATOMS {
-        let name = number.to_string(alloc)?;
-        atoms.intern(AtomKind::Attr, name.as_bytes())?;
-    }
-    Ok(atoms)
+fn intern_number(alloc: Global, atoms: &mut AtomTable, number: u32) -> Result<(), AtomFault> {
+    let name = number.to_string(alloc)?;
+    atoms.intern(AtomKind::Attr, name.as_bytes())?;
+    Ok(())
 }
 
-fn check_sheet(rt: &impl Abort, alloc: Global, text: &[u8], wanted: &str) -> Result<(), Fail> {
-    let found = read(alloc, text)?;
-    assert!(rt; found.as_str() == wanted, "{wanted}");
-    Ok(())
+// A table with room for so many names.
+fn almost_full(alloc: Global, room: u32) -> Result<AtomTable, AtomFault> {
+    let mut atoms = AtomTable::new(alloc);
+    for number in room..tp_base::MOST_ATOMS {
+        intern_number(alloc, &mut atoms, number)?;
+    }
+    Ok(atoms)
 }
 
 fn fault_of(alloc: Global, text: &[u8], atoms: &mut AtomTable) -> Option<SheetFault> {
@@ -160,43 +206,44 @@ fn fault_of(alloc: Global, text: &[u8], atoms: &mut AtomTable) -> Option<SheetFa
 }
 
 // The last selector that is read, and one more.
-fn check_count(rt: &impl Abort, alloc: Global) -> Result<(), Fail> {
-    let mut atoms = AtomTable::new(alloc);
+fn refuses_one_more(alloc: Global, atoms: &mut AtomTable) -> Result<bool, AllocError> {
     let mut text = times(alloc, MOST_SELECTORS, b"a{}")?;
-    let most = fault_of(alloc, &text, &mut atoms);
-    assert!(rt; most.is_none());
+    let most = fault_of(alloc, &text, atoms);
     text.extend_from_slice(b"b{}")?;
-    let fault = fault_of(alloc, &text, &mut atoms);
-    assert!(rt; fault == Some(SheetFault::TooManySelectors(60_000)));
-    assert!(rt; atoms.count() == 1);
-    Ok(())
+    let fault = fault_of(alloc, &text, atoms);
+    Ok(most.is_none() && fault == Some(SheetFault::TooManySelectors(60_000)))
 }
 
-fn check_depth(rt: &impl Abort, alloc: Global) -> Result<(), Fail> {
+fn counts(alloc: Global) -> Result<bool, AllocError> {
+    let mut atoms = AtomTable::new(alloc);
+    let refused = refuses_one_more(alloc, &mut atoms)?;
+    Ok(refused && atoms.count() == 1)
+}
+
+fn reads_deep(alloc: Global) -> Result<bool, NoMemory> {
     let mut text = times(alloc, 100_000, b"@media x{")?;
     text.extend_from_slice(b".a{}")?;
-    check_sheet(
-        rt,
-        alloc,
-        &text,
-        "900000-900002 of 0 .a; rule 900000-900004; ",
-    )
+    reads(alloc, &text, "900000-900002 of 0 .a; rule 900000-900004; ")
 }
 
-fn check_names(rt: &impl Abort, alloc: Global) -> Result<(), Fail> {
+fn refuses_names(alloc: Global) -> Result<bool, AtomFault> {
     let mut atoms = almost_full(alloc, 1)?;
     let fault = fault_of(alloc, b".a{} .a, .b.c{}", &mut atoms);
-    assert!(rt; fault == Some(SheetFault::TooManyAtoms(9)));
-    assert!(rt; atoms.count() == tp_base::MOST_ATOMS);
-    Ok(())
+    Ok(fault == Some(SheetFault::TooManyAtoms(9)) && atoms.count() == tp_base::MOST_ATOMS)
 }
 
 #[test]
 fn sheets(rt: HostRuntime) -> Result<(), Fail> {
     for (text, wanted) in &SHEETS {
-        check_sheet(&rt, rt.alloc(), text, wanted)?;
+        assert!(rt; reads(rt.alloc(), text, wanted)?, "{wanted}");
     }
-    check_count(&rt, rt.alloc())?;
-    check_depth(&rt, rt.alloc())?;
-    check_names(&rt, rt.alloc())
+    Ok(())
+}
+
+#[test]
+fn limits(rt: HostRuntime) -> Result<(), Fail> {
+    assert!(rt; counts(rt.alloc())?);
+    assert!(rt; reads_deep(rt.alloc())?);
+    assert!(rt; refuses_names(rt.alloc())?);
+    Ok(())
 }

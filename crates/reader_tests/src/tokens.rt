@@ -1,34 +1,10 @@
-use js_scan::{TokenKind, scan};
+use js_scan::{Token, TokenKind, scan};
 use std::alloc::{AllocError, Global};
 use std::test::Fail;
 
-// The tokens of a text, each by its kind's letter and its span, and a string by its letters too; or the
-// fault.
-fn written(alloc: Global, text: &[u8]) -> Result<String, AllocError> {
-    let tokens = match scan(alloc, text) {
-        Ok(tokens) => tokens,
-        Err(fault) => return format!(in alloc; "{fault:?}"),
-    };
-    let mut out = String::new(alloc);
-    for token in tokens.iter() {
-        let span = format!(in alloc; "{}-{}", token.from, token.to)?;
-        match &token.kind {
-            TokenKind::Name => out.push_str("n")?,
-            TokenKind::Number => out.push_str("d")?,
-            TokenKind::Mark => out.push_str("m")?,
-            TokenKind::Text(letters) => {
-                out.push_str("t")?;
-                out.push_str(str::from_utf8(letters.items()).unwrap_or("not utf-8"))?;
-                out.push_str("@")?;
-            }
-        }
-        out.push_str(&span)?;
-        out.push_str(" ")?;
-    }
-    Ok(out)
-}
-
-const MARKS: [(&[u8], &str); 9] = [
+// A text, and its tokens, each by its kind's letter and its span, and a string by its letters too; or the fault.
+static TOKENS: [(&[u8], &str); 87] = [
+    // marks
     (
         b"{}()[];,.<>+-*%!?:=&|",
         "m0-1 m1-2 m2-3 m3-4 m4-5 m5-6 m6-7 m7-8 m8-9 m9-10 m10-11 m11-12 m12-13 m13-14 m14-15 m15-16 m16-17 m17-18 m18-19 m19-20 m20-21 ",
@@ -44,18 +20,14 @@ const MARKS: [(&[u8], &str); 9] = [
     (b"-->", "m0-2 m2-3 "),
     (b"|||", "m0-2 m2-3 "),
     (b"*=/**/", "m0-1 m1-2 "),
-];
-
-const NAMES: [(&[u8], &str); 6] = [
+    // names and numbers
     (b"", ""),
     (b"_a$1 b", "n0-4 n5-6 "),
     (b"a.b", "n0-1 m1-2 n2-3 "),
     (b"1.5e_x y", "d0-6 n7-8 "),
     (b"1$", "d0-1 n1-2 "),
     (b" \t\n\x0c\ra", "n5-6 "),
-];
-
-const ESCAPES: [(&[u8], &str); 18] = [
+    // escapes
     (b"'\\n\\t\\r\\b\\f\\v'", "t\n\t\r\x08\x0c\x0b@0-14 "),
     (b"'\\x41\\xZ'", "tAxZ@0-9 "),
     (b"'\\x4'", "tx4@0-5 "),
@@ -74,9 +46,7 @@ const ESCAPES: [(&[u8], &str); 18] = [
     (b"'a\\\rb'", "ta\rb@0-6 "),
     (b"'\\", "BadString(0)"),
     (b"\"\\\xc3\xa9", "BadString(0)"),
-];
-
-const TEXTS: [(&[u8], &str); 18] = [
+    // strings and templates
     (b"''\"\"``", "t@0-2 t@2-4 t@4-6 "),
     (b"'a\"b`'", "ta\"b`@0-6 "),
     (b"'\xc3\xa9\xe2\x82\xac'a", "t\u{e9}\u{20ac}@0-7 n7-8 "),
@@ -95,9 +65,7 @@ const TEXTS: [(&[u8], &str); 18] = [
     (b"`\\1${`", "BadString(0)"),
     (b"`${\\1", "Template(0)"),
     (b"`a\n${b", "Template(0)"),
-];
-
-const SLASHES: [(&[u8], &str); 22] = [
+    // slashes
     (b"/", "Regexp(0)"),
     (b"a/b", "n0-1 m1-2 n2-3 "),
     (b"1/2", "d0-1 m1-2 d2-3 "),
@@ -120,9 +88,7 @@ const SLASHES: [(&[u8], &str); 22] = [
     (b"/*/", "BadByte(0)"),
     (b"a /* b *", "BadByte(2)"),
     (b"a/*'*/", "n0-1 "),
-];
-
-const BYTES: [(&[u8], &str); 14] = [
+    // bytes
     (b"a#", "BadByte(1)"),
     (b"a\xc3\xa9", "BadByte(1)"),
     (b"\\", "BadByte(0)"),
@@ -139,14 +105,51 @@ const BYTES: [(&[u8], &str); 14] = [
     (b"'\xed\xa0\x80'", "NotUtf8(1)"),
 ];
 
+fn push_letters(out: &mut String, letters: &[u8]) -> Result<(), AllocError> {
+    out.push_str("t")?;
+    out.push_str(str::from_utf8(letters).unwrap_or("not utf-8"))?;
+    out.push_str("@")
+}
+
+fn push_kind(out: &mut String, kind: &TokenKind) -> Result<(), AllocError> {
+    match kind {
+        TokenKind::Name => out.push_str("n"),
+        TokenKind::Number => out.push_str("d"),
+        TokenKind::Mark => out.push_str("m"),
+        TokenKind::Text(letters) => push_letters(out, letters.items()),
+    }
+}
+
+fn push_span(alloc: Global, out: &mut String, token: &Token) -> Result<(), AllocError> {
+    let span = format!(in alloc; "{}-{} ", token.from, token.to)?;
+    out.push_str(&span)
+}
+
+fn listed(alloc: Global, tokens: &[Token]) -> Result<String, AllocError> {
+    let mut out = String::new(alloc);
+    for token in tokens {
+        push_kind(&mut out, &token.kind)?;
+        push_span(alloc, &mut out, token)?;
+    }
+    Ok(out)
+}
+
+fn written(alloc: Global, text: &[u8]) -> Result<String, AllocError> {
+    match scan(alloc, text) {
+        Ok(tokens) => listed(alloc, &tokens),
+        Err(fault) => format!(in alloc; "{fault:?}"),
+    }
+}
+
+fn reads(alloc: Global, text: &[u8], want: &str) -> Result<bool, AllocError> {
+    let found = written(alloc, text)?;
+    Ok(found.as_str() == want)
+}
+
 #[test]
 fn worked_examples(rt: HostRuntime) -> Result<(), Fail> {
-    let tables: [&[(&[u8], &str)]; 6] = [&MARKS, &NAMES, &ESCAPES, &TEXTS, &SLASHES, &BYTES];
-    for table in tables {
-        for (text, want) in table {
-            let found = written(rt.alloc(), text)?;
-            assert!(rt; found.as_str() == *want, "{want}");
-        }
+    for (text, want) in &TOKENS {
+        assert!(rt; reads(rt.alloc(), text, want)?, "{want}");
     }
     Ok(())
 }

@@ -3,7 +3,7 @@ ghost use Rattle.simple_core.specs.Systems.{IsSound};
 ghost use Rattle.class_diagrams.specs.declared.refs.TheConstants.{MOST_BRANCHES};
 ghost use Rattle.small_systems.specs.declared.nesting.TheConstants.{MOST_CLASSES};
 
-use crate::answers::{Answer, agree, answer_of, ask};
+use crate::answers::{answer_alike, ask};
 use class_diagrams::MOST_BRANCHES;
 use need_table::PlainSummaries;
 use saturation::SharedSummaries;
@@ -27,29 +27,39 @@ fn sound_of(alloc: Global, script: Script) -> Result<System, GainFault>
 // As many as serve each row.
 const PAIRS: u32 = 1_000;
 
-fn plain(alloc: Global, system: &System, kind: u32, parent: &ClassSet) -> Result<Answer, GainFault>
-    requires { IsSound system.now }
-{
-    let mut sums = PlainSummaries::new(alloc, system, PAIRS)?;
-    answer_of(alloc, system, &mut sums, kind, parent)
-}
-
-fn shared(alloc: Global, system: &System, kind: u32, parent: &ClassSet) -> Result<Answer, GainFault>
-    requires { IsSound system.now }
-{
-    let mut sums = SharedSummaries::build(alloc, system, PAIRS)?;
-    answer_of(alloc, system, &mut sums, kind, parent)
-}
-
 // A kind below a label.
 type Question = (Script, u32, &'static [u32]);
 
+fn shared_answers_alike(
+    alloc: Global,
+    system: &System,
+    plain: &mut PlainSummaries,
+    kind: u32,
+    parent: &ClassSet,
+) -> Result<bool, GainFault>
+    requires sound { IsSound system.now }
+    requires made { plain.old.system ≡ system.now }
+{
+    let mut shared = SharedSummaries::build(alloc, system, PAIRS)?;
+    answer_alike(system, plain, &mut shared, kind, parent)
+}
+
+fn both_answer_alike(
+    alloc: Global,
+    system: &System,
+    kind: u32,
+    parent: &ClassSet,
+) -> Result<bool, GainFault>
+    requires { IsSound system.now }
+{
+    let mut plain = PlainSummaries::new(alloc, system, PAIRS)?;
+    shared_answers_alike(alloc, system, &mut plain, kind, parent)
+}
+
 fn answers_alike(alloc: Global, row: &Question) -> Result<bool, GainFault> {
-    let system = sound_of(alloc, row.0)?;
     let parent = set_of(alloc, row.2)?;
-    let one = plain(alloc, &system, row.1, &parent)?;
-    let other = shared(alloc, &system, row.1, &parent)?;
-    Ok(agree(&one, &other))
+    let system = sound_of(alloc, row.0)?;
+    both_answer_alike(alloc, &system, row.1, &parent)
 }
 
 static QUESTIONS: [Question; 16] = [
@@ -103,8 +113,8 @@ fn has_marks(label: &ClassSet, n: u32) -> bool
     true
 }
 
-// A box of the first class below nothing: each selector matches somewhere below it. Where the long one matches is known of
-// a z after three rounds, and of each box round it one round later.
+// A box of the first class below nothing: each selector matches somewhere below it. Where the long one matches is known
+// of a z after three rounds, and of each box round it one round later.
 fn tells_all<S: Summaries>(
     alloc: Global,
     system: &System,
@@ -129,14 +139,15 @@ fn built_tells_all(alloc: Global, system: &System, n: u32, nodes: u32) -> Result
     tells_all(alloc, system, &mut sums, n)
 }
 
-fn is_spent(alloc: Global, system: &System, nodes: u32) -> bool
+// Why nothing is built in so many branches, if nothing is.
+fn refusal(alloc: Global, system: &System, nodes: u32) -> Option<GainFault>
     requires sound { IsSound system.now }
     requires nodes { nodes ≤ MOST_BRANCHES }
 {
-    matches!(
-        SharedSummaries::build(alloc, system, nodes),
-        Err(GainFault::Spent)
-    )
+    match SharedSummaries::build(alloc, system, nodes) {
+        Ok(_) => None,
+        Err(fault) => Some(fault),
+    }
 }
 
 // A number of classes, and a budget.
@@ -157,7 +168,7 @@ fn boxes_are_spent(alloc: Global, row: &Boxes) -> Result<bool, GainFault> {
         return Ok(false);
     }
     let system = nested_of(alloc, n)?;
-    Ok(is_spent(alloc, &system, nodes))
+    Ok(refusal(alloc, &system, nodes) == Some(GainFault::Spent))
 }
 
 // As many branches as all that is worked out has. A table would need a pair for each set of the 32 classes.
@@ -182,16 +193,10 @@ fn is_spent_where_the_last_cells_have_more(rt: HostRuntime) -> Result<(), Fail> 
     Ok(())
 }
 
-fn needs_no_branch(alloc: Global, system: &System) -> bool
-    requires { IsSound system.now }
-{
-    SharedSummaries::build(alloc, system, 0).is_ok()
-}
-
 // Nothing is visible there, so each cell is a leaf.
 fn errors_need_no_branch(alloc: Global) -> Result<bool, GainFault> {
     let system = sound_of(alloc, Script::Errors)?;
-    Ok(needs_no_branch(alloc, &system))
+    Ok(refusal(alloc, &system, 0).is_none())
 }
 
 #[test]

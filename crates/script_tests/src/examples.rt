@@ -1,97 +1,98 @@
 //! Each call once, with ample memory.
-use crate::parts::{aimed, argument, begun, chained, chosen, grown, hidden, list, standing};
-use crate::words::{behind_list, closed, declared, joined, lengths};
+use crate::letters::{OfLetters, of_letters};
+use crate::parts::{OfParts, of_parts};
+use crate::words::{OfWords, of_words};
 use jq_words::ScriptFault;
 use std::alloc::{AllocError, Global};
 use std::test::Fail;
 
-#[derive(Clone, Copy)]
-enum Case {
-    BehindList,
-    Joined,
-    Closed,
-    Declared,
-    Lengths,
-    List,
-    Begun,
-    Argument,
-    Grown,
-    Aimed,
-    Chained,
-    Hidden,
-    Chosen,
-    Standing,
-}
-
-static ROWS: [(Case, &[u8], &str); 30] = [
-    (Case::BehindList, b"a + (b); c", "7"),
-    (Case::BehindList, b"x.trim()\ny", "9"),
+static WORDS: [(OfWords, &[u8], &str); 8] = [
+    (OfWords::BehindList, b"a + (b); c", "7"),
+    (OfWords::BehindList, b"x.trim()\ny", "9"),
     (
-        Case::BehindList,
+        OfWords::BehindList,
         b"f(1)",
         "UnknownCall(Letters { text: \"f\" }, 0)",
     ),
-    (Case::Joined, b"'a' + \"b\"", "ab"),
-    (Case::Joined, b"'a' + b", "none"),
-    (Case::Closed, b"'a')", "a"),
-    (Case::Declared, b"function f(){} g = function(){}", "f g "),
-    (Case::Lengths, b"a, (b, c); d)", "1 7"),
-    (Case::List, b"f(a, [b, c]).x", "2 true 11"),
-    (Case::List, b"f(g(1), [3) + 1", "2 false 10"),
-    (Case::List, b"f(; a, b)", "0 true 2"),
-    (Case::List, b"f(g(), h(i(1, 2), j), k", "3 true 23"),
-    (Case::Begun, b"$('.a, .b').x", "elements 0 11"),
-    (Case::Begun, b"jQuery(' <p><b>').x", "markup 2 17"),
-    (Case::Begun, b"$(document)", "everywhere 0 11"),
-    (Case::Begun, b"a.on", "everywhere 0 1"),
-    (Case::Begun, b"$(this)", "ThisOutside(2)"),
-    (Case::Begun, b"$('.a', b)", "ComplexArgument(2)"),
-    (Case::Argument, b"'x' + 'y', 1", "xy"),
-    (Case::Grown, b"$('<p><b>')", "1 2"),
-    (Case::Grown, b"'<p>' + x", "DynamicMarkup(0)"),
-    (Case::Aimed, b"'.a, .b'", "2"),
-    (Case::Aimed, b"a", "ComplexArgument(0)"),
-    (Case::Chained, b"$('.a').hide().css({a: 1})", "true"),
-    (Case::Chained, b"$('.a').val()", "false"),
-    (Case::Chained, b"a.val(1).css('b')", "false"),
-    (Case::Hidden, b"(b, a)", "3 false"),
-    (Case::Chosen, b".a, .b", "2 2 2"),
-    (Case::Chosen, b".a > b", "ComplexArgument(2)"),
-    (Case::Standing, b"a\nbc", "2:3 1:2 2:3 "),
+    (OfWords::Joined, b"'a' + \"b\"", "ab"),
+    (OfWords::Joined, b"'a' + b", "none"),
+    (OfWords::Closed, b"'a')", "a"),
+    (
+        OfWords::Declared,
+        b"function f(){} g = function(){}",
+        "f g ",
+    ),
+    (OfWords::Lengths, b"a, (b, c); d)", "1 7"),
 ];
 
-fn answer(alloc: Global, case: Case, text: &[u8]) -> Result<String, ScriptFault> {
-    match case {
-        Case::BehindList => behind_list(alloc, text),
-        Case::Joined => joined(alloc, text),
-        Case::Closed => closed(alloc, text),
-        Case::Declared => declared(alloc, text),
-        Case::Lengths => lengths(alloc, text),
-        Case::List => list(alloc, text),
-        Case::Begun => begun(alloc, text),
-        Case::Argument => argument(alloc, text),
-        Case::Grown => grown(alloc, text),
-        Case::Aimed => aimed(alloc, text),
-        Case::Chained => chained(alloc, text),
-        Case::Hidden => hidden(alloc, text),
-        Case::Chosen => chosen(alloc, text),
-        Case::Standing => standing(alloc, text),
-    }
+static PARTS: [(OfParts, &[u8], &str); 19] = [
+    (OfParts::List, b"f(a, [b, c]).x", "2 true 11"),
+    (OfParts::List, b"f(g(1), [3) + 1", "2 false 10"),
+    (OfParts::List, b"f(; a, b)", "0 true 2"),
+    (OfParts::List, b"f(g(), h(i(1, 2), j), k", "3 true 23"),
+    (OfParts::Begun, b"$('.a, .b').x", "elements 0 11"),
+    (OfParts::Begun, b"jQuery(' <p><b>').x", "markup 2 17"),
+    (OfParts::Begun, b"$(document)", "everywhere 0 11"),
+    (OfParts::Begun, b"a.on", "everywhere 0 1"),
+    (OfParts::Begun, b"$(this)", "ThisOutside(2)"),
+    (OfParts::Begun, b"$('.a', b)", "ComplexArgument(2)"),
+    (OfParts::Argument, b"'x' + 'y', 1", "xy"),
+    (OfParts::Grown, b"$('<p><b>')", "1 2"),
+    (OfParts::Grown, b"'<p>' + x", "DynamicMarkup(0)"),
+    (OfParts::Aimed, b"'.a, .b'", "2"),
+    (OfParts::Aimed, b"a", "ComplexArgument(0)"),
+    (OfParts::Chained, b"$('.a').hide().css({a: 1})", "true"),
+    (OfParts::Chained, b"$('.a').val()", "false"),
+    (OfParts::Chained, b"a.val(1).css('b')", "false"),
+    (OfParts::Hidden, b"(b, a)", "3 false"),
+];
+
+static LETTERS: [(OfLetters, &[u8], &str); 3] = [
+    (OfLetters::Chosen, b".a, .b", "2 2 2"),
+    (OfLetters::Chosen, b".a > b", "ComplexArgument(2)"),
+    (OfLetters::Standing, b"a\nbc", "2:3 1:2 2:3 "),
+];
+
+fn is_fault(alloc: Global, fault: &ScriptFault, want: &str) -> Result<bool, AllocError> {
+    let found = format!(in alloc; "{fault:?}")?;
+    Ok(found.as_str() == want)
 }
 
-// The answer, or the fault.
-fn written(alloc: Global, case: Case, text: &[u8]) -> Result<String, AllocError> {
-    match answer(alloc, case, text) {
-        Ok(found) => Ok(found),
-        Err(fault) => format!(in alloc; "{fault:?}"),
+// Whether an answer, or the fault, reads so.
+fn is_written(
+    alloc: Global,
+    answer: Result<String, ScriptFault>,
+    want: &str,
+) -> Result<bool, AllocError> {
+    match answer {
+        Ok(found) => Ok(found.as_str() == want),
+        Err(fault) => is_fault(alloc, &fault, want),
     }
 }
 
 #[test]
-fn worked_examples(rt: HostRuntime) -> Result<(), Fail> {
-    for (case, text, want) in ROWS.iter() {
-        let found = written(rt.alloc(), *case, text)?;
-        assert!(rt; found.as_str() == *want, "{want}");
+fn words(rt: HostRuntime) -> Result<(), Fail> {
+    for (case, text, want) in &WORDS {
+        let answer = of_words(rt.alloc(), *case, text);
+        assert!(rt; is_written(rt.alloc(), answer, want)?, "{want}");
+    }
+    Ok(())
+}
+
+#[test]
+fn parts(rt: HostRuntime) -> Result<(), Fail> {
+    for (case, text, want) in &PARTS {
+        let answer = of_parts(rt.alloc(), *case, text);
+        assert!(rt; is_written(rt.alloc(), answer, want)?, "{want}");
+    }
+    Ok(())
+}
+
+#[test]
+fn letters(rt: HostRuntime) -> Result<(), Fail> {
+    for (case, text, want) in &LETTERS {
+        let answer = of_letters(rt.alloc(), *case, text);
+        assert!(rt; is_written(rt.alloc(), answer, want)?, "{want}");
     }
     Ok(())
 }

@@ -4,7 +4,11 @@
 #[cfg(test)]
 mod examples;
 #[cfg(test)]
+mod letters;
+#[cfg(test)]
 mod parts;
+#[cfg(test)]
+mod places;
 #[cfg(test)]
 mod scripts;
 #[cfg(test)]

@@ -1,5 +1,7 @@
 //! Scripts: the places of their statements, or why they aren't read.
+use crate::places::places;
 use jq_read::{ScriptFault, read_script};
+use jq_sem::Stmt;
 use js_scan::Letters;
 use std::alloc::{AllocError, Global};
 use std::test::Fail;
@@ -10,41 +12,57 @@ fn named(alloc: Global, kind: &str, name: &Letters, at: usize) -> Result<String,
     format!(in alloc; "{kind} {name} {at}")
 }
 
-fn refused(alloc: Global, fault: &ScriptFault) -> Result<String, AllocError> {
+// The kind of a fault, and its offset, or 0 where it has none.
+fn kind_of(fault: &ScriptFault) -> (&'static str, usize) {
     match fault {
-        ScriptFault::Scan(fault) => format!(in alloc; "Scan {fault:?}"),
-        ScriptFault::UnknownCall(name, at) => named(alloc, "UnknownCall", name, *at),
-        ScriptFault::UnknownForm(at) => format!(in alloc; "UnknownForm {at}"),
-        ScriptFault::ComplexArgument(at) => format!(in alloc; "ComplexArgument {at}"),
-        ScriptFault::DynamicMarkup(at) => format!(in alloc; "DynamicMarkup {at}"),
-        ScriptFault::ThisOutside(at) => format!(in alloc; "ThisOutside {at}"),
-        ScriptFault::UnboundName(name, at) => named(alloc, "UnboundName", name, *at),
-        ScriptFault::TooLong(at) => format!(in alloc; "TooLong {at}"),
-        ScriptFault::TooDeep(at) => format!(in alloc; "TooDeep {at}"),
-        ScriptFault::TooManyStatements(at) => format!(in alloc; "TooManyStatements {at}"),
-        ScriptFault::TooManyForestNodes(at) => format!(in alloc; "TooManyForestNodes {at}"),
-        ScriptFault::TooManyAtoms(at) => format!(in alloc; "TooManyAtoms {at}"),
-        ScriptFault::Memory => format!(in alloc; "Memory"),
+        ScriptFault::Scan(_) => ("Scan", 0),
+        ScriptFault::UnknownCall(_, at) => ("UnknownCall", *at),
+        ScriptFault::UnknownForm(at) => ("UnknownForm", *at),
+        ScriptFault::ComplexArgument(at) => ("ComplexArgument", *at),
+        ScriptFault::DynamicMarkup(at) => ("DynamicMarkup", *at),
+        ScriptFault::ThisOutside(at) => ("ThisOutside", *at),
+        ScriptFault::UnboundName(_, at) => ("UnboundName", *at),
+        ScriptFault::TooLong(at) => ("TooLong", *at),
+        ScriptFault::TooDeep(at) => ("TooDeep", *at),
+        ScriptFault::TooManyStatements(at) => ("TooManyStatements", *at),
+        ScriptFault::TooManyForestNodes(at) => ("TooManyForestNodes", *at),
+        ScriptFault::TooManyAtoms(at) => ("TooManyAtoms", *at),
+        ScriptFault::Memory => ("Memory", 0),
+    }
+}
+
+fn refused(alloc: Global, fault: &ScriptFault) -> Result<String, AllocError> {
+    let (kind, at) = kind_of(fault);
+    match fault {
+        ScriptFault::Scan(fault) => format!(in alloc; "{kind} {fault:?}"),
+        ScriptFault::UnknownCall(name, _) => named(alloc, kind, name, at),
+        ScriptFault::UnboundName(name, _) => named(alloc, kind, name, at),
+        ScriptFault::Memory => String::from_str(alloc, kind),
+        _ => format!(in alloc; "{kind} {at}"),
     }
 }
 
 // The places of a script's statements, or the fault.
+fn written(alloc: Global, answer: Result<Vec<Stmt>, ScriptFault>) -> Result<String, AllocError> {
+    match answer {
+        Ok(stmts) => places(alloc, &stmts),
+        Err(fault) => refused(alloc, &fault),
+    }
+}
+
 fn read(alloc: Global, text: &str) -> Result<String, AllocError> {
     let bytes = text.as_bytes();
     if bytes.len() > MOST_BYTES as usize {
-        return format!(in alloc; "too large");
+        return String::from_str(alloc, "too large");
     }
     let mut atoms = AtomTable::new(alloc);
-    let stmts = match read_script(alloc, bytes, &mut atoms) {
-        Ok(stmts) => stmts,
-        Err(fault) => return refused(alloc, &fault),
-    };
-    let mut out = String::new(alloc);
-    for stmt in &stmts {
-        let place = format!(in alloc; "{}:{} ", stmt.place.line, stmt.place.column)?;
-        out.push_str(&place)?;
-    }
-    Ok(out)
+    let answer = read_script(alloc, bytes, &mut atoms);
+    written(alloc, answer)
+}
+
+fn reads(alloc: Global, text: &str, expected: &str) -> Result<bool, AllocError> {
+    let got = read(alloc, text)?;
+    Ok(got.as_str() == expected)
 }
 
 // Statements that are no chains, and what is no statement.
@@ -275,44 +293,44 @@ static SHOP: [(&str, &str); 1] = [(
     "6:22 10:15 13:17 13:48 19:31 ",
 )];
 
-// The rows whose script reads otherwise, with what came.
-fn others(alloc: Global, rows: &[(&str, &str)]) -> Result<String, AllocError> {
-    let mut out = String::new(alloc);
+// The first script of a table that reads otherwise.
+fn other(
+    alloc: Global,
+    rows: &[(&'static str, &'static str)],
+) -> Result<Option<&'static str>, AllocError> {
     for (text, expected) in rows {
-        let got = read(alloc, text)?;
-        if got.as_str() != *expected {
-            let other = format!(in alloc; "{text}: {got}\n")?;
-            out.push_str(&other)?;
+        if !reads(alloc, text, expected)? {
+            return Ok(Some(*text));
         }
     }
-    Ok(out)
+    Ok(None)
 }
 
 #[test]
 fn forms(rt: HostRuntime) -> Result<(), Fail> {
-    let others = others(rt.alloc(), &FORMS)?;
-    assert!(rt; others.is_empty(), "{others}");
+    let other = other(rt.alloc(), &FORMS)?;
+    assert!(rt; other.is_none(), "{other:?}");
     Ok(())
 }
 
 #[test]
 fn chains(rt: HostRuntime) -> Result<(), Fail> {
-    let others = others(rt.alloc(), &CHAINS)?;
-    assert!(rt; others.is_empty(), "{others}");
+    let other = other(rt.alloc(), &CHAINS)?;
+    assert!(rt; other.is_none(), "{other:?}");
     Ok(())
 }
 
 #[test]
 fn functions(rt: HostRuntime) -> Result<(), Fail> {
-    let others = others(rt.alloc(), &FUNCTIONS)?;
-    assert!(rt; others.is_empty(), "{others}");
+    let other = other(rt.alloc(), &FUNCTIONS)?;
+    assert!(rt; other.is_none(), "{other:?}");
     Ok(())
 }
 
 #[test]
 fn shop(rt: HostRuntime) -> Result<(), Fail> {
-    let others = others(rt.alloc(), &SHOP)?;
-    assert!(rt; others.is_empty(), "{others}");
+    let other = other(rt.alloc(), &SHOP)?;
+    assert!(rt; other.is_none(), "{other:?}");
     Ok(())
 }
 
@@ -332,24 +350,32 @@ fn repeated(
     Ok(text)
 }
 
-// The rows whose script reads otherwise: a front, a piece so many times, an end, and what is expected.
-fn other_sizes(
+fn size_reads(
     alloc: Global,
-    rows: &[(&str, &str, u32, &str, &str)],
-) -> Result<String, AllocError> {
-    let mut out = String::new(alloc);
-    for (front, piece, count, end, expected) in rows {
-        let text = repeated(alloc, front, piece, *count, end)?;
-        let got = read(alloc, &text)?;
-        if got.as_str() != *expected {
-            let other = format!(in alloc; "{piece} {count}: {got}\n")?;
-            out.push_str(&other)?;
-        }
-    }
-    Ok(out)
+    front: &str,
+    piece: &str,
+    count: u32,
+    end: &str,
+    expected: &str,
+) -> Result<bool, AllocError> {
+    let text = repeated(alloc, front, piece, count, end)?;
+    reads(alloc, &text, expected)
 }
 
-// At the limits on brackets and on calls, and past them.
+// What was expected of the first script that reads otherwise.
+fn other_size(
+    alloc: Global,
+    rows: &[(&str, &str, u32, &str, &'static str)],
+) -> Result<Option<&'static str>, AllocError> {
+    for (front, piece, count, end, expected) in rows {
+        if !size_reads(alloc, front, piece, *count, end, expected)? {
+            return Ok(Some(*expected));
+        }
+    }
+    Ok(None)
+}
+
+// A front, a piece so many times, an end, and what is expected: at the limits on brackets and on calls, and past them.
 static DEPTHS: [(&str, &str, u32, &str, &str); 8] = [
     ("", "{", 512, "", "UnknownForm 512"),
     ("", "{", 513, "", "TooDeep 512"),
@@ -394,15 +420,15 @@ static COUNTS: [(&str, &str, u32, &str, &str); 3] = [
 
 #[test]
 fn depths(rt: HostRuntime) -> Result<(), Fail> {
-    let others = other_sizes(rt.alloc(), &DEPTHS)?;
-    assert!(rt; others.is_empty(), "{others}");
+    let other = other_size(rt.alloc(), &DEPTHS)?;
+    assert!(rt; other.is_none(), "{other:?}");
     Ok(())
 }
 
 #[test]
 fn counts(rt: HostRuntime) -> Result<(), Fail> {
-    let others = other_sizes(rt.alloc(), &COUNTS)?;
-    assert!(rt; others.is_empty(), "{others}");
+    let other = other_size(rt.alloc(), &COUNTS)?;
+    assert!(rt; other.is_none(), "{other:?}");
     Ok(())
 }
 
@@ -417,37 +443,52 @@ static STATEMENTS: [(&str, &str, u32, &str, &str); 1] = [(
 
 #[test]
 fn statements(rt: HostRuntime) -> Result<(), Fail> {
-    let others = other_sizes(rt.alloc(), &STATEMENTS)?;
-    assert!(rt; others.is_empty(), "{others}");
+    let other = other_size(rt.alloc(), &STATEMENTS)?;
+    assert!(rt; other.is_none(), "{other:?}");
     Ok(())
+}
+
+fn push_number(alloc: Global, text: &mut String, number: u32) -> Result<(), AllocError> {
+    let name = format!(in alloc; "c{number} ")?;
+    text.push_str(&name)
 }
 
 // A front, so many names, and an end.
 fn numbered(alloc: Global, front: &str, count: u32, end: &str) -> Result<String, AllocError> {
     let mut text = String::from_str(alloc, front)?;
-    for i in 0..count {
-        let name = format!(in alloc; "c{i} ")?;
-        text.push_str(&name)?;
+    for number in 0..count {
+        push_number(alloc, &mut text, number)?;
     }
     text.push_str(end)?;
     Ok(text)
 }
 
-// The rows whose script reads otherwise: a front, so many names, an end, and what is expected.
-fn other_numbers(alloc: Global, rows: &[(&str, u32, &str, &str)]) -> Result<String, AllocError> {
-    let mut out = String::new(alloc);
-    for (front, count, end, expected) in rows {
-        let text = numbered(alloc, front, *count, end)?;
-        let got = read(alloc, &text)?;
-        if got.as_str() != *expected {
-            let other = format!(in alloc; "{front} {count}: {got}\n")?;
-            out.push_str(&other)?;
-        }
-    }
-    Ok(out)
+fn number_reads(
+    alloc: Global,
+    front: &str,
+    count: u32,
+    end: &str,
+    expected: &str,
+) -> Result<bool, AllocError> {
+    let text = numbered(alloc, front, count, end)?;
+    reads(alloc, &text, expected)
 }
 
-// At the limit on names and past it: the class of the root is one of them, and so is the type of an element.
+// How many names the first script has that reads otherwise.
+fn other_number(
+    alloc: Global,
+    rows: &[(&str, u32, &str, &str)],
+) -> Result<Option<u32>, AllocError> {
+    for (front, count, end, expected) in rows {
+        if !number_reads(alloc, front, *count, end, expected)? {
+            return Ok(Some(*count));
+        }
+    }
+    Ok(None)
+}
+
+// A front, so many names, an end, and what is expected: at the limit on names and past it. The class of the root is one of
+// them, and so is the type of an element.
 static NAMES: [(&str, u32, &str, &str); 4] = [
     ("$('.a').addClass('", 65534, "')", "1:9 "),
     ("$('.a').addClass('", 65535, "')", "TooManyAtoms 17"),
@@ -462,7 +503,7 @@ static NAMES: [(&str, u32, &str, &str); 4] = [
 
 #[test]
 fn names(rt: HostRuntime) -> Result<(), Fail> {
-    let others = other_numbers(rt.alloc(), &NAMES)?;
-    assert!(rt; others.is_empty(), "{others}");
+    let other = other_number(rt.alloc(), &NAMES)?;
+    assert!(rt; other.is_none(), "{other:?}");
     Ok(())
 }

@@ -6,7 +6,16 @@ use jq_words::{
     Rules, ScriptFault, Words, argument_len, closed_texts, declared_in, free, joined_texts, place,
 };
 use js_scan::{Token, scan};
-use std::alloc::Global;
+use std::alloc::{AllocError, Global};
+
+#[derive(Clone, Copy)]
+pub(crate) enum OfWords {
+    BehindList,
+    Joined,
+    Closed,
+    Declared,
+    Lengths,
+}
 
 pub(crate) fn tokens_of(alloc: Global, text: &[u8]) -> Result<Vec<Token>, ScriptFault>
     ensures { IfOk result (λ v. InOrder 0 (length text.now) v.items) }
@@ -17,58 +26,83 @@ pub(crate) fn tokens_of(alloc: Global, text: &[u8]) -> Result<Vec<Token>, Script
     }
 }
 
-pub(crate) fn lettered(alloc: Global, letters: Option<Vec<u8>>) -> Result<String, ScriptFault> {
-    match letters {
-        None => Ok(String::from_str(alloc, "none")?),
-        Some(letters) => Ok(String::from_str(
-            alloc,
-            str::from_utf8(&letters).unwrap_or("not utf-8"),
-        )?),
+/// What is read of a text.
+pub(crate) fn of_words(alloc: Global, case: OfWords, text: &[u8]) -> Result<String, ScriptFault> {
+    let tokens = tokens_of(alloc, text)?;
+    let words = Words::new(text, &tokens);
+    answer(alloc, case, text.len(), words)
+}
+
+fn answer(
+    alloc: Global,
+    case: OfWords,
+    size: usize,
+    words: Words<'_>,
+) -> Result<String, ScriptFault> {
+    match case {
+        OfWords::BehindList => behind_list(alloc, size, words),
+        OfWords::Joined => joined(alloc, &words),
+        OfWords::Closed => closed(alloc, &words),
+        OfWords::Declared => declared(alloc, &words),
+        OfWords::Lengths => lengths(alloc, &words),
     }
 }
 
+fn letters_or_none(letters: &Option<Vec<u8>>) -> &str {
+    match letters {
+        None => "none",
+        Some(letters) => str::from_utf8(letters).unwrap_or("not utf-8"),
+    }
+}
+
+pub(crate) fn lettered(alloc: Global, letters: Option<Vec<u8>>) -> Result<String, ScriptFault> {
+    Ok(String::from_str(alloc, letters_or_none(&letters))?)
+}
+
 /// Where the words behind a list of expressions stand.
-pub(crate) fn behind_list(alloc: Global, text: &[u8]) -> Result<String, ScriptFault> {
-    let tokens = tokens_of(alloc, text)?;
-    let mut words = Words::new(text, &tokens);
+fn behind_list(alloc: Global, size: usize, mut words: Words<'_>) -> Result<String, ScriptFault> {
     let rules = Rules {
         declared: &[],
         has_this: false,
         braces: false,
         room: 2,
     };
-    free(alloc, text.len(), rules, &mut words)?;
-    Ok(format!(in alloc; "{}", place(text.len(), &words))?)
+    free(alloc, size, rules, &mut words)?;
+    Ok(format!(in alloc; "{}", place(size, &words))?)
 }
 
 /// The letters of strings joined.
-pub(crate) fn joined(alloc: Global, text: &[u8]) -> Result<String, ScriptFault> {
-    let tokens = tokens_of(alloc, text)?;
-    lettered(alloc, joined_texts(alloc, &Words::new(text, &tokens))?)
+fn joined(alloc: Global, words: &Words<'_>) -> Result<String, ScriptFault> {
+    lettered(alloc, joined_texts(alloc, words)?)
 }
 
 /// The letters of strings joined before a closing bracket.
-pub(crate) fn closed(alloc: Global, text: &[u8]) -> Result<String, ScriptFault> {
-    let tokens = tokens_of(alloc, text)?;
-    lettered(alloc, closed_texts(alloc, &Words::new(text, &tokens))?)
+fn closed(alloc: Global, words: &Words<'_>) -> Result<String, ScriptFault> {
+    lettered(alloc, closed_texts(alloc, words)?)
 }
 
-/// The functions that a text declares.
-pub(crate) fn declared(alloc: Global, text: &[u8]) -> Result<String, ScriptFault> {
-    let tokens = tokens_of(alloc, text)?;
+fn push_name(out: &mut String, name: &[u8]) -> Result<(), AllocError> {
+    out.push_str(str::from_utf8(name).unwrap_or("not utf-8"))?;
+    out.push_str(" ")
+}
+
+fn spaced(alloc: Global, names: &[&[u8]]) -> Result<String, AllocError> {
     let mut out = String::new(alloc);
-    for name in declared_in(alloc, &Words::new(text, &tokens))? {
-        out.push_str(str::from_utf8(name).unwrap_or("not utf-8"))?;
-        out.push_str(" ")?;
+    for name in names {
+        push_name(&mut out, name)?;
     }
     Ok(out)
 }
 
+/// The functions that a text declares.
+fn declared(alloc: Global, words: &Words<'_>) -> Result<String, ScriptFault> {
+    let names = declared_in(alloc, words)?;
+    Ok(spaced(alloc, &names)?)
+}
+
 /// How many words the first argument has, and all of them.
-pub(crate) fn lengths(alloc: Global, text: &[u8]) -> Result<String, ScriptFault> {
-    let tokens = tokens_of(alloc, text)?;
-    let words = Words::new(text, &tokens);
-    let first = argument_len(alloc, true, &words)?;
-    let all = argument_len(alloc, false, &words)?;
+fn lengths(alloc: Global, words: &Words<'_>) -> Result<String, ScriptFault> {
+    let first = argument_len(alloc, true, words)?;
+    let all = argument_len(alloc, false, words)?;
     Ok(format!(in alloc; "{first} {all}")?)
 }

@@ -49,11 +49,22 @@ static NODES: [(&[u32], &[u32]); 11] = [
     (&[], &[D]),
 ];
 
+fn add_child(
+    alloc: Global,
+    tree: &mut Tree,
+    parent: &[u32],
+    label: &[u32],
+) -> Result<(), TreeFault> {
+    let at = path_of(alloc, parent)?;
+    tree.add_child(&at, set_of(alloc, label)?)?;
+    Ok(())
+}
+
 /// A page of twelve nodes.
 pub fn page(alloc: Global) -> Result<Tree, TreeFault> {
     let mut tree = Tree::new(alloc, ClassSet::new(alloc))?;
     for (parent, label) in &NODES {
-        tree.add_child(&path_of(alloc, parent)?, set_of(alloc, label)?)?;
+        add_child(alloc, &mut tree, parent, label)?;
     }
     Ok(tree)
 }
@@ -71,10 +82,14 @@ fn compounds(alloc: Global, atoms: &[u32]) -> Result<SharedCompounds, NoMemory> 
     SharedCompounds::new(items)
 }
 
+fn selector(alloc: Global, atom: u32) -> Result<Selector, NoMemory> {
+    Selector::of_one(alloc, compound(alloc, atom)?)
+}
+
 fn selectors(alloc: Global, atoms: &[u32]) -> Result<Selectors, NoMemory> {
     let mut items = Vec::new(alloc);
     for atom in atoms {
-        items.push(Selector::of_one(alloc, compound(alloc, *atom)?)?)?;
+        items.push(selector(alloc, *atom)?)?;
     }
     Selectors::new(items)
 }
@@ -128,19 +143,42 @@ fn chains(alloc: Global, handlers: &[&'static [Piece]]) -> Result<Chains, NoMemo
     Ok(Chains::new(items))
 }
 
-/// A statement with these handlers and this chain.
+fn statement_with(
+    alloc: Global,
+    handlers: Chains,
+    pieces: &[Piece],
+    action: Action,
+) -> Result<Stmt, NoMemory> {
+    let chain = chain(alloc, pieces)?;
+    Ok(Stmt {
+        place: Place { line: 1, column: 1 },
+        handlers,
+        chain,
+        action,
+    })
+}
+
+/// A statement with these handlers and this chain, and the action of the letter.
 pub fn statement(
     alloc: Global,
     handlers: &[&'static [Piece]],
     pieces: &[Piece],
-    action: Action,
-) -> Result<Stmt, NoMemory> {
-    Ok(Stmt {
-        place: Place { line: 1, column: 1 },
-        handlers: chains(alloc, handlers)?,
-        chain: chain(alloc, pieces)?,
-        action,
-    })
+    letter: u8,
+) -> Result<Stmt, TreeFault> {
+    let action = action(alloc, letter)?;
+    let stmt = statement_with(alloc, chains(alloc, handlers)?, pieces, action)?;
+    Ok(stmt)
+}
+
+fn leaf(alloc: Global, class: u32) -> Result<Tree, TreeFault> {
+    let tree = Tree::new(alloc, set_of(alloc, &[class])?)?;
+    Ok(tree)
+}
+
+fn with_child(alloc: Global) -> Result<Tree, TreeFault> {
+    let mut tree = leaf(alloc, A)?;
+    add_child(alloc, &mut tree, &[], &[B])?;
+    Ok(tree)
 }
 
 fn forest_of(alloc: Global, trees: [Tree; 2]) -> Result<Forest, NoMemory> {
@@ -149,36 +187,42 @@ fn forest_of(alloc: Global, trees: [Tree; 2]) -> Result<Forest, NoMemory> {
     })
 }
 
-/// Two trees: one of a node with a child, and one of a node. The first ones have one class, the child another.
-pub fn forest(alloc: Global) -> Result<Forest, TreeFault> {
-    let mut first = Tree::new(alloc, set_of(alloc, &[A])?)?;
-    first.add_child(&Path::root(alloc), set_of(alloc, &[B])?)?;
-    let second = Tree::new(alloc, set_of(alloc, &[A])?)?;
+// Two trees: one of a node with a child, and one of a node. The first ones have one class, the child another.
+fn forest(alloc: Global) -> Result<Forest, TreeFault> {
+    let first = with_child(alloc)?;
+    let second = leaf(alloc, A)?;
     Ok(forest_of(alloc, [first, second])?)
+}
+
+fn two_children(alloc: Global) -> Result<Tree, TreeFault> {
+    let mut tree = Tree::new(alloc, ClassSet::new(alloc))?;
+    add_child(alloc, &mut tree, &[], &[])?;
+    add_child(alloc, &mut tree, &[], &[])?;
+    Ok(tree)
 }
 
 /// A root with two children, the second of which has as many boxes.
 pub fn boxes(alloc: Global, count: u32) -> Result<Tree, TreeFault> {
-    let root = Path::root(alloc);
-    let mut tree = Tree::new(alloc, ClassSet::new(alloc))?;
-    tree.add_child(&root, ClassSet::new(alloc))?;
-    tree.add_child(&root, ClassSet::new(alloc))?;
+    let mut tree = two_children(alloc)?;
     for _ in 0..count {
-        tree.add_child(&path_of(alloc, &[1])?, set_of(alloc, &[A])?)?;
+        add_child(alloc, &mut tree, &[1], &[A])?;
     }
     Ok(tree)
 }
 
-fn one_box(alloc: Global) -> Result<Forest, NoMemory> {
-    let mut tops = Vec::new(alloc);
-    tops.push(Tree::new(alloc, set_of(alloc, &[A])?)?)?;
+fn forest_of_one(alloc: Global, tree: Tree) -> Result<Forest, NoMemory> {
     Ok(Forest {
-        tops: Trees::new(tops),
+        tops: Trees::new(Vec::from_array(alloc, [tree])?),
     })
 }
 
-/// What a statement does: `+` adds a class, `i` adds trees inside, `b` beside, and `1` adds a box inside.
-pub fn action(alloc: Global, letter: u8) -> Result<Action, TreeFault> {
+fn one_box(alloc: Global) -> Result<Forest, TreeFault> {
+    let tree = leaf(alloc, A)?;
+    Ok(forest_of_one(alloc, tree)?)
+}
+
+// What a statement does: `+` adds a class, `i` adds trees inside, `b` beside, and `1` adds a box inside.
+fn action(alloc: Global, letter: u8) -> Result<Action, TreeFault> {
     match letter {
         b'+' => Ok(Action::Classes(set_of(alloc, &[D])?)),
         b'i' => Ok(Action::Inside(forest(alloc)?)),

@@ -1,4 +1,4 @@
-use crate::building::{A, B, C, D, Piece, action, boxes, page, path_of, statement};
+use crate::building::{A, B, C, D, Piece, boxes, page, path_of, statement};
 use jq_sem::{Stmt, act, run_whole, selects};
 use rule_core::{ReplayFault, replay};
 use std::alloc::Global;
@@ -9,6 +9,16 @@ use tree_sem::{Step, Tree, TreeFault, go_on};
 // The numbers of the nodes that a statement selects, in the order of the document.
 fn selected(alloc: Global, s: &Stmt, tree: &Tree) -> Result<Vec<u32>, NoMemory> {
     let mut numbers = Vec::new(alloc);
+    add_selected(alloc, s, tree, &mut numbers)?;
+    Ok(numbers)
+}
+
+fn add_selected(
+    alloc: Global,
+    s: &Stmt,
+    tree: &Tree,
+    numbers: &mut Vec<u32>,
+) -> Result<(), NoMemory> {
     let mut at = Path::root(alloc);
     for number in 0..tree.count() {
         if selects(alloc, s, tree, &at)? {
@@ -18,7 +28,7 @@ fn selected(alloc: Global, s: &Stmt, tree: &Tree) -> Result<Vec<u32>, NoMemory> 
             break;
         }
     }
-    Ok(numbers)
+    Ok(())
 }
 
 // Handlers, a chain, and the nodes that are selected. The page's nodes are, by their numbers,
@@ -72,10 +82,14 @@ static SELECTIONS: [Selection; 19] = [
     ),
 ];
 
-fn is_right(alloc: Global, row: &Selection) -> Result<bool, TreeFault> {
-    let stmt = statement(alloc, row.0, row.1, action(alloc, b'+')?)?;
+fn selected_in_page(alloc: Global, s: &Stmt) -> Result<Vec<u32>, TreeFault> {
     let tree = page(alloc)?;
-    Ok(selected(alloc, &stmt, &tree)?.as_slice() == row.2)
+    Ok(selected(alloc, s, &tree)?)
+}
+
+fn is_right(alloc: Global, row: &Selection) -> Result<bool, TreeFault> {
+    let stmt = statement(alloc, row.0, row.1, b'+')?;
+    Ok(selected_in_page(alloc, &stmt)?.as_slice() == row.2)
 }
 
 #[test]
@@ -140,11 +154,25 @@ static DEEDS: [Deed; 9] = [
     ),
 ];
 
-fn done(alloc: Global, row: &Deed) -> Result<bool, TreeFault> {
-    let stmt = statement(alloc, &[], &[(b'$', &[A])], action(alloc, row.0)?)?;
+fn act_at(
+    alloc: Global,
+    s: &Stmt,
+    tree: &mut Tree,
+    numbers: &[u32],
+) -> Result<Result<(), TreeFault>, NoMemory> {
+    let at = path_of(alloc, numbers)?;
+    Ok(act(alloc, s, tree, &at))
+}
+
+fn acts(alloc: Global, s: &Stmt, row: &Deed) -> Result<bool, TreeFault> {
     let mut tree = page(alloc)?;
-    let answer = act(alloc, &stmt, &mut tree, &path_of(alloc, row.1)?);
+    let answer = act_at(alloc, s, &mut tree, row.1)?;
     Ok(answer == row.2 && shape(alloc, &tree, row.3)? == row.4)
+}
+
+fn done(alloc: Global, row: &Deed) -> Result<bool, TreeFault> {
+    let stmt = statement(alloc, &[], &[(b'$', &[A])], row.0)?;
+    acts(alloc, &stmt, row)
 }
 
 // An action and a chain; what `run_whole` answers, and the shape of the tree then, at a path.
@@ -208,11 +236,15 @@ static RUNS: [Run; 7] = [
     ),
 ];
 
-fn ran(alloc: Global, row: &Run) -> Result<bool, TreeFault> {
-    let stmt = statement(alloc, &[], row.1, action(alloc, row.0)?)?;
+fn runs(alloc: Global, s: &Stmt, row: &Run) -> Result<bool, TreeFault> {
     let mut tree = page(alloc)?;
-    let answer = run_whole(alloc, &stmt, &mut tree);
+    let answer = run_whole(alloc, s, &mut tree);
     Ok(answer == row.2 && shape(alloc, &tree, row.3)? == row.4)
+}
+
+fn ran(alloc: Global, row: &Run) -> Result<bool, TreeFault> {
+    let stmt = statement(alloc, &[], row.1, row.0)?;
+    runs(alloc, &stmt, row)
 }
 
 #[test]
@@ -227,22 +259,13 @@ fn acts_and_runs(rt: HostRuntime) -> Result<(), Fail> {
 }
 
 fn two(alloc: Global, first: Stmt, second: Stmt) -> Result<Vec<Stmt>, NoMemory> {
-    let mut stmts = Vec::new(alloc);
-    stmts.push(first)?;
-    stmts.push(second)?;
-    Ok(stmts)
-}
-
-fn one(alloc: Global, stmt: Stmt) -> Result<Vec<Stmt>, NoMemory> {
-    let mut stmts = Vec::new(alloc);
-    stmts.push(stmt)?;
-    Ok(stmts)
+    Ok(Vec::from_array(alloc, [first, second])?)
 }
 
 // Statement 0 gives each `.a` a class, statement 1 puts trees inside each node that has it.
 fn script(alloc: Global) -> Result<Vec<Stmt>, TreeFault> {
-    let first = statement(alloc, &[], &[(b'$', &[A])], action(alloc, b'+')?)?;
-    let second = statement(alloc, &[], &[(b'$', &[D])], action(alloc, b'i')?)?;
+    let first = statement(alloc, &[], &[(b'$', &[A])], b'+')?;
+    let second = statement(alloc, &[], &[(b'$', &[D])], b'i')?;
     Ok(two(alloc, first, second)?)
 }
 
@@ -305,14 +328,35 @@ static REPLAYS: [Replay; 7] = [
     ),
 ];
 
-fn replayed(alloc: Global, row: &Replay) -> Result<bool, TreeFault> {
+fn replay_all(
+    alloc: Global,
+    stmts: &[Stmt],
+    tree: &mut Tree,
+    steps: &[(u32, &'static [u32])],
+) -> Result<Result<(), ReplayFault>, NoMemory> {
+    let steps = steps_of(alloc, steps)?;
+    Ok(replay(alloc, stmts, tree, &steps))
+}
+
+fn replay_row(
+    alloc: Global,
+    tree: &mut Tree,
+    row: &Replay,
+) -> Result<Result<(), ReplayFault>, TreeFault> {
     let stmts = script(alloc)?;
-    let page = page(alloc)?;
+    Ok(replay_all(alloc, &stmts, tree, row.0)?)
+}
+
+fn replays(alloc: Global, page: &Tree, row: &Replay) -> Result<bool, TreeFault> {
     let mut tree = page.copy()?;
-    let steps = steps_of(alloc, row.0)?;
-    let answer = replay(alloc, &stmts, &mut tree, &steps);
-    let kept = shape(alloc, &page, &[0])? == (12, Some(2), Some(false));
-    Ok(kept && answer == row.1 && shape(alloc, &tree, row.2)? == row.3)
+    let answer = replay_row(alloc, &mut tree, row)?;
+    Ok(answer == row.1 && shape(alloc, &tree, row.2)? == row.3)
+}
+
+fn replayed(alloc: Global, row: &Replay) -> Result<bool, TreeFault> {
+    let page = page(alloc)?;
+    let right = replays(alloc, &page, row)?;
+    Ok(right && shape(alloc, &page, &[0])? == (12, Some(2), Some(false)))
 }
 
 #[test]
@@ -323,57 +367,61 @@ fn replays_steps(rt: HostRuntime) -> Result<(), Fail> {
     Ok(())
 }
 
-// What is asked and done with boxes in a page, and the counts of the trees then.
-type Boxes = (
-    Result<(), ReplayFault>,
-    u32,
-    u32,
-    bool,
-    bool,
-    u32,
-    Result<u32, TreeFault>,
-    u32,
-);
+// Into each box a box is put.
+fn box_in_each(alloc: Global) -> Result<Stmt, TreeFault> {
+    statement(alloc, &[], &[(b'$', &[A])], b'1')
+}
 
-// Into each box a box is put: the second step is not legal.
-fn boxed(alloc: Global) -> Result<Boxes, TreeFault> {
-    let stmt = statement(alloc, &[], &[(b'$', &[A])], action(alloc, b'1')?)?;
-    let (inner, above) = (path_of(alloc, &[1, 0])?, path_of(alloc, &[1])?);
+fn selects_at(alloc: Global, s: &Stmt, tree: &Tree, numbers: &[u32]) -> Result<bool, NoMemory> {
+    let at = path_of(alloc, numbers)?;
+    selects(alloc, s, tree, &at)
+}
+
+// Whether the box is selected, and not the node above it.
+fn selects_the_box(alloc: Global, s: &Stmt) -> Result<bool, TreeFault> {
     let page = boxes(alloc, 1)?;
-    let here = selects(alloc, &stmt, &page, &inner)?;
-    let there = selects(alloc, &stmt, &page, &above)?;
-    let mut acted = page.copy()?;
-    act(alloc, &stmt, &mut acted, &inner)?;
+    let here = selects_at(alloc, s, &page, &[1, 0])?;
+    Ok(here && !selects_at(alloc, s, &page, &[1])?)
+}
+
+fn acts_at_the_box(alloc: Global, s: &Stmt) -> Result<bool, TreeFault> {
+    let mut page = boxes(alloc, 1)?;
+    let answer = act_at(alloc, s, &mut page, &[1, 0])?;
+    Ok(answer == Ok(()) && page.count() == 5)
+}
+
+fn runs_over_two(alloc: Global, s: &Stmt) -> Result<bool, TreeFault> {
     let mut two = boxes(alloc, 2)?;
-    let ran = run_whole(alloc, &stmt, &mut two);
+    let answer = run_whole(alloc, s, &mut two);
+    Ok(answer == Ok(2) && two.count() == 7)
+}
+
+fn one(alloc: Global, stmt: Stmt) -> Result<Vec<Stmt>, NoMemory> {
+    Ok(Vec::from_array(alloc, [stmt])?)
+}
+
+// Whether the second step is refused, and the first is done in the copy alone.
+fn refuses_the_second(alloc: Global, stmts: &[Stmt]) -> Result<bool, TreeFault> {
+    let page = boxes(alloc, 1)?;
     let mut tree = page.copy()?;
-    let stmts = one(alloc, stmt)?;
-    let steps = steps_of(alloc, &[(0, &[1, 0]), (0, &[1, 1])])?;
-    let answer = replay(alloc, &stmts, &mut tree, &steps);
-    Ok((
-        answer,
-        tree.count(),
-        page.count(),
-        here,
-        there,
-        acted.count(),
-        ran,
-        two.count(),
-    ))
+    let answer = replay_all(alloc, stmts, &mut tree, &[(0, &[1, 0]), (0, &[1, 1])])?;
+    Ok(answer == Err(ReplayFault::IllegalStep(1)) && tree.count() == 5 && page.count() == 4)
+}
+
+fn boxes_in_boxes(alloc: Global, s: &Stmt) -> Result<bool, TreeFault> {
+    Ok(selects_the_box(alloc, s)? && acts_at_the_box(alloc, s)? && runs_over_two(alloc, s)?)
+}
+
+#[test]
+fn puts_boxes_in_boxes(rt: HostRuntime) -> Result<(), Fail> {
+    let stmt = box_in_each(rt.alloc())?;
+    assert!(rt; boxes_in_boxes(rt.alloc(), &stmt)?);
+    Ok(())
 }
 
 #[test]
 fn refuses_an_illegal_second_step(rt: HostRuntime) -> Result<(), Fail> {
-    let want: Boxes = (
-        Err(ReplayFault::IllegalStep(1)),
-        5,
-        4,
-        true,
-        false,
-        5,
-        Ok(2),
-        7,
-    );
-    assert!(rt; boxed(rt.alloc())? == want);
+    let stmts = one(rt.alloc(), box_in_each(rt.alloc())?)?;
+    assert!(rt; refuses_the_second(rt.alloc(), &stmts)?);
     Ok(())
 }

@@ -4,23 +4,21 @@ ghost use Rattle.guard_simplify.specs.Law.{IsOver};
 use crate::writing::written;
 use guard_sem::{Guard, GuardNode, Guards};
 use guard_simplify::{Simplified, SimplifyFault, simplify};
-use std::alloc::Global;
+use std::alloc::{AllocError, Global};
 use std::test::Fail;
-use tp_base::{Atom, AtomKind, AtomTable, NoMemory};
+use tp_base::{Atom, AtomFault, AtomKind, AtomTable, NoMemory};
 
 // The atom, at a node whose parent the guard holds at.
 fn below(alloc: Global, atom: u32, parent: Guard) -> Result<Guard, NoMemory>
     ensures { (n : ℕ) → atom < n → IsOver n parent → IfOk result (λ g. IsOver n g) }
 {
-    let here = Guard {
-        node: GuardNode::Atom(Atom(atom)),
-    };
     let above = Guard {
         node: GuardNode::Parent(Box::new(alloc, parent)?),
     };
-    let mut parts = Vec::new(alloc);
-    parts.push(here)?;
-    parts.push(above)?;
+    let here = Guard {
+        node: GuardNode::Atom(Atom(atom)),
+    };
+    let parts = vec![in alloc; here, above]?;
     Ok(Guard {
         node: GuardNode::All(Guards::new(parts)),
     })
@@ -56,30 +54,46 @@ fn chains(
     Ok(guards)
 }
 
+fn enter(alloc: Global, atoms: &mut AtomTable, number: u32) -> Result<(), AtomFault> {
+    let name = number.to_string(alloc)?;
+    atoms.intern(AtomKind::Class, name.as_bytes())?;
+    Ok(())
+}
+
 // A table of so many names.
-fn table(alloc: Global, count: u32) -> Result<AtomTable, Fail> {
+fn table(alloc: Global, count: u32) -> Result<AtomTable, AtomFault> {
     let mut atoms = AtomTable::new(alloc);
     for number in 0..count {
-        let name = number.to_string(alloc)?;
-        atoms.intern(AtomKind::Class, name.as_bytes())?;
+        enter(alloc, &mut atoms, number)?;
     }
     Ok(atoms)
 }
 
-// What is made of so many guards, over a table of so many names. With too few names for the guards it is a fault that no
-// row expects.
+// What is made of so many guards. With too few names for the guards it is a fault that no row expects.
+fn made_over(
+    alloc: Global,
+    atoms: &AtomTable,
+    count: u32,
+    compounds: u32,
+) -> Result<Simplified, SimplifyFault> {
+    if count >= atoms.count() {
+        return Err(SimplifyFault::Memory);
+    }
+    let guards = chains(alloc, count, compounds, atoms)?;
+    simplify(alloc, &[], &guards, atoms)
+}
+
+// The same over a table of so many names. With no such table it is that fault, too.
 fn made(
     alloc: Global,
     names: u32,
     count: u32,
     compounds: u32,
-) -> Result<Result<Simplified, SimplifyFault>, Fail> {
-    let atoms = table(alloc, names)?;
-    if count >= atoms.count() {
-        return Ok(Err(SimplifyFault::Memory));
-    }
-    let guards = chains(alloc, count, compounds, &atoms)?;
-    Ok(simplify(alloc, &[], &guards, &atoms))
+) -> Result<Simplified, SimplifyFault> {
+    let Ok(atoms) = table(alloc, names) else {
+        return Err(SimplifyFault::Memory);
+    };
+    made_over(alloc, &atoms, count, compounds)
 }
 
 // How many guards of how many compounds over how many names, and how many rules, visible atoms and seen atoms come of
@@ -107,35 +121,39 @@ fn counts(made: &Simplified) -> (usize, usize, usize) {
     (rules, system.visible.len(), made.seen.items().len())
 }
 
-fn is_right(alloc: Global, row: &Row) -> Result<bool, Fail> {
-    match made(alloc, row.2, row.0, row.1)? {
-        Ok(found) => Ok(row.3 == Ok(counts(&found))),
-        Err(fault) => Ok(row.3 == Err(fault)),
+fn is_right(alloc: Global, row: &Row) -> bool {
+    match made(alloc, row.2, row.0, row.1) {
+        Ok(found) => row.3 == Ok(counts(&found)),
+        Err(fault) => row.3 == Err(fault),
     }
 }
 
 #[test]
 fn limits(rt: HostRuntime) -> Result<(), Fail> {
     for row in &ROWS {
-        assert!(rt; is_right(rt.alloc(), row)?);
+        assert!(rt; is_right(rt.alloc(), row));
     }
     Ok(())
 }
 
-// The system of one guard, as text.
-fn text_of(alloc: Global, compounds: u32) -> Result<String, Fail> {
-    match made(alloc, 2, 1, compounds)? {
-        Ok(found) => written(alloc, &found),
-        Err(fault) => Ok(format!(in alloc; "{fault:?}")?),
+fn is_written(alloc: Global, found: &Simplified, wanted: &str) -> Result<bool, AllocError> {
+    let text = written(alloc, found)?;
+    Ok(text.as_str() == wanted)
+}
+
+// Whether the system of one guard is this text.
+fn is_text(alloc: Global, compounds: u32, wanted: &str) -> Result<bool, AllocError> {
+    match made(alloc, 2, 1, compounds) {
+        Ok(found) => is_written(alloc, &found, wanted),
+        Err(_) => Ok(false),
     }
 }
 
+static ONE_CHILD: &str =
+    "local 1 2 gives 3; local 3 gives 4; up 0 to 2; down 4 to 4; 0 spawns, 0 kinds; visible 0; seen 4";
+
 #[test]
 fn one_child(rt: HostRuntime) -> Result<(), Fail> {
-    let text = text_of(rt.alloc(), 2)?;
-    assert!(rt;
-        text.as_str()
-            == "local 1 2 gives 3; local 3 gives 4; up 0 to 2; down 4 to 4; 0 spawns, 0 kinds; visible 0; seen 4"
-    );
+    assert!(rt; is_text(rt.alloc(), 2, ONE_CHILD)?);
     Ok(())
 }
