@@ -1,5 +1,5 @@
 //! Runs over files that are cut or at their limits, and runs whose ends fail.
-use crate::rows::{Case, NAMES, OWN, OWN_REPORT, REFUSED, SHOP_RUN};
+use crate::rows::{Case, NAMES, OWN, OWN_REPORT, REFUSED, SHOP, SHOP_REPORT, SHOP_RUN};
 use crate::runs::{Wanted, code_of, is_run_right, is_text_run_right, ring_code};
 use crate::texts::{put_repeated, repeated};
 use std::alloc::{AllocError, Global};
@@ -22,12 +22,12 @@ fn pieces_before(report: &[u8], put: u64) -> &[u8] {
 }
 
 /// Whether the run ends with a write fault where this put fails.
-fn is_put_fault(alloc: Global, shop: &Case<'static>, put: u64) -> Result<bool, AllocError> {
+fn is_put_fault(alloc: Global, put: u64) -> Result<bool, AllocError> {
     let case = Case {
-        texts: shop.texts,
+        texts: SHOP,
         puts: &[put],
         status: 5,
-        out: pieces_before(shop.out, put),
+        out: pieces_before(SHOP_REPORT, put),
         err: "treeped: write fault\n",
         ..REFUSED
     };
@@ -38,7 +38,7 @@ fn is_put_fault(alloc: Global, shop: &Case<'static>, put: u64) -> Result<bool, A
 fn each_put_fails(rt: HostRuntime) -> Result<(), Fail> {
     let alloc = rt.alloc();
     for put in 1..=10 {
-        assert!(rt; is_put_fault(alloc, &SHOP_RUN, put)?);
+        assert!(rt; is_put_fault(alloc, put)?);
     }
     Ok(())
 }

@@ -82,11 +82,11 @@ const SHOP_SHEET: &str =
 const SHOP_SCRIPT: &str =
     "$(function () {\n  var tabs = $('.menu .tab');\n  tabs.find('a').click(function (e) {\n    e.preventDefault();\n    tabs.removeClass('active');\n    $(this).parent().addClass('active');\n  });\n  $('.login').on('submit', function () {\n    if ($('.field').val() === '') {\n      $(this).append('<div class=\"error\"><b class=\"text\">Empty</b></div>');\n      return false;\n    }\n    $('.modal').addClass('open').find('.body').html('<p class=\"hello\">Hi</p>');\n    $('.modal').fadeIn(200);\n  });\n  $('.login').on('click', '.error', function () {\n    $(this).fadeOut(200, function () { $(this).remove(); });\n  });\n  $('.error').parents('form').addClass('invalid');\n});\n";
 
-const SHOP_REPORT: &[u8] =
+pub(crate) const SHOP_REPORT: &[u8] =
     b"treeped 1\n2:1 used 0 body\n  match /1\n2:7 used 0 .home .panel\n  match /1/1\n3:1 used 1 .menu > .tab.active a\n  1 at 6:22 on /1/0/0/0\n  match /1/0/0/0/0\n4:1 unused .tab.active .tab\n5:29 used 2 .login.invalid .send\n  2 at 10:15 on /1/2\n  5 at 19:31 on /1/2\n  match /1/2/1\n6:1 used 2 .modal.open .hello\n  3 at 13:17 on /1/3\n  4 at 13:48 on /1/3/0\n  match /1/3/0/0\n7:1 unused .panel .error\n8:1 used 1 .login .error > b.text\n  2 at 10:15 on /1/2\n  match /1/2/2/0\n9:1 skipped pseudo at 9:7\n";
 
 /// The page with its sheet and its script.
-const SHOP: [&str; 3] = [SHOP_PAGE, SHOP_SHEET, SHOP_SCRIPT];
+pub(crate) const SHOP: [&str; 3] = [SHOP_PAGE, SHOP_SHEET, SHOP_SCRIPT];
 
 /// The run that reports on the shop.
 pub(crate) static SHOP_RUN: Case<'static> = Case {

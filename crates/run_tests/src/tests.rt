@@ -354,7 +354,7 @@ fn are_boxes_judged(alloc: Global) -> Result<bool, AllocError> {
 fn are_boxes_spent(alloc: Global, words: &'static [&'static str]) -> Result<bool, AllocError> {
     let spent = spent_boxes(alloc)?;
     let wanted = Wanted {
-        words,
+        words: &*words,
         code: 7,
         out: Some(&spent),
         err: "",
