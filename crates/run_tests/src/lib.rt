@@ -10,8 +10,4 @@ mod hostile;
 #[cfg(test)]
 mod rows;
 #[cfg(test)]
-mod runs;
-#[cfg(test)]
 mod tests;
-#[cfg(test)]
-mod texts;

@@ -88,14 +88,6 @@ pub(crate) const SHOP_REPORT: &[u8] =
 /// The page with its sheet and its script.
 pub(crate) const SHOP: [&str; 3] = [SHOP_PAGE, SHOP_SHEET, SHOP_SCRIPT];
 
-/// The run that reports on the shop.
-pub(crate) static SHOP_RUN: Case<'static> = Case {
-    texts: SHOP,
-    status: 1,
-    out: SHOP_REPORT,
-    ..PLAIN
-};
-
 pub(crate) static CASES: [Case<'static>; 37] = [
     PLAIN,
     Case { most: 1, ..PLAIN },
