@@ -1,3 +1,4 @@
+use crate::trees::path_of;
 use sel_core::{
     SelFault, Selector, Skip, fits, matches, read_selector, read_strict_list, write_selector,
 };
@@ -111,14 +112,6 @@ fn matches_at(tree: &Tree, at: &Path, selector: &Selector) -> Result<(bool, bool
         copied,
         subject_fits(tree, at, &copy),
     ))
-}
-
-fn path_of(alloc: Global, steps: &[u32]) -> Result<Path, NoMemory> {
-    let mut at = Path::root(alloc);
-    for step in steps {
-        at.push(*step)?;
-    }
-    Ok(at)
 }
 
 fn is_match(
