@@ -10,7 +10,7 @@ use Rattle.std.proofs.lemmas.List.Quantifiers.{position-Some}
 use Rattle.std.proofs.Math.Seq.{get_or-append_seam}
 use Rattle.indexmap.specs.IndexSet.{insert_key}
 use Rattle.class_diagrams.specs.declared.table.BranchNode.{BranchNode}
-use Rattle.class_diagrams.specs.declared.refs.TheConstants.{MOST_BRANCHES}
+use Rattle.limits.specs.declared.budgets.TheConstants.{MOST_BRANCHES}
 use Rattle.class_diagrams.specs.declared.refs.Place.{Place}
 use Rattle.class_diagrams.specs.declared.refs.Place.TheVariants.{Leaf, Branch}
 use Rattle.class_diagrams.specs.contracts.table.BranchNodePartialEq as its

@@ -2,7 +2,7 @@
 use Rattle.std.specs.Prelude.{◌≡◌, ℕ, ◌<◌, ◌≤◌, true, false, List, ◌++◌, length, slice_index_or, All}
 use Rattle.class_diagrams.specs.declared.refs.Place.{Place}
 use Rattle.class_diagrams.specs.declared.refs.Place.TheVariants.{Leaf, Branch}
-use Rattle.class_diagrams.specs.declared.refs.TheConstants.{MOST_BRANCHES}
+use Rattle.limits.specs.declared.budgets.TheConstants.{MOST_BRANCHES}
 use Rattle.class_diagrams.specs.Trees.{Tree, leaf, branch, IsOrdered, has_tree}
 
 -- the second list is the first and then others

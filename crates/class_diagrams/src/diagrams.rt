@@ -10,8 +10,9 @@ ghost use Rattle.class_diagrams.specs.Starts.{IsStart};
 
 use crate::faults::DiagramFault;
 use crate::memo::{Memo, Operation, Task};
-use crate::refs::{MOST_BRANCHES, Ref};
+use crate::refs::Ref;
 use crate::table::{BranchTable, Pair};
+use limits::MOST_BRANCHES;
 use std::alloc::Global;
 use std::marker::Model;
 use tp_base::{Atom, ClassSet, NoMemory};

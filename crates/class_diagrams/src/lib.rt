@@ -9,4 +9,4 @@ mod table;
 
 pub use diagrams::Diagrams;
 pub use faults::DiagramFault;
-pub use refs::{MOST_BRANCHES, Ref};
+pub use refs::Ref;

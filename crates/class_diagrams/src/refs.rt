@@ -1,10 +1,8 @@
 //! References to diagrams.
 ghost use Rattle.std.specs.Prelude.{◌≡◌, ◌↔◌, ◌≤◌, ◌<◌, IsTrue};
 
+use limits::MOST_BRANCHES;
 use std::marker::Model;
-
-/// How many branches an arena can be made for.
-pub const MOST_BRANCHES: u32 = 67_108_864;
 
 /// A diagram of one arena. Equal trees have equal references. A contract sees a leaf, or the number of a branch.
 #[derive(Clone, Copy, Debug, PartialEq, Eq, Hash)]

@@ -7,8 +7,9 @@ ghost use Rattle.class_diagrams.specs.Answers.{Gives};
 ghost use Rattle.class_diagrams.specs.Pairs.{IsPair};
 
 use crate::faults::DiagramFault;
-use crate::refs::{MOST_BRANCHES, Place, Ref};
+use crate::refs::{Place, Ref};
 use indexmap::IndexSet;
+use limits::MOST_BRANCHES;
 use std::alloc::Global;
 use std::cmp::Ordering;
 use std::marker::Model;

@@ -4,8 +4,8 @@ ghost use Rattle.limits.specs.Budgets as spec;
 
 /// The most pairs that can be asked for.
 pub const MOST_PAIRS: u32 = 10_000_000;
-/// The most branches.
-pub const MOST_NODES: u32 = 67_108_864;
+/// The most branches of diagrams.
+pub const MOST_BRANCHES: u32 = 67_108_864;
 /// The most entries of a proof.
 pub const MOST_ENTRIES: u32 = 10_000_000;
 /// The most steps of a listed trace.

@@ -3,4 +3,4 @@
 
 mod budgets;
 
-pub use budgets::{Limits, MOST_ENTRIES, MOST_LIST, MOST_NODES, MOST_PAIRS, standard};
+pub use budgets::{Limits, MOST_BRANCHES, MOST_ENTRIES, MOST_LIST, MOST_PAIRS, standard};

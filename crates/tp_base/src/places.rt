@@ -4,7 +4,7 @@ ghost use Rattle.tp_base.specs.Places.{line_of, column_of};
 
 use crate::cursor::Cursor;
 
-/// How long a text can be, so that its lines and columns can be counted.
+/// How many bytes a file or a text has at most, so that its lines and columns can be counted.
 pub const MOST_BYTES: u32 = 16_777_216;
 
 /// A line and a column of a text, each counted from 1. Lines end with LF, and columns are counted in bytes.

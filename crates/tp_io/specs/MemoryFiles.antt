@@ -5,7 +5,7 @@ use Rattle.std.specs.Str.{bytes_eq}
 use Rattle.std.specs.declared.alloc.Global.{Global}
 use Rattle.tp_io.specs.declared.files.LoadFault.{LoadFault}
 use Rattle.tp_io.specs.declared.files.LoadFault.TheVariants.{Failed, TooLarge, Memory}
-use Rattle.tp_io.specs.declared.files.TheConstants.{MOST_BYTES}
+use Rattle.tp_base.specs.declared.places.TheConstants.{MOST_BYTES}
 use Rattle.tp_io.specs.Counts.{next_count}
 use Rattle.tp_io.specs.Files.{Load}
 

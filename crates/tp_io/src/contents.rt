@@ -2,7 +2,8 @@
 ghost use Rattle.std.specs.Prelude.{◌≡◌, ◌≢◌, [], Some, option_map};
 ghost use Rattle.tp_io.specs.MemoryFiles.{contents_of, held, answer_to};
 
-use crate::files::{LoadFault, MOST_BYTES};
+use crate::files::LoadFault;
+use tp_base::MOST_BYTES;
 
 /// The bytes of the first entry of this name.
 pub(crate) fn held<'a>(mut entries: &'a [(String, Vec<u8>)], name: &str) -> Option<&'a [u8]>

@@ -4,9 +4,7 @@ ghost use Rattle.std.specs.Io.{StartsWith};
 
 use std::alloc::{AllocError, AllocFailed};
 use thiserror::Error;
-
-/// How many bytes of one file are loaded at most.
-pub const MOST_BYTES: u32 = 16_777_216;
+use tp_base::MOST_BYTES;
 
 /// Why a file wasn't loaded.
 #[derive(Clone, Copy, Debug, PartialEq, Eq, Error)]

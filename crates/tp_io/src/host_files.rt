@@ -3,13 +3,14 @@ ghost use Rattle.std.specs.Prelude.{◌≡◌, ◌<◌, ◌≤◌, ◌++◌, [],
 ghost use Rattle.std.specs.Io.{ReadsAtMost};
 ghost use Rattle.std.specs.Io.KnownBytes.{Consumes, IsAtEnd, Keeps};
 
-use crate::files::{Files, LoadFault, MOST_BYTES};
+use crate::files::{Files, LoadFault};
 use crate::load_list::LoadList;
 use std::alloc::Global;
 use std::fs::File;
 use std::io::{ErrorKind, Read};
 use std::marker::Model;
 use std::{io, rt};
+use tp_base::MOST_BYTES;
 
 // How many bytes one read asks for.
 const PIECE: usize = 65_536;

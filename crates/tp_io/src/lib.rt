@@ -12,7 +12,7 @@ mod sinks;
 mod sure_files;
 mod sure_sink;
 
-pub use files::{Files, LoadFault, MOST_BYTES};
+pub use files::{Files, LoadFault};
 pub use host_files::HostFiles;
 pub use host_sink::HostSink;
 pub use mem_files::MemFiles;

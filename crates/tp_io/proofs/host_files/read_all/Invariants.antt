@@ -1,6 +1,6 @@
 use Rattle.std.proofs.Common.{◌≡◌, ◌+◌, ◌-◌, List, ℕ, ◌++◌, vec_len}
 use Rattle.std.specs.Io.KnownBytes.{Consumes}
-use Rattle.tp_io.specs.declared.files.TheConstants.{MOST_BYTES}
+use Rattle.tp_base.specs.declared.places.TheConstants.{MOST_BYTES}
 use Rattle.tp_io.proofs.host_files.read_all.Given as goal
 
 -- what was read stands behind what was there
