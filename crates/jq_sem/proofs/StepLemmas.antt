@@ -6,7 +6,7 @@ use Rattle.tree_sem.specs.Trees.{LabelTree}
 use Rattle.tree_sem.specs.Growth.{Grows}
 use Rattle.tree_sem.proofs.GrowthLemmas.{grows_itself, grows_both, act_grows}
 use Rattle.jq_sem.specs.Statements.{Statement}
-use Rattle.jq_sem.specs.Reachability.{after_statement, after_step, end_of, AreLegal, EachChanges}
+use Rattle.jq_sem.specs.Reachability.{after_statement, after_step, end_of, AreLegal}
 
 pub end_of-append : (t : LabelTree) (stmts : List Statement) (a b : List Step) → end_of t stmts (a ++ b) ≡ end_of (end_of t stmts a) stmts b
 end_of-append t stmts [] b = refl
@@ -24,10 +24,6 @@ AreLegal-front t stmts (step ∷ a) b legal = (legal.0, AreLegal-front (after_st
 pub AreLegal-behind : (t : LabelTree) (stmts : List Statement) (a b : List Step) → AreLegal t stmts (a ++ b) → AreLegal (end_of t stmts a) stmts b
 AreLegal-behind t stmts [] b legal = legal
 AreLegal-behind t stmts (step ∷ a) b legal = AreLegal-behind (after_step t stmts step) stmts a b legal.1
-
-pub EachChanges-append : (t : LabelTree) (stmts : List Statement) (a b : List Step) → EachChanges t stmts a → EachChanges (end_of t stmts a) stmts b → EachChanges t stmts (a ++ b)
-EachChanges-append t stmts [] b first later = later
-EachChanges-append t stmts (step ∷ a) b first later = (first.0, EachChanges-append (after_step t stmts step) stmts a b first.1 later)
 
 after_grows : (o : Option Statement) (v : List ℕ) (t : LabelTree) → Grows t (after_statement o v t)
 after_grows None v t = grows_itself t

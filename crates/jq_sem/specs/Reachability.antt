@@ -2,7 +2,7 @@
 --     IsLegal t stmts step       the step's statement selects the step's node
 --     end_of t stmts steps       the tree after the steps
 --     Reaches t stmts s          after some legal steps a node matches the selector
-use Rattle.std.specs.Prelude.{◌≢◌, ℕ, List, [], ◌∷◌, Option, Some, None, IsSomeAnd, slice_get}
+use Rattle.std.specs.Prelude.{ℕ, List, [], ◌∷◌, Option, Some, None, IsSomeAnd, slice_get}
 use Rattle.tree_sem.specs.Trees.{LabelTree}
 use Rattle.tree_sem.specs.Actions.{act}
 use Rattle.tree_sem.specs.declared.actions.Step.{Step}
@@ -27,11 +27,6 @@ end_of t stmts (step ∷ steps) = end_of (after_step t stmts step) stmts steps
 abbrev pub AreLegal : LabelTree → List Statement → List Step → Type 0
 AreLegal t stmts [] = Unit {0}
 AreLegal t stmts (step ∷ steps) = IsLegal t stmts step × AreLegal (after_step t stmts step) stmts steps
-
--- each step changes the tree before it
-abbrev pub EachChanges : LabelTree → List Statement → List Step → Type 0
-EachChanges t stmts [] = Unit {0}
-EachChanges t stmts (step ∷ steps) = (after_step t stmts step ≢ t) × EachChanges (after_step t stmts step) stmts steps
 
 abbrev pub Reaches : LabelTree → List Statement → Selector → Type 0
 Reaches t stmts s = (steps : List Step) × AreLegal t stmts steps × (v : List ℕ) × Matches (end_of t stmts steps) v s

@@ -1,15 +1,20 @@
-//! What a larger tree keeps of a smaller one.
+//! What a larger tree keeps of a smaller one, and what losses and whole runs make of what is reached.
 ghost use Rattle.sel_core.specs.Selectors.{Matches};
 ghost use Rattle.sel_core.specs.Views.{selector_of};
+ghost use Rattle.jq_sem.specs.Events.{IsLoss, AreLegalEvents, end_of_events, ReachesWithLosses, events_of};
 ghost use Rattle.jq_sem.specs.Laws.{IsKept};
-ghost use Rattle.jq_sem.specs.Reachability.{end_of};
+ghost use Rattle.jq_sem.specs.Reachability.{end_of, AreLegal, Reaches};
+ghost use Rattle.jq_sem.specs.WholeRuns.{AreRuns, ReachesByRuns, runs_of};
+ghost use Rattle.tree_sem.specs.Embedding.{IsWithin};
+ghost use Rattle.tree_sem.specs.Trees.{LabelTree};
+ghost use Rattle.tree_sem.specs.declared.actions.Step as step;
 ghost use Rattle.jq_sem.specs.Statements.{Selected};
 ghost use Rattle.jq_sem.specs.Views.{statement_of, statements_of};
-ghost use Rattle.std.specs.Prelude.{ℕ, List};
+ghost use Rattle.std.specs.Prelude.{◌≡◌, ◌↔◌, ℕ, List, All};
 
 use crate::stmts::Stmt;
 use sel_core::Selector;
-use tree_sem::{Step, Tree};
+use tree_sem::{Event, Step, Tree};
 
 /// A node that a selector matches has an image in each larger tree, and the selector matches the image.
 #[tactic(auto, using(crate::proofs::KeptLemmas::match_kept))]
@@ -27,4 +32,39 @@ pub fn selection_is_kept(tree: &Tree, larger: &Tree, s: &Stmt)
 #[tactic(auto, using(crate::proofs::KeptLemmas::steps_keep))]
 pub fn steps_keep_selection(page: &Tree, stmts: &[Stmt], steps: &[Step], s: &Stmt)
     ensures { (v : List ℕ) → Selected page.now (statement_of s.now) v → Selected (end_of page.now (statements_of stmts.now) steps.now) (statement_of s.now) v }
+{}
+
+/// Steps are events without losses: as such they are legal exactly where they are as steps, and lead to the same tree.
+pub fn steps_are_events(page: &Tree, stmts: &[Stmt], steps: &[Step])
+    ensures no_losses { All (λ e. ¬ IsLoss e) (events_of steps.now) }
+    ensures legal { AreLegalEvents page.now (statements_of stmts.now) (events_of steps.now) ↔ AreLegal page.now (statements_of stmts.now) steps.now }
+    ensures end { end_of_events page.now (statements_of stmts.now) (events_of steps.now) ≡ end_of page.now (statements_of stmts.now) steps.now }
+{}
+
+/// Events without losses are steps.
+pub fn events_are_steps(events: &[Event])
+    requires no_losses { All (λ e. ¬ IsLoss e) events.now }
+    ensures { (steps : List step.Step) × (events.now ≡ events_of steps) }
+{}
+
+/// What is reached where classes and subtrees are lost between steps is reached without losses.
+pub fn losses_reach_nothing_more(page: &Tree, stmts: &[Stmt], s: &Selector)
+    ensures { ReachesWithLosses page.now (statements_of stmts.now) (selector_of s.now) ↔ Reaches page.now (statements_of stmts.now) (selector_of s.now) }
+{}
+
+/// Whole runs reach what steps reach.
+pub fn runs_reach_the_same(page: &Tree, stmts: &[Stmt], s: &Selector)
+    ensures { ReachesByRuns page.now (statements_of stmts.now) (selector_of s.now) ↔ Reaches page.now (statements_of stmts.now) (selector_of s.now) }
+{}
+
+/// Whole runs are a legal list of steps, with the same end.
+pub fn runs_are_steps(page: &Tree, stmts: &[Stmt], runs: &[u32], after: &Tree)
+    ensures { AreRuns page.now (statements_of stmts.now) runs.now after.now
+        → (steps : List step.Step) × AreLegal page.now (statements_of stmts.now) steps × (end_of page.now (statements_of stmts.now) steps ≡ after.now) }
+{}
+
+/// The tree after legal steps is within the one after the runs of their statements.
+pub fn runs_make_no_less(page: &Tree, stmts: &[Stmt], steps: &[Step])
+    ensures { AreLegal page.now (statements_of stmts.now) steps.now
+        → (u : LabelTree) × AreRuns page.now (statements_of stmts.now) (runs_of steps.now) u × IsWithin (end_of page.now (statements_of stmts.now) steps.now) u }
 {}

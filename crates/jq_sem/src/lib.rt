@@ -13,8 +13,11 @@ mod stmts;
 
 pub use actions::act;
 pub use chains::{Call, Calls, Chain, Root, Selectors, SharedCompounds};
-pub use laws::{match_is_kept, selection_is_kept, steps_keep_selection};
-pub use runs::run_whole;
+pub use laws::{
+    events_are_steps, losses_reach_nothing_more, match_is_kept, runs_are_steps, runs_make_no_less,
+    runs_reach_the_same, selection_is_kept, steps_are_events, steps_keep_selection,
+};
+pub use runs::{run_whole, run_within};
 pub use selection::selects;
 pub use standing_calls::standing;
 pub use stmts::{Chains, Stmt};

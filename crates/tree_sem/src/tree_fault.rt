@@ -2,7 +2,7 @@
 ghost use Rattle.std.specs.Prelude.{◌≡◌};
 
 use thiserror::Error;
-use tp_base::NoMemory;
+use tp_base::OutOfMemory;
 
 /// How many nodes a tree can hold.
 pub const MOST_NODES: u32 = 16_777_216;
@@ -17,12 +17,12 @@ pub enum TreeFault {
     Memory,
 }
 
-impl From<NoMemory> for TreeFault {
+impl<E: OutOfMemory> From<E> for TreeFault {
     ghost use Rattle.tree_sem.specs.declared.tree_fault.TreeFault.TheVariants.{Memory};
 
     ghost from_gives = { λ _ e. e ≡ Memory };
 
-    fn from(_error: NoMemory) -> TreeFault {
+    fn from(_error: E) -> TreeFault {
         TreeFault::Memory
     }
 }
