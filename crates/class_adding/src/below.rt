@@ -48,6 +48,7 @@ pub(crate) fn look_below<S: Summaries>(
     ensures asleep { IfOk result (λ wake. IsAsleep system.now k (S.known sums.new) own.now wake) }
     ensures remembered { OnOk result (AreGifts system.now (S.known sums.new) remembered.new) }
     ensures went { Went system.now (Asks system.now own.now) (S.known sums.old) (S.known sums.new) (S.told sums.old) (S.told sums.new) (S.system sums.new) (S.spent_on sums.old) (S.spent_on sums.new) }
+    ensures room { S.room sums.new ≡ S.room sums.old }
     ensures spent { S.spent_on sums.old ≡ None → (IsErrOf result GainFault.Spent ↔ IsSome (S.spent_on sums.new)) }
 {
     if !is_due(system, fresh, wake, k) {

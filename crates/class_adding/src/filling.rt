@@ -1,5 +1,5 @@
 //! The rounds of a page, one after another, until nothing more comes.
-ghost use Rattle.std.specs.Prelude.{◌≡◌, ◌↔◌, None, IfOk, OnOk, OnErr, IfSome, IsSome, IsErrOf};
+ghost use Rattle.std.specs.Prelude.{◌≡◌, ◌↔◌, None, All, Contains, IfOk, OnOk, OnErr, IfSome, IsSome, IsErrOf};
 ghost use Rattle.simple_core.specs.Systems.{IsSound};
 ghost use Rattle.simple_core.specs.Pairs.{Pair, Asked};
 ghost use Rattle.simple_core.specs.Knowledge.{KeepsAsking, IsToldBy, TellsAfter, TellsWithin};
@@ -62,6 +62,7 @@ fn take_round(
     round: Round,
     k: u64,
 ) -> Result<(), NoMemory>
+    requires { All (λ g. Contains filling.old.labels.nodes g.at) round.gains.items }
     ensures { OnOk result (IsTaken numbered.now filling.old round k filling.new) }
 {
     apply_all(&mut filling.labels, &mut filling.firsts, &round.gains, k)?;
@@ -91,6 +92,7 @@ pub(crate) fn fill<S: Summaries>(
     ensures told { OnOk result (TellsAfter system.now (S.told sums.old) (S.told sums.new) (Asked system.now numbered.now)) }
     ensures within { TellsWithin system.now (S.told sums.old) (S.told sums.new) (Asked system.now numbered.now) }
     ensures system { S.system sums.new ≡ S.system sums.old }
+    ensures room { S.room sums.new ≡ S.room sums.old }
     ensures spent { S.spent_on sums.old ≡ None → (IsErrOf result GainFault.Spent ↔ IsSome (S.spent_on sums.new)) }
     ensures stays_spent { IsSome (S.spent_on sums.old) → S.spent_on sums.new ≡ S.spent_on sums.old }
     ensures spent_on { S.spent_on sums.old ≡ None → IfSome (S.spent_on sums.new) (λ q. Asked system.now numbered.now q) }

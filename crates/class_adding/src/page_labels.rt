@@ -1,8 +1,9 @@
 //! The labels of a page, by the numbers of its nodes in the order of the document.
-ghost use Rattle.std.specs.Prelude.{◌≡◌, ◌<◌, ℕ, [], Some, None, length, get_or, unwrap_or, option_copied, IfOk, OnOk, OnErr, IfSome, IsSome, IsNone, List, Contains};
+ghost use Rattle.std.specs.Prelude.{◌≡◌, ◌<◌, ℕ, [], Some, None, length, get_or, unwrap_or, option_copied, IfOk, OnOk, OnErr, IfSome, IsSome, IsNone, List, Contains, All};
 ghost use Rattle.std.specs.List.{flat_map};
 ghost use Rattle.tp_base.specs.Classes.{union_of};
 ghost use Rattle.tree_sem.specs.Trees.{node_at, label_at, edit_at};
+ghost use Rattle.tree_sem.specs.Nodes.{IsNode};
 ghost use Rattle.tree_sem.specs.Order.{paths_of};
 ghost use Rattle.tree_sem.specs.Actions.{add_classes};
 ghost use Rattle.simple_core.specs.Labels.{given_by_links};
@@ -16,7 +17,7 @@ use crate::places::Index;
 use std::alloc::Global;
 use std::marker::Model;
 use tp_base::{ClassSet, NoMemory, Path};
-use tree_sem::Tree;
+use tree_sem::{Tree, TreeFault};
 
 /// A page, and for each node its label, the number of its parent, and those of its children. A contract sees the tree
 /// and the paths of the nodes.
@@ -135,12 +136,14 @@ impl PageLabels {
 
 // Adds atoms to the label of a node of the tree.
 fn widen(tree: &mut Tree, at: &Path, label: &ClassSet) -> Result<(), NoMemory>
+    requires { IsNode tree.old at.now }
     ensures ok { OnOk result (tree.new ≡ edit_at at.now (add_classes label.now) tree.old) }
     ensures err { OnErr result (tree.new ≡ tree.old) }
 {
     match tree.add_classes(at, label) {
         Ok(_) => Ok(()),
-        Err(_) => Err(NoMemory),
+        Err(TreeFault::Memory) => Err(NoMemory),
+        Err(_) => unreachable!(),
     }
 }
 
@@ -170,11 +173,12 @@ fn all_above(alloc: Global, nodes: &PageNodes) -> Result<Vec<Option<usize>>, NoM
 
 // The label of a node, once more.
 fn label_of(page: &Tree, at: &Path) -> Result<ClassSet, NoMemory>
+    requires { IsNode page.now at.now }
     ensures { IfOk result (λ l. label_at at.now page.now ≡ Some l) }
 {
     match page.label(at) {
         Some(label) => label.copy(),
-        None => Err(NoMemory),
+        None => unreachable!(),
     }
 }
 
@@ -184,6 +188,7 @@ pub(crate) fn all_labels(
     page: &Tree,
     paths: &[Path],
 ) -> Result<Vec<ClassSet>, NoMemory>
+    requires { All (IsNode page.now) paths.now }
     ensures { IfOk result (λ v. AreAllLabels page.now paths.now v.items (length paths.now)) }
 {
     let mut labels = Vec::new(alloc);

@@ -85,6 +85,8 @@ impl Summaries for PlainSummaries {
 
     ghost spent_on = { λ t. t.spent };
 
+    ghost room = { λ t. Some t.pairs };
+
     fn gain(&mut self, kind: u32, parent: &ClassSet) -> Result<ClassSet, GainFault> {
         if self.spent.is_some() {
             return Err(GainFault::Spent);

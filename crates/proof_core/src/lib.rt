@@ -15,4 +15,4 @@ pub use proof_check::{
     Below, Entries, Entry, PageItem, PageItems, Proof, ProofItem, ProofItems, Reason, Steps,
     Unfolded, check, steps,
 };
-pub use unfolded::{UnfoldFault, unfold};
+pub use unfolded::{MOST_LISTED, UnfoldFault, unfold};

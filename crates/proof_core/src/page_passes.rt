@@ -9,6 +9,7 @@ ghost use Rattle.proof_core.specs.Trails.{progress_of};
 ghost use Rattle.proof_check.specs.Unfolding.{end_for, unfold_entry, unfold_page};
 ghost use Rattle.proof_core.specs.Walks.{IsFew};
 ghost use Rattle.proof_core.specs.Worlds.{HasFewSiblings, KnowsForests};
+ghost use Rattle.proof_core.specs.declared.unfolded.TheConstants.{MOST_LISTED};
 
 use crate::node_passes::{NodePass, NodePasses, alone, stays};
 use crate::passes::down;
@@ -42,7 +43,7 @@ pub fn page_passed(
     requires forests { KnowsForests world.now.forests.now world.now.system.now.kinds }
     requires all { HasAll nodes.now items.now }
     requires few { IsFew (progress_of trail.old) }
-    requires short { length (unfold_page world.now.system.now (unfold_entry world.now.system.now world.now.entries.now (length world.now.entries.now)) page.now items.now (λ q. []) (progress_of trail.old)).0.steps ≤ 1000000 }
+    requires short { length (unfold_page world.now.system.now (unfold_entry world.now.system.now world.now.entries.now (length world.now.entries.now)) page.now items.now (λ q. []) (progress_of trail.old)).0.steps ≤ MOST_LISTED }
     ensures trail { OnOk result (progress_of trail.new ≡ (unfold_page world.now.system.now (unfold_entry world.now.system.now world.now.entries.now (length world.now.entries.now)) page.now items.now (λ q. []) (progress_of trail.old)).0) }
     ensures here { IfOk result (λ here. seen_in nodes.now here ≡ (unfold_page world.now.system.now (unfold_entry world.now.system.now world.now.entries.now (length world.now.entries.now)) page.now items.now (λ q. []) (progress_of trail.old)).1) }
 {
@@ -66,7 +67,7 @@ fn item_passed_at(
     requires forests { KnowsForests world.now.forests.now world.now.system.now.kinds }
     requires numbered { is_some (number_in nodes.now item.now.at) ≡ true }
     requires few { IsFew (progress_of trail.old) }
-    requires short { length (item_seen world.now.system.now world.now.entries.now page.now item.now (seen_in nodes.now here.old) (progress_of trail.old)).0.steps ≤ 1000000 }
+    requires short { length (item_seen world.now.system.now world.now.entries.now page.now item.now (seen_in nodes.now here.old) (progress_of trail.old)).0.steps ≤ MOST_LISTED }
     ensures trail { OnOk result (progress_of trail.new ≡ (item_seen world.now.system.now world.now.entries.now page.now item.now (seen_in nodes.now here.old) (progress_of trail.old)).0) }
     ensures here { OnOk result ((q : List ℕ) → seen_in nodes.now here.new q ≡ (if bytes_eq item.now.at q
         then seen_in nodes.now here.old q ++ (item_seen world.now.system.now world.now.entries.now page.now item.now (seen_in nodes.now here.old) (progress_of trail.old)).1 ∷ []
@@ -117,7 +118,7 @@ fn item_passed(
     requires forests { KnowsForests world.now.forests.now world.now.system.now.kinds }
     requires base { node.now.base ≤ MOST_NODES }
     requires few { IsFew (progress_of trail.old) }
-    requires short { length (unfold_at world.now.system.now world.now.entries.now item.now node.now (progress_of trail.old)).0.steps ≤ 1000000 }
+    requires short { length (unfold_at world.now.system.now world.now.entries.now item.now node.now (progress_of trail.old)).0.steps ≤ MOST_LISTED }
     ensures trail { OnOk result (progress_of trail.new ≡ (unfold_at world.now.system.now world.now.entries.now item.now node.now (progress_of trail.old)).0) }
     ensures pass { IfOk result (λ p. passed_to node.now.at.now (seen_one (all_seen node.now.here.now) p) ≡ (unfold_at world.now.system.now world.now.entries.now item.now node.now (progress_of trail.old)).1) }
     ensures node { IfOk result (λ p. p.node ≡ node.now.number) }
@@ -147,7 +148,7 @@ fn below_passed(
     requires forests { KnowsForests world.now.forests.now world.now.system.now.kinds }
     requires base { node.now.base ≤ MOST_NODES }
     requires few { IsFew (progress_of trail.old) }
-    requires short { length (unfold_at world.now.system.now world.now.entries.now item.now node.now (progress_of trail.old)).0.steps ≤ 1000000 }
+    requires short { length (unfold_at world.now.system.now world.now.entries.now item.now node.now (progress_of trail.old)).0.steps ≤ MOST_LISTED }
     requires reason { item.now.reason ≡ Reason.Down link below }
     ensures trail { OnOk result (progress_of trail.new ≡ (unfold_at world.now.system.now world.now.entries.now item.now node.now (progress_of trail.old)).0) }
     ensures pass { IfOk result (λ p. passed_to node.now.at.now (seen_one (all_seen node.now.here.now) p) ≡ (unfold_at world.now.system.now world.now.entries.now item.now node.now (progress_of trail.old)).1) }
@@ -205,7 +206,7 @@ fn grown_passed(
     requires forests { KnowsForests world.now.forests.now world.now.system.now.kinds }
     requires base { node.now.base ≤ MOST_NODES }
     requires few { IsFew (progress_of trail.old) }
-    requires short { length (unfold_at world.now.system.now world.now.entries.now item.now node.now (progress_of trail.old)).0.steps ≤ 1000000 }
+    requires short { length (unfold_at world.now.system.now world.now.entries.now item.now node.now (progress_of trail.old)).0.steps ≤ MOST_LISTED }
     requires reason { item.now.reason ≡ Reason.Down link (Below.Grown spawn entry) }
     ensures trail { OnOk result (progress_of trail.new ≡ (unfold_at world.now.system.now world.now.entries.now item.now node.now (progress_of trail.old)).0) }
     ensures pass { IfOk result (λ p. passed_to node.now.at.now (seen_one (all_seen node.now.here.now) p) ≡ (unfold_at world.now.system.now world.now.entries.now item.now node.now (progress_of trail.old)).1) }

@@ -5,6 +5,7 @@ ghost use Rattle.tree_sem.specs.declared.tree_fault.TheConstants.{MOST_NODES};
 ghost use Rattle.proof_core.specs.Trails.{progress_of, grown_at, no_progress, step_of_forest, number_for, with_forest_of};
 ghost use Rattle.proof_check.specs.Unfolding as spec;
 ghost use Rattle.proof_core.specs.Walks.{IsFew};
+ghost use Rattle.proof_core.specs.declared.unfolded.TheConstants.{MOST_LISTED};
 
 use indexmap::IndexMap;
 use proof_check::steps_of;
@@ -89,7 +90,7 @@ impl Trail {
         requires siblings { kind.now.siblings ≤ MOST_KINDS }
         requires base { base ≤ MOST_NODES }
         requires few { IsFew (progress_of self.old) }
-        requires short { length (progress_of self.old).steps ≤ 1000000 }
+        requires short { length (progress_of self.old).steps ≤ MOST_LISTED }
         ensures number { IfOk result (λ k. k ≡ number_for kind.now base at.now (progress_of self.old)) }
         ensures trail { OnOk result (progress_of self.new ≡ with_forest_of kind.now at.now child (progress_of self.old)) }
         ensures few { OnOk result (IsFew (progress_of self.new)) }
@@ -114,7 +115,7 @@ fn sum_of(added: u64, n: u32) -> u64
 
 fn top_number(base: u32, added: u64, number: u32) -> u32
     requires base { base ≤ MOST_NODES }
-    requires added { added ≤ MOST_KINDS * 1000000 }
+    requires added { added ≤ MOST_KINDS * MOST_LISTED }
     requires number { number < MOST_KINDS }
     ensures { result ≡ base + added + number }
 {

@@ -4,6 +4,7 @@ ghost use Rattle.proof_core.specs.PagePasses.{seen_in};
 ghost use Rattle.proof_check.specs.Unfolding.{end_for, unfolded};
 ghost use Rattle.proof_check.specs.Validity.{MOST_STEPS, IsValid};
 ghost use Rattle.proof_core.specs.Worlds.{HasFewSiblings};
+ghost use Rattle.proof_core.specs.declared.unfolded.TheConstants.{MOST_LISTED};
 
 use crate::node_passes::NodePasses;
 use crate::page_passes::{page_passed, place_at};
@@ -15,6 +16,9 @@ use std::alloc::Global;
 use thiserror::Error;
 use tp_base::{Atom, NoMemory, Path};
 use tree_sem::Tree;
+
+/// How many steps can be listed at most.
+pub const MOST_LISTED: u32 = 1_000_000;
 
 /// Why a proof wasn't unfolded.
 #[derive(Clone, Copy, Debug, PartialEq, Eq, Error)]
@@ -47,7 +51,7 @@ pub fn unfold(
 ) -> Result<Unfolded, UnfoldFault>
     requires siblings { HasFewSiblings system.now.kinds }
     requires valid { IsValid system.now page.now proof.now target }
-    requires in_limit { limit ≤ 1000000 }
+    requires in_limit { limit ≤ MOST_LISTED }
     ensures steps { IfOk result (λ u. u.steps ≡ (unfolded system.now proof.now page.now target).0) }
     ensures at { IfOk result (λ u. u.at ≡ (unfolded system.now proof.now page.now target).1) }
     ensures over { IsErrOf result UnfoldFault.OverLimit ↔ (limit < length (unfolded system.now proof.now page.now target).0) }
@@ -72,7 +76,7 @@ fn count_of(proof: &Proof, system: &System, page: &Tree, target: Atom) -> u64
 // Whether the proof has more steps than this.
 fn is_over(proof: &Proof, system: &System, page: &Tree, target: Atom, limit: u64) -> bool
     requires valid { IsValid system.now page.now proof.now target }
-    requires in_limit { limit ≤ 1000000 }
+    requires in_limit { limit ≤ MOST_LISTED }
     ensures { IsTrue result ↔ (limit < length (unfolded system.now proof.now page.now target).0) }
 {
     count_of(proof, system, page, target) > limit
@@ -85,7 +89,7 @@ fn unfold_all(
     target: Atom,
 ) -> Result<Unfolded, NoMemory>
     requires siblings { HasFewSiblings system.now.kinds }
-    requires short { length (unfolded system.now proof.now page.now target).0 ≤ 1000000 }
+    requires short { length (unfolded system.now proof.now page.now target).0 ≤ MOST_LISTED }
     ensures steps { IfOk result (λ u. u.steps ≡ (unfolded system.now proof.now page.now target).0) }
     ensures at { IfOk result (λ u. u.at ≡ (unfolded system.now proof.now page.now target).1) }
 {

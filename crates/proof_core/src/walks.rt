@@ -7,6 +7,7 @@ ghost use Rattle.proof_check.specs.Unfolding.{Progress, unfold_entry};
 ghost use Rattle.proof_core.specs.Walks.{IsFew, GoesOn, level_items, level_base, rest_of, node_of, walk_work};
 ghost use Rattle.proof_core.specs.Passes.{seen};
 ghost use Rattle.proof_core.specs.Worlds.{HasFewSiblings, KnowsForests};
+ghost use Rattle.proof_core.specs.declared.unfolded.TheConstants.{MOST_LISTED};
 
 use crate::passes::{Passes, down, plain};
 use crate::trails::Trail;
@@ -51,7 +52,7 @@ pub fn entry_passed(
     requires siblings { HasFewSiblings world.now.system.now.kinds }
     requires forests { KnowsForests world.now.forests.now world.now.system.now.kinds }
     requires few { IsFew (progress_of trail.old) }
-    requires short { length (unfold_entry world.now.system.now world.now.entries.now (length world.now.entries.now) entry at (progress_of trail.old)).0.steps ≤ 1000000 }
+    requires short { length (unfold_entry world.now.system.now world.now.entries.now (length world.now.entries.now) entry at (progress_of trail.old)).0.steps ≤ MOST_LISTED }
     ensures trail { OnOk result (progress_of trail.new ≡ (unfold_entry world.now.system.now world.now.entries.now (length world.now.entries.now) entry at (progress_of trail.old)).0) }
     ensures here { IfOk result (λ here. seen at here ≡ (unfold_entry world.now.system.now world.now.entries.now (length world.now.entries.now) entry at (progress_of trail.old)).1) }
     ensures few { OnOk result (IsFew (progress_of trail.new)) }
@@ -115,7 +116,7 @@ impl Walk {
         requires siblings { HasFewSiblings world.now.system.now.kinds }
         requires forests { KnowsForests world.now.forests.now world.now.system.now.kinds }
         requires few { IsFew (progress_of trail.old) }
-        requires short { length (progress_of trail.old).steps ≤ 1000000 }
+        requires short { length (progress_of trail.old).steps ≤ MOST_LISTED }
         ensures on { OnOk result (GoesOn world.now.system.now world.now.entries.now self.old (progress_of trail.old) self.new (progress_of trail.new)) }
         ensures work { IfOk result (λ more. IsTrue more → walk_work world.now.entries.now self.new < walk_work world.now.entries.now self.old) }
         ensures end { IfOk result (λ more. more ≡ false → (v : List ℕ) → self.new.at ≡ node_of v self.new.stack.items
@@ -140,7 +141,7 @@ impl Walk {
         requires siblings { HasFewSiblings world.now.system.now.kinds }
         requires forests { KnowsForests world.now.forests.now world.now.system.now.kinds }
         requires few { IsFew (progress_of trail.old) }
-        requires short { length (progress_of trail.old).steps ≤ 1000000 }
+        requires short { length (progress_of trail.old).steps ≤ MOST_LISTED }
         requires next { slice_get (level_items world.now.entries.now self.old.level.depth self.old.level.entry) (length self.old.level.here) ≡ Some item }
         ensures on { OnOk result (GoesOn world.now.system.now world.now.entries.now self.old (progress_of trail.old) self.new (progress_of trail.new)) }
         ensures work { OnOk result (walk_work world.now.entries.now self.new < walk_work world.now.entries.now self.old) }
@@ -170,7 +171,7 @@ impl Walk {
         requires siblings { HasFewSiblings world.now.system.now.kinds }
         requires forests { KnowsForests world.now.forests.now world.now.system.now.kinds }
         requires few { IsFew (progress_of trail.old) }
-        requires short { length (progress_of trail.old).steps ≤ 1000000 }
+        requires short { length (progress_of trail.old).steps ≤ MOST_LISTED }
         requires next { slice_get (level_items world.now.entries.now self.old.level.depth self.old.level.entry) (length self.old.level.here) ≡ Some item }
         requires reason { item.reason ≡ Reason.Down link below }
         ensures on { OnOk result (GoesOn world.now.system.now world.now.entries.now self.old (progress_of trail.old) self.new (progress_of trail.new)) }
@@ -199,7 +200,7 @@ impl Walk {
         requires siblings { HasFewSiblings world.now.system.now.kinds }
         requires forests { KnowsForests world.now.forests.now world.now.system.now.kinds }
         requires few { IsFew (progress_of trail.old) }
-        requires short { length (progress_of trail.old).steps ≤ 1000000 }
+        requires short { length (progress_of trail.old).steps ≤ MOST_LISTED }
         requires next { slice_get (level_items world.now.entries.now self.old.level.depth self.old.level.entry) (length self.old.level.here) ≡ Some item }
         requires reason { item.reason ≡ Reason.Down link (Below.Grown spawn entry) }
         ensures on { OnOk result (GoesOn world.now.system.now world.now.entries.now self.old (progress_of trail.old) self.new (progress_of trail.new)) }

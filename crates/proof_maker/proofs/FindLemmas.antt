@@ -15,8 +15,8 @@ use Rattle.proof_check.proofs.EntryLemmas.{drop_at, drop_end}
 use Rattle.proof_maker.specs.declared.worlds.Place.{Place}
 use Rattle.proof_maker.specs.declared.worlds.World.{World}
 use Rattle.proof_maker.specs.Choices.{Choice, by_local, by_up, by_real, by_spawn, from_down, ways_down, ways}
-use Rattle.rule_givers.specs.Givers.{places_from}
-use Rattle.rule_givers.specs.Givers.{places_in}
+use Rattle.simple_core.specs.Givers.{places_from}
+use Rattle.simple_core.specs.Givers.{places_in}
 use Rattle.proof_maker.specs.Worlds.{setting_of, path_of, IsReady, stands_at, real_has, spawn_has}
 
 pub ok_further : {X E : Type 0} (r : Result X E) (P Q : X → Type 0) → IfOk r P → ((x : X) → P x → Q x) → IfOk r Q

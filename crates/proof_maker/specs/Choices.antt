@@ -10,7 +10,7 @@ use Rattle.simple_core.specs.declared.system.System.{System}
 use Rattle.simple_core.specs.Labels.{visible_in}
 use Rattle.simple_core.specs.Rounds.{grown}
 use Rattle.simple_core.specs.Pages.{page_round}
-use Rattle.rule_givers.specs.Givers.{places_from}
+use Rattle.simple_core.specs.Givers.{places_from}
 
 pub record Setting : Type 0 where
   pub label : ℕ → List ℕ → List ℕ  -- the label of a node after so many rounds

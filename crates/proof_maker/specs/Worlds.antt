@@ -21,7 +21,7 @@ use Rattle.proof_maker.specs.declared.worlds.Place.TheVariants.{Node, Added}
 use Rattle.proof_maker.specs.declared.worlds.World.{World}
 use Rattle.proof_maker.specs.Choices.{Setting, on_page, on_added, spawn_needs, spawn_kind, stands}
 use Rattle.proof_maker.specs.Choices.{Choice as Reason}
-use Rattle.rule_givers.specs.Givers.{AreGivers}
+use Rattle.simple_core.specs.Givers.{AreGivers}
 
 abbrev pub setting_of : System → LabelTree → Place → Setting
 setting_of s page (Node at) = on_page s page

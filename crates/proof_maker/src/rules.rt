@@ -2,8 +2,7 @@
 ghost use Rattle.std.specs.Prelude.{IfOk};
 ghost use Rattle.proof_maker.specs.Rules.{AreRulesOf};
 
-use rule_givers::Givers;
-use simple_core::System;
+use simple_core::{Givers, System};
 use std::alloc::Global;
 use tp_base::NoMemory;
 

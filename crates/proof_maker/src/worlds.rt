@@ -10,8 +10,7 @@ ghost use Rattle.class_adding.specs.ClosedPages.{IsClosedPage};
 ghost use Rattle.proof_maker.specs.Worlds.{setting_of, path_of, labels_of, IsPlace, above_on, IsNodeOf, IsAsking};
 
 use class_adding::Closed;
-use rule_givers::Givers;
-use simple_core::{Summaries, System};
+use simple_core::{Givers, Summaries, System};
 use std::alloc::Global;
 use tp_base::{Atom, ClassSet, NoMemory, Path};
 use tree_sem::Tree;

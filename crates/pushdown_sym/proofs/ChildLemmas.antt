@@ -18,7 +18,7 @@ use Rattle.pushdown_sym.specs.declared.gathering.Child.{Child}
 use Rattle.pushdown_sym.specs.CellMap.{Entries, trees_in}
 use Rattle.pushdown_sym.specs.Terms.{Term, down_term}
 use Rattle.pushdown_sym.specs.Adding.{AreIn, Adds, of_down}
-use Rattle.rule_givers.specs.Givers.{places_from}
+use Rattle.simple_core.specs.Givers.{places_from}
 use Rattle.pushdown_sym.specs.Givers.{of_place}
 use Rattle.pushdown_sym.specs.Children.{child_by, children_by, children_of, with_child, different, term_of}
 use Rattle.pushdown_sym.proofs.AddLemmas.{cells_same, flat_map-append}

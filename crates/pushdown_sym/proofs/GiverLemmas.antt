@@ -10,7 +10,7 @@ use Rattle.simple_core.specs.declared.rules.Local.{Local}
 use Rattle.simple_core.specs.declared.rules.Link.{Link}
 use Rattle.pushdown_sym.specs.Terms.{CellTrees, Term}
 use Rattle.pushdown_sym.specs.Adding.{Adds, of_local, of_up}
-use Rattle.rule_givers.specs.Givers.{places_from}
+use Rattle.simple_core.specs.Givers.{places_from}
 use Rattle.pushdown_sym.specs.Givers.{of_place}
 
 -- ### what comes of the rules at the places is what comes of all rules

@@ -2,6 +2,7 @@ pub mod Tests
 pub mod TermLemmas
 pub mod CellLemmas
 pub mod GrownLemmas
+pub mod SameLemmas
 pub mod SkipLemmas
 pub mod AddLemmas
 pub mod SeenLemmas

@@ -10,7 +10,7 @@ use Rattle.simple_core.specs.declared.rules.Local.{Local}
 use Rattle.simple_core.specs.declared.rules.Link.{Link}
 use Rattle.simple_core.specs.declared.rules.Spawn.{Spawn}
 use Rattle.simple_core.specs.declared.system.System.{System}
-use Rattle.rule_givers.specs.Givers.{AreGivers}
+use Rattle.simple_core.specs.Givers.{AreGivers}
 use Rattle.pushdown_sym.specs.CellMap.{Entries, place_in, trees_in}
 use Rattle.pushdown_sym.specs.Terms.{CellTrees, Term, local_term, up_term, down_term, disjunction, disjunctions, next_tree, partial_results}
 

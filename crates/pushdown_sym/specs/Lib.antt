@@ -5,3 +5,4 @@ pub mod Adding
 pub mod Children
 pub mod Reads
 pub mod Givers
+pub mod Laws

@@ -1,11 +1,14 @@
 //! The cells of the next round.
-ghost use Rattle.std.specs.Prelude.{◌≡◌, ◌<◌, ◌==◌, length, IsErrOf, IfOk};
+ghost use Rattle.std.specs.Prelude.{◌≡◌, ◌<◌, ◌==◌, ℕ, suc, length, IsErrOf, IfOk};
 ghost use Rattle.class_diagrams.specs.References.{Reference};
 ghost use Rattle.class_diagrams.specs.Arena.{tree_at, IsIn, IsArena, StartsWith};
 ghost use Rattle.diagram_ops.specs.Steps.{held_with_all, AreAmong, Calculates};
 ghost use Rattle.pushdown_sym.specs.Adding.{AreIn, next_in, results_in};
 ghost use Rattle.pushdown_sym.specs.Children.{children_of, different};
-ghost use Rattle.rule_givers.specs.Givers.{places_from};
+ghost use Rattle.simple_core.specs.Systems.{IsSound};
+ghost use Rattle.pushdown_sym.specs.Rounds.{cell};
+ghost use Rattle.pushdown_sym.specs.Laws.{Tells};
+ghost use Rattle.simple_core.specs.Givers.{places_from};
 
 use crate::cells::Cells;
 use crate::children::add_children;
@@ -13,8 +16,7 @@ use crate::gathering::{Child, Children};
 use crate::links::add_ups;
 use crate::locals::add_locals;
 use class_diagrams::{DiagramFault, Diagrams, Ref};
-use rule_givers::Givers;
-use simple_core::System;
+use simple_core::{Givers, System};
 use std::alloc::Global;
 use std::marker::Model;
 use tp_base::{Atom, NoMemory};
@@ -66,6 +68,7 @@ impl Equations {
         requires kind { kind < length self.now.kinds }
         requires inside { AreIn d.old.branches now.now }
         ensures tree { IfOk result (λ r. tree_at d.new.branches r ≡ next_in self.now d.old now.now kind atom) }
+        ensures round { IsSound self.now → (k : ℕ) → Tells self.now d.old.branches now.now k → IfOk result (λ r. tree_at d.new.branches r ≡ cell self.now (suc k) kind atom) }
         ensures inside { IfOk result (λ r. IsIn d.new.branches r) }
         ensures full { IsErrOf result DiagramFault.Full → d.old.limit < length (held_with_all d.old.branches (results_in self.now d.old now.now kind atom)) }
         ensures stays { StartsWith d.old.branches d.new.branches }

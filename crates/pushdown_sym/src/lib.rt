@@ -5,10 +5,12 @@ mod cells;
 mod children;
 mod equations;
 mod gathering;
+mod laws;
 mod links;
 mod locals;
 mod rounds;
 
 pub use cells::Cells;
 pub use equations::Equations;
+pub use laws::cells_tell;
 pub use rounds::Round;

@@ -1,8 +1,11 @@
 //! The cells of a round, and those behind it.
-ghost use Rattle.std.specs.Prelude.{◌≡◌, ◌<◌, ◌==◌, if◌then◌else◌, length, ℕ, IsErrOf, IfOk, OnOk, OnErr, []};
+ghost use Rattle.std.specs.Prelude.{◌≡◌, ◌<◌, ◌==◌, if◌then◌else◌, length, ℕ, suc, IsErrOf, IfOk, OnOk, OnErr, []};
 ghost use Rattle.class_diagrams.specs.References.{Reference};
 ghost use Rattle.class_diagrams.specs.Arena.{tree_at, IsIn, IsArena, StartsWith};
 ghost use Rattle.diagram_ops.specs.Steps.{held_with_all, AreAmong, Calculates};
+ghost use Rattle.simple_core.specs.Systems.{IsSound};
+ghost use Rattle.pushdown_sym.specs.Rounds.{cell};
+ghost use Rattle.pushdown_sym.specs.Laws.{Tells};
 ghost use Rattle.pushdown_sym.specs.CellMap.{place_in};
 ghost use Rattle.pushdown_sym.specs.Adding.{AreIn, next_in, results_in};
 ghost use Rattle.pushdown_sym.specs.Children.{children_of, different, kept_in, AreKept};
@@ -131,6 +134,7 @@ impl<'e, 'c> Round<'e, 'c> {
         requires inside { AreIn d.old.branches self.old.1 }
         ensures same { self.new ≡ self.old }
         ensures tree { IfOk result (λ r. tree_at d.new.branches r ≡ next_in self.old.0 d.old self.old.1 kind atom) }
+        ensures round { IsSound self.old.0 → (k : ℕ) → Tells self.old.0 d.old.branches self.old.1 k → IfOk result (λ r. tree_at d.new.branches r ≡ cell self.old.0 (suc k) kind atom) }
         ensures inside { IfOk result (λ r. IsIn d.new.branches r) }
         ensures full { IsErrOf result DiagramFault.Full → d.old.limit < length (held_with_all d.old.branches (results_in self.old.0 d.old self.old.1 kind atom)) }
         ensures stays { StartsWith d.old.branches d.new.branches }

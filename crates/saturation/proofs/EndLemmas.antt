@@ -39,8 +39,8 @@ pub rounds_few : (s : System) (nodes k : ℕ) (d : Arena) (histories : Histories
     → length s.kinds ≤ 4096 → length d.branches ≤ 67108864 → k < 4611686018427387904
 rounds_few s nodes k d histories todo round kinds branches =
     let few = few_rounds s d.branches (length s.kinds) MOST_ATOMS k round.changed in
-    let product : (length d.branches + 2) * (MOST_ATOMS * length s.kinds) ≤ 67108866 * 268431360 =
-    mul-le (length d.branches + 2) (MOST_ATOMS * length s.kinds) 67108866 268431360 (omega arith) (omega arith) in
+    let product : (length d.branches + 2) * (MOST_ATOMS * length s.kinds) ≤ 67108866 * 4294963200 =
+    mul-le (length d.branches + 2) (MOST_ATOMS * length s.kinds) 67108866 4294963200 (omega arith) (omega arith) in
     omega arith
 
 -- ### every round

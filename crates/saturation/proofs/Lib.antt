@@ -11,7 +11,6 @@ mod NoteLemmas
 mod RoundLemmas
 mod OneCellLemmas
 pub mod AskLemmas
-mod SameLemmas
 mod TableLemmas
 mod NameLemmas
 mod WakingLemmas

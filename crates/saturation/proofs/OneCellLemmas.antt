@@ -17,8 +17,9 @@ use Rattle.pushdown_sym.specs.CellMap.{Entries, place_in, trees_in}
 use Rattle.pushdown_sym.specs.Terms.{next_tree, partial_results}
 use Rattle.pushdown_sym.specs.Rounds.{cell, given_atoms, of_each_cell}
 use Rattle.saturation.specs.Waking.{CellName}
-use Rattle.saturation.specs.Saturation.{AreChanges, Tells, IsStep}
-use Rattle.saturation.proofs.SameLemmas.{next_tree-same, partial_results-same}
+use Rattle.pushdown_sym.specs.Laws.{Tells}
+use Rattle.saturation.specs.Saturation.{AreChanges, IsStep}
+use Rattle.pushdown_sym.proofs.SameLemmas.{next_tree-same, partial_results-same}
 use Rattle.saturation.proofs.BudgetLemmas.{covered_cell}
 use Rattle.saturation.proofs.NoteLemmas.{last_cases}
 use Rattle.saturation.proofs.LoopLemmas.{all_one}

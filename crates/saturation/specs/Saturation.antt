@@ -1,7 +1,6 @@
 -- How the calculation of all cells goes on, round by round.
 --     IsRound       what is true after each round
 --     AreChanges    what one round gives: the cells that changed
---     Tells         what the cells' diagrams are
 --     AreNotedUpTo  the histories with these changes
 --     IsBuilt       what is true at the end
 --     IsDone        what is true after k rounds, of the code's state
@@ -15,7 +14,8 @@ use Rattle.class_diagrams.specs.declared.faults.DiagramFault.TheVariants.{Full, 
 use Rattle.diagram_ops.specs.Steps.{held_with_all, Brings}
 use Rattle.simple_core.specs.declared.system.System.{System}
 use Rattle.simple_core.specs.Systems.{IsSound}
-use Rattle.pushdown_sym.specs.CellMap.{Entries, trees_in}
+use Rattle.pushdown_sym.specs.CellMap.{Entries}
+use Rattle.pushdown_sym.specs.Laws.{Tells}
 use Rattle.pushdown_sym.specs.Adding.{AreIn}
 use Rattle.pushdown_sym.specs.Terms.{CellTrees, partial_results}
 use Rattle.pushdown_sym.specs.Rounds.{cell, given_atoms, of_each_cell, work, IsAtRest}
@@ -58,10 +58,6 @@ pub record AreChanges (s : System) (k : ℕ) (old new : Arena) (todo : List Cell
   pub listed : All (λ c. Contains todo c.0) changes
   pub others : (j a : ℕ) → Contains todo (j, a) → ((f : Reference) × Contains changes ((j, a), f)) ⊎ (cell s (suc k) j a ≡ cell s k j a)
   pub brings : Brings old new (of_each_cell s (partial_results s (cell s k)))
-
--- these diagrams are the cells of round k
-abbrev pub Tells : System → List Tree → Entries → ℕ → Type 0
-Tells s branches cells k = (j a : ℕ) → j < length s.kinds → trees_in branches cells j a ≡ cell s k j a
 
 -- a cell and its history up to round k
 abbrev pub IsTold : System → List Tree → ℕ → Histories → CellTrees → ℕ → ℕ → Type 0

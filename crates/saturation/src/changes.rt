@@ -5,7 +5,8 @@ ghost use Rattle.simple_core.specs.Systems.{IsSound};
 ghost use Rattle.pushdown_sym.specs.Adding.{AreIn};
 ghost use Rattle.pushdown_sym.specs.Rounds.{given_atoms};
 ghost use Rattle.saturation.specs.Budgets.{MayBeSpent};
-ghost use Rattle.saturation.specs.Saturation.{AreChanges, Histories, IsDone, Tells, Steps, IsFullIn};
+ghost use Rattle.pushdown_sym.specs.Laws.{Tells};
+ghost use Rattle.saturation.specs.Saturation.{AreChanges, Histories, IsDone, Steps, IsFullIn};
 
 use class_diagrams::{DiagramFault, Diagrams, Ref};
 use pushdown_sym::{Cells, Equations, Round};

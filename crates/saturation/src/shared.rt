@@ -1,7 +1,7 @@
 //! Summaries that are read from diagrams.
 ghost use Rattle.std.specs.Prelude.{◌≡◌, ◌<◌, ◌≤◌, ◌^◌, [], length, IfOk, IfSome, IsOk, IsErrOf};
 ghost use Rattle.tp_base.specs.Classes.{has_class};
-ghost use Rattle.class_diagrams.specs.declared.refs.TheConstants.{MOST_BRANCHES};
+ghost use Rattle.limits.specs.declared.budgets.TheConstants.{MOST_BRANCHES};
 ghost use Rattle.simple_core.specs.Rounds.{grown, IsRest, IsFirst};
 ghost use Rattle.simple_core.specs.Systems.{kind_label, IsSound};
 ghost use Rattle.pushdown_sym.specs.Adding.{AreIn};
@@ -153,6 +153,8 @@ impl Summaries for SharedSummaries {
     ghost told = { λ s. None };
 
     ghost spent_on = { λ s. None };
+
+    ghost room = { λ s. None };
 
     fn gain(&mut self, kind: u32, parent: &ClassSet) -> Result<ClassSet, GainFault> {
         let alloc = self.histories.allocator();

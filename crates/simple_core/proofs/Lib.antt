@@ -10,4 +10,5 @@ pub mod PageRest
 pub mod CellLemmas
 pub mod Steps
 pub mod ReachRounds
+mod GiverLemmas
 mod Examples

@@ -7,3 +7,4 @@ pub mod Knowledge
 pub mod SimpleSteps
 pub mod Growth
 pub mod Reached
+pub mod Givers

@@ -16,6 +16,7 @@ kinds-init g c = record {
   went = went_start c.args.system.now (Asks c.args.system.now c.args.own.now) (g.S.Summaries.known c.args.sums.now) (g.S.Summaries.told c.args.sums.now) (g.S.Summaries.system c.args.sums.now)
       (g.S.Summaries.spent_on c.args.sums.now) c.requires.tells c.requires.closed c.requires.made;
   spent = refl;
+  room = refl;
 }
 
 pub add_asked-requires-clause-kind : goal.add_asked-requires-clause-kind
@@ -53,6 +54,7 @@ kinds-preserved g c =
           (asking_first c.args.system.now c.args.k c.args.own.now c.args.seen.now (g.S.Summaries.known c.kinds.sums) c.args.next.now c.kinds.next c.args.kinds.now c.kinds.rest.now c.in-Some.kind.now c.in-Some.others.now split c.kinds.invariant.asking) c.requires.seen c.kinds.invariant.went c.add_asked.ensures.went;
       spent = ok_spent c.add_asked.result c.in_ok-gift.gift (g.S.Summaries.spent_on c.kinds.sums) (g.S.Summaries.spent_on c.add_asked.new.sums) c.in_ok-gift.was c.add_asked.ensures.went.stays c.add_asked.ensures.spent
           ∙ c.kinds.invariant.spent;
+      room = c.add_asked.ensures.room ∙ c.kinds.invariant.room;
     }
 
 pub returns-clause-given : goal.returns-clause-given

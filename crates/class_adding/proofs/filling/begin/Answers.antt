@@ -1,10 +1,11 @@
-use Rattle.std.proofs.Common.{ℕ, List, Contains, length, ◌++◌, ap, ◌∙◌, subst}
+use Rattle.std.proofs.Common.{ℕ, List, All, Contains, length, ◌++◌, sym, ap, ◌∙◌, subst}
 use Rattle.std.specs.List.Sorted.{IsStrictlyIncreasing}
 use Rattle.tree_sem.specs.Trees.{LabelTree}
 use Rattle.tree_sem.specs.Nodes.{IsNode}
 use Rattle.node_marks.specs.Marks.{IsMarked}
 use Rattle.class_adding.specs.Filling.{label_in, starts}
 use Rattle.class_adding.specs.Labelled.{AreAllLabels}
+use Rattle.class_adding.proofs.ThereLemmas.{paths_there}
 use Rattle.class_adding.proofs.filling.begin.Goals as goal
 
 pub returns : goal.returns
@@ -18,3 +19,7 @@ returns c = record {
   wakes = c.in_ok-plan.ensures.wakes;
   remembered = c.new-2.ensures;
 }
+
+pub all_labels-requires : goal.all_labels-requires
+all_labels-requires c =
+    subst (λ (z : List (List ℕ)). All (IsNode c.args.page.now) z) (sym (c.paths.ensures ∙ c.in_ok-labels.ensures.nodes)) (paths_there c.args.page.now)

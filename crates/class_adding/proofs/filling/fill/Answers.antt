@@ -9,6 +9,7 @@ use Rattle.class_adding.proofs.GiftLemmas.{no_gifts}
 use Rattle.class_adding.proofs.EndLemmas.{closing_end, all_known, looked_nodes, went_page, told_page}
 use Rattle.class_adding.proofs.FirstsLemmas.{firsts_placed}
 use Rattle.class_adding.proofs.FillingLemmas.{filled_start, filled_next}
+use Rattle.class_adding.proofs.ThereLemmas.{gains_there}
 use Rattle.class_adding.proofs.filling.fill.Goals as goal
 
 pub rounds-init : goal.rounds-init
@@ -17,6 +18,7 @@ rounds-init g c = record {
   went = went_start c.args.system.now (Asked c.args.system.now c.args.numbered.now) (g.S.Summaries.known c.args.sums.now) (g.S.Summaries.told c.args.sums.now) (g.S.Summaries.system c.args.sums.now) (g.S.Summaries.spent_on c.args.sums.now) c.requires.tells c.requires.lawful c.requires.made;
   remembered = no_gifts c.args.system.now (g.S.Summaries.known c.args.sums.now) c.args.filling.now.remembered c.requires.begun.remembered;
   spent = refl;
+  room = refl;
 }
 
 pub look_at_all-requires-clause-nodes : goal.look_at_all-requires-clause-nodes
@@ -98,4 +100,10 @@ rounds-preserved g c =
           (g.S.Summaries.spent_on c.args.sums.now) (g.S.Summaries.spent_on c.rounds.sums) (g.S.Summaries.spent_on c.look_at_all.new.sums) c.rounds.invariant.filled.closing c.rounds.invariant.went c.look_at_all.ensures.went;
       remembered = subst (λ (z : List Row). AreGifts c.args.system.now (g.S.Summaries.known c.look_at_all.new.sums) z) (sym c.in_ok-take_round.ensures.remembered) c.in_ok-round.ensures.remembered;
       spent = ok_spent c.look_at_all.result c.in_ok-round.round (g.S.Summaries.spent_on c.rounds.sums) (g.S.Summaries.spent_on c.look_at_all.new.sums) c.in_ok-round.was c.look_at_all.ensures.went.stays c.look_at_all.ensures.spent ∙ c.rounds.invariant.spent;
+      room = c.look_at_all.ensures.room ∙ c.rounds.invariant.room;
     }
+
+pub take_round-requires : goal.take_round-requires
+take_round-requires g c =
+    gains_there c.args.system.now c.args.numbered.now c.rounds.filling.labels.labels c.rounds.filling.firsts.items c.rounds.k (g.S.Summaries.known c.rounds.sums) c.rounds.filling.labels.nodes c.in_ok-round.round.gains.items
+    c.rounds.invariant.filled.nodes c.rounds.invariant.filled.closing c.in_ok-round.ensures.right

@@ -12,6 +12,7 @@ invariant-rounds g l = record {
       (g.S.Summaries.system l.sums) (g.S.Summaries.spent_on l.initial.sums) (g.S.Summaries.spent_on l.sums);
   remembered : AreGifts l.system (g.S.Summaries.known l.sums) l.filling.remembered;
   spent : g.S.Summaries.spent_on l.sums ≡ g.S.Summaries.spent_on l.initial.sums;
+  room : g.S.Summaries.room l.sums ≡ g.S.Summaries.room l.initial.sums;
 }
 
 abbrev pub decreases-rounds : goal.decreases-rounds

@@ -10,6 +10,7 @@ use Rattle.proof_core.proofs.PassLemmas.{passed_down}
 use Rattle.proof_core.proofs.WalkLemmas.{none_is}
 use Rattle.proof_core.proofs.WorldLemmas.{few_spawned}
 use Rattle.proof_core.proofs.PagePassLemmas.{page_grown}
+use Rattle.proof_core.specs.declared.unfolded.TheConstants.{MOST_LISTED}
 use Rattle.proof_core.proofs.page_passes.grown_passed.Goals as goal
 
 pub bring-requires-clause-number : goal.bring-requires-clause-number
@@ -36,8 +37,8 @@ entry_passed-requires-clause-short c =
     let after = progress_of c.bring.new.self in
     let whole = page_grown s es c.args.item.now c.args.link c.args.spawn c.args.entry c.child_for-child.result c.in_ok-k.k c.in-Some.kind.now c.args.node.now (progress_of c.args.trail.now) after c.requires.reason (sym c.spawned.ensures ∙ ap option_copied c.in-Some.is)
     (c.child_for-child.ensures c.args.node.now.at.now ∙ ap (λ a. child_for a (seen_at c.args.node.now.here.now c.args.node.now.number c.args.node.now.at.now)) c.needed_by.ensures) c.in_ok-k.ensures.number c.in_ok-k.ensures.trail in
-    subst (λ w. length (unfold_entry s es (length es) c.args.entry w after).0.steps ≤ 1000000) (sym c.in_ok-at.ensures)
-    (subst (λ (r : Progress × Passed). length r.0.steps ≤ 1000000) whole c.requires.short)
+    subst (λ w. length (unfold_entry s es (length es) c.args.entry w after).0.steps ≤ MOST_LISTED) (sym c.in_ok-at.ensures)
+    (subst (λ (r : Progress × Passed). length r.0.steps ≤ MOST_LISTED) whole c.requires.short)
 
 pub returns-clause-trail : goal.returns-clause-trail
 returns-clause-trail c =

@@ -4,6 +4,7 @@ use Rattle.proof_core.specs.PagePasses.{seen_in}
 use Rattle.proof_core.specs.Trails.{progress_of}
 use Rattle.proof_check.specs.Unfolding.{Progress, Passed, unfold_page, unfold_entry}
 use Rattle.proof_core.proofs.PagePassLemmas.{page_one, page_short}
+use Rattle.proof_core.specs.declared.unfolded.TheConstants.{MOST_LISTED}
 use Rattle.proof_core.proofs.page_passes.page_passed.Goals as goal
 
 pub item_passed_at-requires-clause-short : goal.item_passed_at-requires-clause-short
@@ -14,8 +15,8 @@ item_passed_at-requires-clause-short c =
     let i = c.loop-i.i-index in
     let x = c.i-item.result in
     let at = slice_get_read items (length items) i x refl c.loop-i-test.true c.i-item.is in
-    page_short s es c.args.page.now items i x (seen_in c.args.nodes.now c.loop-i.here) (progress_of c.loop-i.trail) 1000000 at
-    (subst (λ (r : Progress × (List ℕ → List Passed)). length r.0.steps ≤ 1000000) c.loop-i.invariant.whole c.requires.short)
+    page_short s es c.args.page.now items i x (seen_in c.args.nodes.now c.loop-i.here) (progress_of c.loop-i.trail) MOST_LISTED at
+    (subst (λ (r : Progress × (List ℕ → List Passed)). length r.0.steps ≤ MOST_LISTED) c.loop-i.invariant.whole c.requires.short)
 
 pub loop-i-preserved : goal.loop-i-preserved
 loop-i-preserved c =

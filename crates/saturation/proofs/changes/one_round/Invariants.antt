@@ -2,7 +2,8 @@ use Rattle.std.proofs.Common.{◌≡◌, ℕ, take, All, Contains}
 use Rattle.class_diagrams.specs.Arena.{StartsWith}
 use Rattle.simple_core.specs.Systems.{IsSound}
 use Rattle.pushdown_sym.specs.Rounds.{given_atoms}
-use Rattle.saturation.specs.Saturation.{Tells, AreChanges}
+use Rattle.pushdown_sym.specs.Laws.{Tells}
+use Rattle.saturation.specs.Saturation.{AreChanges}
 use Rattle.saturation.proofs.changes.one_round.Given as goal
 
 abbrev pub invariant-loop-name : goal.invariant-loop-name

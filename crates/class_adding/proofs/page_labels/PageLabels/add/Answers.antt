@@ -3,8 +3,10 @@ use Rattle.std.proofs.lemmas.List.{get_or_read}
 use Rattle.class_adding.specs.Labelled.{Labelled, AreRelated}
 use Rattle.tp_base.specs.Classes.{union_of}
 use Rattle.tree_sem.specs.Trees.{LabelTree, edit_at}
+use Rattle.tree_sem.specs.Nodes.{IsNode}
 use Rattle.tree_sem.specs.Actions.{add_classes}
 use Rattle.class_adding.proofs.LabelledLemmas.{related_more}
+use Rattle.class_adding.proofs.ThereLemmas.{labelled_node}
 use Rattle.class_adding.proofs.page_labels.PageLabels.add.Goals as goal
 
 pub invariant_of-self : goal.invariant_of-self
@@ -27,3 +29,13 @@ invariant_of-self-2 c =
     let tree : c.widen.new.tree ≡ edit_at (get_or n.nodes c.args.number []) (add_classes c.args.label.now) n.tree = c.in_ok-widen.ensures.ok ∙ ap (λ (z : List ℕ). edit_at z (add_classes c.args.label.now) n.tree) path in
     subst (λ (z : LabelTree). AreRelated z n.nodes n.parents.items n.kids (set n.own.items c.args.number c.union.new.self)) (sym tree)
     (related_more n.tree n.nodes n.parents.items n.kids n.own.items c.args.number c.args.label.now c.union.new.self c.self.invariant less longer)
+
+pub widen-requires : goal.widen-requires
+widen-requires c =
+    let n = c.self.inside in
+    let same : n.nodes ≡ c.args.self.now.nodes = ap (λ (z : Labelled). z.nodes) c.self.view_is in
+    let less : c.args.number < length n.nodes = omega (arith, c.requires, ap (λ (z : List (List ℕ)). length z) same) in
+    let long = ap (λ (z : List (List ℕ)). length z) c.paths.ensures in
+    let path : c.index-paths-number.result ≡ get_or n.nodes c.args.number [] =
+    get_or_read c.paths.result.now c.args.number c.index-paths-number.result (omega (arith, less, long)) c.index-paths-number.is [] ∙ ap (λ (z : List (List ℕ)). get_or z c.args.number []) c.paths.ensures in
+    subst (λ (v : List ℕ). IsNode n.tree v) (sym path) (labelled_node n.tree n.nodes n.own.items (length n.nodes) c.args.number c.self.invariant.labels less)

@@ -1,8 +1,10 @@
-use Rattle.std.proofs.Common.{List, ℕ, Option, length, sym, ◌∙◌, subst}
+use Rattle.std.proofs.Common.{List, ℕ, Option, All, length, sym, ◌∙◌, subst}
 use Rattle.tree_sem.specs.Trees.{LabelTree}
+use Rattle.tree_sem.specs.Nodes.{IsNode}
 use Rattle.class_adding.specs.Indexes.{AreByNumber}
 use Rattle.class_adding.specs.Labelled.{AreRelated, AreAllLabels}
 use Rattle.class_adding.proofs.LabelledLemmas.{related_page}
+use Rattle.class_adding.proofs.ThereLemmas.{paths_there}
 use Rattle.class_adding.proofs.page_labels.PageLabels.new.Goals as goal
 
 pub invariant_of-result : goal.invariant_of-result
@@ -15,3 +17,7 @@ invariant_of-result c =
     (related_page c.args.page.now nodes parents kids own (c.in_ok-nodes.ensures ∙ c.in_ok-paths.ensures) c.in_ok-parents.ensures
     (subst (λ (z : List (Option ℕ)). AreByNumber z kids) c.deref.ensures.value c.in_ok-kids.ensures)
     (subst (λ (z : List (List ℕ)). AreAllLabels c.args.page.now z own (length z)) c.paths.ensures c.in_ok-own.ensures))
+
+pub all_labels-requires : goal.all_labels-requires
+all_labels-requires c =
+    subst (λ (z : List (List ℕ)). All (IsNode c.args.page.now) z) (sym (c.paths.ensures ∙ c.in_ok-nodes.ensures ∙ c.in_ok-paths.ensures)) (paths_there c.args.page.now)

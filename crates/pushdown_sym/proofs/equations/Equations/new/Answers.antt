@@ -2,7 +2,7 @@ use Rattle.std.proofs.Common.{List, ◌∙◌, sym, ap, subst}
 use Rattle.simple_core.specs.declared.rules.Local.{Local}
 use Rattle.simple_core.specs.declared.rules.Link.{Link}
 use Rattle.simple_core.specs.declared.system.System.{System}
-use Rattle.rule_givers.specs.Givers.{AreGivers}
+use Rattle.simple_core.specs.Givers.{AreGivers}
 use Rattle.pushdown_sym.proofs.equations.Equations.new.Goals as goal
 
 pub invariant_of-result : goal.invariant_of-result

@@ -1,8 +1,0 @@
-use Rattle.simple_core.specs.declared.rules.Link.{Link}
-use Rattle.rule_givers.proofs.GiverLemmas.{givers_more}
-use Rattle.rule_givers.proofs.givers.Givers.of_links.Goals as goal
-
-pub loop-i-preserved : goal.loop-i-preserved
-loop-i-preserved c =
-    givers_more (λ (r : Link). r.to) c.args.links.now c.loop-i.i c.index-links-i.result c.loop-i-test.true c.index-links-i.is c.loop-i.places c.push.new.self
-    c.loop-i.invariant c.in_ok-push.ensures.ok

@@ -1,0 +1,8 @@
+use Rattle.simple_core.specs.declared.rules.Local.{Local}
+use Rattle.simple_core.proofs.GiverLemmas.{givers_more}
+use Rattle.simple_core.proofs.givers.Givers.of_locals.Goals as goal
+
+pub loop-i-preserved : goal.loop-i-preserved
+loop-i-preserved c =
+    givers_more (λ (r : Local). r.gives) c.args.rules.now c.loop-i.i c.index-rules-i.result c.loop-i-test.true c.index-rules-i.is c.loop-i.places c.push.new.self
+    c.loop-i.invariant c.in_ok-push.ensures.ok

@@ -1,0 +1,54 @@
+//! The rules that give each atom.
+ghost use Rattle.std.specs.Prelude.{◌≡◌, IfOk};
+ghost use Rattle.simple_core.specs.Givers.{places_in, AreGivers};
+
+use crate::rules::{Link, Local};
+use multimap::Multimap;
+use std::alloc::Global;
+use std::marker::Model;
+use tp_base::{Atom, NoMemory};
+
+/// For each atom the places, in a list of rules, of those that give it.
+#[derive(Drop)]
+pub struct Givers {
+    places: Multimap<Atom, usize>,
+}
+
+impl Model for Givers {
+    ghost use Rattle.std.specs.Prelude.{List, ℕ};
+
+    ghost Value = { List (ℕ × List ℕ) };
+
+    ghost view = { λ g. g.places };
+}
+
+impl Givers {
+    pub fn of_locals(alloc: Global, rules: &[Local]) -> Result<Self, NoMemory>
+        ensures { IfOk result (AreGivers (λ r. r.gives) rules.now) }
+    {
+        let mut places = Multimap::new(alloc);
+        for i in 0..rules.len() {
+            let rule = &rules[i];
+            places.push(rule.gives, i)?;
+        }
+        Ok(Givers { places })
+    }
+
+    pub fn of_links(alloc: Global, links: &[Link]) -> Result<Self, NoMemory>
+        ensures { IfOk result (AreGivers (λ l. l.to) links.now) }
+    {
+        let mut places = Multimap::new(alloc);
+        for i in 0..links.len() {
+            let link = &links[i];
+            places.push(link.to, i)?;
+        }
+        Ok(Givers { places })
+    }
+
+    // The places of the rules that give the atom.
+    pub fn of(&self, atom: Atom) -> &[usize]
+        ensures { result.now ≡ places_in self.now atom }
+    {
+        self.places.of(atom)
+    }
+}
