@@ -10,7 +10,7 @@ use Rattle.sel_core.specs.declared.faults.SelFault.{SelFault}
 use Rattle.sel_core.specs.declared.faults.SelFault.TheVariants.{Skipped, TooManyAtoms, Memory}
 use Rattle.sel_core.specs.declared.selectors.Compound.{Compound}
 use Rattle.sel_core.specs.declared.selectors.Join.{Join}
-use Rattle.sel_core.specs.Grammar.{Outcome, ◌>>=◌, left_at, Begun, any_part, first_part, Word, name_at, part_of, behind_child, behind_space, behind_near, join_at}
+use Rattle.sel_core.specs.Grammar.{Outcome, ◌>>=◌, left_at, Begun, whole, wanting, any_part, first_part, Word, name_at, part_of, behind_child, behind_space, behind_near, join_at}
 use Rattle.sel_core.specs.Syntax.{Item, part, joined, ended, whole_part, first_item, behind_join, later_item, item_at, finished_after, begun_after, Syntax, with_item, then_syntax, syntax_from, syntax_of}
 use Rattle.sel_core.specs.Reading.{Ending, then_read, placed, atom_of, atoms_of, compounds_of, selector_or, read_syntax, read_piece, read_selector}
 use Rattle.sel_core.specs.Selectors.{Selector}
@@ -54,8 +54,8 @@ unfolding name_at
 name_by to k bs = chosen to _ _ _ (read_by to _) (left_by _ to bs _)
 
 part_by : (to : ℕ) (b : Begun) → IsBy to (part_of to b)
-part_by to (None, rest) = read_by to _
-part_by to (Some k, bs) = name_by to k bs
+part_by to (whole w rest) = read_by to _
+part_by to (wanting k bs) = name_by to k bs
 
 whole_by : (to : ℕ) (b : Begun) → IsBy to (whole_part to b)
 unfolding whole_part

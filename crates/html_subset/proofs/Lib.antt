@@ -1,6 +1,8 @@
 pub mod ElementNames
 pub mod Fronts
+pub mod GatheredLemmas
 pub mod LabelLemmas
+pub mod AttributeLemmas
 pub mod ClassSteps
 pub mod OutwardLemmas
 pub mod NearestLemmas

@@ -4,6 +4,7 @@
 mod builder;
 mod elements;
 mod faults;
+mod gathered;
 mod labels;
 mod name_places;
 mod nearest;

@@ -80,7 +80,8 @@ fn forest(alloc: Global, text: &[u8], atoms: &mut AtomTable) -> Result<Forest, P
 }
 
 /// Reads a page: its tree has html at the root, and head and body below it. The names that were read before a refusal stay in the
-/// table. Linear in the file, on average, but that each class costs the length of its label too.
+/// table. Linear in the file, on average, but for one sort of each node's atoms, and but that a further tag of html, head or body that gives something costs
+/// the length of that node's label too.
 #[tactic(auto, unfolding(crate::specs::Reading::read_page), using(crate::proofs::ReadingSteps::valid_len, crate::proofs::Fronts::front_itself))]
 pub fn read_page(alloc: Global, text: &[u8], atoms: &mut AtomTable) -> Result<Tree, PageFault>
     ensures reads { Reads (λ t. t) result atoms.new (spec.read_page text.now atoms.old) }

@@ -6,14 +6,16 @@ use Rattle.std.specs.Option.{option_to_list}
 use Rattle.std.specs.Str.{byte}
 use Rattle.html_tokens.specs.Bytes.{in_tag_name, lowered}
 use Rattle.html_tokens.specs.Names.{is_raw}
-use Rattle.html_tokens.specs.Attributes.{Read, ◌>>=◌, Given, given}
+use Rattle.html_tokens.specs.Attributes.{Attribute, Read, attributes, Given, given_by, others_in}
 use Rattle.html_tokens.specs.Markup.{behind_angle, behind_arrow, behind_raw, begins_markup, behind_text}
 
--- A start tag. `id` and `class` are the values of its first such attributes, `at` is the offset of its `<`.
+-- A start tag. `id` and `class` are the values of its first such attributes, `others` the first of each other name in written order, `at` is
+-- the offset of its `<`.
 pub record StartTag : Type 0 where
   pub name : List ℕ
   pub id : Option (List ℕ)
   pub class : Option (List ℕ)
+  pub others : List Attribute
   pub closes_itself : Bool
   pub at : ℕ
 
@@ -27,10 +29,16 @@ pub data Token : Type 0 where
 pub record Tag : Type 0 where
   pub name : List ℕ
   pub given : Given
+  pub others : List Attribute
 
--- a tag from its name on, and the bytes behind its `>`
+-- a tag of all its attributes, and the bytes behind its `>`
+abbrev pub tag_of_all : List ℕ → Read (List Attribute) → Read Tag
+tag_of_all name None = None
+tag_of_all name (Some a) = Some (record { name = name; given = given_by a.0; others = others_in a.0 }, a.1)
+
+-- a tag from its name on
 unfoldable pub tag : List ℕ → Read Tag
-tag bs = let n = prefix_len in_tag_name bs in given (drop n bs) >>= λ g. Some (record { name = take n bs; given = g.0 }, g.1)
+tag bs = let n = prefix_len in_tag_name bs in tag_of_all (take n bs) (attributes (drop n bs))
 
 -- what stands at a place, a token or nothing that counts, and the bytes behind it
 abbrev pub Front : Type 0
@@ -46,6 +54,7 @@ start_of at bytes t = record {
   name = lowered t.name;
   id = t.given.id;
   class = t.given.class;
+  others = t.others;
   closes_itself = ends_with nat_eq bytes (codes "/>");
   at = at;
 }

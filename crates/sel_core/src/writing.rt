@@ -1,10 +1,10 @@
 //! The text of a selector.
-ghost use Rattle.std.specs.Prelude.{◌≡◌, ◌+◌, ◌++◌, length, IfOk, OnOk, slice_get};
-ghost use Rattle.std.specs.List.{flat_map};
+ghost use Rattle.std.specs.Prelude.{◌≡◌, ◌≤◌, ◌+◌, ◌==◌, ◌++◌, not, length, IfOk, OnOk, slice_get};
+ghost use Rattle.std.specs.List.{flat_map, list_any, prefix_len};
 ghost use Rattle.tp_base.specs.Names.{IsDistinct};
 ghost use Rattle.sel_core.specs.Readable.{IsReadable, ReadsAs};
 ghost use Rattle.sel_core.specs.Parts.{join_of, selector_from};
-ghost use Rattle.sel_core.specs.SelectorText.{atom_text, compound_text, join_text, selector_text};
+ghost use Rattle.sel_core.specs.SelectorText.{atom_text, attribute_text, compound_text, join_text, quote_for, selector_text, value_text};
 ghost use Rattle.sel_core.specs.Views.{selector_of};
 
 use crate::selectors::{Compound, Join, Selector};
@@ -80,6 +80,55 @@ fn write_atoms(text: &mut Vec<u8>, items: &[Atom], atoms: &AtomTable) -> Result<
     Ok(())
 }
 
+/// How long the name of an attribute is in the name of its atom, or of a value's atom.
+fn attribute_len(text: &[u8]) -> usize
+    ensures gives { result ≡ prefix_len (λ b. not (b == 61)) text.now }
+    ensures within { result ≤ length text.now }
+{
+    text.iter().take_while(|b| **b != b'=').count()
+}
+
+fn has_quote(value: &[u8]) -> bool
+    ensures { result ≡ list_any (λ b. b == 34) value.now }
+{
+    value.iter().any(|b| *b == b'"')
+}
+
+/// The quotes in which a value is written.
+fn quote_for(value: &[u8]) -> u8
+    ensures { result ≡ quote_for value.now }
+{
+    if has_quote(value) { b'\'' } else { b'"' }
+}
+
+// What is behind an attribute's name.
+#[tactic(auto, using(crate::proofs::WriteLemmas::value_written))]
+fn write_value(text: &mut Vec<u8>, rest: &[u8]) -> Result<(), NoMemory>
+    ensures { OnOk result (text.new.items ≡ text.old.items ++ value_text rest.now) }
+{
+    let Some((_, value)) = rest.split_first() else {
+        return Ok(());
+    };
+    let quote = quote_for(value);
+    text.push(b'=')?;
+    text.push(quote)?;
+    text.extend_from_slice(value)?;
+    text.push(quote)?;
+    Ok(())
+}
+
+#[tactic(auto, using(crate::proofs::WriteLemmas::attribute_written))]
+fn write_attribute(text: &mut Vec<u8>, name: &[u8]) -> Result<(), NoMemory>
+    ensures { OnOk result (text.new.items ≡ text.old.items ++ attribute_text name.now) }
+{
+    let (name, rest) = name.split_at(attribute_len(name));
+    text.push(b'[')?;
+    text.extend_from_slice(name)?;
+    write_value(text, rest)?;
+    text.push(b']')?;
+    Ok(())
+}
+
 fn write_atom(text: &mut Vec<u8>, atom: Atom, atoms: &AtomTable) -> Result<(), NoMemory>
     ensures { OnOk result (text.new.items ≡ text.old.items ++ atom_text (slice_get atoms.now atom)) }
 {
@@ -89,6 +138,7 @@ fn write_atom(text: &mut Vec<u8>, atom: Atom, atoms: &AtomTable) -> Result<(), N
     match kind {
         AtomKind::Class => text.push(b'.')?,
         AtomKind::Ident => text.push(b'#')?,
+        AtomKind::Attr => return write_attribute(text, name),
         _ => {}
     }
     text.extend_from_slice(name)?;
