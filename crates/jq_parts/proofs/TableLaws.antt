@@ -1,6 +1,7 @@
 -- What is read of the letters of an argument has its atoms in the table of names then, and the table only grows.
 use Rattle.std.proofs.Common.{◌≡◌, ℕ, ◌<◌, ◌≤◌, Bool, true, false, if◌then◌else◌, List, [], ◌∷◌, length, map, Option, Some, None, Ok, Err, IfOk, refl, inl, inr, arith}
 use Rattle.std.specs.List.{list_all}
+use Rattle.std.specs.Str.{str_to_ascii_lowercase}
 use Rattle.std.proofs.lemmas.List.Elements.{All-nil, All-contains}
 use Rattle.tp_base.specs.Names.{Named, with_name}
 use Rattle.tp_base.specs.Classes.{with_class}
@@ -15,7 +16,7 @@ use Rattle.html_tokens.specs.Words as tags
 use Rattle.jq_words.specs.declared.faults.ScriptFault.TheVariants.{ComplexArgument}
 use Rattle.jq_words.specs.Words.{Outcome, ◌>>=◌}
 use Rattle.jq_words.specs.Brackets.{is_empty}
-use Rattle.jq_parts.specs.Selections.{with_selectors, selectors, compounds, and_class, with_classes, class_set}
+use Rattle.jq_parts.specs.Selections.{with_selectors, selectors, compounds, and_class, with_classes, class_set, with_attribute}
 use Rattle.jq_sem.specs.Tables.{AreAtoms, AreCompoundsOver, AreSelectorsOver}
 use Rattle.jq_parts.proofs.SelectorLaws.{IsListOver, list_over, AreAtoms-more}
 
@@ -65,12 +66,12 @@ class_over n a set within are = All-from_Contains (λ b. b < n) (with_class a se
 abbrev IsSetOver : ℕ → List ℕ × List Named → Type 0
 IsSetOver m r = (m ≤ length r.1) × AreAtoms (length r.1) r.0
 
-and_class_over : (m at : ℕ) (set : List ℕ) (name : List ℕ) (names : List Named) (o : Option (ℕ × List Named)) → with_name names (kind.Class, name) ≡ o → m ≤ length names → AreAtoms (length names) set
+and_class_over : (m at : ℕ) (set : List ℕ) (n : Named) (names : List Named) (o : Option (ℕ × List Named)) → with_name names n ≡ o → m ≤ length names → AreAtoms (length names) set
     → IfOk (and_class at set o) (IsSetOver m)
-and_class_over m at set name names None is longer are = tt
-and_class_over m at set name names (Some e) is longer are =
-    let grown : length names ≤ length e.1 = with_name-longer names (kind.Class, name) e.0 e.1 is in
-    let within : e.0 < length e.1 = with_name-below names (kind.Class, name) e.0 e.1 is in
+and_class_over m at set n names None is longer are = tt
+and_class_over m at set n names (Some e) is longer are =
+    let grown : length names ≤ length e.1 = with_name-longer names n e.0 e.1 is in
+    let within : e.0 < length e.1 = with_name-below names n e.0 e.1 is in
     (omega (arith, longer, grown), class_over (length e.1) e.0 set within (AreAtoms-more (length names) (length e.1) grown set are))
 
 with_classes_over : (m at : ℕ) (classes : List (List ℕ)) (set : List ℕ) (names : List Named) → m ≤ length names → AreAtoms (length names) set → IfOk (with_classes at classes set names) (IsSetOver m)
@@ -78,8 +79,15 @@ unfolding with_classes
 with_classes_over m at [] set names longer are = (longer, are)
 with_classes_over m at (name ∷ others) set names longer are =
     bound_ok (IsSetOver m) (IsSetOver m) (and_class at set (with_name names (kind.Class, name))) (λ c. with_classes at others c.0 c.1)
-    (and_class_over m at set name names (with_name names (kind.Class, name)) refl longer are)
+    (and_class_over m at set (kind.Class, name) names (with_name names (kind.Class, name)) refl longer are)
     (λ c is. with_classes_over m at others c.0 c.1 is.0 is.1)
 
 pub classes_over : (at : ℕ) (letters : List ℕ) (names : List Named) → IfOk (class_set at letters names) (λ r. (length names ≤ length r.1) × AreAtoms (length r.1) r.0)
 classes_over at letters names = with_classes_over (length names) at (tags.words letters) [] names (omega arith) (All-nil (λ a. a < length names))
+
+-- ---- attributes
+
+pub attribute_over : (at : ℕ) (text set : List ℕ) (names : List Named) → AreAtoms (length names) set → IfOk (with_attribute at text set names) (λ r. (length names ≤ length r.1) × AreAtoms (length r.1) r.0)
+unfolding with_attribute
+attribute_over at text set names are =
+    and_class_over (length names) at set (kind.Attr, str_to_ascii_lowercase text) names (with_name names (kind.Attr, str_to_ascii_lowercase text)) refl (omega arith) are

@@ -34,7 +34,7 @@ pub use parameter_lists::parameters;
 pub use placing::{Stated, placed};
 pub use roots::{jquery_argument, root};
 pub use scopes::{Handler, Scope, is_bound, same_places, used};
-pub use selections::{class_set, compounds, selectors};
+pub use selections::{add_attribute, class_set, compounds, is_attribute, selectors};
 pub use shared_calls::SharedCalls;
 pub use shared_chains::SharedChain;
 pub use stating::stated;

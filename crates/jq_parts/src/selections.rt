@@ -1,4 +1,4 @@
-//! The letters of an argument as selectors, as compounds and as classes.
+//! The letters of an argument as selectors, as compounds, as classes and as an attribute.
 ghost use Rattle.std.specs.Prelude.{◌≡◌, ◌≢◌, ◌<◌, true, false, [], length, take, drop, map, IfOk, IfErr, IfSome, IfNone};
 ghost use Rattle.std.specs.List.{list_all};
 ghost use Rattle.tp_base.specs.Names.{with_name};
@@ -17,7 +17,7 @@ use html_tokens::word_len;
 use jq_words::ScriptFault;
 use sel_core::{Compound, SelFault, Selector, read_strict_list};
 use std::alloc::Global;
-use text_bytes::is_blank;
+use text_bytes::{is_blank, is_set_apart};
 use tp_base::{AtomFault, AtomKind, AtomTable, ClassSet, NoMemory};
 
 /// The list of selectors in the letters of an argument, whose first Text stands at an offset. Names read before a refusal stay in the
@@ -137,4 +137,51 @@ pub fn class_set(
         }
     }
     Ok(set)
+}
+
+fn in_attribute(byte: u8) -> bool
+    ensures { result ≡ spec.in_attribute byte }
+{
+    !(is_blank(byte) || matches!(byte, b'/' | b'>' | b'=' | b'"' | b'\''))
+}
+
+fn are_in_attribute(letters: &[u8]) -> bool
+    ensures { result ≡ list_all spec.in_attribute letters.now }
+{
+    letters.iter().all(|b| in_attribute(*b))
+}
+
+/// Whether letters are the name of an attribute that a script may give. Linear in them.
+#[tactic(auto, unfolding(crate::specs::Selections::is_attribute))]
+pub fn is_attribute(letters: &[u8]) -> bool
+    ensures { result ≡ spec.is_attribute letters.now }
+{
+    match letters {
+        [] => false,
+        _ => are_in_attribute(letters) && !is_set_apart(letters),
+    }
+}
+
+/// Adds the atom of an attribute's name or value, which is lowered, for an argument whose first Text stands at an offset.
+#[tactic(auto, unfolding(crate::specs::Selections::with_attribute), using(html_subset::proofs::Fronts::front_grown, html_subset::proofs::Fronts::front_itself))]
+pub fn add_attribute(
+    alloc: Global,
+    at: usize,
+    text: &[u8],
+    set: &mut ClassSet,
+    atoms: &mut AtomTable,
+) -> Result<(), ScriptFault>
+    ensures gives { Leaves (set.new, atoms.new) result (spec.with_attribute at text.now set.old atoms.old) }
+    ensures front { IsFront atoms.old atoms.new }
+{
+    let mut lowered = Vec::from_slice(alloc, text)?;
+    lowered.as_mut_slice().make_ascii_lowercase();
+    match atoms.intern(AtomKind::Attr, &lowered) {
+        Ok(atom) => {
+            set.add(atom)?;
+            Ok(())
+        }
+        Err(AtomFault::TooManyAtoms) => Err(ScriptFault::TooManyAtoms(at)),
+        Err(AtomFault::Memory) => Err(ScriptFault::Memory),
+    }
 }

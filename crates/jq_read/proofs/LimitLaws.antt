@@ -5,6 +5,7 @@ use Rattle.std.specs.List.{AllByRecursion}
 use Rattle.std.proofs.lemmas.Bool.{leb-false, ltb-false}
 use Rattle.std.proofs.lemmas.Result.{IfOk-at_ok}
 use Rattle.std.proofs.lemmas.List.Sums.{sum_by_push}
+use Rattle.text_bytes.specs.Attributes.{with_value}
 use Rattle.tp_base.specs.Names.{Named}
 use Rattle.tp_base.specs.Places.{place_at}
 use Rattle.tree_sem.specs.Trees.{LabelTree}
@@ -19,11 +20,11 @@ use Rattle.jq_words.specs.declared.faults.TheConstants.{MOST_STATEMENTS, MOST_CA
 use Rattle.jq_words.specs.Words.{Word, words, Outcome, ◌>>=◌, is_mark, is_name, is_any_name, is_name_among, fits, first_is, is_form, spelled, begins, begins_name, place, unexpected, want, want_name, want_open, end}
 use Rattle.jq_words.specs.Brackets.{is_empty, arguments, behind_arguments}
 use Rattle.jq_words.specs.Texts.{texts, is_markup}
-use Rattle.jq_words.specs.Calls.{Form, moves, unites, goes_back, classes, grows, places, handles, listens, passes}
+use Rattle.jq_words.specs.Calls.{Form, moves, unites, goes_back, classes, attributes, grows, places, handles, listens, passes}
 use Rattle.jq_parts.specs.Keywords.{jquery, pages}
 use Rattle.jq_parts.specs.Bindings.{Value, elements, everywhere, markup, placed, Declaration, bound, latest, if_chain, under_bound}
 use Rattle.jq_parts.specs.Scopes.{Handler, Scope, used, if_bound, is_this, places_of, this_at}
-use Rattle.jq_parts.specs.Selections.{selectors, compounds, class_set}
+use Rattle.jq_parts.specs.Selections.{selectors, compounds, class_set, is_attribute, with_attribute}
 use Rattle.jq_parts.specs.Markup.{Grown, grown, forest, with_forest, nodes_in}
 use Rattle.jq_parts.specs.Arguments.{text_argument, markup_argument, forest_or, wrapped, wrapped_forest, target}
 use Rattle.jq_parts.specs.Stating.{Effect, stated, calls_in, chains_of}
@@ -35,7 +36,7 @@ use Rattle.jq_read.specs.declared.forms.StatementForm.TheVariants as form
 use Rattle.jq_read.specs.declared.forms.Between.{Between}
 use Rattle.jq_read.specs.States.{Context, State, size, with_names, scope_in}
 use Rattle.jq_read.specs.Functions.{Block, function_body, behind_name, want_function, function, elements_in, handler_at, in_handler, handed_other, handed}
-use Rattle.jq_read.specs.CallArguments.{made, and_call, compounds_argument, move_arguments, unite_arguments, acting, and_list, class_arguments, added, some_argument, grow_arguments, trees_in, place_arguments}
+use Rattle.jq_read.specs.CallArguments.{made, and_call, compounds_argument, move_arguments, unite_arguments, acting, and_list, class_arguments, value_argument, attribute_arguments, added, some_argument, grow_arguments, trees_in, place_arguments}
 use Rattle.jq_read.specs.Chains.{behind_one, several, listened, listening, listen_arguments, unchanged, at_least, arguments_of, dot_name, admitted, and_stated, call, ended, all_read, calls, chain}
 use Rattle.jq_read.specs.Openings.{form_of}
 use Rattle.jq_read.specs.Statements.{Blocks, plain_list, and_end, condition, bracketed, start, behind_document, ready, called_with, once, delay, timer, named_function, declared_value, value_behind, one, more_ones, declaration, chain_statement, with_state, statement_as, is_branch, begin, is_over, turn, at_file_end, sequence, no_block, braces, block}
@@ -235,6 +236,21 @@ class_in k room c v s ws here =
     any_then _ (and_list c room t.2) _ (λ rest.
     acted_in k v (elements_in v) (Classes r.0) (with_names r.1 s) (less (pending v + 0 + k) (pending v + k) (with_names r.1 s) (omega arith) (renamed (pending v + k) r.1 s here)))))
 
+given_in : (k : ℕ) (c : Context) (v : Value) (s : State) (name : List ℕ) (at : ℕ) (ws : List Word) → IsIn (pending v + k) s → IfOk (value_argument c v s name at ws) (DoneIn k)
+unfolding value_argument
+given_in k c v s name at ws here =
+    either _ (not (is_attribute name)) _ _ tt
+    (any_then _ (with_attribute at name [] s.grown.names) _ (λ one.
+    any_then _ (text_argument (size c) (drop 1 ws)) _ (λ t.
+    any_then _ (with_attribute t.1 (with_value name t.0) one.0 one.1) _ (λ both.
+    acted_in k v (elements_in v) (Classes both.0) (with_names both.1 s) (less (pending v + 0 + k) (pending v + k) (with_names both.1 s) (omega arith) (renamed (pending v + k) both.1 s here))))))
+
+attribute_in : (k : ℕ) (c : Context) (v : Value) (s : State) (ws : List Word) → IsIn (pending v + k) s → IfOk (attribute_arguments c v s ws) (DoneIn k)
+unfolding attribute_arguments
+attribute_in k c v s ws here =
+    any_then _ (text_argument (size c) ws) _ (λ t.
+    either _ (begins (codes ",") t.2) _ _ (given_in k c v s t.0 t.1 t.2 here) (less (pending v + 0 + k) (pending v + k) s (omega arith) here))
+
 markup_counted : (size room : ℕ) (ws : List Word) (g : Grown) → IfOk (markup_argument size room ws g) (IsCounted g)
 unfolding markup_argument
 markup_counted size room ws g = by_letters (texts ws) where
@@ -344,6 +360,7 @@ module _ (block : Block) (keeps : Keeps block) where
   arguments_in k room c v unites name fewest most count s ws here = unite_in k c v s ws here
   arguments_in k room c v goes_back name fewest most count s ws here = called_in k v back s here
   arguments_in k room c v classes name fewest most count s ws here = class_in k room c v s ws here
+  arguments_in k room c v attributes name fewest most count s ws here = attribute_in k c v s ws here
   arguments_in k room c v (grows beside) name fewest most count s ws here = grow_in k room c beside v s ws here
   arguments_in k room c v places name fewest most count s ws here = placing_in k room c v s ws here
   arguments_in k room c v handles name fewest most count s ws here = unchanged_in k v _ (several_in (pending v + k) false room c (elements_in v) (at_least fewest count) s ws here)

@@ -1,27 +1,29 @@
 -- What the arguments of a call leave is over the table of names then.
-use Rattle.std.proofs.Common.{ℕ, ◌≤◌, Bool, true, false, List, [], ◌∷◌, ◌++◌, length, drop, Option, Some, None, codes, arith}
+use Rattle.std.proofs.Common.{ℕ, ◌<◌, ◌≤◌, not, Bool, true, false, List, [], ◌∷◌, ◌++◌, length, drop, Option, Some, None, codes, arith}
 use Rattle.std.specs.Prelude.{IfOk}
+use Rattle.std.proofs.lemmas.List.Elements.{All-nil}
+use Rattle.text_bytes.specs.Attributes.{with_value}
 use Rattle.tp_base.specs.Names.{Named}
 use Rattle.tree_sem.specs.Trees.{LabelTree}
 use Rattle.tree_sem.specs.declared.actions.Action.{Action}
 use Rattle.tree_sem.specs.declared.actions.Action.TheVariants.{Classes}
 use Rattle.jq_sem.specs.Statements.{Call, add}
-use Rattle.jq_words.specs.Words.{Word, is_name_among, first_is, place, want_open}
+use Rattle.jq_words.specs.Words.{Word, is_name_among, first_is, begins, place, want_open}
 use Rattle.jq_words.specs.Texts.{texts}
-use Rattle.jq_words.specs.Calls.{Form, moves, finding, to_children, to_parent, to_parents, filtering, having, unites, goes_back, classes, grows, places, handles, listens, passes}
+use Rattle.jq_words.specs.Calls.{Form, moves, finding, to_children, to_parent, to_parents, filtering, having, unites, goes_back, classes, attributes, grows, places, handles, listens, passes}
 use Rattle.jq_parts.specs.Keywords.{jquery}
 use Rattle.jq_parts.specs.Bindings.{Value, elements, everywhere, markup, placed}
-use Rattle.jq_parts.specs.Selections.{selectors, compounds, class_set}
+use Rattle.jq_parts.specs.Selections.{selectors, compounds, class_set, is_attribute, with_attribute}
 use Rattle.jq_parts.specs.Markup.{Grown}
 use Rattle.jq_parts.specs.Arguments.{text_argument, markup_argument, forest_or, wrapped, wrapped_forest, target}
 use Rattle.jq_parts.specs.Stating.{Effect}
 use Rattle.jq_sem.specs.Tables.{AreCompoundsOver, IsCallOver, AreCallsOver, AreTreesOver, IsActionOver}
-use Rattle.jq_parts.proofs.TableLaws.{selectors_over, compounds_over, classes_over}
+use Rattle.jq_parts.proofs.TableLaws.{selectors_over, compounds_over, classes_over, attribute_over}
 use Rattle.jq_read.specs.States.{Context, State, size, scope_in}
 use Rattle.jq_read.specs.Functions.{elements_in}
-use Rattle.jq_read.specs.CallArguments.{made, and_call, compounds_argument, move_arguments, unite_arguments, acting, and_list, class_arguments, added, some_argument, grow_arguments, trees_in, place_arguments}
+use Rattle.jq_read.specs.CallArguments.{made, and_call, compounds_argument, move_arguments, unite_arguments, acting, and_list, class_arguments, value_argument, attribute_arguments, added, some_argument, grow_arguments, trees_in, place_arguments}
 use Rattle.jq_read.proofs.ReadingLaws.{and_then, any_then, either}
-use Rattle.jq_read.proofs.TableStates.{IsValueOver, IsEffectOver, count, AreOver, IsLater, value_more, grown_over, renamed_over}
+use Rattle.jq_read.proofs.TableStates.{IsValueOver, IsEffectOver, count, AreOver, IsLater, value_more, same, grown_over, renamed_over}
 use Rattle.jq_read.proofs.TableRoots.{ForestOver, forest_over, target_over}
 
 -- ---- arguments
@@ -50,6 +52,7 @@ made_over n (moves having) cs over = over
 made_over n unites cs over = tt
 made_over n goes_back cs over = tt
 made_over n classes cs over = tt
+made_over n attributes cs over = tt
 made_over n (grows beside) cs over = tt
 made_over n places cs over = tt
 made_over n handles cs over = tt
@@ -93,6 +96,23 @@ class_over c room v s ws over of =
     any_then _ (and_list c room t.2) _ (λ rest.
     let more = value_more (count s) (length r.1) known.0 v of in
     (renamed_over c s r.1 known.0 over, more, acting_over (length r.1) v (Classes r.0) more known.1))))
+
+value_over : (c : Context) (v : Value) (s : State) (name : List ℕ) (at : ℕ) (ws : List Word) → AreOver c s → IsValueOver (count s) v → IfOk (value_argument c v s name at ws) (DoneOver c s)
+unfolding value_argument
+value_over c v s name at ws over of =
+    either _ (not (is_attribute name)) _ _ tt
+    (and_then _ _ (with_attribute at name [] s.grown.names) _ (attribute_over at name [] s.grown.names (All-nil (λ a. a < count s))) (λ one first.
+    any_then _ (text_argument (size c) (drop 1 ws)) _ (λ t.
+    and_then _ _ (with_attribute t.1 (with_value name t.0) one.0 one.1) _ (attribute_over t.1 (with_value name t.0) one.0 one.1 first.1) (λ both known.
+    let longer : count s ≤ length both.1 = omega (arith, first.0, known.0) in
+    let more = value_more (count s) (length both.1) longer v of in
+    (renamed_over c s both.1 longer over, more, acting_over (length both.1) v (Classes both.0) more known.1)))))
+
+pub attributes_over : (c : Context) (v : Value) (s : State) (ws : List Word) → AreOver c s → IsValueOver (count s) v → IfOk (attribute_arguments c v s ws) (DoneOver c s)
+unfolding attribute_arguments
+attributes_over c v s ws over of =
+    any_then _ (text_argument (size c) ws) _ (λ t.
+    either _ (begins (codes ",") t.2) _ _ (value_over c v s t.0 t.1 t.2 over of) (same c s over, of, tt))
 
 wrapped_forest_over : (size room : ℕ) (ws : List Word) (g : Grown) (letters : Option (List ℕ)) → IfOk (wrapped_forest size room ws g letters) (ForestOver g)
 wrapped_forest_over size room ws g None = tt

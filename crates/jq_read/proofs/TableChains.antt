@@ -5,7 +5,7 @@ use Rattle.std.proofs.lemmas.Result.{IfOk-weaker}
 use Rattle.sel_core.specs.Selectors.{simple}
 use Rattle.jq_sem.specs.Statements.{Chain, find, back}
 use Rattle.jq_words.specs.Words.{Word, Outcome, is_mark, is_any_name, begins, begins_name, place, want, want_name, want_open}
-use Rattle.jq_words.specs.Calls.{Form, moves, unites, goes_back, classes, grows, places, handles, listens, passes}
+use Rattle.jq_words.specs.Calls.{Form, moves, unites, goes_back, classes, attributes, grows, places, handles, listens, passes}
 use Rattle.jq_parts.specs.Bindings.{Value, elements, everywhere, markup, placed, Declaration}
 use Rattle.jq_parts.specs.Scopes.{Handler}
 use Rattle.jq_parts.specs.Selections.{compounds}
@@ -22,7 +22,7 @@ use Rattle.jq_read.specs.Chains.{behind_one, several, below, listened, listening
 use Rattle.jq_read.proofs.ReadingLaws.{and_then, any_then, either, all_push, all_take}
 use Rattle.jq_read.proofs.TableStates.{IsValueOver, IsBoundOver, AreBoundOver, IsElementsOver, count, AreOver, IsLater, value_more, elements_more, same, further, grown_over, renamed_over, stated_over}
 use Rattle.jq_read.proofs.TableRoots.{root_over}
-use Rattle.jq_read.proofs.TableArguments.{DoneOver, called_over, move_over, unite_over, class_over, grow_over, place_over}
+use Rattle.jq_read.proofs.TableArguments.{DoneOver, called_over, move_over, unite_over, class_over, attributes_over, grow_over, place_over}
 
 -- ---- functions
 
@@ -172,6 +172,7 @@ module _ (block : Block) (keeps : KeepsOver block) where
   arguments_over room c v unites name fewest most n s ws over of = unite_over c v s ws over of
   arguments_over room c v goes_back name fewest most n s ws over of = (same c s over, called_over (count s) v back of tt, tt)
   arguments_over room c v classes name fewest most n s ws over of = class_over c room v s ws over of
+  arguments_over room c v attributes name fewest most n s ws over of = attributes_over c v s ws over of
   arguments_over room c v (grows beside) name fewest most n s ws over of = grow_over c room beside v s ws over of
   arguments_over room c v places name fewest most n s ws over of = place_over c room v s ws over of
   arguments_over room c v handles name fewest most n s ws over of =

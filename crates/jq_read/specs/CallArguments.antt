@@ -1,17 +1,19 @@
 -- The arguments of a call that takes no function.
---     move_arguments, unite_arguments, class_arguments, grow_arguments, place_arguments
-use Rattle.std.specs.Prelude.{ℕ, Bool, true, false, if◌then◌else◌, List, [], ◌∷◌, ◌++◌, drop, codes, Option, Some, None, Ok}
+--     move_arguments, unite_arguments, class_arguments, attribute_arguments, grow_arguments, place_arguments
+use Rattle.std.specs.Prelude.{ℕ, Bool, true, false, not, if◌then◌else◌, List, [], ◌∷◌, ◌++◌, drop, codes, Option, Some, None, Ok, Err}
+use Rattle.text_bytes.specs.Attributes.{with_value}
 use Rattle.tp_base.specs.Names.{Named}
 use Rattle.tree_sem.specs.Trees.{LabelTree}
 use Rattle.tree_sem.specs.declared.actions.Action.{Action}
 use Rattle.tree_sem.specs.declared.actions.Action.TheVariants.{Classes, Inside, Beside}
 use Rattle.jq_sem.specs.Statements.{Call, find, children, parent, parents, filter, has, add, back, Chain}
+use Rattle.jq_words.specs.declared.faults.ScriptFault.TheVariants.{ComplexArgument}
 use Rattle.jq_words.specs.Words.{Word, begins, Outcome, ◌>>=◌, unexpected}
 use Rattle.jq_words.specs.Brackets.{is_empty, argument, behind_argument}
 use Rattle.jq_words.specs.FreeLists.{free}
 use Rattle.jq_words.specs.Calls.{Form, moves, finding, to_children, to_parent, to_parents, filtering, having}
 use Rattle.jq_parts.specs.Bindings.{Value, elements, markup, placed}
-use Rattle.jq_parts.specs.Selections.{selectors, compounds, class_set}
+use Rattle.jq_parts.specs.Selections.{selectors, compounds, class_set, is_attribute, with_attribute}
 use Rattle.jq_parts.specs.Arguments.{text_argument, markup_argument, target}
 use Rattle.jq_parts.specs.Stating.{Effect}
 use Rattle.jq_read.specs.States.{Context, State, size, with_names, scope_in}
@@ -76,6 +78,22 @@ class_arguments c room v s ws = do
   r ← class_set t.1 t.0 s.grown.names
   rest ← and_list c room t.2
   done v (acting (elements_in v) (Classes r.0)) (with_names r.1 s) rest
+
+-- The value that an attribute gets, from the comma on, with the letters of its name and the offset of the first Text of them. The name's
+-- atom comes before the value is read, so that faults come in reading order.
+unfoldable pub value_argument : Context → Value → State → List ℕ → ℕ → List Word → Done
+value_argument c v s name at ws =
+    if not (is_attribute name) then Err (ComplexArgument at)
+    else (with_attribute at name [] s.grown.names >>= λ one.
+    text_argument (size c) (drop 1 ws) >>= λ t.
+    with_attribute t.1 (with_value name t.0) one.0 one.1 >>= λ both.
+    done v (acting (elements_in v) (Classes both.0)) (with_names both.1 s) t.2)
+
+-- an attribute's name, and its value where a comma follows; a name alone reads the attribute, which does nothing
+unfoldable pub attribute_arguments : Context → Value → State → List Word → Done
+attribute_arguments c v s ws = do
+  t ← text_argument (size c) ws
+  if begins (codes ",") t.2 then value_argument c v s t.0 t.1 t.2 else done v None s t.2
 
 abbrev pub added : Bool → List LabelTree → Action
 added true trees = Beside (record { tops = trees })

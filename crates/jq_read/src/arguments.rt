@@ -17,12 +17,16 @@ ghost use Rattle.jq_read.specs.Views.{reached_of, done_of};
 use crate::functions::list_in;
 use crate::states::{Reader, State};
 use crate::values::{Done, Reached, elements, with_call};
-use jq_parts::{Cursor, class_set, compounds, markup_argument, selectors, target, text_argument};
+use jq_parts::{
+    Cursor, add_attribute, class_set, compounds, is_attribute, markup_argument, selectors, target,
+    text_argument,
+};
 use jq_sem::{Call, Selectors, SharedCompounds};
 use jq_words::{Form, ScriptFault, Words, argument_len, begins, place};
 use sel_core::Compound;
 use std::alloc::Global;
-use tp_base::{AtomTable, NoMemory};
+use text_bytes::with_value;
+use tp_base::{AtomTable, ClassSet, NoMemory};
 use tree_sem::{Action, Forest, Trees};
 
 /// The call of a form that makes a set, by a list of compounds or by going back.
@@ -177,6 +181,60 @@ pub(crate) fn class_arguments(
     and_list(reader, room, state, words)?;
     let done = acting(reached, Action::Classes(classes))?;
     Ok(done)
+}
+
+/// The value that an attribute of this name gets, behind the comma.
+#[tactic(auto, unfolding(crate::specs::CallArguments::value_argument), using(sel_core::proofs::Fronts::front_itself, sel_core::proofs::Fronts::front_of_front, jq_words::proofs::Rests::passed_behind))]
+fn value_argument(
+    reader: Reader<'_>,
+    reached: Reached,
+    name: &[u8],
+    at: usize,
+    state: &State<'_>,
+    atoms: &mut AtomTable,
+    words: &mut Cursor<'_, '_>,
+) -> Result<Done, ScriptFault>
+    ensures gives { Turns done_of (state_of reader.entry state.now atoms.new) words.new result (spec.value_argument (context_of reader.entry state.now) (reached_of reached) (state_of reader.entry state.now atoms.old) name.now at words.old) }
+    ensures rest { OnOk result (IsRest words.old words.new) }
+    ensures front { IsFront atoms.old atoms.new }
+{
+    if !is_attribute(name) {
+        return Err(ScriptFault::ComplexArgument(at));
+    }
+    let mut set = ClassSet::new(reader.alloc);
+    add_attribute(reader.alloc, at, name, &mut set, atoms)?;
+    words.pass();
+    let value_at = place(reader.text.len(), words.words());
+    let value = text_argument(reader.alloc, reader.text.len(), words)?;
+    let text = with_value(reader.alloc, name, &value)?;
+    add_attribute(reader.alloc, value_at, &text, &mut set, atoms)?;
+    let done = acting(reached, Action::Classes(set))?;
+    Ok(done)
+}
+
+/// An attribute that is read, or that gets a value.
+#[tactic(auto, unfolding(crate::specs::CallArguments::attribute_arguments), using(sel_core::proofs::Fronts::front_itself, jq_words::proofs::Rests::behind_rest, jq_words::proofs::Rests::is_rest, jq_words::proofs::Rests::of_rest))]
+pub(crate) fn attribute_arguments(
+    reader: Reader<'_>,
+    reached: Reached,
+    state: &State<'_>,
+    atoms: &mut AtomTable,
+    words: &mut Cursor<'_, '_>,
+) -> Result<Done, ScriptFault>
+    ensures gives { Turns done_of (state_of reader.entry state.now atoms.new) words.new result (spec.attribute_arguments (context_of reader.entry state.now) (reached_of reached) (state_of reader.entry state.now atoms.old) words.old) }
+    ensures rest { OnOk result (IsRest words.old words.new) }
+    ensures front { IsFront atoms.old atoms.new }
+{
+    let at = place(reader.text.len(), words.words());
+    let name = text_argument(reader.alloc, reader.text.len(), words)?;
+    if begins(words.words(), b",") {
+        let done = value_argument(reader, reached, &name, at, state, atoms, words)?;
+        return Ok(done);
+    }
+    Ok(Done {
+        reached,
+        effect: None,
+    })
 }
 
 /// Lends the words of an argument, of which there has to be something, and passes them.

@@ -13,7 +13,8 @@ ghost use Rattle.jq_read.specs.Readers.{context_of, state_of};
 ghost use Rattle.jq_read.specs.Views.{reached_of, done_of};
 
 use crate::arguments::{
-    class_arguments, go_back, grow_arguments, move_arguments, place_arguments, unite_arguments,
+    attribute_arguments, class_arguments, go_back, grow_arguments, move_arguments, place_arguments,
+    unite_arguments,
 };
 use crate::bodies::handed;
 use crate::calls::{admitted, and_stated, dot_name, ended, listening, pass_comma};
@@ -125,6 +126,7 @@ pub(crate) fn call_arguments<'a>(
             Ok(done)
         }
         Form::Classes => class_arguments(reader, room, reached, state, atoms, words),
+        Form::Attributes => attribute_arguments(reader, reached, state, atoms, words),
         Form::GrowsInside => grow_arguments(reader, room, false, reached, state, atoms, words),
         Form::GrowsBeside => grow_arguments(reader, room, true, reached, state, atoms, words),
         Form::Places => place_arguments(reader, room, reached, state, atoms, words),
