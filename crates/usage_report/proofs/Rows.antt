@@ -14,7 +14,8 @@ use Rattle.proof_check.specs.declared.proofs.Proof.{Proof}
 use Rattle.css_read.specs.Sheets.{judged, skipped, Item}
 use Rattle.usage_report.specs.Answers as answers
 use Rattle.usage_report.specs.Reportable.{IsReportable, AreReportable}
-use Rattle.usage_report.specs.Report.{report, place_text, path_text, step_text, shown_text, count_text, answer_text}
+use Rattle.usage_report.specs.RunTraces.{RunTrace, listed, stopped}
+use Rattle.usage_report.specs.Report.{report, report_with, run_text, trace_text, place_text, path_text, step_text, shown_text, count_text, head_text}
 
 -- `.a` at 1:1, and at 2:1 `.a > b`
 abbrev names : List Named
@@ -41,53 +42,53 @@ no_proof = record { entries = []; page = [] }
 abbrev both : answers.Answer → answers.Answer → List ℕ
 both a b = report text names places (record { items = first ∷ second ∷ []; rules = [] }) (a ∷ b ∷ [])
 
-no_items : report [] [] [] (record { items = []; rules = [] }) [] ≡ codes "treeped 1\n"
+no_items : report [] [] [] (record { items = []; rules = [] }) [] ≡ codes "treeped 2\n"
 no_items = refl
 
-unused_and_spent : both answers.unused answers.spent ≡ codes "treeped 1\n1:1 unused .a\n2:1 spent .a > b\n"
-unfolding digits answer_text place_text selector_text
+unused_and_spent : both answers.unused answers.spent ≡ codes "treeped 2\n1:1 unused .a\n2:1 spent .a > b\n"
+unfolding digits head_text place_text selector_text
 unused_and_spent = refl
 
-used_at_once : both (answers.used no_proof 0 (Some (record { steps = []; at = [] }))) answers.used_unshown ≡ codes "treeped 1\n1:1 used 0 .a\n  match /\n2:1 used-unshown .a > b\n"
-unfolding digits answer_text place_text selector_text count_text shown_text path_text step_text
+used_at_once : both (answers.used no_proof 0 (Some (record { steps = []; at = [] }))) answers.used_unshown ≡ codes "treeped 2\n1:1 used 0 .a\n  match /\n2:1 used-unshown .a > b\n"
+unfolding digits head_text place_text selector_text count_text shown_text path_text step_text
 used_at_once = refl
 
 used_after_steps : both answers.unused (answers.used no_proof 2 (Some (record { steps = record { stmt = 1; at = 1 ∷ 0 ∷ [] } ∷ record { stmt = 2; at = [] } ∷ []; at = 1 ∷ 0 ∷ 12 ∷ [] })))
-    ≡ codes "treeped 1\n1:1 unused .a\n2:1 used 2 .a > b\n  2 at 2:27 on /1/0\n  3 at 10:100 on /\n  match /1/0/12\n"
-unfolding digits answer_text place_text selector_text count_text shown_text path_text step_text
+    ≡ codes "treeped 2\n1:1 unused .a\n2:1 used 2 .a > b\n  2 at 2:27 on /1/0\n  3 at 10:100 on /\n  match /1/0/12\n"
+unfolding digits head_text place_text selector_text count_text shown_text path_text step_text
 used_after_steps = refl
 
 greatest : both (answers.used no_proof 18446744073709551615 None) (answers.used no_proof 18446744073709551614 None)
-    ≡ codes "treeped 1\n1:1 used 18446744073709551615+ .a\n  not listed\n2:1 used 18446744073709551614 .a > b\n  not listed\n"
-unfolding digits answer_text place_text selector_text count_text shown_text
+    ≡ codes "treeped 2\n1:1 used 18446744073709551615+ .a\n  not listed\n2:1 used 18446744073709551614 .a > b\n  not listed\n"
+unfolding digits head_text place_text selector_text count_text shown_text
 greatest = refl
 
 -- an item that is skipped, on its second line, and the place of the cause
 abbrev at_cause : Skip → ℕ → List ℕ
 at_cause cause at = report (codes "x{}\ny{}") names places (record { items = record { from = 4; to = 5; rule = 1; outcome = skipped cause at } ∷ []; rules = [] }) (answers.skipped cause at ∷ [])
 
-sibling : at_cause Sibling 0 ≡ codes "treeped 1\n2:1 skipped sibling at 1:1\n"
-unfolding digits answer_text place_text
+sibling : at_cause Sibling 0 ≡ codes "treeped 2\n2:1 skipped sibling at 1:1\n"
+unfolding digits head_text place_text
 sibling = refl
 
-pseudo : at_cause Pseudo 2 ≡ codes "treeped 1\n2:1 skipped pseudo at 1:3\n"
-unfolding digits answer_text place_text
+pseudo : at_cause Pseudo 2 ≡ codes "treeped 2\n2:1 skipped pseudo at 1:3\n"
+unfolding digits head_text place_text
 pseudo = refl
 
-attribute : at_cause Attribute 4 ≡ codes "treeped 1\n2:1 skipped attribute at 2:1\n"
-unfolding digits answer_text place_text
+attribute : at_cause Attribute 4 ≡ codes "treeped 2\n2:1 skipped attribute at 2:1\n"
+unfolding digits head_text place_text
 attribute = refl
 
-escape : at_cause Escape 5 ≡ codes "treeped 1\n2:1 skipped escape at 2:2\n"
-unfolding digits answer_text place_text
+escape : at_cause Escape 5 ≡ codes "treeped 2\n2:1 skipped escape at 2:2\n"
+unfolding digits head_text place_text
 escape = refl
 
-long : at_cause Long 6 ≡ codes "treeped 1\n2:1 skipped long at 2:3\n"
-unfolding digits answer_text place_text
+long : at_cause Long 6 ≡ codes "treeped 2\n2:1 skipped long at 2:3\n"
+unfolding digits head_text place_text
 long = refl
 
-bad : at_cause Bad 7 ≡ codes "treeped 1\n2:1 skipped bad at 2:4\n"
-unfolding digits answer_text place_text
+bad : at_cause Bad 7 ≡ codes "treeped 2\n2:1 skipped bad at 2:4\n"
+unfolding digits head_text place_text
 bad = refl
 
 -- ---- what isn't reported
@@ -116,3 +117,27 @@ no_answer is = is
 
 no_item : ¬ AreReportable places [] (answers.skipped Bad 0 ∷ [])
 no_item is = is
+
+-- ---- whole runs
+
+-- the report on both, the first used with its steps shown and with a trace
+abbrev traced : RunTrace → List ℕ
+traced r = report_with text names places (record { items = first ∷ second ∷ []; rules = [] })
+    (answers.used no_proof 2 (Some (record { steps = record { stmt = 1; at = 1 ∷ 0 ∷ [] } ∷ record { stmt = 0; at = [] } ∷ []; at = [] })) ∷ answers.unused ∷ []) (Some r ∷ None ∷ [])
+
+runs_listed : traced (listed (1 ∷ 0 ∷ []) (1 ∷ 0 ∷ 12 ∷ [])) ≡ codes "treeped 2\n1:1 used 2 .a\n  run 2 at 2:27\n  run 1 at 1:9\n  match /1/0/12\n2:1 unused .a > b\n"
+unfolding digits head_text place_text selector_text count_text shown_text path_text trace_text run_text
+runs_listed = refl
+
+no_runs : traced (listed [] []) ≡ codes "treeped 2\n1:1 used 2 .a\n  match /\n2:1 unused .a > b\n"
+unfolding digits head_text place_text selector_text count_text shown_text path_text trace_text run_text
+no_runs = refl
+
+runs_stop : traced (stopped 18) ≡ codes "treeped 2\n1:1 used 2 .a\n  runs stop at 18\n2:1 unused .a > b\n"
+unfolding digits head_text place_text selector_text count_text shown_text path_text trace_text run_text
+runs_stop = refl
+
+-- what isn't shown stays so
+not_shown : report_with text names places (record { items = first ∷ []; rules = [] }) (answers.used no_proof 2 None ∷ []) (Some (stopped 1) ∷ []) ≡ codes "treeped 2\n1:1 used 2 .a\n  not listed\n"
+unfolding digits head_text place_text selector_text count_text shown_text path_text trace_text run_text
+not_shown = refl

@@ -1,5 +1,5 @@
 -- The text of a report, whose answers are reportable on its items (`Reportable.antt`).
-use Rattle.std.specs.Prelude.{ℕ, ◌+◌, ◌-◌, ◌^◌, ◌==◌, if◌then◌else◌, List, [], ◌∷◌, ◌++◌, codes, get_or, Option, Some, None}
+use Rattle.std.specs.Prelude.{ℕ, ◌+◌, ◌-◌, ◌^◌, ◌==◌, if◌then◌else◌, List, [], ◌∷◌, ◌++◌, codes, get_or, map, Option, Some, None}
 use Rattle.std.specs.List.{flat_map}
 use Rattle.std.specs.Fmt.{decimal}
 use Rattle.tp_base.specs.Names.{Named}
@@ -11,6 +11,7 @@ use Rattle.sel_core.specs.declared.faults.Skip.TheVariants as cause
 use Rattle.sel_core.specs.SelectorText.{selector_text}
 use Rattle.css_read.specs.Sheets as sheets
 use Rattle.proof_check.specs.declared.unfolded.Unfolded.{Unfolded}
+use Rattle.usage_report.specs.RunTraces.{RunTrace, listed, stopped}
 use Rattle.usage_report.specs.Answers.{Answer, used, used_unshown, unused, skipped, spent}
 
 -- `line:column`
@@ -31,10 +32,20 @@ unfoldable pub step_text : List Place → Step → List ℕ
 step_text places step =
     codes "  " ++ decimal (step.stmt + 1) ++ codes " at " ++ place_text (statement_place places step.stmt) ++ codes " on " ++ path_text step.at ++ codes "\n"
 
--- the steps and the match, or that they are not listed
-unfoldable pub shown_text : List Place → Option Unfolded → List ℕ
-shown_text places None = codes "  not listed\n"
-shown_text places (Some u) = flat_map (step_text places) u.steps ++ codes "  match " ++ path_text u.at ++ codes "\n"
+-- a line for a run; statements are counted from 1
+unfoldable pub run_text : List Place → ℕ → List ℕ
+run_text places run = codes "  run " ++ decimal (run + 1) ++ codes " at " ++ place_text (statement_place places run) ++ codes "\n"
+
+-- the runs and the match, or where they stop
+unfoldable pub trace_text : List Place → RunTrace → List ℕ
+trace_text places (listed runs at) = flat_map (run_text places) runs ++ codes "  match " ++ path_text at ++ codes "\n"
+trace_text places (stopped run) = codes "  runs stop at " ++ decimal run ++ codes "\n"
+
+-- the steps and the match, or the runs in their place, or that they are not listed
+unfoldable pub shown_text : List Place → Option Unfolded → Option RunTrace → List ℕ
+shown_text places None trace = codes "  not listed\n"
+shown_text places (Some u) None = flat_map (step_text places) u.steps ++ codes "  match " ++ path_text u.at ++ codes "\n"
+shown_text places (Some u) (Some trace) = trace_text places trace
 
 -- a number of steps, with `+` where it is the greatest that is counted and there may be more
 unfoldable pub count_text : ℕ → List ℕ
@@ -48,13 +59,22 @@ cause_text cause.Escape = codes "escape"
 cause_text cause.Long = codes "long"
 cause_text cause.Bad = codes "bad"
 
--- the lines of an answer in a sheet of this text, for an item whose place and whose selector's text are these
-unfoldable pub answer_text : List ℕ → List Place → List ℕ → List ℕ → Answer → List ℕ
-answer_text text places place selector (used proof steps shown) = place ++ codes " used " ++ count_text steps ++ codes " " ++ selector ++ codes "\n" ++ shown_text places shown
-answer_text text places place selector used_unshown = place ++ codes " used-unshown " ++ selector ++ codes "\n"
-answer_text text places place selector unused = place ++ codes " unused " ++ selector ++ codes "\n"
-answer_text text places place selector (skipped cause at) = place ++ codes " skipped " ++ cause_text cause ++ codes " at " ++ place_text (place_at text at) ++ codes "\n"
-answer_text text places place selector spent = place ++ codes " spent " ++ selector ++ codes "\n"
+-- the first line of an answer in a sheet of this text, for an item whose place and whose selector's text are these
+unfoldable pub head_text : List ℕ → List ℕ → List ℕ → Answer → List ℕ
+head_text text place selector (used proof steps shown) = place ++ codes " used " ++ count_text steps ++ codes " " ++ selector ++ codes "\n"
+head_text text place selector used_unshown = place ++ codes " used-unshown " ++ selector ++ codes "\n"
+head_text text place selector unused = place ++ codes " unused " ++ selector ++ codes "\n"
+head_text text place selector (skipped cause at) = place ++ codes " skipped " ++ cause_text cause ++ codes " at " ++ place_text (place_at text at) ++ codes "\n"
+head_text text place selector spent = place ++ codes " spent " ++ selector ++ codes "\n"
+
+-- a text, and behind it the lines of an answer's trace, if it has one
+abbrev pub with_trace : List Place → List ℕ → Answer → Option RunTrace → List ℕ
+with_trace places front (used proof steps shown) trace = front ++ shown_text places shown trace
+with_trace places front _ trace = front
+
+-- the lines of an answer
+abbrev pub answer_text : List ℕ → List Place → List ℕ → List ℕ → Answer → Option RunTrace → List ℕ
+answer_text text places place selector a trace = with_trace places (head_text text place selector a) a trace
 
 -- the selector of an item that is judged
 abbrev pub outcome_text : List Named → sheets.Outcome → List ℕ
@@ -62,17 +82,25 @@ outcome_text names (sheets.judged s) = selector_text names s
 outcome_text names (sheets.skipped cause at) = []
 
 -- the lines of an item
-abbrev pub item_text : List ℕ → List Named → List Place → sheets.Item → Answer → List ℕ
-item_text text names places i a = answer_text text places (place_text (place_at text i.from)) (outcome_text names i.outcome) a
+abbrev pub item_text : List ℕ → List Named → List Place → sheets.Item → Answer → Option RunTrace → List ℕ
+item_text text names places i a trace = answer_text text places (place_text (place_at text i.from)) (outcome_text names i.outcome) a trace
 
--- the lines of the items, each with its answer
-abbrev pub lines : List ℕ → List Named → List Place → List sheets.Item → List Answer → List ℕ
-lines text names places (i ∷ items) (a ∷ answers) = item_text text names places i a ++ lines text names places items answers
-lines text names places _ _ = []
+-- the lines of the items, each with its answer and, where runs stand in the place of its steps, these
+abbrev pub lines : List ℕ → List Named → List Place → List sheets.Item → List Answer → List (Option RunTrace) → List ℕ
+lines text names places (i ∷ items) (a ∷ answers) (trace ∷ traces) = item_text text names places i a trace ++ lines text names places items answers traces
+lines text names places _ _ _ = []
 
 abbrev pub first_line : List ℕ
-first_line = codes "treeped 1\n"
+first_line = codes "treeped 2\n"
+
+-- a report on a sheet of this text with these traces
+abbrev pub report_with : List ℕ → List Named → List Place → sheets.Sheet → List Answer → List (Option RunTrace) → List ℕ
+report_with text names places sheet answers traces = first_line ++ lines text names places sheet.items answers traces
+
+-- no item has runs in the place of its steps
+abbrev pub no_traces : List sheets.Item → List (Option RunTrace)
+no_traces items = map (λ i. None) items
 
 -- the report on a sheet of this text
 abbrev pub report : List ℕ → List Named → List Place → sheets.Sheet → List Answer → List ℕ
-report text names places sheet answers = first_line ++ lines text names places sheet.items answers
+report text names places sheet answers = report_with text names places sheet answers (no_traces sheet.items)

@@ -1,26 +1,38 @@
 //! Pieces of the report: numbers, places and paths.
-ghost use Rattle.std.specs.Prelude.{◌≡◌, ◌++◌, codes, OnOk};
+ghost use Rattle.std.specs.Prelude.{◌≡◌, ◌++◌, [], codes, OnOk};
 ghost use Rattle.std.specs.List.{flat_map};
 ghost use Rattle.std.specs.Fmt.{decimal};
 ghost use Rattle.usage_report.specs.Report as spec;
 
+use std::alloc::Global;
 use tp_base::{NoMemory, Path, Place};
 
-/// Bytes of the report.
+/// Bytes of a report, one line after another. What is put stands behind what is there; after a refusal some of it may.
 #[derive(Drop)]
-pub(crate) struct Piece {
-    pub(crate) bytes: Vec<u8>,
+pub struct Piece {
+    pub bytes: Vec<u8>,
 }
 
 impl Piece {
-    pub(crate) fn put(&mut self, bytes: &[u8]) -> Result<(), NoMemory>
+    /// No bytes yet.
+    pub fn new(alloc: Global) -> Self
+        ensures { result.bytes.items ≡ [] }
+    {
+        Piece {
+            bytes: Vec::new(alloc),
+        }
+    }
+
+    /// These bytes more. Linear in them.
+    pub fn put(&mut self, bytes: &[u8]) -> Result<(), NoMemory>
         ensures { OnOk result (self.new.bytes.items ≡ self.old.bytes.items ++ bytes.now) }
     {
         self.bytes.extend_from_slice(bytes)?;
         Ok(())
     }
 
-    pub(crate) fn number(&mut self, number: u64) -> Result<(), NoMemory>
+    /// A number, by its decimal digits.
+    pub fn number(&mut self, number: u64) -> Result<(), NoMemory>
         ensures { OnOk result (self.new.bytes.items ≡ self.old.bytes.items ++ decimal number) }
     {
         let digits = number.to_string(*self.bytes.allocator())?;
@@ -29,7 +41,7 @@ impl Piece {
 
     /// `line:column`.
     #[tactic(auto, unfolding(crate::specs::Report::place_text), using(std::proofs::Common::append_assoc))]
-    pub(crate) fn place(&mut self, place: Place) -> Result<(), NoMemory>
+    pub fn place(&mut self, place: Place) -> Result<(), NoMemory>
         ensures { OnOk result (self.new.bytes.items ≡ self.old.bytes.items ++ spec.place_text place) }
     {
         self.number(u64::from(place.line))?;
@@ -39,7 +51,7 @@ impl Piece {
 
     /// `/` for the root, else `/` before each child number.
     #[tactic(auto, using(crate::proofs::PieceLemmas::root_text, crate::proofs::PieceLemmas::below_root_text))]
-    pub(crate) fn path(&mut self, at: &Path) -> Result<(), NoMemory>
+    pub fn path(&mut self, at: &Path) -> Result<(), NoMemory>
         ensures { OnOk result (self.new.bytes.items ≡ self.old.bytes.items ++ spec.path_text at.now) }
     {
         if at.len() == 0 {

@@ -1,17 +1,18 @@
 //! A report, written to a sink item by item.
-ghost use Rattle.std.specs.Prelude.{◌≡◌, ◌≤◌, length, map, IfOk, OnOk, OnErr};
+ghost use Rattle.std.specs.Prelude.{◌≡◌, ◌≤◌, length, map, None, option_map, IfOk, OnOk, OnErr};
 ghost use Rattle.tp_base.specs.Cursor.{IsAt};
 ghost use Rattle.tp_base.specs.declared.places.TheConstants.{MOST_BYTES};
 ghost use Rattle.tp_io.specs.Sinks.{Adds, AddsPrefix, Rose};
 ghost use Rattle.css_read.specs.Places.{ArePlaced};
 ghost use Rattle.css_read.specs.Views.{item_of, sheet_of};
 ghost use Rattle.usage_report.specs.Report as spec;
-ghost use Rattle.usage_report.specs.Reportable.{IsReportable, AreReportable};
-ghost use Rattle.usage_report.specs.Views.{answer_of};
+ghost use Rattle.usage_report.specs.Reportable.{IsReportable, AreReportable, IsTraceable, AreTraceable};
+ghost use Rattle.usage_report.specs.Views.{answer_of, trace_of};
 
 use crate::answers::Answer;
 use crate::faults::ReportFault;
 use crate::pieces::Piece;
+use crate::run_traces::RunTrace;
 use css_read::{Sheet, SheetItem};
 use std::alloc::Global;
 use tp_base::{AtomTable, Cursor, NoMemory, Place};
@@ -39,7 +40,34 @@ pub fn write_report<O: Sink>(
     ensures write { result ≡ Err ReportFault.Write → Rose (O.faults out.old) (O.faults out.new) }
     ensures never_falls { O.faults out.old ≤ O.faults out.new }
 {
-    put_all(out, b"treeped 1\n")?;
+    let traces = no_traces(alloc, sheet.items.items())?;
+    write_traces(alloc, sheet, text, atoms, places, answers, &traces, out)
+}
+
+/// The same with a trace for each item or none: where the steps of an item are shown and it has a trace, the trace stands in
+/// their place.
+pub fn write_traces<O: Sink>(
+    alloc: Global,
+    sheet: &Sheet,
+    text: &[u8],
+    atoms: &AtomTable,
+    places: &[Place],
+    answers: &[Answer],
+    traces: &[Option<RunTrace>],
+    out: &mut O,
+) -> Result<(), ReportFault>
+    requires in_limit { length text.now ≤ MOST_BYTES }
+    requires placed { ArePlaced (length text.now) sheet.now.items }
+    requires reportable { AreReportable places.now (sheet_of sheet.now).items (map answer_of answers.now) }
+    requires traceable { AreTraceable places.now (sheet_of sheet.now).items (map (option_map trace_of) traces.now) }
+    ensures ok { OnOk result (Adds (O.written out.old) (O.written out.new)
+        (spec.report_with text.now atoms.now places.now (sheet_of sheet.now) (map answer_of answers.now) (map (option_map trace_of) traces.now))) }
+    ensures err { OnErr result (AddsPrefix (O.written out.old) (O.written out.new)
+        (spec.report_with text.now atoms.now places.now (sheet_of sheet.now) (map answer_of answers.now) (map (option_map trace_of) traces.now))) }
+    ensures write { result ≡ Err ReportFault.Write → Rose (O.faults out.old) (O.faults out.new) }
+    ensures never_falls { O.faults out.old ≤ O.faults out.new }
+{
+    put_all(out, b"treeped 2\n")?;
     write_items(
         alloc,
         sheet.items.items(),
@@ -47,12 +75,24 @@ pub fn write_report<O: Sink>(
         atoms,
         places,
         answers,
+        traces,
         out,
     )
 }
 
+// No trace for each of the items.
+fn no_traces(alloc: Global, items: &[SheetItem]) -> Result<Vec<Option<RunTrace>>, NoMemory>
+    ensures { IfOk result (λ v. v.items ≡ map (λ i. None) items.now) }
+{
+    let mut traces = Vec::new(alloc);
+    for item in items {
+        traces.push(None)?;
+    }
+    Ok(traces)
+}
+
 /// Writes the lines of all items.
-#[tactic(auto, using(crate::proofs::ReportLemmas::as_many, crate::proofs::ReportLemmas::reportable_at))]
+#[tactic(auto, using(crate::proofs::ReportLemmas::as_many, crate::proofs::ReportLemmas::as_many_traces, crate::proofs::ReportLemmas::reportable_at, crate::proofs::ReportLemmas::traceable_at))]
 fn write_items<O: Sink>(
     alloc: Global,
     items: &[SheetItem],
@@ -60,14 +100,16 @@ fn write_items<O: Sink>(
     atoms: &AtomTable,
     places: &[Place],
     answers: &[Answer],
+    traces: &[Option<RunTrace>],
     out: &mut O,
 ) -> Result<(), ReportFault>
     requires in_limit { length text.now ≤ MOST_BYTES }
     requires reportable { AreReportable places.now (map item_of items.now) (map answer_of answers.now) }
+    requires traceable { AreTraceable places.now (map item_of items.now) (map (option_map trace_of) traces.now) }
     ensures ok { OnOk result (Adds (O.written out.old) (O.written out.new)
-        (spec.lines text.now atoms.now places.now (map item_of items.now) (map answer_of answers.now))) }
+        (spec.lines text.now atoms.now places.now (map item_of items.now) (map answer_of answers.now) (map (option_map trace_of) traces.now))) }
     ensures err { OnErr result (AddsPrefix (O.written out.old) (O.written out.new)
-        (spec.lines text.now atoms.now places.now (map item_of items.now) (map answer_of answers.now))) }
+        (spec.lines text.now atoms.now places.now (map item_of items.now) (map answer_of answers.now) (map (option_map trace_of) traces.now))) }
     ensures write { result ≡ Err ReportFault.Write → Rose (O.faults out.old) (O.faults out.new) }
     ensures never_falls { O.faults out.old ≤ O.faults out.new }
 {
@@ -81,6 +123,7 @@ fn write_items<O: Sink>(
             places,
             &items[i],
             &answers[i],
+            &traces[i],
         )?;
         put_all(out, &piece.bytes)?;
     }
@@ -96,17 +139,17 @@ fn item_piece(
     places: &[Place],
     item: &SheetItem,
     answer: &Answer,
+    trace: &Option<RunTrace>,
 ) -> Result<Piece, NoMemory>
     requires here { IsAt text.now cursor.old }
     requires in_limit { length text.now ≤ MOST_BYTES }
     requires reportable { IsReportable places.now (item_of item.now).outcome (answer_of answer.now) }
-    ensures lines { IfOk result (λ p. p.bytes.items ≡ spec.item_text text.now atoms.now places.now (item_of item.now) (answer_of answer.now)) }
+    requires traceable { IsTraceable places.now (option_map trace_of trace.now) }
+    ensures lines { IfOk result (λ p. p.bytes.items ≡ spec.item_text text.now atoms.now places.now (item_of item.now) (answer_of answer.now) (option_map trace_of trace.now)) }
     ensures here { IsAt text.now cursor.new }
 {
-    let mut piece = Piece {
-        bytes: Vec::new(alloc),
-    };
+    let mut piece = Piece::new(alloc);
     piece.place(cursor.place_at(text, item.from))?;
-    piece.answer(cursor, text, atoms, places, &item.outcome, answer)?;
+    piece.answer(cursor, text, atoms, places, &item.outcome, answer, trace)?;
     Ok(piece)
 }
