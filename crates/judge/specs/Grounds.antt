@@ -6,7 +6,7 @@ use Rattle.simple_core.specs.Pairs.{Pair, Asked}
 use Rattle.class_adding.specs.ClosedPages.{IsClosedPage}
 use Rattle.proof_maker.specs.Forests.{KeepsForests}
 use Rattle.proof_maker.specs.Rules.{AreRulesOf}
-use Rattle.judge.specs.declared.proving.TheConstants.{MOST_LISTED}
+use Rattle.proof_core.specs.declared.unfolded.TheConstants.{MOST_LISTED}
 use Rattle.judge.specs.declared.proving.Ground.{Ground}
 
 -- the page is closed by its system, and the summaries were made for that system and know what the page asks

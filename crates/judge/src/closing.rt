@@ -12,14 +12,13 @@ use std::alloc::Global;
 use tp_base::NoMemory;
 use tree_sem::Tree;
 
-/// Closes the page by a table of at most so many pairs, which has none yet, where it needs no more. It costs what `close_page` costs
-/// over the table.
+/// Closes the page by a table that has no pair yet, where no more are needed than its limit. It costs what `close_page` costs over
+/// the table.
 pub(crate) fn close_within(
     alloc: Global,
     page: &Tree,
     system: &System,
     sums: &mut PlainSummaries,
-    pairs: u32,
 ) -> Result<Closed, GainFault>
     requires sound { IsSound system.now }
     requires made { sums.old.system ≡ system.now }
@@ -28,14 +27,12 @@ pub(crate) fn close_within(
     ensures closed { IfOk result (λ c. IsClosedPage system.now page.now c) }
     ensures made { OnOk result (sums.new.system ≡ system.now) }
     ensures known { OnOk result ((q : Pair) → Asked system.now page.now q → Contains sums.new.known q) }
-    ensures few { OnOk result (¬ HasMore (Needed system.now (Asked system.now page.now)) pairs) }
-    ensures spent { IsErrOf result GainFault.Spent → HasMore (Needed system.now (Asked system.now page.now)) pairs }
+    ensures few { OnOk result (¬ HasMore (Needed system.now (Asked system.now page.now)) sums.old.pairs) }
+    ensures spent { IsErrOf result GainFault.Spent → HasMore (Needed system.now (Asked system.now page.now)) sums.old.pairs }
 {
     let closing = close_page(alloc, page, system, sums);
-    // The limit stays as it was, which no clause on summaries says.
-    if sums.limit() != pairs {
-        return Err(GainFault::Memory);
-    }
+    // Its contract says that what the table knows is within its limit.
+    let _ = sums.limit();
     closing
 }
 
@@ -54,7 +51,8 @@ pub(crate) fn close_shared(
 {
     match close_page(alloc, page, system, sums) {
         Ok(closed) => Ok(closed),
+        Err(GainFault::Memory) => Err(NoMemory),
         // Diagrams are never spent once they are built.
-        Err(_) => Err(NoMemory),
+        Err(GainFault::Spent) => unreachable!(),
     }
 }

@@ -1,14 +1,13 @@
 //! The answers by a system, from a table of pairs or from diagrams. Each function owns one large value and lends it on.
 ghost use Rattle.std.specs.Prelude.{◌≡◌, ◌≤◌, [], true, false, None, map, IfOk, IfErr};
-ghost use Rattle.css_read.specs.Views.{item_of};
 ghost use Rattle.usage_report.specs.Views.{answer_of};
-ghost use Rattle.class_diagrams.specs.declared.refs.TheConstants.{MOST_BRANCHES};
+ghost use Rattle.limits.specs.declared.budgets.TheConstants.{MOST_BRANCHES};
 ghost use Rattle.simple_core.specs.Systems.{IsSound};
 ghost use Rattle.simple_core.specs.Pairs.{Pair, Asked};
 ghost use Rattle.class_adding.specs.ClosedPages.{IsClosedPage};
 ghost use Rattle.proof_maker.specs.Forests.{KeepsForests};
 ghost use Rattle.saturation.specs.Budgets.{HasToBeSpent};
-ghost use Rattle.judge.specs.declared.proving.TheConstants.{MOST_LISTED};
+ghost use Rattle.proof_core.specs.declared.unfolded.TheConstants.{MOST_LISTED};
 ghost use Rattle.judge.specs.BySeen.{AreSaid, AreBySeen};
 
 use crate::answering::{all_answers, all_spent};
@@ -16,7 +15,6 @@ use crate::closing::{close_shared, close_within};
 use crate::faults::JudgeFault;
 use crate::proving::Ground;
 use class_adding::Closed;
-use css_read::SheetItem;
 use guard_simplify::Simplified;
 use limits::Limits;
 use need_table::PlainSummaries;
@@ -32,7 +30,6 @@ use usage_report::Answer;
 fn answers_by<S: Summaries>(
     alloc: Global,
     page: &Tree,
-    items: &[SheetItem],
     made: &Simplified,
     closed: &Closed,
     sums: &S,
@@ -44,7 +41,7 @@ fn answers_by<S: Summaries>(
     requires closed { IsClosedPage made.now.system page.now closed.now }
     requires made { S.system sums.now ≡ made.now.system }
     requires known { (q : Pair) → Asked made.now.system page.now q → S.known sums.now q }
-    ensures { IfOk result (λ v. AreSaid made.now.system page.now limits.now closed.now.labels.label (map item_of items.now) made.now.seen (map answer_of v.items)) }
+    ensures { IfOk result (λ v. AreSaid made.now.system page.now limits.now closed.now.labels.label made.now.seen (map answer_of v.items)) }
 {
     let rules = Rules::of(alloc, &made.system)?;
     let ground = Ground {
@@ -54,14 +51,13 @@ fn answers_by<S: Summaries>(
         closed,
         limits,
     };
-    all_answers(alloc, &ground, sums, items, made.seen.items())
+    all_answers(alloc, &ground, sums, made.seen.items())
 }
 
 // The answers by a table, whose pairs stand in it from then on.
 fn plain_within(
     alloc: Global,
     page: &Tree,
-    items: &[SheetItem],
     made: &Simplified,
     sums: &mut PlainSummaries,
     limits: &Limits,
@@ -72,16 +68,17 @@ fn plain_within(
     requires made { sums.old.system ≡ made.now.system }
     requires none { sums.old.known ≡ [] }
     requires unspent { sums.old.spent ≡ None }
-    ensures answers { IfOk result (λ v. AreBySeen true made.now.system made.now.seen page.now (map item_of items.now) limits.now (map answer_of v.items)) }
+    requires pairs { sums.old.pairs ≡ limits.now.pairs }
+    ensures answers { IfOk result (λ v. AreBySeen true made.now.system made.now.seen page.now limits.now (map answer_of v.items)) }
     ensures only_memory { IfErr result (λ e. e ≡ JudgeFault.Memory) }
 {
-    match close_within(alloc, page, &made.system, sums, limits.pairs) {
+    match close_within(alloc, page, &made.system, sums) {
         Ok(closed) => {
-            let answers = answers_by(alloc, page, items, made, &closed, sums, limits)?;
+            let answers = answers_by(alloc, page, made, &closed, sums, limits)?;
             Ok(answers)
         }
         Err(GainFault::Spent) => {
-            let answers = all_spent(alloc, items)?;
+            let answers = all_spent(alloc, made.seen.items())?;
             Ok(answers)
         }
         Err(GainFault::Memory) => Err(JudgeFault::Memory),
@@ -92,25 +89,23 @@ fn plain_within(
 fn plain_answers(
     alloc: Global,
     page: &Tree,
-    items: &[SheetItem],
     made: &Simplified,
     limits: &Limits,
 ) -> Result<Vec<Answer>, JudgeFault>
     requires sound { IsSound made.now.system }
     requires forests { KeepsForests made.now.system page.now }
     requires list { limits.now.list ≤ MOST_LISTED }
-    ensures answers { IfOk result (λ v. AreBySeen true made.now.system made.now.seen page.now (map item_of items.now) limits.now (map answer_of v.items)) }
+    ensures answers { IfOk result (λ v. AreBySeen true made.now.system made.now.seen page.now limits.now (map answer_of v.items)) }
     ensures only_memory { IfErr result (λ e. e ≡ JudgeFault.Memory) }
 {
     let mut sums = PlainSummaries::new(alloc, &made.system, limits.pairs)?;
-    plain_within(alloc, page, items, made, &mut sums, limits)
+    plain_within(alloc, page, made, &mut sums, limits)
 }
 
 // The answers by diagrams that were built.
 fn shared_within(
     alloc: Global,
     page: &Tree,
-    items: &[SheetItem],
     made: &Simplified,
     sums: &mut SharedSummaries,
     limits: &Limits,
@@ -120,11 +115,11 @@ fn shared_within(
     requires list { limits.now.list ≤ MOST_LISTED }
     requires made { sums.old ≡ made.now.system }
     requires room { ¬ HasToBeSpent made.now.system limits.now.nodes }
-    ensures answers { IfOk result (λ v. AreBySeen false made.now.system made.now.seen page.now (map item_of items.now) limits.now (map answer_of v.items)) }
+    ensures answers { IfOk result (λ v. AreBySeen false made.now.system made.now.seen page.now limits.now (map answer_of v.items)) }
     ensures only_memory { IfErr result (λ e. e ≡ JudgeFault.Memory) }
 {
     let closed = close_shared(alloc, page, &made.system, sums)?;
-    let answers = answers_by(alloc, page, items, made, &closed, sums, limits)?;
+    let answers = answers_by(alloc, page, made, &closed, sums, limits)?;
     Ok(answers)
 }
 
@@ -132,7 +127,6 @@ fn shared_within(
 fn shared_answers(
     alloc: Global,
     page: &Tree,
-    items: &[SheetItem],
     made: &Simplified,
     limits: &Limits,
 ) -> Result<Vec<Answer>, JudgeFault>
@@ -140,13 +134,13 @@ fn shared_answers(
     requires forests { KeepsForests made.now.system page.now }
     requires list { limits.now.list ≤ MOST_LISTED }
     requires nodes { limits.now.nodes ≤ MOST_BRANCHES }
-    ensures answers { IfOk result (λ v. AreBySeen false made.now.system made.now.seen page.now (map item_of items.now) limits.now (map answer_of v.items)) }
+    ensures answers { IfOk result (λ v. AreBySeen false made.now.system made.now.seen page.now limits.now (map answer_of v.items)) }
     ensures only_memory { IfErr result (λ e. e ≡ JudgeFault.Memory) }
 {
     match SharedSummaries::build(alloc, &made.system, limits.nodes) {
-        Ok(mut sums) => shared_within(alloc, page, items, made, &mut sums, limits),
+        Ok(mut sums) => shared_within(alloc, page, made, &mut sums, limits),
         Err(GainFault::Spent) => {
-            let answers = all_spent(alloc, items)?;
+            let answers = all_spent(alloc, made.seen.items())?;
             Ok(answers)
         }
         Err(GainFault::Memory) => Err(JudgeFault::Memory),
@@ -158,7 +152,6 @@ fn shared_answers(
 pub(crate) fn answers_of(
     alloc: Global,
     page: &Tree,
-    items: &[SheetItem],
     made: &Simplified,
     limits: &Limits,
 ) -> Result<Vec<Answer>, JudgeFault>
@@ -166,12 +159,12 @@ pub(crate) fn answers_of(
     requires forests { KeepsForests made.now.system page.now }
     requires list { limits.now.list ≤ MOST_LISTED }
     requires nodes { limits.now.nodes ≤ MOST_BRANCHES }
-    ensures answers { IfOk result (λ v. AreBySeen limits.now.plain made.now.system made.now.seen page.now (map item_of items.now) limits.now (map answer_of v.items)) }
+    ensures answers { IfOk result (λ v. AreBySeen limits.now.plain made.now.system made.now.seen page.now limits.now (map answer_of v.items)) }
     ensures only_memory { IfErr result (λ e. e ≡ JudgeFault.Memory) }
 {
     if limits.plain {
-        plain_answers(alloc, page, items, made, limits)
+        plain_answers(alloc, page, made, limits)
     } else {
-        shared_answers(alloc, page, items, made, limits)
+        shared_answers(alloc, page, made, limits)
     }
 }

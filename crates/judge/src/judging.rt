@@ -1,32 +1,106 @@
-//! What is said of each selector of a sheet.
-ghost use Rattle.std.specs.Prelude.{◌≤◌, length, map, IfOk, IfErr, OnOk};
-ghost use Rattle.class_diagrams.specs.declared.refs.TheConstants.{MOST_BRANCHES};
+//! What is said of each selector of a sheet, and of further guards.
+ghost use Rattle.std.specs.Prelude.{◌≡◌, ◌≤◌, [], length, map, IfOk, IfErr, OnOk};
+ghost use Rattle.limits.specs.declared.budgets.TheConstants.{MOST_BRANCHES};
+ghost use Rattle.simple_core.specs.Systems.{IsSound};
 ghost use Rattle.jq_sem.specs.Views.{statements_of};
 ghost use Rattle.css_read.specs.Views.{item_of};
+ghost use Rattle.proof_maker.specs.Forests.{KeepsForests};
 ghost use Rattle.usage_report.specs.Views.{answer_of};
-ghost use Rattle.judge.specs.declared.proving.TheConstants.{MOST_LISTED};
-ghost use Rattle.judge.specs.Outcomes.{AreGiven, IsFault, IsWithin, IsJudged};
+ghost use Rattle.proof_core.specs.declared.unfolded.TheConstants.{MOST_LISTED};
+ghost use Rattle.judge.specs.Dealing as spec;
+ghost use Rattle.judge.specs.Dealing.{AreDealt};
+ghost use Rattle.judge.specs.Outcomes.{AreGiven, IsFault, IsWithin, AreJudged, IsJudged, system_in};
 
+use crate::both::{Answers, Both};
+use crate::dealing::{for_guards, for_items};
 use crate::engines::answers_of;
 use crate::faults::JudgeFault;
 use crate::simplifying::simplify_all;
-use css_read::Sheet;
+use css_read::{Sheet, SheetItem};
+use guard_sem::Guard;
+use guard_simplify::Simplified;
 use jq_sem::Stmt;
 use limits::Limits;
+use simple_core::System;
 use std::alloc::Global;
-use tp_base::AtomTable;
+use tp_base::{AtomTable, NoMemory};
 use tree_sem::Tree;
 use usage_report::Answer;
 
-/// An answer for each item of the sheet, in order, of what the statements make of the page. A selector is unused where no
-/// legal steps lead to a node that it matches, however many they are. It is used with the one canonical proof of its atom, whose
-/// steps are legal and end at a match; they are shown where they are at most `limits.list`. Where that proof has more than
-/// `limits.entries` entries, it is used unshown. Each selector that is judged is spent where there isn't room enough: for
-/// `limits.pairs` pairs where `limits.plain` asks for a table of them, else for `limits.nodes` branches of diagrams. A caller can
-/// unfold a longer proof by `unfold`.
+// The answers for the goals, dealt out, with the system.
+fn dealt(
+    alloc: Global,
+    items: &[SheetItem],
+    answers: Vec<Answer>,
+    system: System,
+) -> Result<Both, NoMemory>
+    ensures items { IfOk result (λ b. map answer_of b.items ≡ spec.item_answers (map item_of items.now) (map answer_of answers.items)) }
+    ensures extra { IfOk result (λ b. map answer_of b.extra ≡ spec.answers_left (map item_of items.now) (map answer_of answers.items)) }
+    ensures system { IfOk result (λ b. b.system ≡ system) }
+{
+    let mut left = answers.into_iter();
+    let items = for_items(alloc, items, &mut left)?;
+    let extra = for_guards(alloc, &mut left)?;
+    Ok(Both {
+        items: Answers::new(items),
+        extra: Answers::new(extra),
+        system,
+    })
+}
+
+// The answers by a system.
+fn judged_by(
+    alloc: Global,
+    page: &Tree,
+    items: &[SheetItem],
+    made: Simplified,
+    limits: &Limits,
+) -> Result<Both, JudgeFault>
+    requires sound { IsSound made.system }
+    requires forests { KeepsForests made.system page.now }
+    requires list { limits.now.list ≤ MOST_LISTED }
+    requires nodes { limits.now.nodes ≤ MOST_BRANCHES }
+    ensures answers { IfOk result (λ b. AreDealt limits.now.plain made.system made.seen page.now (map item_of items.now) limits.now (map answer_of b.items) (map answer_of b.extra)) }
+    ensures system { IfOk result (λ b. b.system ≡ made.system) }
+    ensures only_memory { IfErr result (λ e. e ≡ JudgeFault.Memory) }
+{
+    let answers = answers_of(alloc, page, &made, limits)?;
+    let both = dealt(alloc, items, answers, made.system)?;
+    Ok(both)
+}
+
+/// An answer for each item of the sheet and for each further guard, in order, of what the statements make of the page. A selector
+/// is unused where no legal steps lead to a node that it matches, however many they are, and a guard where none lead to a node
+/// where it holds. Either is used with the one canonical proof of its atom, whose steps are legal and end at such a node; they are
+/// shown where they are at most `limits.list`. Where that proof has more than `limits.entries` entries, it is used unshown. Each
+/// selector that is judged and each guard is spent where there isn't room enough: for `limits.pairs` pairs where `limits.plain`
+/// asks for a table of them, else for `limits.nodes` branches of diagrams. A caller can unfold a longer proof by `unfold`.
 ///
-/// Each statement and each selector is translated once, and the page is closed once; then a look-up answers an item that is
-/// unused, one proof the first of the items that are used and read alike, and a copy each further one.
+/// Each statement and each selector is translated once, and the page is closed once; then a look-up answers what is unused, one
+/// proof the first of the goals that are used and read alike, and a copy each further one.
+pub fn judge_more(
+    alloc: Global,
+    page: &Tree,
+    sheet: &Sheet,
+    stmts: &[Stmt],
+    extra: Vec<Guard>,
+    atoms: &AtomTable,
+    limits: &Limits,
+) -> Result<Both, JudgeFault>
+    requires list { limits.now.list ≤ MOST_LISTED }
+    requires nodes { limits.now.nodes ≤ MOST_BRANCHES }
+    requires given { AreGiven (statements_of stmts.now) (map item_of sheet.now.items) extra.items (length atoms.now) page.now }
+    ensures judged { IfOk result (λ b. AreJudged (statements_of stmts.now) (map item_of sheet.now.items) extra.items (length atoms.now) page.now limits.now (map answer_of b.items) (map answer_of b.extra)) }
+    ensures system { IfOk result (λ b. b.system ≡ system_in (statements_of stmts.now) (map item_of sheet.now.items) extra.items (length atoms.now)) }
+    ensures within { OnOk result (IsWithin (statements_of stmts.now) (map item_of sheet.now.items) extra.items (length atoms.now)) }
+    ensures fault { IfErr result (λ e. IsFault (statements_of stmts.now) (map item_of sheet.now.items) extra.items (length atoms.now) e) }
+{
+    let items = sheet.items.items();
+    let made = simplify_all(alloc, items, stmts, extra, atoms)?;
+    judged_by(alloc, page, items, made, limits)
+}
+
+/// The answers for the items of a sheet alone: those of `judge_more` without further guards, at the same cost.
 pub fn judge(
     alloc: Global,
     page: &Tree,
@@ -37,12 +111,12 @@ pub fn judge(
 ) -> Result<Vec<Answer>, JudgeFault>
     requires list { limits.now.list ≤ MOST_LISTED }
     requires nodes { limits.now.nodes ≤ MOST_BRANCHES }
-    requires given { AreGiven (statements_of stmts.now) (map item_of sheet.now.items) (length atoms.now) page.now }
+    requires given { AreGiven (statements_of stmts.now) (map item_of sheet.now.items) [] (length atoms.now) page.now }
     ensures judged { IfOk result (λ v. IsJudged (statements_of stmts.now) (map item_of sheet.now.items) (length atoms.now) page.now limits.now (map answer_of v.items)) }
-    ensures within { OnOk result (IsWithin (statements_of stmts.now) (map item_of sheet.now.items) (length atoms.now)) }
-    ensures fault { IfErr result (λ e. IsFault (statements_of stmts.now) (map item_of sheet.now.items) (length atoms.now) e) }
+    ensures within { OnOk result (IsWithin (statements_of stmts.now) (map item_of sheet.now.items) [] (length atoms.now)) }
+    ensures fault { IfErr result (λ e. IsFault (statements_of stmts.now) (map item_of sheet.now.items) [] (length atoms.now) e) }
 {
-    let items = sheet.items.items();
-    let made = simplify_all(alloc, items, stmts, atoms)?;
-    answers_of(alloc, page, items, &made, limits)
+    let none = Vec::new(alloc);
+    let both = judge_more(alloc, page, sheet, stmts, none, atoms, limits)?;
+    Ok(both.items.into_items())
 }

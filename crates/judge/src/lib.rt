@@ -2,8 +2,10 @@
 #![tactic(auto)]
 
 mod answering;
+mod both;
 mod closing;
 mod copying;
+mod dealing;
 mod engines;
 mod faults;
 mod judging;
@@ -12,10 +14,9 @@ mod memo;
 mod proving;
 mod simplifying;
 
+pub use both::{Answers, Both};
 pub use faults::JudgeFault;
-pub use judging::judge;
-pub use laws::{
-    engines_agree, losses_reach_nothing_more, one_answer, proof_shows, reached_at_root,
-};
+pub use judging::{judge, judge_more};
+pub use laws::{engines_agree, one_answer, one_guard, proof_shows, reached_at_root};
 pub use limits::Limits;
-pub use proving::MOST_LISTED;
+pub use proof_core::MOST_LISTED;

@@ -9,7 +9,7 @@ ghost use Rattle.proof_check.specs.Validity.{IsValid};
 ghost use Rattle.proof_maker.specs.Forests.{KeepsForests};
 ghost use Rattle.proof_maker.specs.Needs.{IsCanonical};
 ghost use Rattle.usage_report.specs.Views.{answer_of};
-ghost use Rattle.judge.specs.declared.proving.TheConstants.{MOST_LISTED};
+ghost use Rattle.proof_core.specs.declared.unfolded.TheConstants.{MOST_LISTED};
 ghost use Rattle.judge.specs.Answers.{IsShown};
 ghost use Rattle.judge.specs.BySeen.{IsSaidProved};
 ghost use Rattle.judge.specs.Grounds.{IsReady};
@@ -23,9 +23,6 @@ use std::alloc::Global;
 use tp_base::{Atom, NoMemory};
 use tree_sem::Tree;
 use usage_report::Answer;
-
-/// How many steps can be listed at most.
-pub const MOST_LISTED: u32 = 1_000_000;
 
 /// What all answers are read from: a page, a system with its rules looked up, and the page that it closes.
 #[derive(Clone, Copy)]
