@@ -5,9 +5,9 @@ use Rattle.clap.specs.Walk.{Row, Rule, Text, Walk, idle, has_row, finished, noth
 use Rattle.clap.specs.Simple.{built, entered, matches_of}
 use Rattle.clap.specs.Kinds.{Kinds, or_else}
 use Rattle.clap.specs.Faults.{check_fault, default_fault, defaults_fault, entered_fault, fault_of, is_simple_and_free, settle_fault, walk_fault}
-use Rattle.command_words.specs.Parts.{Key, pairs, nodes, entries, list, gen, key_name, anything}
+use Rattle.command_words.specs.Parts.{Flag, plain, dead, runs, site, flag_name, Key, pairs, nodes, entries, list, gen, key_name, anything}
 use Rattle.command_words.specs.Command.{app}
-use Rattle.command_words.proofs.Runs.{shape, rule_plain, rule_key, rule_names, rules_all, none, gate, at, end_of, wanted}
+use Rattle.command_words.proofs.Runs.{shape, rule_flag, rule_key, rule_names, rules_all, none, gate, at, end_of, wanted}
 use Rattle.command_words.proofs.TurnLemmas.{or_else_nil}
 use Rattle.command_words.proofs.Walks.{AreSpelt, walks}
 
@@ -29,8 +29,8 @@ nothing_either : (b : Bool) → (if b then no_kinds else no_kinds) ≡ []
 nothing_either true = refl
 nothing_either false = refl
 
-plain_default : (rows : List Row) → default_fault rows rule_plain ≡ []
-plain_default rows = nothing_either (has_row (codes "plain") rows || false)
+flag_default : (f : Flag) (rows : List Row) → default_fault rows (rule_flag f) ≡ []
+flag_default f rows = nothing_either (has_row (flag_name f) rows || false)
 
 key_default : (k : Key) (rows : List Row) → default_fault rows (rule_key k) ≡ []
 key_default k rows = rw (or_true (has_row (key_name k) rows)) refl
@@ -49,8 +49,9 @@ quiet (r ∷ rs) (quiet_more _ _ so behind) rows = ap (λ z. or_else z (defaults
 
 all_quiet : AreQuiet rules_all
 all_quiet =
-    quiet_more _ _ plain_default (quiet_more _ _ (key_default pairs) (quiet_more _ _ (key_default nodes) (quiet_more _ _ (key_default entries) (quiet_more _ _ (key_default list) (quiet_more _ _ (key_default gen)
-    (quiet_more _ _ names_default quiet_end))))))
+    quiet_more _ _ (flag_default plain) (quiet_more _ _ (flag_default dead) (quiet_more _ _ (flag_default runs) (quiet_more _ _ (flag_default site)
+    (quiet_more _ _ (key_default pairs) (quiet_more _ _ (key_default nodes) (quiet_more _ _ (key_default entries) (quiet_more _ _ (key_default list) (quiet_more _ _ (key_default gen)
+    (quiet_more _ _ names_default quiet_end)))))))))
 
 or_else_three : (a b c d e : Kinds) → b ≡ [] → d ≡ [] → e ≡ [] → or_else a (or_else b (or_else c (or_else d e))) ≡ or_else a c
 or_else_three a b c d e no_b no_d no_e = ap (or_else a) (ap (λ z. or_else z (or_else c (or_else d e))) no_b ∙ ap (or_else c) (ap (λ z. or_else z e) no_d ∙ no_e) ∙ or_else_nil c)

@@ -5,11 +5,11 @@ use Rattle.clap.specs.Walk.{Held, Row, Rule, Text, Walk, Waiting, used, settled,
 use Rattle.clap.specs.Simple.{Shape, built, filled, with_index}
 use Rattle.clap.specs.Faults.{walk_fault, settle_fault}
 use Rattle.clap.specs.Kinds.{Kinds, or_else}
-use Rattle.command_words.specs.Command.{plain_rule, option_rule, names_rule, app}
-use Rattle.command_words.specs.Parts.{Key, pairs, nodes, entries, list, gen, key_name, Part, plain, given, name, State, reading}
+use Rattle.command_words.specs.Command.{flag_rule, option_rule, names_rule, app}
+use Rattle.command_words.specs.Parts.{Flag, plain, dead, runs, site, flag_name, Key, pairs, nodes, entries, list, gen, key_name, Part, flag, given, name, State, reading}
 
-abbrev pub rule_plain : Rule
-rule_plain = filled plain_rule
+abbrev pub rule_flag : Flag → Rule
+rule_flag f = filled (flag_rule (flag_name f))
 
 abbrev pub rule_key : Key → Rule
 rule_key k = filled (option_rule (key_name k))
@@ -18,14 +18,14 @@ abbrev pub rule_names : Rule
 rule_names = with_index 1 (filled names_rule)
 
 abbrev pub rules_all : List Rule
-rules_all = rule_plain ∷ rule_key pairs ∷ rule_key nodes ∷ rule_key entries ∷ rule_key list ∷ rule_key gen ∷ rule_names ∷ []
+rules_all = rule_flag plain ∷ rule_flag dead ∷ rule_flag runs ∷ rule_flag site ∷ rule_key pairs ∷ rule_key nodes ∷ rule_key entries ∷ rule_key list ∷ rule_key gen ∷ rule_names ∷ []
 
 abbrev pub shape : Shape
 shape = (built app).top
 
 -- the rows after a part, unless it stands there already
 abbrev pub use_part : List Row → Part → Option (List Row)
-use_part rows plain = if has_row (codes "plain") rows then None else Some (used rule_plain [] rows)
+use_part rows (flag f) = if has_row (flag_name f) rows then None else Some (used (rule_flag f) [] rows)
 use_part rows (given k v) = if has_row (key_name k) rows then None else Some (used (rule_key k) (v ∷ []) rows)
 use_part rows (name x) = Some (used rule_names (x ∷ []) rows)
 

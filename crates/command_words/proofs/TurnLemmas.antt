@@ -1,15 +1,15 @@
 -- Turns of the walk.
-use Rattle.std.proofs.Common.{◌≡◌, ◌&&◌, ◌||◌, ℕ, ◌==◌, Bool, true, false, if◌then◌else◌, List, [], ◌∷◌, Option, Some, None, option_map, codes, refl, sym, ap, ◌∙◌}
+use Rattle.std.proofs.Common.{◌≡◌, ◌&&◌, ◌||◌, ℕ, ◌==◌, Bool, true, false, if◌then◌else◌, List, [], ◌∷◌, Option, Some, None, option_map, refl, sym, ap, ◌∙◌}
 use Rattle.std.specs.Prelude.{option_and_then, slice_get}
 use Rattle.std.specs.Str.{bytes_eq, chars}
 use Rattle.std.specs.List.{before_first}
 use Rattle.clap.specs.Lexer.{long_of, short_of}
-use Rattle.clap.specs.Walk.{Row, Text, Walk, Waiting, idle, positional, option, used, settled, has_row, walked, arg_by_long, is_pending}
+use Rattle.clap.specs.Walk.{Row, Rule, Text, Walk, Waiting, idle, positional, option, used, settled, has_row, walked, arg_by_long, is_pending}
 use Rattle.clap.specs.Faults.{settle_fault, walk_fault, turn_fault, use_fault, flags_fault}
 use Rattle.clap.specs.Kinds.{Kinds, or_else}
 use Rattle.clap.specs.declared.error.kind.ErrorKind.{ErrorKind}
-use Rattle.command_words.specs.Parts.{Key, pairs, nodes, entries, list, gen, key_name, key_of, Part, plain, given, with_part, Word, dashes, long, dashed, bare, word_of, word_behind, is_equals, value_in}
-use Rattle.command_words.proofs.Runs.{shape, rules_all, rule_plain, rule_key, rule_names, Hold, none, one, word, unfilled, held_at, hold_text, use_hold, use_part, use_all, gate, at, got, end_of}
+use Rattle.command_words.specs.Parts.{Flag, plain, dead, runs, site, flag_name, flag_of, Key, pairs, nodes, entries, list, gen, key_name, key_of, Part, flag, given, with_part, Word, dashes, long, dashed, bare, word_of, word_behind, is_equals, value_in}
+use Rattle.command_words.proofs.Runs.{shape, rules_all, rule_flag, rule_key, rule_names, Hold, none, one, word, unfilled, held_at, hold_text, use_hold, use_part, use_all, gate, at, got, end_of}
 
 pub shape_is : shape.rules ≡ rules_all
 shape_is = refl
@@ -134,24 +134,32 @@ or_none : (b : Bool) → (b || false) ≡ b
 or_none true = refl
 or_none false = refl
 
-pick : (p a b c d e : Bool) → (if p then Some rule_plain else (if a then Some (rule_key pairs) else (if b then Some (rule_key nodes) else (if c then Some (rule_key entries) else (if d then Some (rule_key list) else (if e then Some (rule_key gen) else None))))))
-    ≡ (if p then Some rule_plain else option_map rule_key (if a then Some pairs else (if b then Some nodes else (if c then Some entries else (if d then Some list else (if e then Some gen else None))))))
-pick true a b c d e = refl
-pick false true b c d e = refl
-pick false false true c d e = refl
-pick false false false true d e = refl
-pick false false false false true e = refl
-pick false false false false false true = refl
-pick false false false false false false = refl
+-- the rule of a flag, or else of a key
+abbrev pub rule_of : Option Flag → Option Key → Option Rule
+rule_of (Some f) k = Some (rule_flag f)
+rule_of None k = option_map rule_key k
+
+pick : (p d r s a b c e f : Bool) → (if p then Some (rule_flag plain) else (if d then Some (rule_flag dead) else (if r then Some (rule_flag runs) else (if s then Some (rule_flag site) else (if a then Some (rule_key pairs) else (if b then Some (rule_key nodes) else (if c then Some (rule_key entries) else (if e then Some (rule_key list) else (if f then Some (rule_key gen) else None)))))))))
+    ≡ rule_of (if p then Some plain else (if d then Some dead else (if r then Some runs else (if s then Some site else None)))) (if a then Some pairs else (if b then Some nodes else (if c then Some entries else (if e then Some list else (if f then Some gen else None)))))
+pick true d r s a b c e f = refl
+pick false true r s a b c e f = refl
+pick false false true s a b c e f = refl
+pick false false false true a b c e f = refl
+pick false false false false true b c e f = refl
+pick false false false false false true c e f = refl
+pick false false false false false false true e f = refl
+pick false false false false false false false true f = refl
+pick false false false false false false false false true = refl
+pick false false false false false false false false false = refl
 
 -- the rule of a long name
-pub long_rule : (n : Text) → arg_by_long shape.rules n ≡ (if bytes_eq (codes "plain") n then Some rule_plain else option_map rule_key (key_of n))
+pub long_rule : (n : Text) → arg_by_long shape.rules n ≡ rule_of (flag_of n) (key_of n)
 long_rule n =
-    rw (or_none (bytes_eq (codes "plain") n), or_none (bytes_eq (key_name pairs) n), or_none (bytes_eq (key_name nodes) n), or_none (bytes_eq (key_name entries) n), or_none (bytes_eq (key_name list) n), or_none (bytes_eq (key_name gen) n))
-    (pick (bytes_eq (codes "plain") n) (bytes_eq (key_name pairs) n) (bytes_eq (key_name nodes) n) (bytes_eq (key_name entries) n) (bytes_eq (key_name list) n) (bytes_eq (key_name gen) n))
+    rw (or_none (bytes_eq (flag_name plain) n), or_none (bytes_eq (flag_name dead) n), or_none (bytes_eq (flag_name runs) n), or_none (bytes_eq (flag_name site) n), or_none (bytes_eq (key_name pairs) n), or_none (bytes_eq (key_name nodes) n), or_none (bytes_eq (key_name entries) n), or_none (bytes_eq (key_name list) n), or_none (bytes_eq (key_name gen) n))
+    (pick (bytes_eq (flag_name plain) n) (bytes_eq (flag_name dead) n) (bytes_eq (flag_name runs) n) (bytes_eq (flag_name site) n) (bytes_eq (key_name pairs) n) (bytes_eq (key_name nodes) n) (bytes_eq (key_name entries) n) (bytes_eq (key_name list) n) (bytes_eq (key_name gen) n))
 
-pub uses_plain : (rows : List Row) → gate (use_fault false rule_plain [] rows) (used rule_plain [] rows) ≡ use_part rows plain
-uses_plain rows = repeat_is (has_row (codes "plain") rows) _ _
+pub uses_flag : (f : Flag) (rows : List Row) → gate (use_fault false (rule_flag f) [] rows) (used (rule_flag f) [] rows) ≡ use_part rows (flag f)
+uses_flag f rows = repeat_is (has_row (flag_name f) rows) _ _
 
 pub uses_key : (k : Key) (v : Text) (rows : List Row) → gate (use_fault false (rule_key k) (v ∷ []) rows) (used (rule_key k) (v ∷ []) rows) ≡ use_part rows (given k v)
 uses_key k v rows = repeat_is (has_row (key_name k) rows) _ _
@@ -169,11 +177,11 @@ react_is rows hold f next p is =
     ∙ gate_same (settles rows hold) (rest_of rows hold) (λ r. use_part r p)
     ∙ ap (option_and_then (λ r. use_part r p)) (settle_is rows hold)
 
-pub turn_flag : (b : Bool) (x n : Text) (rows : List Row) (hold : Hold) → bytes_eq x (45 ∷ 45 ∷ []) ≡ false → long_of x ≡ Some (n, None) → arg_by_long shape.rules n ≡ Some rule_plain
-    → IsTurn (at false (waits b) rows hold) x (or_else (or_else (settles rows hold) (use_fault false rule_plain [] (rest_of rows hold))) []) (at false idle (used rule_plain [] (rest_of rows hold)) none)
+pub turn_flag : (b : Bool) (x n : Text) (g : Flag) (rows : List Row) (hold : Hold) → bytes_eq x (45 ∷ 45 ∷ []) ≡ false → long_of x ≡ Some (n, None) → arg_by_long shape.rules n ≡ Some (rule_flag g)
+    → IsTurn (at false (waits b) rows hold) x (or_else (or_else (settles rows hold) (use_fault false (rule_flag g) [] (rest_of rows hold))) []) (at false idle (used (rule_flag g) [] (rest_of rows hold)) none)
 unfolding walked
-turn_flag true x n rows hold d l f = (rw (d, l, f) refl, rw (d, l, f) refl)
-turn_flag false x n rows hold d l f = (rw (d, l, f) refl, rw (d, l, f) refl)
+turn_flag true x n g rows hold d l f = (rw (d, l, f) refl, rw (d, l, f) refl)
+turn_flag false x n g rows hold d l f = (rw (d, l, f) refl, rw (d, l, f) refl)
 
 pub turn_given : (b : Bool) (x n v : Text) (k : Key) (rows : List Row) (hold : Hold) → bytes_eq x (45 ∷ 45 ∷ []) ≡ false → long_of x ≡ Some (n, Some v) → arg_by_long shape.rules n ≡ Some (rule_key k)
     → IsTurn (at false (waits b) rows hold) x (or_else (or_else (settles rows hold) (use_fault false (rule_key k) (v ∷ []) (rest_of rows hold))) []) (at false idle (used (rule_key k) (v ∷ []) (rest_of rows hold)) none)
@@ -195,11 +203,11 @@ unknown_refused idle x m v rows r hold d l f = rw (d, l, f) refl
 unknown_refused positional x m v rows r hold d l f = rw (d, l, f) refl
 unknown_refused (option id) x m v rows r hold d l f = rw (d, l, f) refl
 
-pub flag_refused : (n : Waiting) (x m v : Text) (rows r : List Row) (hold : Hold) → bytes_eq x (45 ∷ 45 ∷ []) ≡ false → long_of x ≡ Some (m, Some v) → arg_by_long shape.rules m ≡ Some rule_plain
+pub flag_refused : (n : Waiting) (x m v : Text) (g : Flag) (rows r : List Row) (hold : Hold) → bytes_eq x (45 ∷ 45 ∷ []) ≡ false → long_of x ≡ Some (m, Some v) → arg_by_long shape.rules m ≡ Some (rule_flag g)
     → gate (turn_fault shape [] (at false n rows hold) x) r ≡ None
-flag_refused idle x m v rows r hold d l f = rw (d, l, f) refl
-flag_refused positional x m v rows r hold d l f = rw (d, l, f) refl
-flag_refused (option id) x m v rows r hold d l f = rw (d, l, f) refl
+flag_refused idle x m v g rows r hold d l f = rw (d, l, f) refl
+flag_refused positional x m v g rows r hold d l f = rw (d, l, f) refl
+flag_refused (option id) x m v g rows r hold d l f = rw (d, l, f) refl
 
 pub dashed_refused : (n : Waiting) (x : Text) (y : ℕ) (ys : Text) (c : ℕ) (rows r : List Row) (hold : Hold) → bytes_eq x (45 ∷ 45 ∷ []) ≡ false → long_of x ≡ None → short_of x ≡ Some (y ∷ ys) → slice_get (chars (y ∷ ys)) 0 ≡ Some c
     → gate (turn_fault shape [] (at false n rows hold) x) r ≡ None
@@ -231,9 +239,9 @@ unfilled_fails entries f g rows r = refl
 unfilled_fails list f g rows r = refl
 unfilled_fails gen f g rows r = refl
 
-pub value_flag : (k : Key) (x n : Text) (rows r : List Row) → bytes_eq x (45 ∷ 45 ∷ []) ≡ false → long_of x ≡ Some (n, None) → arg_by_long shape.rules n ≡ Some rule_plain
+pub value_flag : (k : Key) (g : Flag) (x n : Text) (rows r : List Row) → bytes_eq x (45 ∷ 45 ∷ []) ≡ false → long_of x ≡ Some (n, None) → arg_by_long shape.rules n ≡ Some (rule_flag g)
     → gate (turn_fault shape [] (at false (option (key_name k)) rows (unfilled k)) x) r ≡ None
-value_flag k x n rows r d l f = rw (d, l, f) (unfilled_fails k _ _ rows r)
+value_flag k g x n rows r d l f = rw (d, l, f) (unfilled_fails k _ _ rows r)
 
 pub value_given : (k j : Key) (x n v : Text) (rows r : List Row) → bytes_eq x (45 ∷ 45 ∷ []) ≡ false → long_of x ≡ Some (n, Some v) → arg_by_long shape.rules n ≡ Some (rule_key j)
     → gate (turn_fault shape [] (at false (option (key_name k)) rows (unfilled k)) x) r ≡ None

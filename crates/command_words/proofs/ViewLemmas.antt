@@ -4,13 +4,13 @@ use Rattle.std.specs.Prelude.{option_and_then, find, option_map, slice_get, unwr
 use Rattle.std.specs.Str.{bytes_eq}
 use Rattle.std.proofs.lemmas.Option.{none-some}
 use Rattle.std.proofs.lemmas.Slice.Eq.{bytes_eq-Decides}
-use Rattle.clap.specs.Walk.{Row, Text, has_row, at_row, first_of, all_of, one_of, used, row_text, with_values, without, more_values}
+use Rattle.clap.specs.Walk.{Row, Text, has_row, at_row, first_of, all_of, one_of, used, row_text, with_values, without, more_values, reading_by}
 use Rattle.clap.specs.declared.builder.value_parser.Reading.{Reading}
 use Rattle.clap.specs.declared.builder.value_parser.Reading.TheVariants.{AsWritten}
 use Rattle.clap.specs.declared.parser.matches.ValueSource.TheVariants.{CommandLine}
-use Rattle.command_words.specs.Parts.{Key, pairs, nodes, entries, list, gen, key_name, Part, plain, given, name}
+use Rattle.command_words.specs.Parts.{Flag, plain, dead, runs, site, flag_name, Key, pairs, nodes, entries, list, gen, key_name, Part, flag, given, name}
 use Rattle.command_words.specs.Orders.{value_after}
-use Rattle.command_words.proofs.Runs.{rule_plain, rule_key, rule_names, use_part}
+use Rattle.command_words.proofs.Runs.{rule_flag, rule_key, rule_names, use_part}
 
 abbrev pub row_at : Text → List Row → Option Row
 row_at id rows = find (λ r. bytes_eq r.id id) rows
@@ -85,19 +85,67 @@ names_more id how vs (r ∷ rows) e = go (names_more id how vs rows e) (bytes_eq
 
 -- ---- the keys are different
 
-pub plain_key : (k : Key) → bytes_eq (codes "plain") (key_name k) ≡ false
-plain_key pairs = refl
-plain_key nodes = refl
-plain_key entries = refl
-plain_key list = refl
-plain_key gen = refl
+pub flag_key : (f : Flag) (k : Key) → bytes_eq (flag_name f) (key_name k) ≡ false
+flag_key plain pairs = refl
+flag_key plain nodes = refl
+flag_key plain entries = refl
+flag_key plain list = refl
+flag_key plain gen = refl
+flag_key dead pairs = refl
+flag_key dead nodes = refl
+flag_key dead entries = refl
+flag_key dead list = refl
+flag_key dead gen = refl
+flag_key runs pairs = refl
+flag_key runs nodes = refl
+flag_key runs entries = refl
+flag_key runs list = refl
+flag_key runs gen = refl
+flag_key site pairs = refl
+flag_key site nodes = refl
+flag_key site entries = refl
+flag_key site list = refl
+flag_key site gen = refl
 
-pub key_plain : (k : Key) → bytes_eq (key_name k) (codes "plain") ≡ false
-key_plain pairs = refl
-key_plain nodes = refl
-key_plain entries = refl
-key_plain list = refl
-key_plain gen = refl
+pub key_flag : (k : Key) (f : Flag) → bytes_eq (key_name k) (flag_name f) ≡ false
+key_flag pairs plain = refl
+key_flag nodes plain = refl
+key_flag entries plain = refl
+key_flag list plain = refl
+key_flag gen plain = refl
+key_flag pairs dead = refl
+key_flag nodes dead = refl
+key_flag entries dead = refl
+key_flag list dead = refl
+key_flag gen dead = refl
+key_flag pairs runs = refl
+key_flag nodes runs = refl
+key_flag entries runs = refl
+key_flag list runs = refl
+key_flag gen runs = refl
+key_flag pairs site = refl
+key_flag nodes site = refl
+key_flag entries site = refl
+key_flag list site = refl
+key_flag gen site = refl
+
+pub names_flag : (f : Flag) → bytes_eq (codes "names") (flag_name f) ≡ false
+names_flag plain = refl
+names_flag dead = refl
+names_flag runs = refl
+names_flag site = refl
+
+pub flag_names : (f : Flag) → bytes_eq (flag_name f) (codes "names") ≡ false
+flag_names plain = refl
+flag_names dead = refl
+flag_names runs = refl
+flag_names site = refl
+
+pub flag_flag : (f : Flag) → bytes_eq (flag_name f) (flag_name f) ≡ true
+flag_flag plain = refl
+flag_flag dead = refl
+flag_flag runs = refl
+flag_flag site = refl
 
 pub names_key : (k : Key) → bytes_eq (codes "names") (key_name k) ≡ false
 names_key pairs = refl
@@ -126,13 +174,13 @@ pub gated : {X : Type 0} (b : Bool) (x y : X) → (if b then None else Some x) �
 gated true x y e = absurd (none-some y e)
 gated false x y e = (refl, ap (λ o. unwrap_or o x) e)
 
-abbrev pub plain_after : Part → Option Text → Option Text
-plain_after plain o = Some (codes "true")
-plain_after (given k v) o = o
-plain_after (name x) o = o
+abbrev pub flag_after : Flag → Part → Option Text → Option Text
+flag_after f (flag g) o = if bytes_eq (flag_name g) (flag_name f) then Some (codes "true") else o
+flag_after f (given k v) o = o
+flag_after f (name x) o = o
 
 abbrev pub names_after : Part → Option (List Text) → Option (List Text)
-names_after plain o = o
+names_after (flag f) o = o
 names_after (given k v) o = o
 names_after (name x) o = more_of o (x ∷ [])
 
@@ -143,24 +191,32 @@ kept_behind f id rows r other = ap (option_and_then f) (row_behind id rows r ∙
 pub there_behind : {Y : Type 0} (f : Row → Option Y) (id : Text) (rows : List Row) (r : Row) → has_row id rows ≡ false → bytes_eq r.id id ≡ true → option_and_then f (row_at id (rows ++ r ∷ [])) ≡ f r
 there_behind f id rows r fresh same = ap (option_and_then f) (row_behind id rows r ∙ ap (λ b. or_this (row_at id rows) (if b then Some r else None)) same ∙ ap (λ o. or_this o (Some r)) (no_row id rows fresh))
 
-pub plain_step : (p : Part) (rows after : List Row) → use_part rows p ≡ Some after → one_of (codes "plain") after ≡ plain_after p (one_of (codes "plain") rows)
-plain_step plain rows after e =
-    let it = gated (has_row (codes "plain") rows) (used rule_plain [] rows) after e in
-    ap (one_of (codes "plain")) (sym it.1 ∙ set_is (codes "plain") _ (codes "true" ∷ []) rows it.0) ∙ there_behind row_text (codes "plain") rows _ it.0 refl
-plain_step (given k v) rows after e =
+pub flag_step : (f : Flag) (p : Part) (rows after : List Row) → use_part rows p ≡ Some after → one_of (flag_name f) after ≡ flag_after f p (one_of (flag_name f) rows)
+flag_step f (flag g) rows after e =
+    let it = gated (has_row (flag_name g) rows) (used (rule_flag g) [] rows) after e in
+    ap (one_of (flag_name f)) (sym it.1 ∙ set_is (flag_name g) _ (codes "true" ∷ []) rows it.0) ∙ go it.0 (bytes_eq (flag_name g) (flag_name f)) refl
+  where
+    row : Row
+    row = set_row (flag_name g) (reading_by (rule_flag g)) (codes "true" ∷ [])
+
+    go : has_row (flag_name g) rows ≡ false → (b : Bool) → bytes_eq (flag_name g) (flag_name f) ≡ b
+        → option_and_then row_text (row_at (flag_name f) (rows ++ row ∷ [])) ≡ (if bytes_eq (flag_name g) (flag_name f) then Some (codes "true") else one_of (flag_name f) rows)
+    go fresh true is = there_behind row_text (flag_name f) rows row (subst (λ z. has_row z rows ≡ false) (text_is (flag_name g) (flag_name f) is) fresh) is ∙ sym (ap (λ b. if b then Some (codes "true") else one_of (flag_name f) rows) is)
+    go fresh false is = kept_behind row_text (flag_name f) rows row is ∙ sym (ap (λ b. if b then Some (codes "true") else one_of (flag_name f) rows) is)
+flag_step f (given k v) rows after e =
     let it = gated (has_row (key_name k) rows) (used (rule_key k) (v ∷ []) rows) after e in
-    ap (one_of (codes "plain")) (sym it.1 ∙ set_is (key_name k) _ (v ∷ []) rows it.0) ∙ kept_behind row_text (codes "plain") rows _ (key_plain k)
-plain_step (name x) rows after e =
+    ap (one_of (flag_name f)) (sym it.1 ∙ set_is (key_name k) _ (v ∷ []) rows it.0) ∙ kept_behind row_text (flag_name f) rows _ (key_flag k f)
+flag_step f (name x) rows after e =
     let it : used rule_names (x ∷ []) rows ≡ after = ap (λ o. unwrap_or o rows) e in
-    ap (one_of (codes "plain")) (sym it) ∙ ap (option_and_then row_text) (other_kept (codes "names") (codes "plain") _ (x ∷ []) rows refl)
+    ap (one_of (flag_name f)) (sym it) ∙ ap (option_and_then row_text) (other_kept (codes "names") (flag_name f) _ (x ∷ []) rows (names_flag f))
 
 abbrev first_text : Row → Option Text
 first_text r = slice_get r.values 0
 
 pub key_step : (k : Key) (p : Part) (rows after : List Row) → use_part rows p ≡ Some after → first_of (key_name k) after ≡ value_after k p (first_of (key_name k) rows)
-key_step k plain rows after e =
-    let it = gated (has_row (codes "plain") rows) (used rule_plain [] rows) after e in
-    ap (first_of (key_name k)) (sym it.1 ∙ set_is (codes "plain") _ (codes "true" ∷ []) rows it.0) ∙ kept_behind first_text (key_name k) rows _ (plain_key k)
+key_step k (flag f) rows after e =
+    let it = gated (has_row (flag_name f) rows) (used (rule_flag f) [] rows) after e in
+    ap (first_of (key_name k)) (sym it.1 ∙ set_is (flag_name f) _ (codes "true" ∷ []) rows it.0) ∙ kept_behind first_text (key_name k) rows _ (flag_key f k)
 key_step k (given j v) rows after e =
     let it = gated (has_row (key_name j) rows) (used (rule_key j) (v ∷ []) rows) after e in
     ap (first_of (key_name k)) (sym it.1 ∙ set_is (key_name j) _ (v ∷ []) rows it.0) ∙ go it.0 (bytes_eq (key_name j) (key_name k)) refl
@@ -184,9 +240,9 @@ pub names_kept : (rows : List Row) (r : Row) → bytes_eq r.id (codes "names") �
 names_kept rows r other = all_texts (codes "names") (rows ++ r ∷ []) ∙ kept_behind (λ r. Some r.values) (codes "names") rows r other ∙ sym (all_texts (codes "names") rows)
 
 pub names_step : (p : Part) (rows after : List Row) → use_part rows p ≡ Some after → all_of (codes "names") after ≡ names_after p (all_of (codes "names") rows)
-names_step plain rows after e =
-    let it = gated (has_row (codes "plain") rows) (used rule_plain [] rows) after e in
-    ap (all_of (codes "names")) (sym it.1 ∙ set_is (codes "plain") _ (codes "true" ∷ []) rows it.0) ∙ names_kept rows _ refl
+names_step (flag f) rows after e =
+    let it = gated (has_row (flag_name f) rows) (used (rule_flag f) [] rows) after e in
+    ap (all_of (codes "names")) (sym it.1 ∙ set_is (flag_name f) _ (codes "true" ∷ []) rows it.0) ∙ names_kept rows _ (flag_names f)
 names_step (given k v) rows after e =
     let it = gated (has_row (key_name k) rows) (used (rule_key k) (v ∷ []) rows) after e in
     ap (all_of (codes "names")) (sym it.1 ∙ set_is (key_name k) _ (v ∷ []) rows it.0) ∙ names_kept rows _ (key_names k)

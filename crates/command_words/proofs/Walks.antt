@@ -1,14 +1,14 @@
 -- The walk over words leads to the rows of their parts, or is refused where they are none.
-use Rattle.std.proofs.Common.{◌≡◌, ℕ, Bool, true, false, if◌then◌else◌, List, [], ◌∷◌, Option, Some, None, option_map, codes, refl, sym, ap, ◌∙◌}
+use Rattle.std.proofs.Common.{◌≡◌, ℕ, Bool, true, false, List, [], ◌∷◌, Option, Some, None, refl, sym, ap, ◌∙◌}
 use Rattle.std.specs.Prelude.{option_and_then, slice_get}
 use Rattle.std.specs.Str.{bytes_eq, chars}
 use Rattle.clap.specs.Lexer.{long_of, short_of}
 use Rattle.clap.specs.Walk.{Row, Text, Walk, Waiting, idle, positional, option, used, walked, arg_by_long}
 use Rattle.clap.specs.Faults.{walk_fault, turn_fault, use_fault}
 use Rattle.clap.specs.Kinds.{Kinds}
-use Rattle.command_words.specs.Parts.{Key, key_name, key_of, Part, plain, given, name, State, reading, with_part, by_flag, by_key, by_word, by_value, anything, value_of, names, Word, word_of}
-use Rattle.command_words.proofs.Runs.{shape, rule_plain, rule_key, Hold, none, one, word, unfilled, use_hold, use_part, use_all, gate, at, got, wanted, wanted_behind}
-use Rattle.command_words.proofs.TurnLemmas.{gate_same, settle_is, got_more, none_after, then_then, with_part_is, Looks, as_dashes, as_long, as_dashed, as_bare, looks, waits, rest_of, IsTurn, turn_name, turn_bare, turn_dashes, long_rule, react_is, uses_plain, uses_key, turn_flag, turn_given, turn_key, unknown_refused, flag_refused, dashed_refused, value_bare, value_dashes, value_flag, value_given, value_key, or_else_nil}
+use Rattle.command_words.specs.Parts.{Flag, flag_of, Key, key_name, key_of, Part, flag, given, name, State, reading, with_part, by_option, by_word, by_value, anything, value_of, names, Word, word_of}
+use Rattle.command_words.proofs.Runs.{shape, rule_flag, rule_key, Hold, none, one, word, unfilled, use_hold, use_part, use_all, gate, at, got, wanted, wanted_behind}
+use Rattle.command_words.proofs.TurnLemmas.{gate_same, settle_is, got_more, none_after, then_then, with_part_is, Looks, as_dashes, as_long, as_dashed, as_bare, looks, waits, rest_of, IsTurn, turn_name, turn_bare, turn_dashes, rule_of, long_rule, react_is, uses_flag, uses_key, turn_flag, turn_given, turn_key, unknown_refused, flag_refused, dashed_refused, value_bare, value_dashes, value_flag, value_given, value_key, or_else_nil}
 
 -- each word that begins with one hyphen spells a character behind it, as text does
 pub record IsSpelt (w : Text) : Type 0 where
@@ -95,20 +95,20 @@ IsValued ws = (k : Key) (rows : List Row) → got (at false (option (key_name k)
 
 module _ (x : Text) (ws : List Text) (free : IsFree ws) (valued : IsValued ws) where
   long_more : (b : Bool) (rows : List Row) (hold : Hold) (n : Text) (v : Option Text) → bytes_eq x (45 ∷ 45 ∷ []) ≡ false → long_of x ≡ Some (n, v)
-      → (p : Bool) (k : Option Key) → arg_by_long shape.rules n ≡ (if p then Some rule_plain else option_map rule_key k)
-      → reading anything (x ∷ ws) ≡ (if p then by_flag (λ s. reading s ws) v else by_key (λ s. reading s ws) k v)
+      → (p : Option Flag) (k : Option Key) → arg_by_long shape.rules n ≡ rule_of p k
+      → reading anything (x ∷ ws) ≡ by_option (λ s. reading s ws) p k v
       → got (at false (waits b) rows hold) (x ∷ ws) ≡ wanted_behind anything (x ∷ ws) rows hold
-  long_more b rows hold n None d l true k found read =
-      let next : List Row = used rule_plain [] (rest_of rows hold) in
-      part_step (at false (waits b) rows hold) x ws next rows hold anything anything plain (at false idle next none) _ (turn_flag b x n rows hold d l found)
-      (react_is rows hold (use_fault false rule_plain [] (rest_of rows hold)) next plain (uses_plain (rest_of rows hold))) (free true next none) read
-  long_more b rows hold n (Some u) d l true k found read = refused_step (at false (waits b) rows hold) x ws rows hold anything (flag_refused (waits b) x n u rows rows hold d l found) read
-  long_more b rows hold n v d l false None found read = refused_step (at false (waits b) rows hold) x ws rows hold anything (unknown_refused (waits b) x n v rows rows hold d l found) read
-  long_more b rows hold n (Some u) d l false (Some k) found read =
+  long_more b rows hold n None d l (Some g) k found read =
+      let next : List Row = used (rule_flag g) [] (rest_of rows hold) in
+      part_step (at false (waits b) rows hold) x ws next rows hold anything anything (flag g) (at false idle next none) _ (turn_flag b x n g rows hold d l found)
+      (react_is rows hold (use_fault false (rule_flag g) [] (rest_of rows hold)) next (flag g) (uses_flag g (rest_of rows hold))) (free true next none) read
+  long_more b rows hold n (Some u) d l (Some g) k found read = refused_step (at false (waits b) rows hold) x ws rows hold anything (flag_refused (waits b) x n u g rows rows hold d l found) read
+  long_more b rows hold n v d l None None found read = refused_step (at false (waits b) rows hold) x ws rows hold anything (unknown_refused (waits b) x n v rows rows hold d l found) read
+  long_more b rows hold n (Some u) d l None (Some k) found read =
       let next : List Row = used (rule_key k) (u ∷ []) (rest_of rows hold) in
       part_step (at false (waits b) rows hold) x ws next rows hold anything anything (given k u) (at false idle next none) _ (turn_given b x n u k rows hold d l found)
       (react_is rows hold (use_fault false (rule_key k) (u ∷ []) (rest_of rows hold)) next (given k u) (uses_key k u (rest_of rows hold))) (free true next none) read
-  long_more b rows hold n None d l false (Some k) found read =
+  long_more b rows hold n None d l None (Some k) found read =
       state_step (at false (waits b) rows hold) x ws rows hold anything (value_of k) (at false (option (key_name k)) (rest_of rows hold) (unfilled k)) _ (rest_of rows hold)
       (turn_key b x n k rows hold d l found) (ap (λ z. gate z (rest_of rows hold)) (or_else_nil _) ∙ settle_is rows hold) (valued k (rest_of rows hold)) read
 
@@ -121,7 +121,7 @@ module _ (x : Text) (ws : List Text) (free : IsFree ws) (valued : IsValued ws) w
       ∙ names_walk (waits b) ws rows hold
       ∙ then_same (use_hold rows hold) (wanted names ws) (wanted anything (x ∷ ws)) (λ r. sym (ap (option_and_then (λ ps. use_all ps r)) read))
   free_more b rows hold spelt _ (as_long n v d l) read =
-      long_more b rows hold n v d l (bytes_eq (codes "plain") n) (key_of n) (long_rule n) read
+      long_more b rows hold n v d l (flag_of n) (key_of n) (long_rule n) read
   free_more b rows hold spelt _ (as_dashed y ys d l s) read =
       refused_step (at false (waits b) rows hold) x ws rows hold anything (dashed_refused (waits b) x y ys (spelt.spelt y ys s).0 rows rows hold d l s (spelt.spelt y ys s).1) read
   free_more b rows hold spelt _ (as_bare d l s) read =
@@ -136,13 +136,13 @@ module _ (x : Text) (ws : List Text) (free : IsFree ws) (valued : IsValued ws) w
       ∙ sym (ap (option_and_then (λ ps. use_all ps rows)) read)
 
   value_long : (k : Key) (rows : List Row) (n : Text) (v : Option Text) → bytes_eq x (45 ∷ 45 ∷ []) ≡ false → long_of x ≡ Some (n, v)
-      → (p : Bool) (j : Option Key) → arg_by_long shape.rules n ≡ (if p then Some rule_plain else option_map rule_key j)
+      → (p : Option Flag) (j : Option Key) → arg_by_long shape.rules n ≡ rule_of p j
       → gate (turn_fault shape [] (at false (option (key_name k)) rows (unfilled k)) x) rows ≡ None
-  value_long k rows n None d l true j found = value_flag k x n rows rows d l found
-  value_long k rows n (Some u) d l true j found = flag_refused (option (key_name k)) x n u rows rows (unfilled k) d l found
-  value_long k rows n v d l false None found = unknown_refused (option (key_name k)) x n v rows rows (unfilled k) d l found
-  value_long k rows n (Some u) d l false (Some j) found = value_given k j x n u rows rows d l found
-  value_long k rows n None d l false (Some j) found = value_key k j x n rows rows d l found
+  value_long k rows n None d l (Some g) j found = value_flag k g x n rows rows d l found
+  value_long k rows n (Some u) d l (Some g) j found = flag_refused (option (key_name k)) x n u g rows rows (unfilled k) d l found
+  value_long k rows n v d l None None found = unknown_refused (option (key_name k)) x n v rows rows (unfilled k) d l found
+  value_long k rows n (Some u) d l None (Some j) found = value_given k j x n u rows rows d l found
+  value_long k rows n None d l None (Some j) found = value_key k j x n rows rows d l found
 
   value_more : (k : Key) (rows : List Row) → IsSpelt x → (o : Word) → Looks x o → reading (value_of k) (x ∷ ws) ≡ by_value k o x (reading anything ws)
       → got (at false (option (key_name k)) rows (unfilled k)) (x ∷ ws) ≡ wanted (value_of k) (x ∷ ws) rows
@@ -152,7 +152,7 @@ module _ (x : Text) (ws : List Text) (free : IsFree ws) (valued : IsValued ws) w
       ∙ ap (λ z. option_and_then (λ r. got (at true (option (key_name k)) rows (unfilled k)) ws) (gate z rows)) (value_dashes k x rows d).0
       ∙ names_walk (option (key_name k)) ws rows (unfilled k)
       ∙ sym (ap (option_and_then (λ ps. use_all ps rows)) read)
-  value_more k rows spelt _ (as_long n v d l) read = value_refused k rows (value_long k rows n v d l (bytes_eq (codes "plain") n) (key_of n) (long_rule n)) read
+  value_more k rows spelt _ (as_long n v d l) read = value_refused k rows (value_long k rows n v d l (flag_of n) (key_of n) (long_rule n)) read
   value_more k rows spelt _ (as_dashed y ys d l s) read =
       value_refused k rows (dashed_refused (option (key_name k)) x y ys (spelt.spelt y ys s).0 rows rows (unfilled k) d l s (spelt.spelt y ys s).1) read
   value_more k rows spelt _ (as_bare d l s) read =

@@ -1,5 +1,5 @@
 -- The words of a command line, and the matches that the command makes of them.
-use Rattle.std.proofs.Common.{◌≡◌, ◌&&◌, true, false, if◌then◌else◌, List, [], ◌∷◌, Option, Some, None, map, refl, sym, ap, subst, ◌∙◌, inl, inr}
+use Rattle.std.proofs.Common.{◌≡◌, true, if◌then◌else◌, List, [], ◌∷◌, None, map, refl, sym, ap, subst, ◌∙◌, inl, inr}
 use Rattle.std.specs.Prelude.{option_and_then, string_bytes}
 use Rattle.std.proofs.lemmas.Str.{IsUtf8-string_bytes}
 use Rattle.clap.specs.Matches.{found_of}
@@ -13,10 +13,9 @@ use Rattle.clap.specs.declared.error.kind.ErrorKind.TheVariants.{OutOfMemory}
 use Rattle.clap.specs.declared.parser.matches.ArgMatches.{ArgMatches}
 use Rattle.std.specs.declared.string.String.{String}
 use Rattle.std.specs.declared.alloc.Global.{Global}
-use Rattle.command_words.specs.declared.words.Order.{Order}
 use Rattle.command_words.specs.Command.{app}
 use Rattle.command_words.specs.Parts.{Part}
-use Rattle.command_words.specs.Orders.{are_once, is_well, order_by, order_of}
+use Rattle.command_words.specs.Orders.{order_from, order_in, order_of}
 use Rattle.command_words.specs.Says.{AreRows, Says}
 use Rattle.command_words.proofs.EndLemmas.{simple}
 use Rattle.command_words.proofs.SpeltLemmas.{spelt_of}
@@ -27,15 +26,11 @@ pub all_spelt : (ws : List (String Global)) → AreSpelt (map string_bytes ws)
 all_spelt [] = end
 all_spelt (w ∷ ws) = more (string_bytes w) (map string_bytes ws) (spelt_of (string_bytes w) (IsUtf8-string_bytes w)) (all_spelt ws)
 
-abbrev order_from : List Part → Option Order
-order_from ps = if are_once [] ps && is_well ps then Some (order_by ps) else None
-
 -- the parts of words that the command takes
 pub record AreTaken (ws : List Text) (m : ArgMatches) : Type 0 where
   pub parts : List Part
   pub says : Says parts m
-  pub good : is_well parts ≡ true → order_of ws ≡ Some (order_by parts)
-  pub bad : is_well parts ≡ false → order_of ws ≡ None
+  pub ordered : order_of ws ≡ order_from parts
 
 pub are_taken : (a : App) (ws : List Text) (m : ArgMatches) → a ≡ app → AreSpelt ws → (is_simple_and_free a ≡ true → fault_of a ws ≡ []) → (is_simple a ≡ true → (rows_of (found_of m) ≡ matches_of a ws)) → AreTaken ws m
 are_taken a ws m is spelt free rows =
@@ -45,8 +40,7 @@ are_taken a ws m is spelt free rows =
     record {
       parts = it.0;
       says = subst (AreRows it.0) (sym found) it.3;
-      good = λ well. ap (option_and_then order_from) it.1 ∙ rw (it.2, well) refl;
-      bad = λ ill. ap (option_and_then order_from) it.1 ∙ rw (it.2, ill) refl;
+      ordered = ap (option_and_then order_in) it.1 ∙ ap (λ b. if b then order_from it.0 else None) it.2;
     }
 
 -- an error that is no want of memory

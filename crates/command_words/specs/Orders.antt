@@ -1,25 +1,28 @@
 -- What a command line orders.
 --     order_of ws           the order that the words give, where they are of the command's form
-use Rattle.std.specs.Prelude.{ℕ, ◌==◌, ◌&&◌, if◌then◌else◌, nat_le, Bool, true, false, not, List, [], ◌∷◌, length, Option, Some, None, is_some, option_map, option_and_then}
+use Rattle.std.specs.Prelude.{ℕ, ◌+◌, ◌*◌, ◌%◌, ◌==◌, ◌&&◌, if◌then◌else◌, nat_le, Bool, true, false, not, List, [], ◌∷◌, length, Option, Some, None, is_some, option_map, option_and_then}
 use Rattle.std.specs.List.{list_any, list_all}
 use Rattle.std.specs.Option.{option_map_or}
 use Rattle.std.specs.Str.{bytes_eq}
 use Rattle.std.specs.Str.Parse.{digits_value}
 use Rattle.limits.specs.declared.budgets.Limits.{Limits}
-use Rattle.limits.specs.declared.budgets.TheConstants.{MOST_PAIRS, MOST_NODES, MOST_ENTRIES, MOST_LIST}
+use Rattle.limits.specs.declared.budgets.TheConstants.{MOST_PAIRS, MOST_BRANCHES, MOST_ENTRIES, MOST_LIST}
 use Rattle.limits.specs.Budgets.{standard}
 use Rattle.triple_gen.specs.declared.triple.TheConstants.{MOST_BOXES}
 use Rattle.command_words.specs.declared.numbers.TheConstants.{MOST_DIGITS}
+use Rattle.command_words.specs.declared.words.Mode.{Mode}
+use Rattle.command_words.specs.declared.words.Mode.TheVariants as mode
 use Rattle.command_words.specs.declared.words.Order.{Order}
-use Rattle.command_words.specs.Parts.{Text, Key, pairs, nodes, entries, list, gen, key_name, Part, plain, given, name, anything, reading}
+use Rattle.command_words.specs.declared.words.TheConstants.{MOST_PAGES}
+use Rattle.command_words.specs.Parts.{Text, Flag, plain, dead, runs, site, flag_name, Key, pairs, nodes, entries, list, gen, key_name, Part, flag, given, name, anything, reading}
 
 -- ---- each option stands at most once
 
 abbrev pub is_same : Part → Part → Bool
-is_same plain plain = true
-is_same plain (given k v) = false
-is_same plain (name x) = false
-is_same (given k v) plain = false
+is_same (flag f) (flag g) = bytes_eq (flag_name g) (flag_name f)
+is_same (flag f) (given k v) = false
+is_same (flag f) (name x) = false
+is_same (given k v) (flag f) = false
 is_same (given k v) (given j w) = bytes_eq (key_name j) (key_name k)
 is_same (given k v) (name x) = false
 is_same (name x) p = false
@@ -40,7 +43,7 @@ least gen = 0
 
 abbrev pub most : Key → ℕ
 most pairs = MOST_PAIRS
-most nodes = MOST_NODES
+most nodes = MOST_BRANCHES
 most entries = MOST_ENTRIES
 most list = MOST_LIST
 most gen = MOST_BOXES
@@ -60,11 +63,11 @@ is_between low high v = is_number v && (nat_le low (number v) && nat_le (number 
 
 -- ---- what the parts say
 
-abbrev pub says_plain : List Part → Bool
-says_plain = list_any (is_same plain)
+abbrev pub says : Flag → List Part → Bool
+says f = list_any (is_same (flag f))
 
 abbrev pub value_after : Key → Part → Option Text → Option Text
-value_after k plain o = o
+value_after k (flag f) o = o
 value_after k (given j v) o = if bytes_eq (key_name j) (key_name k) then Some v else o
 value_after k (name x) o = o
 
@@ -78,19 +81,41 @@ value_in k ps = value_from k ps None
 
 abbrev pub names_in : List Part → List Text
 names_in [] = []
-names_in (plain ∷ ps) = names_in ps
+names_in (flag f ∷ ps) = names_in ps
 names_in (given k v ∷ ps) = names_in ps
 names_in (name x ∷ ps) = x ∷ names_in ps
 
 -- ---- the order
 
-abbrev pub three : List Text → Option (Text × Text × Text)
-three (a ∷ b ∷ c ∷ []) = Some (a, b, c)
-three other = None
+-- what is done: of `--dead`, `--runs` and `--site` at most one stands
+abbrev pub mode_by : Bool → Bool → Bool → Option Mode
+mode_by false false false = Some mode.Report
+mode_by true false false = Some mode.Dead
+mode_by false true false = Some mode.Runs
+mode_by false false true = Some mode.Site
+mode_by _ _ _ = None
 
--- three names, or none with a size
-abbrev pub are_named : List Part → Bool
-are_named ps = if is_some (value_in gen ps) then length (names_in ps) == 0 else length (names_in ps) == 3
+abbrev pub mode_in : List Part → Option Mode
+mode_in ps = mode_by (says dead ps) (says runs ps) (says site ps)
+
+-- a sheet, and so many pages with their scripts
+abbrev pub is_site : ℕ → Bool
+is_site n = n % 2 == 1 && (nat_le 3 n && nat_le n (2 * MOST_PAGES + 1))
+
+-- as many names as a mode takes; none with a size, which no other mode takes
+abbrev pub are_names : Mode → ℕ → Bool
+are_names mode.Site n = is_site n
+are_names _ n = n == 3
+
+abbrev pub is_report : Mode → Bool
+is_report mode.Report = true
+is_report _ = false
+
+abbrev pub is_named : Mode → Bool → ℕ → Bool
+is_named m sized n = if sized then is_report m && n == 0 else are_names m n
+
+abbrev pub are_named : Mode → List Part → Bool
+are_named m ps = is_named m (is_some (value_in gen ps)) (length (names_in ps))
 
 abbrev pub number_or : Key → ℕ → List Part → ℕ
 number_or k default ps = option_map_or number (value_in k ps) default
@@ -101,24 +126,30 @@ is_good ps k = option_map_or (is_between (least k) (most k)) (value_in k ps) tru
 
 abbrev pub limits_by : List Part → Limits
 limits_by ps = record {
-  plain = says_plain ps;
+  plain = says plain ps;
   pairs = number_or pairs standard.pairs ps;
   nodes = number_or nodes standard.nodes ps;
   entries = number_or entries standard.entries ps;
   list = number_or list standard.list ps;
 }
 
-abbrev pub order_by : List Part → Order
-order_by ps = record { files = three (names_in ps); size = option_map number (value_in gen ps); limits = limits_by ps }
+abbrev pub order_by : Mode → List Part → Order
+order_by m ps = record { names = names_in ps; size = option_map number (value_in gen ps); mode = m; limits = limits_by ps }
 
 abbrev pub are_good : List Part → Bool
 are_good ps = is_good ps pairs && (is_good ps nodes && (is_good ps entries && is_good ps list))
 
-abbrev pub is_well : List Part → Bool
-is_well ps = are_good ps && (is_good ps gen && are_named ps)
+abbrev pub is_well : Mode → List Part → Bool
+is_well m ps = are_good ps && (is_good ps gen && are_named m ps)
+
+abbrev pub order_from : List Part → Option Order
+order_from ps = option_and_then (λ m. if is_well m ps then Some (order_by m ps) else None) (mode_in ps)
+
+abbrev pub order_in : List Part → Option Order
+order_in ps = if are_once [] ps then order_from ps else None
 
 abbrev pub order_of : List Text → Option Order
-order_of ws = option_and_then (λ ps. if are_once [] ps && is_well ps then Some (order_by ps) else None) (reading anything ws)
+order_of ws = option_and_then order_in (reading anything ws)
 
 -- ---- as the code reads them
 

@@ -8,6 +8,25 @@ use Rattle.std.specs.Str.{bytes_eq}
 abbrev pub Text : Type 0
 Text = List ℕ
 
+-- an option without a value
+pub data Flag : Type 0 where
+  plain : Flag
+  dead : Flag
+  runs : Flag
+  site : Flag
+
+abbrev pub flag_name : Flag → Text
+flag_name plain = codes "plain"
+flag_name dead = codes "dead"
+flag_name runs = codes "runs"
+flag_name site = codes "site"
+
+abbrev pub flags : List Flag
+flags = plain ∷ dead ∷ runs ∷ site ∷ []
+
+abbrev pub flag_of : Text → Option Flag
+flag_of n = find (λ f. bytes_eq (flag_name f) n) flags
+
 -- an option with a value
 pub data Key : Type 0 where
   pairs : Key
@@ -29,9 +48,9 @@ keys = pairs ∷ nodes ∷ entries ∷ list ∷ gen ∷ []
 abbrev pub key_of : Text → Option Key
 key_of n = find (λ k. bytes_eq (key_name k) n) keys
 
--- `--plain`, an option with its value, or a name
+-- an option without a value, one with its value, or a name
 pub data Part : Type 0 where
-  plain : Part
+  flag : Flag → Part
   given : Key → Text → Part
   name : Text → Part
 
@@ -67,18 +86,23 @@ abbrev pub with_part : Part → Option (List Part) → Option (List Part)
 with_part p = option_map (λ ps. p ∷ ps)
 
 module _ (next : State → Option (List Part)) where
-  abbrev pub by_flag : Option Text → Option (List Part)
-  by_flag None = with_part plain (next anything)
-  by_flag (Some v) = None
+  abbrev pub by_flag : Flag → Option Text → Option (List Part)
+  by_flag f None = with_part (flag f) (next anything)
+  by_flag f (Some v) = None
 
   abbrev pub by_key : Option Key → Option Text → Option (List Part)
   by_key None v = None
   by_key (Some k) None = next (value_of k)
   by_key (Some k) (Some v) = with_part (given k v) (next anything)
 
+  -- no option has a value and none
+  abbrev pub by_option : Option Flag → Option Key → Option Text → Option (List Part)
+  by_option (Some f) k v = by_flag f v
+  by_option None k v = by_key k v
+
   abbrev pub by_word : Word → Text → Option (List Part)
   by_word dashes w = next names
-  by_word (long n v) w = if bytes_eq (codes "plain") n then by_flag v else by_key (key_of n) v
+  by_word (long n v) w = by_option (flag_of n) (key_of n) v
   by_word dashed w = None
   by_word bare w = with_part (name w) (next anything)
 

@@ -29,13 +29,16 @@ fn bare<'a>(alloc: Global) -> Command<'a>
         .disable_help_flag(true)
 }
 
-fn with_plain<'a>(alloc: Global, command: Command<'a>) -> Result<Command<'a>, NoMemory>
-    ensures { IfOk result (λ c. app_of c ≡ with_rule (app_of command.entry) spec.plain_rule) }
+// One option more, which takes no value.
+fn with_flag<'a>(
+    alloc: Global,
+    command: Command<'a>,
+    name: &'a str,
+) -> Result<Command<'a>, NoMemory>
+    ensures { IfOk result (λ c. app_of c ≡ with_rule (app_of command.entry) (spec.flag_rule name.entry.now)) }
 {
-    let plain = Arg::new(alloc, "plain")
-        .long("plain")
-        .action(ArgAction::SetTrue);
-    Ok(command.arg(plain)?)
+    let flag = Arg::new(alloc, name).long(name).action(ArgAction::SetTrue);
+    Ok(command.arg(flag)?)
 }
 
 fn with_names<'a>(alloc: Global, command: Command<'a>) -> Result<Command<'a>, NoMemory>
@@ -45,11 +48,20 @@ fn with_names<'a>(alloc: Global, command: Command<'a>) -> Result<Command<'a>, No
     Ok(command.arg(names)?)
 }
 
+fn with_flags<'a>(alloc: Global) -> Result<Command<'a>, NoMemory>
+    ensures { IfOk result (λ c. app_of c ≡ spec.flags_app) }
+{
+    let command = with_flag(alloc, bare(alloc), "plain")?;
+    let command = with_flag(alloc, command, "dead")?;
+    let command = with_flag(alloc, command, "runs")?;
+    with_flag(alloc, command, "site")
+}
+
 /// The options of the command, and names.
 pub(crate) fn command<'a>(alloc: Global) -> Result<Command<'a>, NoMemory>
     ensures { IfOk result (λ c. app_of c ≡ spec.app) }
 {
-    let command = with_plain(alloc, bare(alloc))?;
+    let command = with_flags(alloc)?;
     let command = with_option(alloc, command, "pairs")?;
     let command = with_option(alloc, command, "nodes")?;
     let command = with_option(alloc, command, "entries")?;

@@ -7,4 +7,4 @@ mod numbers;
 mod words;
 
 pub use numbers::MOST_DIGITS;
-pub use words::{Order, Word, WordsFault, read_words};
+pub use words::{MOST_PAGES, Mode, Order, Word, Words, WordsFault, read_words};

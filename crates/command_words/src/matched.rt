@@ -1,13 +1,14 @@
 //! What the matches say.
 ghost use Rattle.std.specs.Prelude.{◌≡◌, List, length};
 ghost use Rattle.clap.specs.Matches.{found_of, first_value};
-ghost use Rattle.command_words.specs.Parts.{Part};
+ghost use Rattle.command_words.specs.Parts.{Flag, Part, flag_name};
 ghost use Rattle.command_words.specs.Orders as spec;
 ghost use Rattle.command_words.specs.Says.{Says};
 
 use crate::numbers::number_of;
+use crate::words::Mode;
 use clap::ArgMatches;
-use limits::{Limits, MOST_ENTRIES, MOST_LIST, MOST_NODES, MOST_PAIRS, standard};
+use limits::{Limits, MOST_BRANCHES, MOST_ENTRIES, MOST_LIST, MOST_PAIRS, standard};
 use triple_gen::MOST_BOXES;
 
 // The value of an option in its range, or the default where it isn't given.
@@ -26,10 +27,11 @@ fn value_or(
     }
 }
 
-fn is_plain(matches: &ArgMatches<'_>) -> bool
-    ensures { (ps : List Part) → Says ps matches.now → result ≡ spec.says_plain ps }
+// Whether an option without a value is given.
+fn says(matches: &ArgMatches<'_>, name: &str) -> bool
+    ensures { (ps : List Part) (f : Flag) → Says ps matches.now → flag_name f ≡ name.now → result ≡ spec.says f ps }
 {
-    matches.get_flag("plain")
+    matches.get_flag(name)
 }
 
 /// The limits, where their values are right.
@@ -38,11 +40,11 @@ pub(crate) fn limits_of(matches: &ArgMatches<'_>) -> Option<Limits>
 {
     let usual = standard();
     let pairs = value_or(matches, "pairs", 1, MOST_PAIRS, usual.pairs)?;
-    let nodes = value_or(matches, "nodes", 1, MOST_NODES, usual.nodes)?;
+    let nodes = value_or(matches, "nodes", 1, MOST_BRANCHES, usual.nodes)?;
     let entries = value_or(matches, "entries", 1, MOST_ENTRIES, usual.entries)?;
     let list = value_or(matches, "list", 0, MOST_LIST, usual.list)?;
     Some(Limits {
-        plain: is_plain(matches),
+        plain: says(matches, "plain"),
         pairs,
         nodes,
         entries,
@@ -61,6 +63,27 @@ pub(crate) fn size_of(matches: &ArgMatches<'_>) -> Option<Option<u32>>
             Some(Some(size))
         }
     }
+}
+
+fn mode_by(dead: bool, runs: bool, site: bool) -> Option<Mode>
+    ensures { result ≡ spec.mode_by dead runs site }
+{
+    match (dead, runs, site) {
+        (false, false, false) => Some(Mode::Report),
+        (true, false, false) => Some(Mode::Dead),
+        (false, true, false) => Some(Mode::Runs),
+        (false, false, true) => Some(Mode::Site),
+        _ => None,
+    }
+}
+
+/// What is to be written, where no more than one kind of it is asked for.
+pub(crate) fn mode_of(matches: &ArgMatches<'_>) -> Option<Mode>
+    ensures { (ps : List Part) → Says ps matches.now → result ≡ spec.mode_in ps }
+{
+    let dead = says(matches, "dead");
+    let runs = says(matches, "runs");
+    mode_by(dead, runs, says(matches, "site"))
 }
 
 /// How many names there are.

@@ -1,5 +1,5 @@
 //! What a command line orders.
-ghost use Rattle.std.specs.Prelude.{◌≡◌, ◌≤◌, if◌then◌else◌, is_some, not, IfSome, None, Some, List, map, IfOk, IsErrOf, string_bytes, true, false};
+ghost use Rattle.std.specs.Prelude.{◌≡◌, ◌↔◌, ◌≤◌, ◌+◌, ◌*◌, List, [], length, IsSome, IfSome, None, Some, map, IfOk, IsErrOf, string_bytes};
 ghost use Rattle.triple_gen.specs.declared.triple.TheConstants.{MOST_BOXES};
 ghost use Rattle.limits.specs.Budgets.{IsInRange};
 ghost use Rattle.command_words.specs.Parts.{Part};
@@ -7,7 +7,7 @@ ghost use Rattle.command_words.specs.Orders as spec;
 ghost use Rattle.command_words.specs.Says.{Says};
 
 use crate::command::command;
-use crate::matched::{count_of, limits_of, size_of};
+use crate::matched::{count_of, limits_of, mode_of, size_of};
 use clap::ArgMatches;
 use clap::error::ErrorKind;
 use limits::Limits;
@@ -46,11 +46,48 @@ impl Word {
     }
 }
 
-/// What a run is to do: to judge the files of three names, or a triple that is generated in a size, within limits.
+/// Words of the command line, one after another. A contract sees the list of them.
+#[derive(Drop)]
+pub struct Words {
+    items: Vec<Word>,
+}
+
+impl Model for Words {
+    ghost use Rattle.std.specs.Prelude.{List, ℕ};
+
+    ghost Value = { List (List ℕ) };
+
+    ghost view = { λ w. w.items.items };
+}
+
+impl Words {
+    pub fn items(&self) -> &[Word]
+        ensures { result.now ≡ self.now }
+    {
+        &self.items
+    }
+}
+
+/// How many pages a site has at most.
+pub const MOST_PAGES: u32 = 64;
+
+/// What is written of a run: the report; the report, and what of the script is dead; the report with whole runs of statements in
+/// the place of steps; or the report on several pages that use one sheet.
+#[derive(Clone, Copy, Debug, PartialEq, Eq)]
+pub enum Mode {
+    Report,
+    Dead,
+    Runs,
+    Site,
+}
+
+/// What a run is to do: to judge the files of these names, or a triple that is generated in a size, within limits. The names are
+/// those of a page, a sheet and a script; or, on several pages, of the sheet, and then of each page and its script.
 #[derive(Drop)]
 pub struct Order {
-    pub files: Option<(Word, Word, Word)>,
+    pub names: Words,
     pub size: Option<u32>,
+    pub mode: Mode,
     pub limits: Limits,
 }
 
@@ -74,68 +111,79 @@ impl From<NoMemory> for WordsFault {
     }
 }
 
-// The three names, if there are three.
-fn three(alloc: Global, names: &[&str]) -> Result<Option<(Word, Word, Word)>, NoMemory>
-    ensures { IfOk result (λ f. f ≡ spec.three (map (λ n. n.now) names.now)) }
+// The words of these names.
+fn words_of(alloc: Global, names: &[&str]) -> Result<Words, NoMemory>
+    ensures { IfOk result (λ w. w ≡ map (λ n. n.now) names.now) }
 {
-    match names {
-        [page, sheet, script] => Ok(Some((
-            Word::new(alloc, page)?,
-            Word::new(alloc, sheet)?,
-            Word::new(alloc, script)?,
-        ))),
-        _ => Ok(None),
+    let mut items = Vec::new(alloc);
+    'names: for name in names {
+        items.push(Word::new(alloc, name)?)?;
     }
+    Ok(Words { items })
 }
 
-fn files_of(alloc: Global, matches: &ArgMatches<'_>) -> Result<Option<(Word, Word, Word)>, NoMemory>
-    ensures { IfOk result (λ f. (ps : List Part) → Says ps matches.now → f ≡ spec.three (spec.names_in ps)) }
+fn names_of(alloc: Global, matches: &ArgMatches<'_>) -> Result<Words, NoMemory>
+    ensures { IfOk result (λ w. (ps : List Part) → Says ps matches.now → w ≡ spec.names_in ps) }
 {
     match matches.get_strs("names") {
-        None => Ok(None),
-        Some(names) => three(alloc, names),
+        None => words_of(alloc, &[]),
+        Some(names) => words_of(alloc, names),
     }
 }
 
-// How many names are wanted.
-fn wanted(size: Option<u32>) -> usize
-    ensures { result ≡ (if is_some size then 0 else 3) }
+// A sheet, and so many pages with their scripts.
+fn is_site(count: usize) -> bool
+    ensures { result ≡ spec.is_site count }
 {
-    match size {
-        Some(_) => 0,
-        None => 3,
+    count % 2 == 1 && 3 <= count && count <= 2 * MOST_PAGES as usize + 1
+}
+
+// Whether a mode takes so many names, with a size or without.
+fn is_named(mode: Mode, sized: bool, count: usize) -> bool
+    ensures { result ≡ spec.is_named mode sized count }
+{
+    match mode {
+        Mode::Report if sized => count == 0,
+        _ if sized => false,
+        Mode::Site => is_site(count),
+        _ => count == 3,
     }
 }
 
 // The order that matches give.
 fn ordered(alloc: Global, matches: &ArgMatches<'_>) -> Result<Order, WordsFault>
-    ensures order { IfOk result (λ o. (ps : List Part) → Says ps matches.now → (spec.is_well ps ≡ true) × (o ≡ spec.order_by ps)) }
-    ensures words { IsErrOf result WordsFault.Words → (ps : List Part) → Says ps matches.now → spec.is_well ps ≡ false }
+    ensures order { IfOk result (λ o. (ps : List Part) → Says ps matches.now → spec.order_from ps ≡ Some o) }
+    ensures words { IsErrOf result WordsFault.Words → (ps : List Part) → Says ps matches.now → spec.order_from ps ≡ None }
 {
+    let Some(mode) = mode_of(matches) else {
+        return Err(WordsFault::Words);
+    };
     let Some(limits) = limits_of(matches) else {
         return Err(WordsFault::Words);
     };
     let Some(size) = size_of(matches) else {
         return Err(WordsFault::Words);
     };
-    if count_of(matches) != wanted(size) {
+    if !is_named(mode, size.is_some(), count_of(matches)) {
         return Err(WordsFault::Words);
     }
-    let files = files_of(alloc, matches)?;
+    let names = names_of(alloc, matches)?;
     Ok(Order {
-        files,
+        names,
         size,
+        mode,
         limits,
     })
 }
 
-/// The order that the words after the program's name give: options, each at most once, and three names, or none with `--gen`.
-/// A value is the word behind its option, or stands after `=`. Linear in the words.
+/// The order that the words after the program's name give: options, each at most once, and the names that the mode takes, or none
+/// with `--gen`. A value is the word behind its option, or stands after `=`. Linear in the words.
 pub fn read_words(alloc: Global, words: &[String]) -> Result<Order, WordsFault>
     ensures order { IfOk result (λ o. spec.order_of (map string_bytes words.now) ≡ Some o) }
     ensures words { IsErrOf result WordsFault.Words → spec.order_of (map string_bytes words.now) ≡ None }
-    ensures one { IfOk result (λ o. is_some o.files ≡ not (is_some o.size)) }
+    ensures one { IfOk result (λ o. IsSome o.size ↔ (o.names ≡ [])) }
     ensures few { IfOk result (λ o. IfSome o.size (λ n. n ≤ MOST_BOXES)) }
+    ensures short { IfOk result (λ o. length o.names ≤ 2 * MOST_PAGES + 1) }
     ensures in_range { IfOk result (λ o. IsInRange o.limits) }
 {
     let command = command(alloc)?;

@@ -1,32 +1,27 @@
 -- From the end of a run to the causes of its answers.
-use Rattle.std.proofs.Common.{◌≡◌, ◌⊎◌, ℕ, ◌≤◌, ◌<◌, ◌||◌, Bool, true, false, if◌then◌else◌, List, [], ◌∷◌, ◌++◌, length, Contains, Option, Some, None, IfSome, Result, Ok, Err, refl, sym, ap, ◌∙◌, inl, inr, subst, append_assoc, append-nil, arith}
+use Rattle.std.proofs.Common.{◌≡◌, ◌⊎◌, ℕ, ◌+◌, ◌≤◌, ◌<◌, ◌||◌, Bool, true, false, List, [], ◌∷◌, ◌++◌, length, Contains, Option, Some, None, IfSome, Result, Ok, Err, refl, sym, ap, ◌∙◌, inl, inr, subst, append_assoc, append-nil, arith}
 use Rattle.std.specs.List.{list_any}
 use Rattle.std.proofs.lemmas.Bool.{true≢false}
 use Rattle.std.proofs.lemmas.List.{append_cancel_left}
-use Rattle.tp_base.proofs.Rising.{Contains-here, Contains-behind}
-use Rattle.tree_sem.specs.Trees.{LabelTree}
-use Rattle.sel_core.specs.Selectors.{Selector}
-use Rattle.css_read.specs.Sheets.{Outcome, judged, skipped as left_out, Item}
-use Rattle.jq_sem.specs.Statements.{Statement}
-use Rattle.usage_report.specs.Answers.{Answer, used, used_unshown, unused, skipped, spent as spent_}
-use Rattle.judge.specs.Answers.{judged_of, judged_in}
-use Rattle.treeped_app.specs.Answers.{IsRight, AreRight, IsPastBudget}
+use Rattle.std.proofs.lemmas.List.Elements.{Contains-append_right}
+use Rattle.tp_base.proofs.Rising.{Contains-here, Contains-behind, Contains-cons, Contains-none}
 use Rattle.tp_io.specs.Files.{Load}
 use Rattle.tp_io.specs.Sinks.{Adds, Rose}
-use Rattle.tp_io.specs.declared.files.TheConstants.{MOST_BYTES}
+use Rattle.tp_base.specs.declared.places.TheConstants.{MOST_BYTES}
 use Rattle.treeped_app.specs.declared.status.Status.{Status}
 use Rattle.treeped_app.specs.declared.status.Status.TheVariants as status
 use Rattle.treeped_app.specs.declared.refusals.JudgeRefusal.{JudgeRefusal}
 use Rattle.treeped_app.specs.declared.refusals.JudgeRefusal.TheVariants.{TooManyAtoms, TooManyVisible}
 use Rattle.treeped_app.specs.declared.refusals.Part.{Part}
-use Rattle.treeped_app.specs.declared.refusals.Part.TheVariants.{Page, Sheet, Script}
 use Rattle.treeped_app.specs.declared.stops.Stop.{Stop}
 use Rattle.treeped_app.specs.declared.stops.Stop.TheVariants.{Words, TooLarge, ReadFault, Unread, Judging, WriteFault, NoMemory}
-use Rattle.limits.specs.declared.budgets.Limits.{Limits}
-use Rattle.treeped_app.specs.Tasks.{Names, Source, files, ring, Task, command}
+use Rattle.command_words.specs.declared.words.Mode.{Mode}
+use Rattle.treeped_app.specs.Modes.{Texts, Inputs, Said, IsOverBudget, status_by, status_of}
+use Rattle.treeped_app.specs.Tasks.{Names, Source, one, several, ring, Wanted, Origin, named, generated, Visit, visits, visits_from, with_sheet, succeeded, failed, loads_of, all_loads, Task, command}
 use Rattle.treeped_app.specs.Stops.{line_of, status_of_stop}
-use Rattle.treeped_app.specs.Runs.{Told, Put, Run, Ends, Texts, Fit, Inputs, AreFrom, AreTexts, IsAccepted, Exceeds, read_inputs, loads_before, all_loads, name_of, succeeded, failed, is_unused, is_open, status_of, AreAnswersOf, IsRefusedBy, IsJudgeable, IsOverBudget}
-use Rattle.treeped_app.specs.Commands.{Reports, Says, IsTold, IsEnded, Fails, IsRefusal, EndsFailed, FailedAt, AreToldFrom, AreTold, FitFrom, Causes}
+use Rattle.treeped_app.specs.Runs.{Told, Put, Run, Ends, Fit, AreFrom, AreTexts, Exceeds, read_inputs, IsRefusedBy, IsJudgeable, IsSaid, AreSaid, IsWhole, IsAt, IsLast}
+use Rattle.treeped_app.proofs.BudgetLemmas.{past_budget_on}
+use Rattle.treeped_app.specs.Commands.{Reports, Says, IsTold, IsEnded, Fails, IsRefusal, FailedAt, AreToldFrom, FitFrom, IsWell, AreWell, HasVisit, IsRefusedOrFails, NothingFails, Causes}
 
 -- the stops whose line is said whole or not at all
 abbrev IsLined : Stop → Type 0
@@ -42,23 +37,23 @@ module _ (r : Run) (err : Put) (s : Status) where
   -- the five ways in which a run ends
   data IsOne : Type 0 where
     reported : Reports s → Ends r (Ok s) → IsOne
-    said : (stop : Stop) → IsLined stop → Ends r (Err stop) → s ≡ status_of_stop stop → Adds err.held err.held' (line_of stop) → IsOne
+    said_whole : (stop : Stop) → IsLined stop → Ends r (Err stop) → s ≡ status_of_stop stop → Adds err.held err.held' (line_of stop) → IsOne
     cut : (stop : Stop) → Ends r (Err stop) → Fails err s → IsOne
     unwritten : Ends r (Err WriteFault) → s ≡ status.WriteFault → IsOne
     spent : s ≡ status.NoMemory → IsOne
 
-  status_reports : (a b : Bool) → s ≡ (if a then status.Budget else if b then status.Unused else status.Complete) → Reports s
+  status_reports : (a b : Bool) → s ≡ status_by a b → Reports s
   status_reports true b is = inr (inr is)
   status_reports false true is = inr (inl is)
   status_reports false false is = inl is
 
   lined : (stop : Stop) → IsLined stop → Ends r (Err stop) → Says stop err s → IsOne
-  lined stop is ends (inl whole) = said stop is ends whole.0 whole.1
+  lined stop is ends (inl whole) = said_whole stop is ends whole.0 whole.1
   lined stop is ends (inr (inl fault)) = cut stop ends (inl (fault.1.2.0, fault.0))
   lined stop is ends (inr (inr short)) = cut stop ends (inr short.2.0)
 
   one_end : (end : Result Status Stop) → Ends r end → IsTold end err s → IsOne
-  one_end (Ok e) ends told = reported (status_reports (list_any is_open ends.4.0) (list_any is_unused ends.4.0) (told.0 ∙ ends.4.4)) (subst (λ (t : Status). Ends r (Ok t)) (sym told.0) ends)
+  one_end (Ok e) ends told = reported (status_reports _ _ (told.0 ∙ ends.4)) (subst (λ (t : Status). Ends r (Ok t)) (sym told.0) ends)
   one_end (Err Words) ends told = lined Words tt ends told
   one_end (Err (TooLarge part)) ends told = lined (TooLarge part) tt ends told
   one_end (Err (ReadFault part)) ends told = lined (ReadFault part) tt ends told
@@ -101,44 +96,115 @@ module _ (err : Put) (s : Status) where
   no_failure_of_read_fault (inl a) b = let a' = a.0 in cc
   no_failure_of_read_fault (inr a) b = cc
 
--- some load failed
-any_failed : List Load → Bool
-any_failed loads = list_any (λ l. l.failed) loads
+-- ---- loads
 
-failed_before : (part : Part) (n : Names) → any_failed (loads_before part n ++ failed (name_of part n) ∷ []) ≡ true
-unfolding any_failed
-failed_before Page n = refl
-failed_before Sheet n = refl
-failed_before Script n = refl
+abbrev any_failed : List Load → Bool
+any_failed loads = list_any (λ (l : Load). l.failed) loads
 
-succeeded_before : (part : Part) (n : Names) → any_failed (loads_before part n ++ succeeded (name_of part n) ∷ []) ≡ false
-unfolding any_failed
-succeeded_before Page n = refl
-succeeded_before Sheet n = refl
-succeeded_before Script n = refl
+or_assoc : (a b c : Bool) → ((a || b) || c) ≡ (a || (b || c))
+or_assoc true b c = refl
+or_assoc false b c = refl
 
-all_succeeded : (source : Source) → any_failed (all_loads source) ≡ false
-unfolding any_failed
-all_succeeded (files n) = refl
-all_succeeded (ring k) = refl
+any_joined : (xs ys : List Load) → any_failed (xs ++ ys) ≡ (any_failed xs || any_failed ys)
+any_joined [] ys = refl
+any_joined (x ∷ xs) ys = ap (λ b. x.failed || b) (any_joined xs ys) ∙ sym (or_assoc x.failed (any_failed xs) (any_failed ys))
 
-none_failed : any_failed [] ≡ false
-unfolding any_failed
-none_failed = refl
+all_had : (ws : List Wanted) → any_failed (loads_of ws) ≡ false
+all_had [] = refl
+all_had (w ∷ ws) = all_had ws
+
+all_succeed : (vs : List Visit) → any_failed (all_loads vs) ≡ false
+all_succeed [] = refl
+all_succeed (v ∷ vs) = any_joined (loads_of v.wanted) (all_loads vs) ∙ ap (λ b. b || any_failed (all_loads vs)) (all_had v.wanted) ∙ all_succeed vs
+
+-- the loads of some visits, of some files, and one more
+abbrev up_to : List Visit → List Wanted → Load → List Load
+up_to done before last = all_loads done ++ (loads_of before ++ last ∷ [])
+
+one_more : (done : List Visit) (before : List Wanted) (last : Load) → any_failed (up_to done before last) ≡ last.failed
+one_more done before last =
+    any_joined (all_loads done) (loads_of before ++ last ∷ [])
+    ∙ ap (λ b. b || any_failed (loads_of before ++ last ∷ [])) (all_succeed done)
+    ∙ any_joined (loads_of before) (last ∷ [])
+    ∙ ap (λ b. b || any_failed (last ∷ [])) (all_had before)
+    ∙ or_false last.failed
+  where
+    or_false : (b : Bool) → (b || false) ≡ b
+    or_false true = refl
+    or_false false = refl
+
+grouped : (loads : List Load) (done : List Visit) (before : List Wanted) (last : Load) → loads ++ all_loads done ++ loads_of before ++ last ∷ [] ≡ loads ++ up_to done before last
+grouped loads done before last = append_assoc (loads ++ all_loads done) (loads_of before) (last ∷ []) ∙ append_assoc loads (all_loads done) (loads_of before ++ last ∷ [])
 
 -- loads that all succeeded don't end with one that failed
-not_failed_at : (r : Run) (source : Source) (part : Part) (loads : List Load) → r.loads' ≡ r.loads ++ loads → any_failed loads ≡ false → FailedAt r source part → ⊥
-not_failed_at r (files n) part loads is none at =
-    let same : loads ≡ loads_before part n ++ failed (name_of part n) ∷ [] = append_cancel_left r.loads loads (loads_before part n ++ failed (name_of part n) ∷ []) (sym is ∙ at ∙ append_assoc r.loads (loads_before part n) (failed (name_of part n) ∷ [])) in
-    true≢false (sym (failed_before part n) ∙ ap any_failed (sym same) ∙ none)
-not_failed_at r (ring k) part loads is none at = absurd at
+not_failed_at : (r : Run) (t : Task) (part : Part) (loads : List Load) → r.loads' ≡ r.loads ++ loads → any_failed loads ≡ false → FailedAt r t part → ⊥
+not_failed_at r t part loads is none at =
+    let same : loads ≡ up_to at.done at.before (failed at.file.name) =
+    append_cancel_left r.loads loads (up_to at.done at.before (failed at.file.name)) (sym is ∙ at.loads ∙ grouped r.loads at.done at.before (failed at.file.name)) in
+    true≢false (sym (one_more at.done at.before (failed at.file.name)) ∙ ap any_failed (sym same) ∙ none)
 
--- a load that failed was that of a name
-pub failed_name : (before after : List Load) (source : Source) (part : Part) → ((n : Names) → EndsFailed before after (files n) part → ⊥) → EndsFailed before after source part → ⊥
-failed_name before after (files n) part none at = none n at
-failed_name before after (ring k) part none at = absurd at
+-- ---- visits
 
--- the texts that a run had are those that are told
+-- what is loaded for a visit are the three files of its origin
+abbrev IsNamed : Origin → Wanted → Type 0
+IsNamed (named n) w = (w.name ≡ n.page) ⊎ (w.name ≡ n.sheet) ⊎ (w.name ≡ n.script)
+IsNamed (generated k) w = ⊥
+
+abbrev AreNamed : List Visit → Type 0
+AreNamed vs = (v : Visit) → Contains vs v → (w : Wanted) → Contains v.wanted w → IsNamed v.origin w
+
+-- of the first of a list, and the others
+named_first : (v : Visit) (vs : List Visit) → ((w : Wanted) → Contains v.wanted w → IsNamed v.origin w) → AreNamed vs → AreNamed (v ∷ vs)
+named_first v vs first others x there = elim ((Contains-cons x v vs).0 there) [
+  | inl same ↦ subst (λ (z : Visit). (w : Wanted) → Contains z.wanted w → IsNamed z.origin w) (sym same) first
+  | inr behind ↦ others x behind
+]
+
+two_named : (n : Names) (a b : Wanted) → IsNamed (named n) a → IsNamed (named n) b → (w : Wanted) → Contains (a ∷ b ∷ []) w → IsNamed (named n) w
+two_named n a b first second w there = elim ((Contains-cons w a (b ∷ [])).0 there) [
+  | inl same ↦ subst (λ (z : Wanted). IsNamed (named n) z) (sym same) first
+  | inr behind ↦ elim ((Contains-cons w b []).0 behind) [
+    | inl same ↦ subst (λ (z : Wanted). IsNamed (named n) z) (sym same) second
+    | inr none ↦ absurd (Contains-none w none)
+  ]
+]
+
+three_named : (n : Names) (a b c : Wanted) → IsNamed (named n) a → IsNamed (named n) b → IsNamed (named n) c → (w : Wanted) → Contains (a ∷ b ∷ c ∷ []) w → IsNamed (named n) w
+three_named n a b c first second third w there = elim ((Contains-cons w a (b ∷ c ∷ [])).0 there) [
+  | inl same ↦ subst (λ (z : Wanted). IsNamed (named n) z) (sym same) first
+  | inr behind ↦ two_named n b c second third w behind
+]
+
+no_visits : AreNamed []
+no_visits v there = absurd (Contains-none v there)
+
+from_named : (k : ℕ) (sheet : List ℕ) (pairs : List (List ℕ × List ℕ)) → AreNamed (visits_from k sheet pairs)
+from_named k sheet [] = no_visits
+from_named k sheet ((page, script) ∷ pairs) =
+    named_first _ _ (two_named (record { page = page; sheet = sheet; script = script }) _ _ (inl refl) (inr (inr refl))) (from_named (k + 1) sheet pairs)
+
+sheet_named : (sheet : List ℕ) (pairs : List (List ℕ × List ℕ)) → AreNamed (with_sheet sheet (visits_from 1 sheet pairs))
+sheet_named sheet [] = no_visits
+sheet_named sheet ((page, script) ∷ pairs) =
+    named_first _ _ (three_named (record { page = page; sheet = sheet; script = script }) _ _ _ (inr (inl refl)) (inl refl) (inr (inr refl))) (from_named 2 sheet pairs)
+
+all_named : (source : Source) → AreNamed (visits source)
+all_named (one n) = named_first _ [] (three_named n _ _ _ (inl refl) (inr (inl refl)) (inr (inr refl))) no_visits
+all_named (several sheet pairs) = sheet_named sheet pairs
+all_named (ring k) = named_first _ [] (λ w there. absurd (Contains-none w there)) no_visits
+
+-- what is said of a visit
+said_in : (told : Told) (t : Task) (vs : List Visit) (said : List Said) → AreSaid told t vs said → (v : Visit) → Contains vs v → (s : Said) × Contains said s × IsSaid told t v s
+said_in told t [] [] all v there = absurd (Contains-none v there)
+said_in told t [] (s ∷ said) all v there = absurd all
+said_in told t (w ∷ vs) [] all v there = absurd all
+said_in told t (w ∷ vs) (s ∷ said) all v there = elim ((Contains-cons v w vs).0 there) [
+  | inl same ↦ (s, Contains-here s s said refl, subst (λ (z : Visit). IsSaid told t z s) (sym same) all.0)
+  | inr behind ↦ let rest = said_in told t vs said all.1 v behind in (rest.0, Contains-behind rest.0 s said rest.1, rest.2)
+]
+
+-- ---- texts
+
 one_text : (o : Option (List ℕ)) (text text' : List ℕ) → o ≡ Some text → IfSome o (λ bytes. text' ≡ bytes) → text' ≡ text
 one_text None text text' is holds = cc
 one_text (Some bytes) text text' is holds = let same : bytes ≡ text = cc in holds ∙ same
@@ -146,268 +212,283 @@ one_text (Some bytes) text text' is holds = let same : bytes ≡ text = cc in ho
 one_task : (r : Run) (t t' : Task) → command r.words ≡ Some t → command r.words ≡ Some t' → t' ≡ t
 one_task r t t' is is' = let same : Some t ≡ Some t' = sym is ∙ is' in cc
 
-texts_told : (told : Told) (source : Source) (x x' : Texts) → AreToldFrom told source x → AreFrom told source x' → x' ≡ x
-texts_told told (files n) x x' are from =
+texts_told : (told : Told) (o : Origin) (x x' : Texts) → AreToldFrom told o x → AreFrom told o x' → x' ≡ x
+texts_told told (named n) x x' are from =
     let page = one_text (told n.page) x.page x'.page are.page from.page in
     let sheet = one_text (told n.sheet) x.sheet x'.sheet are.sheet from.sheet in
     let script = one_text (told n.script) x.script x'.script are.script from.script in
     λ k. record { page = page k; sheet = sheet k; script = script k }
-texts_told told (ring k) x x' are from = from ∙ sym are
+texts_told told (generated k) x x' are from = from ∙ sym are
 
-fit_from : (source : Source) (x : Texts) → Fit x → FitFrom source x
-fit_from (files n) x fits = fits
-fit_from (ring k) x fits = tt
+fit_from : (o : Origin) (x : Texts) → Fit x → FitFrom o x
+fit_from (named n) x fits = fits
+fit_from (generated k) x fits = tt
 
 not_exceeding : (o : Option (List ℕ)) (text : List ℕ) → o ≡ Some text → length text ≤ MOST_BYTES → IfSome o (λ bytes. MOST_BYTES < length bytes) → ⊥
 not_exceeding None text is within over = cc
 not_exceeding (Some bytes) text is within over = let same : bytes ≡ text = cc in let over' : MOST_BYTES < length text = rw same at over in omega arith
 
-fit_part : (told : Told) (n : Names) (x : Texts) (part : Part) → AreToldFrom told (files n) x → Fit x → Exceeds told (name_of part n) → ⊥
-fit_part told n x Page are fits over = not_exceeding (told n.page) x.page are.page fits.page over
-fit_part told n x Sheet are fits over = not_exceeding (told n.sheet) x.sheet are.sheet fits.sheet over
-fit_part told n x Script are fits over = not_exceeding (told n.script) x.script are.script fits.script over
-
-module _ (r : Run) (t : Task) (x : Texts) (told : AreTold r t x) where
-  same_source : (t' : Task) → command r.words ≡ Some t' → t'.source ≡ t.source
-  same_source t' is = ap (λ (u : Task). u.source) (one_task r t t' told.task is)
-
-  same_texts : (t' : Task) (x' : Texts) → command r.words ≡ Some t' → AreTexts r.told t'.source x' → x' ≡ x
-  same_texts t' x' is texts = texts_told r.told t.source x x' told.texts (subst (λ (z : Source). AreFrom r.told z x') (same_source t' is) texts.from)
-
-  fit : (t' : Task) (x' : Texts) → command r.words ≡ Some t' → AreTexts r.told t'.source x' → FitFrom t.source x
-  fit t' x' is texts = fit_from t.source x (subst (λ (y : Texts). Fit y) (same_texts t' x' is texts) texts.fit)
-
-  none_exceeds : FitFrom t.source x → (t' : Task) (n : Names) (part : Part) → command r.words ≡ Some t' → t'.source ≡ files n → Exceeds r.told (name_of part n) → ⊥
-  none_exceeds fits t' n part is from over =
-      let same : t.source ≡ files n = sym (same_source t' is) ∙ from in
-      let fits' : FitFrom (files n) x = subst (λ (z : Source). FitFrom z x) same fits in
-      fit_part r.told n x part (subst (λ (z : Source). AreToldFrom r.told z x) same told.texts) fits' over
-
-  accepted_reads : (t' : Task) (x' : Texts) (i : Inputs) → IsAccepted r t' x' i → read_inputs x ≡ Ok i
-  accepted_reads t' x' i accepted = subst (λ (y : Texts). read_inputs y ≡ Ok i) (same_texts t' x' accepted.task accepted.texts) accepted.read
-
--- ---- judging
-
--- a status past a budget has an answer that is left open
-budget_open : (a b : Bool) → (if a then status.Budget else if b then status.Unused else status.Complete) ≡ status.Budget → a ≡ true
-budget_open true b is = refl
-budget_open false true is = cc
-budget_open false false is = cc
-
--- what is left open is past a budget
-module _ (t : LabelTree) (ss : List Statement) (items : List Item) (n : ℕ) (limits : Limits) where
-  abbrev AreAmong : List Selector → Type 0
-  AreAmong sheet = (s : Selector) → Contains sheet s → Contains (judged_in items) s
-
-  open_first : (o : Outcome) (rest : List Item) (a : Answer) → IsRight t ss items n limits o a → is_open a ≡ true → AreAmong (judged_of o ++ judged_in rest) → IsPastBudget t ss items n limits
-  open_first (judged s) rest (used proof steps shown) right is among = absurd (true≢false (sym is))
-  open_first (judged s) rest used_unshown right is among = inr (s, among s (Contains-here s s (judged_in rest) refl), right)
-  open_first (judged s) rest unused right is among = absurd (true≢false (sym is))
-  open_first (judged s) rest (skipped cause at) right is among = absurd right
-  open_first (judged s) rest spent_ right is among = inl right
-  open_first (left_out cause at) rest a right is among = absurd (true≢false (sym is ∙ ap is_open right))
-
-  later_among : (o : Outcome) (rest : List Item) → AreAmong (judged_of o ++ judged_in rest) → AreAmong (judged_in rest)
-  later_among (judged s) rest among = λ x there. among x (Contains-behind x s (judged_in rest) there)
-  later_among (left_out cause at) rest among = among
-
-  open_past : (rest : List Item) (answers : List Answer) → AreRight t ss items n limits rest answers → list_any is_open answers ≡ true → AreAmong (judged_in rest) → IsPastBudget t ss items n limits
-  open_past [] [] right is among = absurd (true≢false (sym is))
-  open_past [] (a ∷ answers) right is among = absurd right
-  open_past (i ∷ rest) [] right is among = absurd right
-  open_past (i ∷ rest) (a ∷ answers) right is among = elim (is_open a) as (λ b. is_open a ≡ b → (b || list_any is_open answers) ≡ true → IsPastBudget t ss items n limits) [
-    | true ↦ λ e there. open_first i.outcome rest a right.0 e among
-    | false ↦ λ e there. open_past rest answers right.1 there (later_among i.outcome rest among)
-  ] refl is
-
-past_budget : (limits : Limits) (i : Inputs) (answers : List Answer) → AreAnswersOf limits i answers → status_of answers ≡ status.Budget → IsOverBudget limits i
-past_budget limits i answers are is =
-    open_past i.tree i.stmts i.sheet.items (length i.names) limits i.sheet.items answers are.right (budget_open (list_any is_open answers) (list_any is_unused answers) is) (λ s there. there)
+none_exceeds : (told : Told) (o : Origin) (x : Texts) (w : Wanted) → IsNamed o w → AreToldFrom told o x → FitFrom o x → Exceeds told w.name → ⊥
+none_exceeds told (named n) x w (inl page) are fits over = not_exceeding (told n.page) x.page are.page fits.page (subst (λ (z : List ℕ). Exceeds told z) page over)
+none_exceeds told (named n) x w (inr (inl sheet)) are fits over = not_exceeding (told n.sheet) x.sheet are.sheet fits.sheet (subst (λ (z : List ℕ). Exceeds told z) sheet over)
+none_exceeds told (named n) x w (inr (inr script)) are fits over = not_exceeding (told n.script) x.script are.script fits.script (subst (λ (z : List ℕ). Exceeds told z) script over)
+none_exceeds told (generated k) x w none are fits over = absurd none
 
 -- what has answers isn't refused
-refused_and_judged : (i : Inputs) (f : JudgeRefusal) → IsRefusedBy i f → IsJudgeable i → ⊥
-refused_and_judged i TooManyAtoms many within = let few = within.0 in omega (arith, many, few)
-refused_and_judged i TooManyVisible many within = let few = within.1 in let more = many.1 in omega (arith, more, few)
+refused_and_judged : (m : Mode) (i : Inputs) (f : JudgeRefusal) → IsRefusedBy m i f → IsJudgeable m i → ⊥
+refused_and_judged m i TooManyAtoms many within = let few = within.0 in omega (arith, many, few)
+refused_and_judged m i TooManyVisible many within = let few = within.1 in let more = many.1 in omega (arith, more, few)
 
-module _ (r : Run) (t : Task) (x : Texts) (i : Inputs) where
-  one_reading : AreTold r t x → read_inputs x ≡ Ok i → (t' : Task) (x' : Texts) (i' : Inputs) → IsAccepted r t' x' i' → i' ≡ i
-  one_reading told reads t' x' i' accepted = let same : Ok i' ≡ Ok i = sym (accepted_reads r t x told t' x' i' accepted) ∙ reads in cc
+-- ---- a visit, and a run whose visits were all loaded, read and judged
 
-  not_answered : (f : JudgeRefusal) → AreTold r t x → read_inputs x ≡ Ok i → IsRefusedBy i f → (t' : Task) (x' : Texts) (i' : Inputs) → IsAccepted r t' x' i' → (answers : List Answer) → AreAnswersOf t'.limits i' answers → ⊥
-  not_answered f told reads refused t' x' i' accepted answers are = refused_and_judged i f refused (subst (λ (j : Inputs). IsJudgeable j) (one_reading told reads t' x' i' accepted) are.within)
+module _ (r : Run) (t : Task) (v : Visit) (x : Texts) (has : HasVisit r t v x) (t' : Task) (said : List Said) (whole : IsWhole r t' said) where
+  same_task : t' ≡ t
+  same_task = one_task r t t' has.task whole.task
 
--- the causes, from the ways in which a run ends
+  of_visit : (s : Said) × Contains said s × IsSaid r.told t v s
+  of_visit = said_in r.told t (visits t.source) said (subst (λ (u : Task). AreSaid r.told u (visits u.source) said) same_task whole.all) v has.there
+
+  same_texts : of_visit.0.texts ≡ x
+  same_texts = texts_told r.told v.origin x of_visit.0.texts has.are_told of_visit.2.texts.from
+
+  reads : read_inputs v.number x ≡ Ok of_visit.0.inputs
+  reads = subst (λ (z : Texts). read_inputs v.number z ≡ Ok of_visit.0.inputs) same_texts of_visit.2.read
+
+  fits : FitFrom v.origin x
+  fits = fit_from v.origin x (subst (λ (z : Texts). Fit z) same_texts of_visit.2.texts.fit)
+
+  judgeable : IsJudgeable t.mode of_visit.0.inputs
+  judgeable = of_visit.2.answers.within
+
+-- ---- a visit at which a run stops
+
+module _ (r : Run) (t : Task) (task : command r.words ≡ Some t) (well : AreWell r.told t) (t' : Task) (done : List Visit) (v : Visit) (at : IsAt r t' done v) where
+  this_task : t' ≡ t
+  this_task = one_task r t t' task at.task
+
+  there : Contains (visits t.source) v
+  there =
+      subst (λ (u : Task). Contains (visits u.source) v) this_task
+      (subst (λ (z : List Visit). Contains z v) (sym at.order) (Contains-append_right done (v ∷ at.later) v (Contains-here v v at.later refl)))
+
+  abbrev its : IsWell r.told t v
+  its = well v there
+
+  not_too_large : (w : Wanted) (last : Load) → IsLast r done v w last → Exceeds r.told w.name → ⊥
+  not_too_large w last is over =
+      none_exceeds r.told v.origin its.texts w
+      (all_named t.source v there w (subst (λ (z : List Wanted). Contains z w) (sym is.order) (Contains-append_right is.before (w ∷ is.after) w (Contains-here w w is.after refl))))
+      its.are_told its.fit over
+
+  not_unread : (y : Texts) (stop : Stop) → AreTexts r.told v y → read_inputs v.number y ≡ Err stop → ⊥
+  not_unread y stop texts unread =
+      let same = texts_told r.told v.origin its.texts y its.are_told texts.from in
+      let read : read_inputs v.number y ≡ Ok its.inputs = subst (λ (z : Texts). read_inputs v.number z ≡ Ok its.inputs) (sym same) its.read in cc
+
+  not_refused : (y : Texts) (i : Inputs) (f : JudgeRefusal) → AreTexts r.told v y → read_inputs v.number y ≡ Ok i → IsRefusedBy t'.mode i f → ⊥
+  not_refused y i f texts read refused =
+      let same = texts_told r.told v.origin its.texts y its.are_told texts.from in
+      let both : Ok its.inputs ≡ Ok i = sym (subst (λ (z : Texts). read_inputs v.number z ≡ Ok its.inputs) (sym same) its.read) ∙ read in
+      let one' : its.inputs ≡ i = cc in
+      refused_and_judged t.mode i f (subst (λ (u : Task). IsRefusedBy u.mode i f) this_task refused) (subst (λ (j : Inputs). IsJudgeable t.mode j) one' its.judgeable)
+
+failed_at : (r : Run) (t : Task) (done : List Visit) (v : Visit) (w : Wanted) (part : Part) → IsAt r t done v → IsLast r done v w (failed w.name) → w.part ≡ part → FailedAt r t part
+failed_at r t done v w part at last is = record {
+  done = done;
+  visit = v;
+  later = at.later;
+  order = at.order;
+  before = last.before;
+  file = w;
+  after = last.after;
+  wanted = last.order;
+  is = is;
+  loads = last.loads;
+}
+
+-- ---- budgets
+
+said_by : (told : Told) (t : Task) (vs : List Visit) (said : List Said) → AreSaid told t vs said → (x : Said) → Contains said x → (v : Visit) × Contains vs v × IsSaid told t v x
+said_by told t [] [] all x mine = absurd (Contains-none x mine)
+said_by told t [] (s ∷ said) all x mine = absurd all
+said_by told t (v ∷ vs) [] all x mine = absurd all
+said_by told t (v ∷ vs) (s ∷ said) all x mine = elim ((Contains-cons x s said).0 mine) [
+  | inl same ↦ (v, Contains-here v v vs refl, subst (λ (z : Said). IsSaid told t v z) (sym same) all.0)
+  | inr behind ↦ let rest = said_by told t vs said all.1 x behind in (rest.0, Contains-behind rest.0 v vs rest.1, rest.2)
+]
+
+past_budget : (r : Run) (t : Task) (said : List Said) → IsWhole r t said → status_of t said ≡ status.Budget → (x : Said) × Contains said x × IsOverBudget t.mode t.limits x.inputs
+past_budget r t said whole is = past_budget_on t said (λ x there. (said_by r.told t (visits t.source) said whole.all x there).2.answers) is
+
+within_all : (r : Run) (t : Task) → command r.words ≡ Some t → (well : AreWell r.told t) → ((v : Visit) (there : Contains (visits t.source) v) → ¬ IsOverBudget t.mode t.limits (well v there).inputs)
+    → (t' : Task) (said : List Said) → IsWhole r t' said → (x : Said) → Contains said x → IsOverBudget t'.mode t'.limits x.inputs → ⊥
+within_all r t task well enough t' said whole x there over =
+    let same = one_task r t t' task whole.task in
+    let all' = subst (λ (u : Task). AreSaid r.told u (visits u.source) said) same whole.all in
+    let of = said_by r.told t (visits t.source) said all' x there in
+    let its' = well of.0 of.1 in
+    let texts = texts_told r.told of.0.origin its'.texts x.texts its'.are_told of.2.texts.from in
+    let both : Ok x.inputs ≡ Ok its'.inputs = sym of.2.read ∙ ap (read_inputs of.0.number) texts ∙ its'.read in
+    let inputs : x.inputs ≡ its'.inputs = cc in
+    enough of.0 of.1 (subst (λ (i : Inputs). IsOverBudget t.mode t.limits i) inputs (subst (λ (u : Task). IsOverBudget u.mode u.limits x.inputs) same over))
+
+-- ---- the causes, from the ways in which a run ends
+
 module _ (r : Run) (err : Put) (s : Status) where
   words_of : IsOne r err s → s ≡ status.Words → command r.words ≡ None
   words_of (reported report ends) is = absurd (no_report_of_words err s report is)
-  words_of (said Words lined ends status_is line) is = ends.0
-  words_of (said (TooLarge part) lined ends status_is line) is = cc
-  words_of (said (ReadFault part) lined ends status_is line) is = cc
-  words_of (said (Unread refusal) lined ends status_is line) is = cc
-  words_of (said (Judging refusal) lined ends status_is line) is = cc
-  words_of (said WriteFault lined ends status_is line) is = cc
-  words_of (said NoMemory lined ends status_is line) is = cc
+  words_of (said_whole Words lined ends status_is line) is = ends.0
+  words_of (said_whole (TooLarge part) lined ends status_is line) is = cc
+  words_of (said_whole (ReadFault part) lined ends status_is line) is = cc
+  words_of (said_whole (Unread refusal) lined ends status_is line) is = cc
+  words_of (said_whole (Judging refusal) lined ends status_is line) is = cc
+  words_of (said_whole WriteFault lined ends status_is line) is = cc
+  words_of (said_whole NoMemory lined ends status_is line) is = cc
   words_of (cut stop ends fails) is = absurd (no_failure_of_words err s fails is)
   words_of (unwritten ends status_is) is = cc
   words_of (spent status_is) is = cc
 
   no_task_of : IsOne r err s → command r.words ≡ None → (s ≡ status.Words) ⊎ Fails err s
-  no_task_of (reported report ends) none = let some = ends.3.task in cc
-  no_task_of (said Words lined ends status_is line) none = inl status_is
-  no_task_of (said (TooLarge part) lined ends status_is line) none = let some = ends.1 in cc
-  no_task_of (said (ReadFault part) lined ends status_is line) none = let some = ends.1 in cc
-  no_task_of (said (Unread refusal) lined ends status_is line) none = let some = ends.1 in cc
-  no_task_of (said (Judging refusal) lined ends status_is line) none = let some = ends.3.task in cc
-  no_task_of (said WriteFault lined ends status_is line) none = elim lined [ ]
-  no_task_of (said NoMemory lined ends status_is line) none = elim lined [ ]
+  no_task_of (reported report ends) none = let some = ends.2.task in cc
+  no_task_of (said_whole Words lined ends status_is line) none = inl status_is
+  no_task_of (said_whole (TooLarge part) lined ends status_is line) none = let some = ends.4.task in cc
+  no_task_of (said_whole (ReadFault part) lined ends status_is line) none = let some = ends.4.task in cc
+  no_task_of (said_whole (Unread refusal) lined ends status_is line) none = let some = ends.4.task in cc
+  no_task_of (said_whole (Judging refusal) lined ends status_is line) none = let some = ends.5.task in cc
+  no_task_of (said_whole WriteFault lined ends status_is line) none = elim lined [ ]
+  no_task_of (said_whole NoMemory lined ends status_is line) none = elim lined [ ]
   no_task_of (cut stop ends fails) none = inr fails
-  no_task_of (unwritten ends status_is) none = let some = ends.3.task in cc
+  no_task_of (unwritten ends status_is) none = let some = ends.2.task in cc
   no_task_of (spent status_is) none = inr (inr status_is)
 
   refused_of : IsOne r err s → s ≡ status.Refused → (stop : Stop) × IsRefusal stop × Ends r (Err stop) × Adds err.held err.held' (line_of stop)
   refused_of (reported report ends) is = absurd (no_report_of_refused err s report is)
-  refused_of (said stop lined ends status_is line) is = (stop, sym status_is ∙ is, ends, line)
+  refused_of (said_whole stop lined ends status_is line) is = (stop, sym status_is ∙ is, ends, line)
   refused_of (cut stop ends fails) is = absurd (no_failure_of_refused err s fails is)
   refused_of (unwritten ends status_is) is = cc
   refused_of (spent status_is) is = cc
 
-  not_read_of : (t : Task) (x : Texts) (stop : Stop) → IsOne r err s → AreTold r t x → FitFrom t.source x → read_inputs x ≡ Err stop → (s ≡ status.Refused) ⊎ (s ≡ status.ReadFault) ⊎ Fails err s
-  not_read_of t x stop (reported report ends) told fits unread = let reads = accepted_reads r t x told ends.0 ends.1 ends.2 ends.3 in cc
-  not_read_of t x stop (said Words lined ends status_is line) told fits unread = let none = ends.0 in let some = told.task in cc
-  not_read_of t x stop (said (TooLarge p) lined ends status_is line) told fits unread = inl status_is
-  not_read_of t x stop (said (ReadFault p) lined ends status_is line) told fits unread = inr (inl status_is)
-  not_read_of t x stop (said (Unread refusal) lined ends status_is line) told fits unread = inl status_is
-  not_read_of t x stop (said (Judging refusal) lined ends status_is line) told fits unread = inl status_is
-  not_read_of t x stop (said WriteFault lined ends status_is line) told fits unread = elim lined [ ]
-  not_read_of t x stop (said NoMemory lined ends status_is line) told fits unread = elim lined [ ]
-  not_read_of t x stop (cut end ends fails) told fits unread = inr (inr fails)
-  not_read_of t x stop (unwritten ends status_is) told fits unread = let reads = accepted_reads r t x told ends.0 ends.1 ends.2 ends.3 in cc
-  not_read_of t x stop (spent status_is) told fits unread = inr (inr (inr status_is))
+  -- where a visit is such that the run can't be whole, it is refused, or fails
+  not_whole : (t : Task) → command r.words ≡ Some t → ((t' : Task) (said : List Said) → IsWhole r t' said → ⊥) → IsOne r err s → IsRefusedOrFails err s
+  not_whole t task never (reported report ends) = absurd (never ends.0 ends.1 ends.2)
+  not_whole t task never (said_whole Words lined ends status_is line) = let none = ends.0 in cc
+  not_whole t task never (said_whole (TooLarge p) lined ends status_is line) = inl status_is
+  not_whole t task never (said_whole (ReadFault p) lined ends status_is line) = inr (inl status_is)
+  not_whole t task never (said_whole (Unread refusal) lined ends status_is line) = inl status_is
+  not_whole t task never (said_whole (Judging refusal) lined ends status_is line) = inl status_is
+  not_whole t task never (said_whole WriteFault lined ends status_is line) = elim lined [ ]
+  not_whole t task never (said_whole NoMemory lined ends status_is line) = elim lined [ ]
+  not_whole t task never (cut stop ends fails) = inr (inr fails)
+  not_whole t task never (unwritten ends status_is) = absurd (never ends.0 ends.1 ends.2)
+  not_whole t task never (spent status_is) = inr (inr (inr status_is))
 
-  too_large_of : (t : Task) (x : Texts) → IsOne r err s → AreTold r t x → (FitFrom t.source x → ⊥) → (s ≡ status.Refused) ⊎ (s ≡ status.ReadFault) ⊎ Fails err s
-  too_large_of t x (reported report ends) told over = absurd (over (fit r t x told ends.0 ends.1 ends.3.task ends.3.texts))
-  too_large_of t x (said Words lined ends status_is line) told over = let none = ends.0 in let some = told.task in cc
-  too_large_of t x (said (TooLarge p) lined ends status_is line) told over = inl status_is
-  too_large_of t x (said (ReadFault p) lined ends status_is line) told over = inr (inl status_is)
-  too_large_of t x (said (Unread refusal) lined ends status_is line) told over = inl status_is
-  too_large_of t x (said (Judging refusal) lined ends status_is line) told over = inl status_is
-  too_large_of t x (said WriteFault lined ends status_is line) told over = elim lined [ ]
-  too_large_of t x (said NoMemory lined ends status_is line) told over = elim lined [ ]
-  too_large_of t x (cut stop ends fails) told over = inr (inr fails)
-  too_large_of t x (unwritten ends status_is) told over = absurd (over (fit r t x told ends.0 ends.1 ends.3.task ends.3.texts))
-  too_large_of t x (spent status_is) told over = inr (inr (inr status_is))
+  too_large_of : IsOne r err s → (t : Task) (v : Visit) (x : Texts) → HasVisit r t v x → ¬ FitFrom v.origin x → IsRefusedOrFails err s
+  too_large_of one' t v x has over = not_whole t has.task (λ t' said whole. over (fits r t v x has t' said whole)) one'
 
-  read_fault_of : IsOne r err s → s ≡ status.ReadFault → (t : Task) × (part : Part) × (command r.words ≡ Some t) × FailedAt r t.source part × Adds err.held err.held' (line_of (ReadFault part))
+  not_read_of : IsOne r err s → (t : Task) (v : Visit) (x : Texts) (stop : Stop) → HasVisit r t v x → read_inputs v.number x ≡ Err stop → IsRefusedOrFails err s
+  not_read_of one' t v x stop has unread = not_whole t has.task (λ t' said whole. let read = reads r t v x has t' said whole in cc) one'
+
+  not_judged_of : IsOne r err s → (t : Task) (v : Visit) (x : Texts) (i : Inputs) (f : JudgeRefusal) → HasVisit r t v x → read_inputs v.number x ≡ Ok i → IsRefusedBy t.mode i f → IsRefusedOrFails err s
+  not_judged_of one' t v x i f has read refused = not_whole t has.task (λ t' said whole.
+      let both : Ok (of_visit r t v x has t' said whole).0.inputs ≡ Ok i = sym (reads r t v x has t' said whole) ∙ read in
+      let same : (of_visit r t v x has t' said whole).0.inputs ≡ i = cc in
+      refused_and_judged t.mode i f refused (subst (λ (j : Inputs). IsJudgeable t.mode j) same (judgeable r t v x has t' said whole))) one'
+
+  read_fault_of : IsOne r err s → s ≡ status.ReadFault → (t : Task) × (part : Part) × (command r.words ≡ Some t) × FailedAt r t part × Adds err.held err.held' (line_of (ReadFault part))
   read_fault_of (reported report ends) is = absurd (no_report_of_read_fault err s report is)
-  read_fault_of (said Words lined ends status_is line) is = cc
-  read_fault_of (said (TooLarge part) lined ends status_is line) is = cc
-  read_fault_of (said (ReadFault part) lined ends status_is line) is = (ends.0, part, ends.1, subst (λ (z : Source). FailedAt r z part) (sym ends.2.1) ends.2.2, line)
-  read_fault_of (said (Unread refusal) lined ends status_is line) is = cc
-  read_fault_of (said (Judging refusal) lined ends status_is line) is = cc
-  read_fault_of (said WriteFault lined ends status_is line) is = elim lined [ ]
-  read_fault_of (said NoMemory lined ends status_is line) is = elim lined [ ]
+  read_fault_of (said_whole Words lined ends status_is line) is = cc
+  read_fault_of (said_whole (TooLarge part) lined ends status_is line) is = cc
+  read_fault_of (said_whole (ReadFault part) lined ends status_is line) is = (ends.0, part, ends.4.task, failed_at r ends.0 ends.1 ends.2 ends.3 part ends.4 ends.5 ends.6, line)
+  read_fault_of (said_whole (Unread refusal) lined ends status_is line) is = cc
+  read_fault_of (said_whole (Judging refusal) lined ends status_is line) is = cc
+  read_fault_of (said_whole WriteFault lined ends status_is line) is = elim lined [ ]
+  read_fault_of (said_whole NoMemory lined ends status_is line) is = elim lined [ ]
   read_fault_of (cut stop ends fails) is = absurd (no_failure_of_read_fault err s fails is)
   read_fault_of (unwritten ends status_is) is = cc
   read_fault_of (spent status_is) is = cc
 
-  failed_load_of : (source : Source) (part : Part) → IsOne r err s → FailedAt r source part → (s ≡ status.ReadFault) ⊎ Fails err s
-  failed_load_of source part (reported report ends) at = absurd (not_failed_at r source part (all_loads ends.0.source) ends.3.loaded (all_succeeded ends.0.source) at)
-  failed_load_of source part (said Words lined ends status_is line) at = absurd (not_failed_at r source part [] (ends.1 ∙ sym (append-nil r.loads)) none_failed at)
-  failed_load_of source part (said (TooLarge p) lined ends status_is line) at =
-      absurd (not_failed_at r source part (loads_before p ends.2.0 ++ succeeded (name_of p ends.2.0) ∷ []) (ends.2.2 ∙ append_assoc r.loads (loads_before p ends.2.0) (succeeded (name_of p ends.2.0) ∷ [])) (succeeded_before p ends.2.0) at)
-  failed_load_of source part (said (ReadFault p) lined ends status_is line) at = inl status_is
-  failed_load_of source part (said (Unread refusal) lined ends status_is line) at = absurd (not_failed_at r source part (all_loads ends.0.source) ends.3.0 (all_succeeded ends.0.source) at)
-  failed_load_of source part (said (Judging refusal) lined ends status_is line) at = absurd (not_failed_at r source part (all_loads ends.0.source) ends.3.loaded (all_succeeded ends.0.source) at)
-  failed_load_of source part (said WriteFault lined ends status_is line) at = elim lined [ ]
-  failed_load_of source part (said NoMemory lined ends status_is line) at = elim lined [ ]
-  failed_load_of source part (cut stop ends fails) at = inr fails
-  failed_load_of source part (unwritten ends status_is) at = absurd (not_failed_at r source part (all_loads ends.0.source) ends.3.loaded (all_succeeded ends.0.source) at)
-  failed_load_of source part (spent status_is) at = inr (inr status_is)
+  failed_load_of : (t : Task) (part : Part) → IsOne r err s → FailedAt r t part → (s ≡ status.ReadFault) ⊎ Fails err s
+  failed_load_of t part (reported report ends) at = absurd (not_failed_at r t part (all_loads (visits ends.0.source)) ends.2.loads (all_succeed (visits ends.0.source)) at)
+  failed_load_of t part (said_whole Words lined ends status_is line) at = absurd (not_failed_at r t part [] (ends.1 ∙ sym (append-nil r.loads)) refl at)
+  failed_load_of t part (said_whole (TooLarge p) lined ends status_is line) at =
+      absurd (not_failed_at r t part (up_to ends.1 ends.5.before (succeeded ends.3.name)) (ends.5.loads ∙ grouped r.loads ends.1 ends.5.before (succeeded ends.3.name)) (one_more ends.1 ends.5.before (succeeded ends.3.name)) at)
+  failed_load_of t part (said_whole (ReadFault p) lined ends status_is line) at = inl status_is
+  failed_load_of t part (said_whole (Unread refusal) lined ends status_is line) at = absurd (not_failed_at r t part (all_loads (ends.1 ++ ends.2 ∷ [])) ends.5.loads (all_succeed (ends.1 ++ ends.2 ∷ [])) at)
+  failed_load_of t part (said_whole (Judging refusal) lined ends status_is line) at = absurd (not_failed_at r t part (all_loads (ends.1 ++ ends.2 ∷ [])) ends.6.loads (all_succeed (ends.1 ++ ends.2 ∷ [])) at)
+  failed_load_of t part (said_whole WriteFault lined ends status_is line) at = elim lined [ ]
+  failed_load_of t part (said_whole NoMemory lined ends status_is line) at = elim lined [ ]
+  failed_load_of t part (cut stop ends fails) at = inr fails
+  failed_load_of t part (unwritten ends status_is) at = absurd (not_failed_at r t part (all_loads (visits ends.0.source)) ends.2.loads (all_succeed (visits ends.0.source)) at)
+  failed_load_of t part (spent status_is) at = inr (inr status_is)
 
   write_fault_of : IsOne r err s → s ≡ status.WriteFault → Rose r.out.faults r.out.faults' ⊎ Rose err.faults err.faults'
   write_fault_of (reported report ends) is = absurd (no_report_of_write_fault err s report is)
-  write_fault_of (said Words lined ends status_is line) is = cc
-  write_fault_of (said (TooLarge part) lined ends status_is line) is = cc
-  write_fault_of (said (ReadFault part) lined ends status_is line) is = cc
-  write_fault_of (said (Unread refusal) lined ends status_is line) is = cc
-  write_fault_of (said (Judging refusal) lined ends status_is line) is = cc
-  write_fault_of (said WriteFault lined ends status_is line) is = elim lined [ ]
-  write_fault_of (said NoMemory lined ends status_is line) is = elim lined [ ]
+  write_fault_of (said_whole Words lined ends status_is line) is = cc
+  write_fault_of (said_whole (TooLarge part) lined ends status_is line) is = cc
+  write_fault_of (said_whole (ReadFault part) lined ends status_is line) is = cc
+  write_fault_of (said_whole (Unread refusal) lined ends status_is line) is = cc
+  write_fault_of (said_whole (Judging refusal) lined ends status_is line) is = cc
+  write_fault_of (said_whole WriteFault lined ends status_is line) is = elim lined [ ]
+  write_fault_of (said_whole NoMemory lined ends status_is line) is = elim lined [ ]
   write_fault_of (cut stop ends (inl fault)) is = inr fault.1
   write_fault_of (cut stop ends (inr short)) is = cc
-  write_fault_of (unwritten ends status_is) is = inl ends.4.4
+  write_fault_of (unwritten ends status_is) is = inl ends.4
   write_fault_of (spent status_is) is = cc
 
-  not_judged_of : (t : Task) (x : Texts) (i : Inputs) (f : JudgeRefusal) → IsOne r err s → AreTold r t x → FitFrom t.source x → read_inputs x ≡ Ok i → IsRefusedBy i f → (s ≡ status.Refused) ⊎ (s ≡ status.ReadFault) ⊎ Fails err s
-  not_judged_of t x i f (reported report ends) told fits reads refused = absurd (not_answered r t x i f told reads refused ends.0 ends.1 ends.2 ends.3 ends.4.0 ends.4.2.answers_are)
-  not_judged_of t x i f (said Words lined ends status_is line) told fits reads refused = let none = ends.0 in let some = told.task in cc
-  not_judged_of t x i f (said (TooLarge p) lined ends status_is line) told fits reads refused = inl status_is
-  not_judged_of t x i f (said (ReadFault p) lined ends status_is line) told fits reads refused = inr (inl status_is)
-  not_judged_of t x i f (said (Unread refusal) lined ends status_is line) told fits reads refused = inl status_is
-  not_judged_of t x i f (said (Judging refusal) lined ends status_is line) told fits reads refused = inl status_is
-  not_judged_of t x i f (said WriteFault lined ends status_is line) told fits reads refused = elim lined [ ]
-  not_judged_of t x i f (said NoMemory lined ends status_is line) told fits reads refused = elim lined [ ]
-  not_judged_of t x i f (cut stop ends fails) told fits reads refused = inr (inr fails)
-  not_judged_of t x i f (unwritten ends status_is) told fits reads refused = absurd (not_answered r t x i f told reads refused ends.0 ends.1 ends.2 ends.3 ends.4.0 ends.4.2.answers_are)
-  not_judged_of t x i f (spent status_is) told fits reads refused = inr (inr (inr status_is))
-
-  budget_of : IsOne r err s → s ≡ status.Budget → (t : Task) × (x : Texts) × (i : Inputs) × IsAccepted r t x i × IsOverBudget t.limits i
-  budget_of (reported report ends) is = (ends.0, ends.1, ends.2, ends.3, past_budget ends.0.limits ends.2 ends.4.0 ends.4.2.answers_are (sym ends.4.4 ∙ is))
-  budget_of (said Words lined ends status_is line) is = cc
-  budget_of (said (TooLarge part) lined ends status_is line) is = cc
-  budget_of (said (ReadFault part) lined ends status_is line) is = cc
-  budget_of (said (Unread refusal) lined ends status_is line) is = cc
-  budget_of (said (Judging refusal) lined ends status_is line) is = cc
-  budget_of (said WriteFault lined ends status_is line) is = elim lined [ ]
-  budget_of (said NoMemory lined ends status_is line) is = elim lined [ ]
+  budget_of : IsOne r err s → s ≡ status.Budget → (t : Task) × (said : List Said) × IsWhole r t said × ((x : Said) × Contains said x × IsOverBudget t.mode t.limits x.inputs)
+  budget_of (reported report ends) is = (ends.0, ends.1, ends.2, past_budget r ends.0 ends.1 ends.2 (sym ends.4 ∙ is))
+  budget_of (said_whole Words lined ends status_is line) is = cc
+  budget_of (said_whole (TooLarge part) lined ends status_is line) is = cc
+  budget_of (said_whole (ReadFault part) lined ends status_is line) is = cc
+  budget_of (said_whole (Unread refusal) lined ends status_is line) is = cc
+  budget_of (said_whole (Judging refusal) lined ends status_is line) is = cc
+  budget_of (said_whole WriteFault lined ends status_is line) is = elim lined [ ]
+  budget_of (said_whole NoMemory lined ends status_is line) is = elim lined [ ]
   budget_of (cut stop ends (inl fault)) is = let a = fault.0 in cc
   budget_of (cut stop ends (inr short)) is = cc
   budget_of (unwritten ends status_is) is = cc
   budget_of (spent status_is) is = cc
 
-  completes_of : (t : Task) (x : Texts) (i : Inputs) → IsOne r err s → AreTold r t x → FitFrom t.source x → read_inputs x ≡ Ok i → IsJudgeable i → ((part : Part) → FailedAt r t.source part → ⊥)
-      → (Rose r.out.faults r.out.faults' → ⊥) → (Rose err.faults err.faults' → ⊥) → Reports s ⊎ (s ≡ status.NoMemory)
-  completes_of t x i (reported report ends) told fits reads can loads out errors = inl report
-  completes_of t x i (said Words lined ends status_is line) told fits reads can loads out errors = let none = ends.0 in let some = told.task in cc
-  completes_of t x i (said (TooLarge p) lined ends status_is line) told fits reads can loads out errors = absurd (none_exceeds r t x told fits ends.0 ends.2.0 p ends.1 ends.2.1 ends.2.4)
-  completes_of t x i (said (ReadFault p) lined ends status_is line) told fits reads can loads out errors =
-      absurd (loads p (subst (λ (z : Source). FailedAt r z p) (sym ends.2.1 ∙ same_source r t x told ends.0 ends.1) ends.2.2))
-  completes_of t x i (said (Unread refusal) lined ends status_is line) told fits reads can loads out errors =
-      let unread : read_inputs x ≡ Err (Unread refusal) = subst (λ (y : Texts). read_inputs y ≡ Err (Unread refusal)) (same_texts r t x told ends.0 ends.2 ends.1 ends.3.1) ends.4 in cc
-  completes_of t x i (said (Judging f) lined ends status_is line) told fits reads can loads out errors =
-      absurd (refused_and_judged i f (subst (λ (j : Inputs). IsRefusedBy j f) (one_reading r t x i told reads ends.0 ends.1 ends.2 ends.3) ends.4.0) can)
-  completes_of t x i (said WriteFault lined ends status_is line) told fits reads can loads out errors = elim lined [ ]
-  completes_of t x i (said NoMemory lined ends status_is line) told fits reads can loads out errors = elim lined [ ]
-  completes_of t x i (cut stop ends (inl fault)) told fits reads can loads out errors = absurd (errors fault.1)
-  completes_of t x i (cut stop ends (inr short)) told fits reads can loads out errors = inr short
-  completes_of t x i (unwritten ends status_is) told fits reads can loads out errors = absurd (out ends.4.4)
-  completes_of t x i (spent status_is) told fits reads can loads out errors = inr status_is
+  completes_of : (t : Task) → command r.words ≡ Some t → AreWell r.told t → NothingFails r t err → IsOne r err s → Reports s ⊎ (s ≡ status.NoMemory)
+  completes_of t task well none (reported report ends) = inl report
+  completes_of t task well none (said_whole Words lined ends status_is line) = let no = ends.0 in cc
+  completes_of t task well none (said_whole (TooLarge p) lined ends status_is line) = absurd (not_too_large r t task well ends.0 ends.1 ends.2 ends.4 ends.3 (succeeded ends.3.name) ends.5 ends.7)
+  completes_of t task well none (said_whole (ReadFault p) lined ends status_is line) =
+      absurd (none.loads p (subst (λ (u : Task). FailedAt r u p) (one_task r t ends.0 task ends.4.task) (failed_at r ends.0 ends.1 ends.2 ends.3 p ends.4 ends.5 ends.6)))
+  completes_of t task well none (said_whole (Unread refusal) lined ends status_is line) = absurd (not_unread r t task well ends.0 ends.1 ends.2 ends.4 ends.3 (Unread refusal) ends.5.texts ends.6)
+  completes_of t task well none (said_whole (Judging f) lined ends status_is line) = absurd (not_refused r t task well ends.0 ends.1 ends.2 ends.5 ends.3 ends.4 f ends.6.texts ends.7 ends.8)
+  completes_of t task well none (said_whole WriteFault lined ends status_is line) = elim lined [ ]
+  completes_of t task well none (said_whole NoMemory lined ends status_is line) = elim lined [ ]
+  completes_of t task well none (cut stop ends (inl fault)) = absurd (none.errors fault.1)
+  completes_of t task well none (cut stop ends (inr short)) = inr short
+  completes_of t task well none (unwritten ends status_is) = absurd (none.out ends.4)
+  completes_of t task well none (spent status_is) = inr status_is
 
   -- within all budgets a report is not cut short
-  decided : (t : Task) (x : Texts) (i : Inputs) → IsOne r err s → AreTold r t x → read_inputs x ≡ Ok i → (IsOverBudget t.limits i → ⊥) → Reports s ⊎ (s ≡ status.NoMemory) → (s ≡ status.Complete) ⊎ (s ≡ status.Unused) ⊎ (s ≡ status.NoMemory)
-  decided t x i one told reads enough (inl (inl complete)) = inl complete
-  decided t x i one told reads enough (inl (inr (inl some))) = inr (inl some)
-  decided t x i one told reads enough (inl (inr (inr budget))) =
-      let past = budget_of one budget in
-      let limits = ap (λ (u : Task). u.limits) (one_task r t past.0 told.task past.3.task) in
-      absurd (enough (subst (λ (l : Limits). IsOverBudget l i) limits (subst (λ (j : Inputs). IsOverBudget past.0.limits j) (one_reading r t x i told reads past.0 past.1 past.2 past.3) past.4)))
-  decided t x i one told reads enough (inr memory) = inr (inr memory)
+  decided : (t : Task) → command r.words ≡ Some t → (well : AreWell r.told t) → ((v : Visit) (there : Contains (visits t.source) v) → ¬ IsOverBudget t.mode t.limits (well v there).inputs)
+      → IsOne r err s → Reports s ⊎ (s ≡ status.NoMemory) → (s ≡ status.Complete) ⊎ (s ≡ status.Unused) ⊎ (s ≡ status.NoMemory)
+  decided t task well enough one' (inl (inl complete)) = inl complete
+  decided t task well enough one' (inl (inr (inl some))) = inr (inl some)
+  decided t task well enough one' (inl (inr (inr budget))) =
+      let past = budget_of one' budget in
+      absurd (within_all r t task well enough past.0 past.1 past.2 past.3.0 past.3.1 past.3.2)
+  decided t task well enough one' (inr memory) = inr (inr memory)
 
   -- all of them
   pub causes_of : IsEnded r err s → Causes r err s
   causes_of ended =
-      let one = one_end r err s ended.0 ended.1 ended.2 in
+      let one' = one_end r err s ended.0 ended.1 ended.2 in
       record {
-        words = words_of one;
-        no_task = no_task_of one;
-        refused = refused_of one;
-        not_read = λ t x stop. not_read_of t x stop one;
-        not_judged = λ t x i f. not_judged_of t x i f one;
-        too_large = λ t x. too_large_of t x one;
-        read_fault = read_fault_of one;
-        failed_load = λ source part. failed_load_of source part one;
-        write_fault = write_fault_of one;
-        budget = budget_of one;
-        completes = λ t x i. completes_of t x i one;
-        decides = λ t x i told fits reads can enough loads out errors. decided t x i one told reads enough (completes_of t x i one told fits reads can loads out errors);
+        words = words_of one';
+        no_task = no_task_of one';
+        refused = refused_of one';
+        too_large = too_large_of one';
+        not_read = λ t v x stop has fits unread. not_read_of one' t v x stop has unread;
+        not_judged = λ t v x i f has fits read refused. not_judged_of one' t v x i f has read refused;
+        read_fault = read_fault_of one';
+        failed_load = λ t part task at. failed_load_of t part one' at;
+        write_fault = write_fault_of one';
+        budget = budget_of one';
+        completes = λ t task well none. completes_of t task well none one';
+        decides = λ t task well enough none. decided t task well enough one' (completes_of t task well none one');
       }

@@ -1,7 +1,17 @@
-pub mod AnsweringLemmas
+pub mod StopLemmas
+pub mod RightLemmas
+pub mod DeadLemmas
+pub mod BudgetLemmas
 pub mod CauseLemmas
-pub mod GivenLemmas
 pub mod LoadingLemmas
 pub mod ReadingLemmas
-pub mod StopLemmas
+pub mod GivenLemmas
+pub mod SayingLemmas
+pub mod VerdictLemmas
 pub mod TaskLemmas
+pub mod RunLemmas
+pub mod SheetLemmas
+pub mod SiteLemmas
+pub mod BestLemmas
+pub mod WritingLemmas
+mod Rows

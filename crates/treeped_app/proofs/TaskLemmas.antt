@@ -1,20 +1,46 @@
 -- From an order to a task.
-use Rattle.std.proofs.Common.{◌≡◌, ℕ, List, Option, Some, None, option_map, option_and_then, Err, refl, sym, ap, ◌∙◌, inl}
-use Rattle.limits.specs.declared.budgets.Limits.{Limits}
+use Rattle.std.proofs.Common.{◌≡◌, ◌≤◌, ◌+◌, ◌*◌, ◌-◌, suc, [], ◌∷◌, length, take, drop, get_or, arith, ℕ, List, Some, None, option_map, option_and_then, Err, refl, ap, ◌∙◌, inl}
+use Rattle.std.proofs.Math.Seq.{take-length}
 use Rattle.command_words.specs.declared.words.Order.{Order}
 use Rattle.command_words.specs.declared.words.WordsFault.{WordsFault}
 use Rattle.command_words.specs.declared.words.WordsFault.TheVariants as words
 use Rattle.command_words.specs.Orders.{order_of}
-use Rattle.treeped_app.specs.Tasks.{Source, Task, task_by, source_by, task_of, command}
+use Rattle.command_words.specs.declared.words.TheConstants.{MOST_PAGES}
+use Rattle.treeped_app.specs.Tasks.{paired, Source, task_by, source_by, task_of, command}
 use Rattle.treeped_app.specs.Stops.{words_stop}
 use Rattle.treeped_app.specs.Runs.{Run, Ends}
 
-pub task_ordered : (ws : List (List ℕ)) (o : Order) (source : Source) → order_of ws ≡ Some o → source_by o.files o.size ≡ Some source → command ws ≡ Some (task_by source o.limits)
-task_ordered ws o source is from = ap (option_and_then task_of) is ∙ ap (option_map (λ s. task_by s o.limits)) from
+pub task_ordered : (ws : List (List ℕ)) (o : Order) (source : Source) → order_of ws ≡ Some o → source_by o.mode o.names o.size ≡ Some source → command ws ≡ Some (task_by source o.mode o.limits)
+task_ordered ws o source is from = ap (option_and_then task_of) is ∙ ap (option_map (λ s. task_by s o.mode o.limits)) from
 
-pub no_source : (ws : List (List ℕ)) (o : Order) → order_of ws ≡ Some o → source_by o.files o.size ≡ None → command ws ≡ None
-no_source ws o is from = ap (option_and_then task_of) is ∙ ap (option_map (λ s. task_by s o.limits)) from
+pub no_source : (ws : List (List ℕ)) (o : Order) → order_of ws ≡ Some o → source_by o.mode o.names o.size ≡ None → command ws ≡ None
+no_source ws o is from = ap (option_and_then task_of) is ∙ ap (option_map (λ s. task_by s o.mode o.limits)) from
 
 pub no_order : (r : Run) (e : WordsFault) → r.loads' ≡ r.loads → r.out.held' ≡ r.out.held → (e ≡ words.Words → order_of r.words ≡ None) → Ends r (Err (words_stop e))
 no_order r words.Words loads held none = (ap (option_and_then task_of) (none refl), loads, held)
 no_order r words.Memory loads held none = inl (loads, held)
+
+-- ---- pages and their scripts
+
+pairs_few : (names : List (List ℕ)) → 2 * length (paired names) ≤ length names
+pairs_few [] = omega arith
+pairs_few (page ∷ []) = omega arith
+pairs_few (page ∷ script ∷ names) = let few = pairs_few names in omega (arith, few)
+
+pub site_few : (names : List (List ℕ)) → 3 ≤ length names → length names ≤ 2 * MOST_PAGES + 1 → suc (length (paired (take (length names - 3) (drop 3 names)))) ≤ MOST_PAGES
+site_few [] least most = absurd (omega (arith, least))
+site_few (a ∷ []) least most = absurd (omega (arith, least))
+site_few (a ∷ b ∷ []) least most = absurd (omega (arith, least))
+site_few (a ∷ b ∷ c ∷ names) least most =
+    let same : length (a ∷ b ∷ c ∷ names) - 3 ≡ length names = omega arith in
+    let few = pairs_few names in
+    let all = ap (λ n. length (paired (take n names))) same ∙ ap (λ z. length (paired z)) (take-length names) in
+    omega (arith, few, all, most)
+
+-- the first two names, and the others
+pub next_pair : (names : List (List ℕ)) (page script : List ℕ) → 2 ≤ length names → page ≡ get_or names 0 page → script ≡ get_or names 1 script → paired names ≡ (page, script) ∷ paired (take (length names - 2) (drop 2 names))
+next_pair [] page script least first second = absurd (omega (arith, least))
+next_pair (a ∷ []) page script least first second = absurd (omega (arith, least))
+next_pair (a ∷ b ∷ names) page script least first second =
+    let same : length (a ∷ b ∷ names) - 2 ≡ length names = omega arith in
+    rw (first, second, same, take-length names) refl

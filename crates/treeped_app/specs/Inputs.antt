@@ -1,29 +1,82 @@
--- How the definitions see the three files.
-use Rattle.std.specs.Prelude.{◌≡◌, ℕ, List, length, Result, Ok, Err, Vec}
+-- What loading, reading and judging come to, part by part.
+--     OneLoaded ..       what loading one file comes to
+--     AllLoaded ..       what loading several comes to, up to the first that is refused
+--     IsRead ..          what reading the texts of a page comes to
+--     IsSaying ..        what reading and judging them comes to
+--     Written ..         what reading, judging and writing come to on one page
+use Rattle.std.specs.Prelude.{◌≡◌, ◌⊎◌, ℕ, ◌≤◌, List, [], ◌∷◌, ◌++◌, length, All, Option, None, Result, Ok, Err, Vec}
 use Rattle.std.specs.declared.alloc.Global.{Global}
 use Rattle.tp_base.specs.Names.{Named}
-use Rattle.css_read.specs.Views.{sheet_of}
-use Rattle.jq_sem.specs.Views.{statements_of}
+use Rattle.tp_io.specs.Files.{Load}
+use Rattle.tp_io.specs.Sinks.{Adds, AddsPrefix, Rose}
+use Rattle.tp_base.specs.declared.places.TheConstants.{MOST_BYTES}
+use Rattle.limits.specs.declared.budgets.Limits.{Limits}
+use Rattle.command_words.specs.declared.words.Mode.{Mode}
 use Rattle.judge.specs.Outcomes.{AreGiven}
+use Rattle.treeped_app.specs.declared.refusals.Part.{Part}
+use Rattle.treeped_app.specs.declared.status.Status.{Status}
 use Rattle.treeped_app.specs.declared.stops.Stop.{Stop}
-use Rattle.treeped_app.specs.declared.stops.Stop.TheVariants.{Unread, Judging, NoMemory}
-use Rattle.treeped_app.specs.declared.inputs.Texts.{Texts}
-use Rattle.treeped_app.specs.declared.inputs.Inputs.{Inputs}
-use Rattle.treeped_app.specs.Runs as runs
+use Rattle.treeped_app.specs.declared.stops.Stop.TheVariants.{TooLarge, ReadFault, Unread, Judging, WriteFault, NoMemory}
+use Rattle.treeped_app.specs.declared.reading.Inputs.{Inputs}
+use Rattle.treeped_app.specs.declared.saying.Said.{Said}
+use Rattle.treeped_app.specs.Modes as modes
+use Rattle.treeped_app.specs.Tasks.{Wanted, succeeded, failed, loads_of}
+use Rattle.treeped_app.specs.Runs.{Put, Told, Holds, Fits, Exceeds, IsRefusedBy, read_inputs}
+use Rattle.treeped_app.specs.Views.{inputs_of, said_of}
 
-abbrev pub texts_of : Texts → runs.Texts
-texts_of x = record { page = x.page.items; sheet = x.sheet.items; script = x.script.items }
-
-abbrev pub inputs_of : Inputs → runs.Inputs
-inputs_of i = record { tree = i.page; sheet = sheet_of i.sheet; stmts = statements_of i.stmts.items; names = i.atoms }
+-- ---- loading
 
 abbrev pub loaded_text : Result (Vec ℕ Global) Stop → Result (List ℕ) Stop
 loaded_text (Ok v) = Ok v.items
 loaded_text (Err e) = Err e
 
-abbrev pub loaded_texts : Result Texts Stop → Result runs.Texts Stop
-loaded_texts (Ok x) = Ok (texts_of x)
-loaded_texts (Err e) = Err e
+abbrev pub loaded_two : Result (Vec ℕ Global × Vec ℕ Global) Stop → Result (List (List ℕ)) Stop
+loaded_two (Ok x) = Ok (x.0.items ∷ x.1.items ∷ [])
+loaded_two (Err e) = Err e
+
+abbrev pub loaded_three : Result (Vec ℕ Global × Vec ℕ Global × Vec ℕ Global) Stop → Result (List (List ℕ)) Stop
+loaded_three (Ok x) = Ok (x.0.items ∷ x.1.items ∷ x.2.items ∷ [])
+loaded_three (Err e) = Err e
+
+-- What loading one file comes to, with the list of loads before and after.
+abbrev pub OneLoaded : Told → List ℕ → Part → List Load → List Load → Result (List ℕ) Stop → Type 0
+OneLoaded told name p before after (Ok text) = (after ≡ before ++ succeeded name ∷ []) × Holds told name text × (length text ≤ MOST_BYTES)
+OneLoaded told name p before after (Err (TooLarge q)) = (q ≡ p) × (after ≡ before ++ succeeded name ∷ []) × Exceeds told name
+OneLoaded told name p before after (Err (ReadFault q)) = (q ≡ p) × (after ≡ before ++ failed name ∷ [])
+OneLoaded told name p before after (Err NoMemory) = after ≡ before
+OneLoaded told name p before after (Err e) = ⊥
+
+-- each file holds its text, which is within the limit on bytes
+abbrev pub AreHeldBy : Told → List Wanted → List (List ℕ) → Type 0
+AreHeldBy told [] [] = Unit {0}
+AreHeldBy told (w ∷ ws) (x ∷ xs) = Holds told w.name x × (length x ≤ MOST_BYTES) × AreHeldBy told ws xs
+AreHeldBy told [] (x ∷ xs) = ⊥
+AreHeldBy told (w ∷ ws) [] = ⊥
+
+-- The load of this file was the last; those before it were within the limit on bytes.
+pub record IsLastOf (told : Told) (ws : List Wanted) (w : Wanted) (start end : List Load) (last : Load) : Type 0 where
+  pub before : List Wanted
+  pub after : List Wanted
+  pub order : ws ≡ before ++ w ∷ after
+  pub loads : end ≡ start ++ loads_of before ++ last ∷ []
+  pub fit : All (λ (b : Wanted). Fits told b.name) before
+
+-- some of the loads, from the first on
+pub record AreSome (ws : List Wanted) (start end : List Load) : Type 0 where
+  pub front : List Load
+  pub behind : List Load
+  pub order : loads_of ws ≡ front ++ behind
+  pub loads : end ≡ start ++ front
+
+-- What loading files one after another comes to.
+abbrev pub AllLoaded : Told → List Wanted → List Load → List Load → Result (List (List ℕ)) Stop → Type 0
+AllLoaded told ws start end (Ok xs) = (end ≡ start ++ loads_of ws) × AreHeldBy told ws xs
+AllLoaded told ws start end (Err (TooLarge p)) = (w : Wanted) × (w.part ≡ p) × IsLastOf told ws w start end (succeeded w.name) × Exceeds told w.name
+AllLoaded told ws start end (Err (ReadFault p)) = (w : Wanted) × (w.part ≡ p) × IsLastOf told ws w start end (failed w.name)
+AllLoaded told ws start end (Err NoMemory) = AreSome ws start end
+AllLoaded told ws start end (Err e) = ⊥
+
+-- ---- reading
 
 -- what was read of one text, seen by the view, and the names then, or why the run stops at it, unless memory ran out
 abbrev pub IsOpened : {X Y : Type 0} → (X → Y) → Result (Y × List Named) Stop → Result X Stop → List Named → Type 0
@@ -33,18 +86,49 @@ IsOpened view read (Err NoMemory) names = Unit {0}
 IsOpened view read (Err e) names = ⊥
 
 -- what was read of all three, or why the run stops, unless memory ran out
-abbrev pub IsRead : Result runs.Inputs Stop → Result Inputs Stop → Type 0
+abbrev pub IsRead : Result modes.Inputs Stop → Result Inputs Stop → Type 0
 IsRead read (Ok i) = read ≡ Ok (inputs_of i)
 IsRead read (Err (Unread refusal)) = read ≡ Err (Unread refusal)
 IsRead read (Err NoMemory) = Unit {0}
 IsRead read (Err e) = ⊥
 
+-- ---- judging
+
 -- what was read may be judged: its atoms are of the table, and its statements are few enough
-abbrev pub AreInputs : runs.Inputs → Type 0
-AreInputs i = AreGiven i.stmts i.sheet.items (length i.names) i.tree
+abbrev pub AreInputs : modes.Inputs → Type 0
+AreInputs i = AreGiven i.stmts i.sheet.items [] (length i.names) i.tree
 
 -- why there are no answers; memory may want at any time
-abbrev pub IsUnanswered : runs.Inputs → Stop → Type 0
-IsUnanswered i (Judging f) = runs.IsRefusedBy i f
-IsUnanswered i NoMemory = Unit {0}
-IsUnanswered i e = ⊥
+abbrev pub IsUnanswered : Mode → modes.Inputs → Stop → Type 0
+IsUnanswered m i (Judging f) = IsRefusedBy m i f
+IsUnanswered m i NoMemory = Unit {0}
+IsUnanswered m i e = ⊥
+
+-- what is said of texts that were read
+pub record IsSaidOf (m : Mode) (limits : Limits) (page : Option ℕ) (s : modes.Said) : Type 0 where
+  pub read : read_inputs page s.texts ≡ Ok s.inputs
+  pub answers : modes.AreAnswersOf m limits s.inputs s.items s.others
+  pub traces : modes.HasTraces m s
+
+-- the same, or why there is nothing to say of them
+abbrev pub IsSaying : Mode → Limits → Option ℕ → modes.Texts → Result Said Stop → Type 0
+IsSaying m limits page x (Ok s) = IsSaidOf m limits page (said_of x s)
+IsSaying m limits page x (Err (Unread refusal)) = read_inputs page x ≡ Err (Unread refusal)
+IsSaying m limits page x (Err (Judging f)) = (i : modes.Inputs) × (read_inputs page x ≡ Ok i) × IsRefusedBy m i f
+IsSaying m limits page x (Err NoMemory) = Unit {0}
+IsSaying m limits page x (Err e) = ⊥
+
+-- ---- writing
+
+-- what is said can be written: it is right, within some limits
+abbrev pub IsWritable : Mode → modes.Said → Type 0
+IsWritable m s = (limits : Limits) × modes.AreAnswersOf m limits s.inputs s.items s.others × modes.HasTraces m s
+
+-- What reading, judging and writing come to, where this text is written of what is said.
+abbrev pub Written : Mode → Limits → modes.Texts → (modes.Said → List ℕ) → Put → Result Status Stop → Type 0
+Written m limits x text out (Ok s) = (said : modes.Said) × (said.texts ≡ x) × IsSaidOf m limits None said × Adds out.held out.held' (text said) × (s ≡ modes.status_on m said)
+Written m limits x text out (Err WriteFault) = (said : modes.Said) × (said.texts ≡ x) × IsSaidOf m limits None said × AddsPrefix out.held out.held' (text said) × Rose out.faults out.faults'
+Written m limits x text out (Err (Unread refusal)) = (read_inputs None x ≡ Err (Unread refusal)) × (out.held' ≡ out.held)
+Written m limits x text out (Err (Judging f)) = (i : modes.Inputs) × (read_inputs None x ≡ Ok i) × IsRefusedBy m i f × (out.held' ≡ out.held)
+Written m limits x text out (Err NoMemory) = (out.held' ≡ out.held) ⊎ ((said : modes.Said) × (said.texts ≡ x) × IsSaidOf m limits None said × AddsPrefix out.held out.held' (text said))
+Written m limits x text out (Err e) = ⊥

@@ -1,9 +1,12 @@
 pub mod Answers
 pub mod Commands
 pub mod Inputs
+pub mod Modes
 pub mod Refusals
 pub mod Runs
+pub mod Sites
 pub mod Stops
 pub mod Summary
 pub mod Tasks
+pub mod Verdicts
 pub mod Views

@@ -1,12 +1,35 @@
 -- How the definitions see what the program holds.
-use Rattle.treeped_app.specs.declared.sources.Names.{Names}
-use Rattle.treeped_app.specs.declared.sources.Source.{Source}
-use Rattle.treeped_app.specs.declared.sources.Source.TheVariants.{Files, Ring}
+use Rattle.std.specs.Prelude.{◌∷◌, map, option_map}
+use Rattle.usage_report.specs.Views.{answer_of, trace_of}
+use Rattle.css_read.specs.Views.{sheet_of}
+use Rattle.jq_sem.specs.Views.{statements_of}
+use Rattle.treeped_app.specs.declared.tasks.Names.{Names}
+use Rattle.treeped_app.specs.declared.tasks.Source.{Source}
+use Rattle.treeped_app.specs.declared.tasks.Source.TheVariants.{One, Several, Ring}
+use Rattle.treeped_app.specs.declared.loading.Wanted.{Wanted}
+use Rattle.treeped_app.specs.declared.reading.Texts.{Texts}
+use Rattle.treeped_app.specs.declared.reading.Inputs.{Inputs}
+use Rattle.treeped_app.specs.declared.saying.Said.{Said}
+use Rattle.treeped_app.specs.Modes as modes
 use Rattle.treeped_app.specs.Tasks as tasks
 
 abbrev pub names_of : Names → tasks.Names
 names_of n = record { page = n.page.now; sheet = n.sheet.now; script = n.script.now }
 
 abbrev pub source_of : Source → tasks.Source
-source_of (Files n) = tasks.files (names_of n)
-source_of (Ring n) = tasks.ring n
+source_of (One n) = tasks.one (names_of n)
+source_of (Several n later) = tasks.several n.sheet.now ((n.page.now, n.script.now) ∷ tasks.paired later.now)
+source_of (Ring k) = tasks.ring k
+
+abbrev pub wanted_of : Wanted → tasks.Wanted
+wanted_of w = record { part = w.part; name = w.name.now }
+
+abbrev pub texts_of : Texts → modes.Texts
+texts_of x = record { page = x.page.now; sheet = x.sheet.now; script = x.script.now }
+
+abbrev pub inputs_of : Inputs → modes.Inputs
+inputs_of i = record { tree = i.page; sheet = sheet_of i.sheet; stmts = statements_of i.stmts.items; names = i.atoms }
+
+-- with the texts of which it is said
+abbrev pub said_of : modes.Texts → Said → modes.Said
+said_of x s = record { texts = x; inputs = inputs_of s.inputs; items = map answer_of s.items.items; others = map answer_of s.others.items; traces = map (option_map trace_of) s.traces.items }

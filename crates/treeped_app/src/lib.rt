@@ -1,14 +1,20 @@
-//! The command `treeped`: from its words and three files to a report.
+//! The command `treeped`: from its words and files to a report.
 #![tactic(auto)]
 
-mod answering;
-mod inputs;
+mod best;
+mod loading;
+mod pages;
+mod reading;
 mod refusals;
 mod runs;
-mod sources;
+mod saying;
+mod sites;
 mod status;
+mod statuses;
 mod stops;
 mod summaries;
+mod tasks;
+mod writing;
 
 pub use refusals::{Fault, JudgeRefusal, Part, Refusal};
 pub use runs::treeped;

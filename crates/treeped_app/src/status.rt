@@ -5,9 +5,9 @@ ghost use Rattle.treeped_app.specs.Stops as spec;
 /// How a run ended.
 #[derive(Clone, Copy, Debug, PartialEq, Eq)]
 pub enum Status {
-    /// The report is written, and each line is `used` or `skipped`.
+    /// The report is written; each selector is `used` or `skipped`, and each statement `live`.
     Complete,
-    /// The report is written, a line is `unused`, and none is `used-unshown` or `spent`.
+    /// The report is written; a selector is `unused` or a statement dead, and none is `used-unshown`, `live-unshown` or `spent`.
     Unused,
     /// The words aren't of the grammar.
     Words,
@@ -19,7 +19,7 @@ pub enum Status {
     WriteFault,
     /// No memory was to be had.
     NoMemory,
-    /// The report is written, and a line is `used-unshown` or `spent`.
+    /// The report is written; a selector or a statement is `used-unshown`, `live-unshown` or `spent`.
     Budget,
 }
 

@@ -1,6 +1,6 @@
 use Rattle.std.proofs.Common.{Some, None, refl, ◌∙◌}
 use Rattle.limits.specs.Budgets.{standard}
-use Rattle.command_words.specs.Parts.{pairs, nodes, entries, list}
+use Rattle.command_words.specs.Parts.{plain, pairs, nodes, entries, list}
 use Rattle.command_words.proofs.ReadLemmas.{limits_from, value_got, value_by}
 use Rattle.command_words.proofs.matched.limits_of.Goals as goal
 
@@ -36,4 +36,4 @@ returns c = λ ps says.
     let b = value_got ps c.args.matches.now says nodes standard.nodes c.value_or-2.result (Some c.in_ok-nodes.nodes) (c.value_or-2.ensures ∙ rw c.standard-usual.ensures.standard refl) c.in_ok-nodes.was in
     let d = value_got ps c.args.matches.now says entries standard.entries c.value_or-3.result (Some c.in_ok-entries.entries) (c.value_or-3.ensures ∙ rw c.standard-usual.ensures.standard refl) c.in_ok-entries.was in
     let e = value_got ps c.args.matches.now says list standard.list c.value_or-4.result (Some c.in_ok-list.list) (c.value_or-4.ensures ∙ rw c.standard-usual.ensures.standard refl) c.in_ok-list.was in
-    rw (c.is_plain.ensures ps says) (limits_from ps (Some c.in_ok-pairs.pairs) (Some c.in_ok-nodes.nodes) (Some c.in_ok-entries.entries) (Some c.in_ok-list.list) a b d e)
+    rw (c.says.ensures ps plain says refl) (limits_from ps (Some c.in_ok-pairs.pairs) (Some c.in_ok-nodes.nodes) (Some c.in_ok-entries.entries) (Some c.in_ok-list.list) a b d e)

@@ -1,0 +1,216 @@
+-- A status past a budget comes of an answer that is left open, and that of a budget that doesn't suffice.
+use Rattle.std.proofs.Common.{◌≡◌, ◌⊎◌, ℕ, zero, suc, ◌+◌, ◌<◌, ◌||◌, nat_lt, Bool, true, false, List, [], ◌∷◌, ◌++◌, length, map, take, drop, get_or, Contains, refl, sym, ap, ◌∙◌, inl, inr, subst, arith, length-append}
+use Rattle.std.specs.List.{list_any}
+use Rattle.std.proofs.lemmas.Bool.{true≢false, cases_Bool}
+use Rattle.std.proofs.lemmas.List.{map-append, length-map}
+use Rattle.std.proofs.lemmas.List.Elements.{Contains-append_left, Contains-append_right}
+use Rattle.tp_base.proofs.Rising.{Contains-here, Contains-behind, Contains-cons, Contains-none}
+use Rattle.tree_sem.specs.Trees.{LabelTree}
+use Rattle.tree_sem.proofs.NodeLemmas.{Contains-map, map-Contains}
+use Rattle.sel_core.specs.Selectors.{Selector}
+use Rattle.sel_core.specs.declared.faults.Skip.{Skip}
+use Rattle.css_read.specs.Sheets.{Outcome, judged, skipped as left_out, Item}
+use Rattle.jq_sem.specs.Statements.{Statement}
+use Rattle.guard_sem.specs.Guards.{Guard}
+use Rattle.usage_report.specs.Answers.{Answer, used, used_unshown, unused, skipped, spent}
+use Rattle.limits.specs.declared.budgets.Limits.{Limits}
+use Rattle.judge.specs.Answers.{judged_of, judged_in}
+use Rattle.judge.specs.Goals.{Goal, matching, selecting}
+use Rattle.command_words.specs.declared.words.Mode.{Mode}
+use Rattle.command_words.specs.declared.words.Mode.TheVariants.{Report, Dead, Runs, Site}
+use Rattle.dead_script.specs.Probes.{probes, all_probes}
+use Rattle.dead_script.specs.Verdicts as dead
+use Rattle.dead_script.proofs.ProbeLemmas.{probes_counted}
+use Rattle.site_judge.specs.Sites as sites
+use Rattle.treeped_app.specs.declared.status.Status.TheVariants as status
+use Rattle.treeped_app.specs.Answers.{IsRight, IsRightFor, AreRight, AreRightFor, IsPastBudget}
+use Rattle.treeped_app.specs.Modes.{Said, goals_in, guards_in, AreAnswersOf, IsOverBudget, is_open, site_on, best_in, lines_in, verdicts_in, status_by, status_of}
+use Rattle.treeped_app.specs.Tasks.{Task}
+
+budget_open : (a b : Bool) → status_by a b ≡ status.Budget → a ≡ true
+budget_open true b is = refl
+budget_open false true is = cc
+budget_open false false is = cc
+
+one_of : (a b : Bool) → (a || b) ≡ true → (a ≡ true) ⊎ (b ≡ true)
+one_of true b is = inl refl
+one_of false b is = inr is
+
+-- a list has what some of it is
+found : {X : Type 0} (test : X → Bool) (xs : List X) → list_any test xs ≡ true → (x : X) × Contains xs x × (test x ≡ true)
+found test [] is = absurd (true≢false (sym is))
+found test (x ∷ xs) is = elim (one_of (test x) (list_any test xs) is) [
+  | inl here ↦ (x, Contains-here x x xs refl, here)
+  | inr behind ↦ let rest = found test xs behind in (rest.0, Contains-behind rest.0 x xs rest.1, rest.2)
+]
+
+-- ---- what is left open is past a budget
+
+module _ (t : LabelTree) (ss : List Statement) (guards : List Guard) (n : ℕ) (limits : Limits) (goals : List Goal) where
+  abbrev IsPast : Type 0
+  IsPast = IsPastBudget t ss guards n limits goals
+
+  goal_open : (g : Goal) (a : Answer) → Contains goals g → IsRightFor t ss guards n limits g a → is_open a ≡ true → IsPast
+  goal_open g (used proof steps shown) there right is = absurd (true≢false (sym is))
+  goal_open g used_unshown there right is = inr (g, there, right)
+  goal_open g unused there right is = absurd (true≢false (sym is))
+  goal_open g (skipped cause at) there right is = absurd right
+  goal_open g spent there right is = inl right
+
+  item_open : (o : Outcome) (a : Answer) → ((s : Selector) → Contains (judged_of o) s → Contains goals (matching s)) → IsRight t ss guards n limits o a → is_open a ≡ true → IsPast
+  item_open (judged s) a among right is = goal_open (matching s) a (among s (Contains-here s s [] refl)) right is
+  item_open (left_out cause at) a among right is = absurd (true≢false (sym is ∙ ap is_open right))
+
+  items_open : (items : List Item) (answers : List Answer) → ((s : Selector) → Contains (judged_in items) s → Contains goals (matching s)) → AreRight t ss guards n limits items answers
+      → (a : Answer) → Contains answers a → is_open a ≡ true → IsPast
+  items_open [] [] among right a there is = absurd (Contains-none a there)
+  items_open [] (b ∷ answers) among right a there is = absurd right
+  items_open (i ∷ items) [] among right a there is = absurd right
+  items_open (i ∷ items) (b ∷ answers) among right a there is = elim ((Contains-cons a b answers).0 there) [
+    | inl same ↦ item_open i.outcome a (λ s mine. among s (Contains-append_left (judged_of i.outcome) (judged_in items) s mine)) (subst (λ (z : Answer). IsRight t ss guards n limits i.outcome z) (sym same) right.0) is
+    | inr behind ↦ items_open items answers (λ s mine. among s (Contains-append_right (judged_of i.outcome) (judged_in items) s mine)) right.1 a behind is
+  ]
+
+  -- the answer at a place is right for the goal there
+  right_at : (gs : List Goal) (answers : List Answer) (i : ℕ) → AreRightFor t ss guards n limits gs answers → i < length gs → (g : Goal) × Contains gs g × IsRightFor t ss guards n limits g (get_or answers i spent)
+  right_at [] answers i right less = absurd (omega (arith, less))
+  right_at (g ∷ gs) [] i right less = absurd right
+  right_at (g ∷ gs) (a ∷ answers) zero right less = (g, Contains-here g g gs refl, right.0)
+  right_at (g ∷ gs) (a ∷ answers) (suc i) right less = let rest = right_at gs answers i right.1 (omega (arith, less)) in (rest.0, Contains-behind rest.0 g gs rest.1, rest.2)
+
+  right_behind : (front gs : List Goal) (answers : List Answer) → AreRightFor t ss guards n limits (front ++ gs) answers → AreRightFor t ss guards n limits gs (drop (length front) answers)
+  right_behind [] gs answers right = right
+  right_behind (g ∷ front) gs [] right = absurd right
+  right_behind (g ∷ front) gs (a ∷ answers) right = right_behind front gs answers right.1
+
+  -- a dead statement is not open, so that an open verdict is by its own answer
+  never_open : (k : ℕ) (answers : List Answer) → dead.is_open (dead.dead_behind k answers) ≡ false
+  never_open k [] = refl
+  never_open k (a ∷ later) = here a (never_open (k + 1) later)
+    where
+      here : (a : Answer) → dead.is_open (dead.dead_behind (k + 1) later) ≡ false → dead.is_open (dead.dead_here k a (dead.dead_behind (k + 1) later)) ≡ false
+      here (used proof steps shown) is = is
+      here used_unshown is = is
+      here unused is = refl
+      here (skipped cause at) is = is
+      here spent is = is
+
+  own_open : (a : Answer) (v : dead.Verdict) → dead.is_open v ≡ false → dead.is_open (dead.verdict_by a v) ≡ true → (is_open a ≡ true) ⊎ ((c : Skip) × (at : ℕ) × (a ≡ skipped c at))
+  own_open (used proof steps shown) v none is = absurd (true≢false (sym is))
+  own_open used_unshown v none is = inl refl
+  own_open unused v none is = absurd (true≢false (sym is ∙ none))
+  own_open (skipped cause at) v none is = inr (cause, at, refl)
+  own_open spent v none is = inl refl
+
+  verdicts_open : (stmts : List Statement) (answers : List Answer) → ((g : Goal) → Contains (map selecting (all_probes stmts)) g → Contains goals g) → AreRightFor t ss guards n limits (map selecting (all_probes stmts)) answers
+      → list_any dead.is_open (dead.verdicts stmts answers) ≡ true → IsPast
+  verdicts_open [] answers among right is = absurd (true≢false (sym is))
+  verdicts_open (s ∷ stmts) answers among right is =
+      let own = map selecting (probes s) in
+      let others = map selecting (all_probes stmts) in
+      let parts : map selecting (all_probes (s ∷ stmts)) ≡ own ++ others = map-append selecting (probes s) (all_probes stmts) in
+      let many : length own ≡ length s.handlers + 1 = length-map {B = Goal} (probes s) selecting ∙ probes_counted s in
+      let right' = subst (λ (z : List Goal). AreRightFor t ss guards n limits z answers) parts right in
+      let among' : (g : Goal) → Contains (own ++ others) g → Contains goals g = λ g there. among g (subst (λ (z : List Goal). Contains z g) (sym parts) there) in
+      elim (one_of (dead.is_open (dead.verdict_of (length s.handlers) answers)) (list_any dead.is_open (dead.verdicts stmts (drop (length s.handlers + 1) answers))) is) [
+        | inl here ↦
+            let at = right_at (own ++ others) answers (length s.handlers) right' (omega (arith, many, length-append own others)) in
+            elim (own_open (get_or answers (length s.handlers) spent) (dead.dead_behind 0 (take (length s.handlers) answers)) (never_open 0 (take (length s.handlers) answers)) here) [
+              | inl open' ↦ goal_open at.0 (get_or answers (length s.handlers) spent) (among' at.0 at.1) at.2 open'
+              | inr (c, p, same) ↦ absurd (subst (λ (z : Answer). IsRightFor t ss guards n limits at.0 z) same at.2)
+            ]
+        | inr behind ↦
+            let left = right_behind own others answers right' in
+            verdicts_open stmts (drop (length s.handlers + 1) answers) (λ g there. among' g (Contains-append_right own others g there))
+            (subst (λ k. AreRightFor t ss guards n limits others (drop k answers)) many left) behind
+      ]
+
+-- ---- the best answers of a site are answers of its pages
+
+module _ (P : Answer → Type 0) where
+  better_has : (cs bs : List sites.Best) → ((c : sites.Best) → Contains cs c → P c.answer) → ((b : sites.Best) → Contains bs b → P b.answer) → (d : sites.Best) → Contains (sites.all_better cs bs) d → P d.answer
+  better_has [] bs first second d there = absurd (Contains-none d there)
+  better_has (c ∷ cs) [] first second d there = absurd (Contains-none d there)
+  better_has (c ∷ cs) (b ∷ bs) first second d there = elim ((Contains-cons d (sites.better c b) (sites.all_better cs bs)).0 there) [
+    | inl same ↦ subst (λ (z : sites.Best). P z.answer) (sym same) (elim (cases_Bool (nat_lt (sites.rank b.answer) (sites.rank c.answer))) [
+      | inl less ↦ rw less (second b (Contains-here b b bs refl))
+      | inr least ↦ rw least (first c (Contains-here c c cs refl))
+    ])
+    | inr behind ↦ better_has cs bs (λ x mine. first x (Contains-behind x c cs mine)) (λ x mine. second x (Contains-behind x b bs mine)) d behind
+  ]
+
+  on_has : (k : ℕ) (answers : List Answer) → ((a : Answer) → Contains answers a → P a) → (b : sites.Best) → Contains (sites.items_on k answers) b → P b.answer
+  on_has k answers all b there =
+      let of = map-Contains (λ (a : Answer). let z : sites.Best = record { page = k; answer = a } in z) answers b there in
+      subst (λ (z : sites.Best). P z.answer) (sym of.2) (all of.0 of.1)
+
+  pages_have : (s : sites.Site) (lists : List (List Answer)) → ((b : sites.Best) → Contains s.items b → P b.answer) → ((answers : List Answer) → Contains lists answers → (a : Answer) → Contains answers a → P a)
+      → (b : sites.Best) → Contains (sites.with_pages s lists).items b → P b.answer
+  pages_have s [] first others b there = first b there
+  pages_have s (answers ∷ lists) first others b there =
+      pages_have (sites.with_page s answers) lists
+      (better_has s.items (sites.items_on (s.pages + 1) answers) first (on_has (s.pages + 1) answers (others answers (Contains-here answers answers lists refl))))
+      (λ x mine. others x (Contains-behind x answers lists mine)) b there
+
+  site_has : (lists : List (List Answer)) → ((answers : List Answer) → Contains lists answers → (a : Answer) → Contains answers a → P a) → (b : sites.Best) → Contains (sites.site_of lists).items b → P b.answer
+  site_has [] all b there = absurd (Contains-none b there)
+  site_has (answers ∷ lists) all b there =
+      pages_have (sites.first_page answers) lists (on_has 1 answers (all answers (Contains-here answers answers lists refl))) (λ x mine. all x (Contains-behind x answers lists mine)) b there
+
+abbrev pub FromPage : List Said → Answer → Type 0
+FromPage said a = (x : Said) × Contains said x × Contains x.items a
+
+best_from : (said : List Said) (a : Answer) → Contains (best_in said) a → FromPage said a
+best_from said a there =
+    let of = map-Contains (λ (b : sites.Best). b.answer) (site_on said).items a there in
+    subst (FromPage said) (sym of.2) (site_has (FromPage said) (map (λ (s : Said). s.items) said) (λ answers mine b in_them.
+    let page = map-Contains (λ (s : Said). s.items) said answers mine in
+    (page.0, page.1, subst (λ (z : List Answer). Contains z b) page.2 in_them)) of.0 of.1)
+
+first_from : (said : List Said) (a : Answer) → Contains (lines_in Report said) a → FromPage said a
+first_from [] a there = absurd (Contains-none a there)
+first_from (s ∷ said) a there = (s, Contains-here s s said refl, there)
+
+line_from : (m : Mode) (said : List Said) (a : Answer) → Contains (lines_in m said) a → FromPage said a
+line_from Report said a there = first_from said a there
+line_from Dead [] a there = absurd (Contains-none a there)
+line_from Dead (s ∷ said) a there = (s, Contains-here s s said refl, there)
+line_from Runs [] a there = absurd (Contains-none a there)
+line_from Runs (s ∷ said) a there = (s, Contains-here s s said refl, there)
+line_from Site said a there = best_from said a there
+
+-- ---- the status
+
+abbrev pub OverOn : Task → List Said → Type 0
+OverOn t said = (x : Said) × Contains said x × IsOverBudget t.mode t.limits x.inputs
+
+module _ (t : Task) (said : List Said) (all : (x : Said) → Contains said x → AreAnswersOf t.mode t.limits x.inputs x.items x.others) where
+  over_by_line : (a : Answer) → FromPage said a → is_open a ≡ true → OverOn t said
+  over_by_line a (x, there, mine) is =
+      let i = x.inputs in (
+        x,
+        there,
+        items_open i.tree i.stmts (guards_in t.mode i) (length i.names) t.limits (map matching (judged_in i.sheet.items) ++ goals_in t.mode i) i.sheet.items x.items
+            (λ s listed. Contains-append_left (map matching (judged_in i.sheet.items)) (goals_in t.mode i) (matching s) (Contains-map matching (judged_in i.sheet.items) s listed)) (all x there).right a mine is,
+      )
+
+  over_by_verdict : (m : Mode) → t.mode ≡ m → (ps : List Said) → ((x : Said) → Contains ps x → Contains said x) → list_any dead.is_open (verdicts_in m ps) ≡ true → OverOn t said
+  over_by_verdict Dead same [] among is = absurd (true≢false (sym is))
+  over_by_verdict Dead same (x ∷ ps) among is =
+      let i = x.inputs in
+      let there = among x (Contains-here x x ps refl) in
+      let right = subst (λ m. AreRightFor i.tree i.stmts (guards_in t.mode i) (length i.names) t.limits (goals_in m i) x.others) same (all x there).others_right in
+      let past = verdicts_open i.tree i.stmts (guards_in t.mode i) (length i.names) t.limits (map matching (judged_in i.sheet.items) ++ goals_in t.mode i) i.stmts x.others
+      (λ g listed. Contains-append_right (map matching (judged_in i.sheet.items)) (goals_in t.mode i) g (subst (λ m. Contains (goals_in m i) g) (sym same) listed)) right is in
+      (x, there, past)
+  over_by_verdict Report same ps among is = absurd (true≢false (sym is))
+  over_by_verdict Runs same ps among is = absurd (true≢false (sym is))
+  over_by_verdict Site same ps among is = absurd (true≢false (sym is))
+
+  pub past_budget_on : status_of t said ≡ status.Budget → OverOn t said
+  past_budget_on is =
+      let open' = budget_open (list_any is_open (lines_in t.mode said) || list_any dead.is_open (verdicts_in t.mode said)) _ is in
+      elim (one_of (list_any is_open (lines_in t.mode said)) (list_any dead.is_open (verdicts_in t.mode said)) open') [
+        | inl line ↦ let a = found is_open (lines_in t.mode said) line in over_by_line a.0 (line_from t.mode said a.0 a.1) a.2
+        | inr verdict ↦ over_by_verdict t.mode refl said (λ x there. there) verdict
+      ]

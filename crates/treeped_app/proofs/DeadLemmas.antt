@@ -1,0 +1,89 @@
+-- What `judge_more` answers for the probes of a script's statements tells whether they are live.
+use Rattle.std.proofs.Common.{ℕ, zero, suc, ◌+◌, ◌<◌, List, [], ◌∷◌, length, map, take, Option, Some, None, IfSome, All, slice_get, unwrap_or, refl, sym, subst}
+use Rattle.std.specs.List.{range_with_len}
+use Rattle.std.proofs.lemmas.List.{map-append}
+use Rattle.std.proofs.lemmas.List.Elements.{All-nil, All-cons, All-append}
+use Rattle.tree_sem.specs.Trees.{LabelTree}
+use Rattle.tree_sem.specs.declared.actions.Step.{Step}
+use Rattle.jq_sem.specs.Statements.{Chain, Statement, Selected}
+use Rattle.jq_sem.specs.Reachability.{AreLegal, end_of}
+use Rattle.jq_sem.specs.Tables.{IsChainOver, AreChainsOver, IsStatementOver, AreStatementsOver}
+use Rattle.guard_sem.specs.Guards.{Guard}
+use Rattle.guard_simplify.specs.Law.{IsOver}
+use Rattle.rule_translate.specs.Translation.{guard_of}
+use Rattle.proof_check.specs.declared.proofs.Proof.{Proof}
+use Rattle.proof_check.specs.declared.unfolded.Unfolded.{Unfolded}
+use Rattle.usage_report.specs.Answers.{Answer, used, used_unshown, unused, skipped, spent}
+use Rattle.limits.specs.declared.budgets.Limits.{Limits}
+use Rattle.judge.specs.Answers.{IsUsed, IsAnswerFor, AreAnswersFor}
+use Rattle.judge.specs.Goals.{selecting, holding}
+use Rattle.judge.specs.Witnesses.{trace}
+use Rattle.judge.proofs.MeaningLemmas.{same_guard_right}
+use Rattle.judge.proofs.TableLemmas.{rule_over}
+use Rattle.dead_script.specs.Probes.{probe, probes, all_probes, probe_guards}
+use Rattle.dead_script.specs.Verdicts.{verdicts}
+use Rattle.dead_script.specs.Laws.{IsWitness, IsTold, AreTold, AreRightVerdicts}
+use Rattle.dead_script.proofs.VerdictLemmas.{verdicts_right}
+
+-- ---- from guards to probes, and from answers to what they tell
+
+module _ (stmts : List Statement) (guards : List Guard) (n : ℕ) (page : LabelTree) (limits : Limits) where
+  -- what is right for the guards of statements is right for the statements
+  pub of_guards : (ps : List Statement) (answers : List Answer) → AreAnswersFor stmts guards n page limits (map holding (map guard_of ps)) answers → AreAnswersFor stmts guards n page limits (map selecting ps) answers
+  of_guards [] [] are = tt
+  of_guards [] (a ∷ answers) are = absurd are
+  of_guards (p ∷ ps) [] are = absurd are
+  of_guards (p ∷ ps) (a ∷ answers) are = (same_guard_right stmts guards n page limits (holding (guard_of p)) (selecting p) refl a are.0, of_guards ps answers are.1)
+
+  shown_witness : (p : Statement) (proof : Proof) (steps : ℕ) (shown : Option Unfolded) → IsUsed stmts guards n page limits (selecting p) proof steps shown → IfSome shown (IsWitness page stmts p)
+  shown_witness p proof steps None is = tt
+  shown_witness p proof steps (Some u) is = record {
+    legal = subst (λ (z : List Step). AreLegal page stmts z) (sym is.shows.1) is.witness.legal;
+    selects =
+        subst (λ (z : List Step). Selected (end_of page stmts z) p u.at) (sym is.shows.1)
+        (subst (λ z. Selected (end_of page stmts (trace stmts guards n page (selecting p) proof).0) p z) (sym is.shows.2) is.witness.match);
+  }
+
+  one_told : (p : Statement) (a : Answer) → IsAnswerFor stmts guards n page limits (selecting p) a → IsTold page stmts p a
+  one_told p (used proof steps shown) is = (is.reached, shown_witness p proof steps shown is)
+  one_told p used_unshown is = is.0
+  one_told p unused is = is
+  one_told p (skipped cause at) is = absurd is
+  one_told p spent is = absurd is
+
+  pub all_told : (ps : List Statement) (answers : List Answer) → AreAnswersFor stmts guards n page limits (map selecting ps) answers → AreTold page stmts ps answers
+  all_told [] [] are = tt
+  all_told [] (a ∷ answers) are = absurd are
+  all_told (p ∷ ps) [] are = absurd are
+  all_told (p ∷ ps) (a ∷ answers) are = (one_told p a are.0, all_told ps answers are.1)
+
+  -- A statement is dead exactly where it selects no node of any tree that legal steps reach, at the first handler that never runs; and what is
+  -- shown of a live one leads to a node that it selects.
+  pub verdicts_by : (answers : List Answer) → AreAnswersFor stmts guards n page limits (map holding (probe_guards stmts)) answers → AreRightVerdicts page stmts stmts (verdicts stmts answers)
+  verdicts_by answers are = verdicts_right page stmts stmts answers (all_told (all_probes stmts) answers (of_guards (all_probes stmts) answers are))
+
+-- ---- the atoms of probes' guards are of the table
+
+module _ (n : ℕ) where
+  chains_before : (chains : List Chain) (k : ℕ) → AreChainsOver n chains → AreChainsOver n (take k chains)
+  chains_before chains zero are = tt
+  chains_before [] (suc k) are = tt
+  chains_before (c ∷ chains) (suc k) are = (are.0, chains_before chains k are.1)
+
+  chain_there : (chains : List Chain) (own : Chain) (k : ℕ) → AreChainsOver n chains → IsChainOver n own → IsChainOver n (unwrap_or (slice_get chains k) own)
+  chain_there [] own k are is = is
+  chain_there (c ∷ chains) own zero are is = are.0
+  chain_there (c ∷ chains) own (suc k) are is = chain_there chains own k are.1 is
+
+  probe_over : (s : Statement) (k : ℕ) → IsStatementOver n s → IsOver n (guard_of (probe s k))
+  probe_over s k are = (rule_over n (probe s k) (chains_before s.handlers k are.0, chain_there s.handlers s.chain k are.0 are.1, All-nil (λ a. a < n))).guard
+
+  probes_over : (s : Statement) (ks : List ℕ) → IsStatementOver n s → All (IsOver n) (map guard_of (map (probe s) ks))
+  probes_over s [] are = All-nil (IsOver n)
+  probes_over s (k ∷ ks) are = All-cons (IsOver n) (guard_of (probe s k)) (map guard_of (map (probe s) ks)) (probe_over s k are) (probes_over s ks are)
+
+  pub guards_over : (stmts : List Statement) → AreStatementsOver n stmts → All (IsOver n) (probe_guards stmts)
+  guards_over [] are = All-nil (IsOver n)
+  guards_over (s ∷ stmts) are =
+      subst (All (IsOver n)) (sym (map-append guard_of (probes s) (all_probes stmts)))
+      (All-append (IsOver n) (map guard_of (probes s)) (map guard_of (all_probes stmts)) (probes_over s (range_with_len 0 (length s.handlers + 1)) are.0) (guards_over stmts are.1))

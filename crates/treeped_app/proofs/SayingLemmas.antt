@@ -1,0 +1,158 @@
+-- What the answers come to that a mode asks for, and why there are none.
+use Rattle.std.proofs.Common.{◌≡◌, ℕ, List, [], ◌∷◌, length, map, Option, All, Ok, Err, sym, subst, ◌∙◌, inl, inr}
+use Rattle.std.proofs.lemmas.List.{length-map}
+use Rattle.jq_sem.specs.Statements.{Statement}
+use Rattle.guard_sem.specs.Guards.{Guard}
+use Rattle.rule_translate.specs.Translation.{guard_of}
+use Rattle.usage_report.specs.Answers.{Answer, spent}
+use Rattle.limits.specs.declared.budgets.Limits.{Limits}
+use Rattle.command_words.specs.declared.words.Mode.{Mode}
+use Rattle.command_words.specs.declared.words.Mode.TheVariants.{Report, Dead, Runs, Site}
+use Rattle.dead_script.specs.Probes.{all_probes}
+use Rattle.judge.specs.declared.faults.JudgeFault.{JudgeFault}
+use Rattle.judge.specs.declared.faults.JudgeFault.TheVariants.{TooManyAtoms, TooManyVisible, Memory}
+use Rattle.judge.specs.Answers.{AreAnswersFor}
+use Rattle.judge.specs.Goals.{Goal, selecting}
+use Rattle.judge.specs.Outcomes as judge
+use Rattle.run_trace.specs.Traces.{AreTracked}
+use Rattle.run_trace.proofs.AnswerLemmas.{traces_placed}
+use Rattle.usage_report.specs.Reportable.{AreReportable, AreTraceable}
+use Rattle.dead_script.specs.Verdicts.{IsProbed}
+use Rattle.treeped_app.specs.declared.stops.Stop.{Stop}
+use Rattle.treeped_app.specs.declared.stops.Stop.TheVariants as stop
+use Rattle.treeped_app.specs.Answers.{AreRight, AreRightFor, IsSpent}
+use Rattle.treeped_app.specs.Inputs.{AreInputs, IsUnanswered, IsRead, IsSaying, IsWritable}
+use Rattle.treeped_app.specs.Modes.{Texts, Inputs, Said, places_of, goals_in, extra_in, guards_in, AreAnswersOf}
+use Rattle.treeped_app.specs.Runs.{read_inputs}
+use Rattle.treeped_app.specs.Stops.{judging_stop}
+use Rattle.treeped_app.proofs.DeadLemmas.{of_guards, guards_over}
+use Rattle.treeped_app.proofs.RightLemmas.{answers_right, goals_right, all_spent, all_tracked, all_reportable, all_probed, as_many}
+
+-- ---- right answers
+
+module _ (m : Mode) (limits : Limits) (i : Inputs) where
+  abbrev guards : List Guard
+  guards = guards_in m i
+
+  abbrev Exactly : List Answer → List Answer → Type 0
+  Exactly items others = judge.AreJudged i.stmts i.sheet.items (extra_in m i) (length i.names) i.tree limits items others
+
+  items_right : (items others : List Answer) → Exactly items others → AreRight i.tree i.stmts guards (length i.names) limits i.sheet.items items
+  items_right items others (inl (are, for, few)) = answers_right i.tree i.stmts guards (length i.names) limits i.sheet.items items are
+  items_right items others (inr (by, by', more)) =
+      subst (λ (xs : List Answer). AreRight i.tree i.stmts guards (length i.names) limits i.sheet.items xs) (sym by) (all_spent i.tree i.stmts guards (length i.names) limits more i.sheet.items)
+
+probes_spent : (limits : Limits) (i : Inputs) (gs : List Guard) (ps : List Statement) → IsSpent i.tree i.stmts gs (length i.names) limits
+    → AreRightFor i.tree i.stmts gs (length i.names) limits (map selecting ps) (map (λ (g : Guard). spent) (map guard_of ps))
+probes_spent limits i gs [] more = tt
+probes_spent limits i gs (p ∷ ps) more = (more, probes_spent limits i gs ps more)
+
+none_asked : (limits : Limits) (i : Inputs) (gs : List Guard) (others : List Answer) → AreAnswersFor i.stmts gs (length i.names) i.tree limits [] others → AreRightFor i.tree i.stmts gs (length i.names) limits [] others
+none_asked limits i gs [] are = tt
+none_asked limits i gs (a ∷ others) are = absurd are
+
+none_spent : (limits : Limits) (i : Inputs) (gs : List Guard) (others : List Answer) → others ≡ [] → AreRightFor i.tree i.stmts gs (length i.names) limits [] others
+none_spent limits i gs others same = subst (λ (xs : List Answer). AreRightFor i.tree i.stmts gs (length i.names) limits [] xs) (sym same) tt
+
+others_right : (m : Mode) (limits : Limits) (i : Inputs) (items others : List Answer) → Exactly m limits i items others → AreRightFor i.tree i.stmts (guards_in m i) (length i.names) limits (goals_in m i) others
+others_right Dead limits i items others (inl (are, for, few)) =
+    goals_right i.tree i.stmts (guards_in Dead i) (length i.names) limits (map selecting (all_probes i.stmts)) others
+    (of_guards i.stmts (guards_in Dead i) (length i.names) i.tree limits (all_probes i.stmts) others for)
+others_right Dead limits i items others (inr (by, by', more)) =
+    subst (λ (xs : List Answer). AreRightFor i.tree i.stmts (guards_in Dead i) (length i.names) limits (map selecting (all_probes i.stmts)) xs) (sym by')
+    (probes_spent limits i (guards_in Dead i) (all_probes i.stmts) more)
+others_right Report limits i items others (inl (are, for, few)) = none_asked limits i (guards_in Report i) others for
+others_right Report limits i items others (inr (by, by', more)) = none_spent limits i (guards_in Report i) others by'
+others_right Runs limits i items others (inl (are, for, few)) = none_asked limits i (guards_in Runs i) others for
+others_right Runs limits i items others (inr (by, by', more)) = none_spent limits i (guards_in Runs i) others by'
+others_right Site limits i items others (inl (are, for, few)) = none_asked limits i (guards_in Site i) others for
+others_right Site limits i items others (inr (by, by', more)) = none_spent limits i (guards_in Site i) others by'
+
+pub answers_are : (m : Mode) (limits : Limits) (i : Inputs) (ss : List Statement) (extra : List Guard) (items others : List Answer) → ss ≡ i.stmts → extra ≡ extra_in m i
+    → judge.IsWithin ss i.sheet.items extra (length i.names) → judge.AreJudged ss i.sheet.items extra (length i.names) i.tree limits items others → AreAnswersOf m limits i items others
+answers_are m limits i ss extra items others same same' within judged =
+    let exactly : Exactly m limits i items others =
+    subst (λ (z : List Statement). judge.AreJudged z i.sheet.items (extra_in m i) (length i.names) i.tree limits items others) same
+    (subst (λ (z : List Guard). judge.AreJudged ss i.sheet.items z (length i.names) i.tree limits items others) same' judged) in
+    record {
+      right = items_right m limits i items others exactly;
+      others_right = others_right m limits i items others exactly;
+      within =
+          subst (λ (z : List Statement). judge.IsWithin z i.sheet.items (extra_in m i) (length i.names)) same
+          (subst (λ (z : List Guard). judge.IsWithin ss i.sheet.items z (length i.names)) same' within);
+      exactly = exactly;
+    }
+
+pub tracked_of : (m : Mode) (limits : Limits) (i : Inputs) (items others : List Answer) → AreAnswersOf m limits i items others → AreTracked i.tree i.stmts i.sheet.items items
+tracked_of m limits i items others are = all_tracked i.tree i.stmts (guards_in m i) (length i.names) limits i.sheet.items items are.right
+
+-- ---- what is said can be written
+
+pub reportable_of : (m : Mode) (s : Said) → IsWritable m s → AreReportable (places_of s.inputs) s.inputs.sheet.items s.items
+reportable_of m s (limits, are, traces) = all_reportable s.inputs.tree s.inputs.stmts (guards_in m s.inputs) (length s.inputs.names) limits s.inputs.sheet.items s.items are.right
+
+pub probed_of : (s : Said) → IsWritable Dead s → (length s.others ≡ length (all_probes s.inputs.stmts)) × All (IsProbed (places_of s.inputs)) s.others
+probed_of s (limits, are, traces) =
+    let i = s.inputs in
+    let goals = map selecting (all_probes i.stmts) in (
+      as_many i.tree i.stmts (guards_in Dead i) (length i.names) limits goals s.others are.others_right ∙ length-map {B = Goal} (all_probes i.stmts) selecting,
+      all_probed i.tree i.stmts (guards_in Dead i) (length i.names) limits goals s.others are.others_right,
+    )
+
+pub traceable_of : (s : Said) → IsWritable Runs s → AreTraceable (places_of s.inputs) s.inputs.sheet.items s.traces
+traceable_of s (limits, are, traces) =
+    traces_placed s.inputs.tree s.inputs.stmts s.inputs.sheet.items s.items s.traces (tracked_of Runs limits s.inputs s.items s.others are) traces
+
+-- ---- what may be judged
+
+extra_over : (m : Mode) (i : Inputs) → AreInputs i → judge.AreGiven i.stmts i.sheet.items (extra_in m i) (length i.names) i.tree
+extra_over Dead i given =
+    record {
+      statements = given.statements;
+      selectors = given.selectors;
+      guards = guards_over (length i.names) i.stmts given.statements;
+      tree = given.tree;
+      few_statements = given.few_statements;
+      few_nodes = given.few_nodes;
+    }
+extra_over Report i given = given
+extra_over Runs i given = given
+extra_over Site i given = given
+
+pub given_with : (m : Mode) (i : Inputs) (ss : List Statement) (extra : List Guard) → AreInputs i → ss ≡ i.stmts → extra ≡ extra_in m i → judge.AreGiven ss i.sheet.items extra (length i.names) i.tree
+given_with m i ss extra given same same' =
+    subst (λ (z : List Statement). judge.AreGiven z i.sheet.items extra (length i.names) i.tree) (sym same)
+    (subst (λ (z : List Guard). judge.AreGiven i.stmts i.sheet.items z (length i.names) i.tree) (sym same') (extra_over m i given))
+
+-- ---- no answers
+
+refused_by_fault : (m : Mode) (i : Inputs) (e : JudgeFault) → judge.IsFault i.stmts i.sheet.items (extra_in m i) (length i.names) e → IsUnanswered m i (judging_stop e)
+refused_by_fault m i TooManyAtoms is = is
+refused_by_fault m i TooManyVisible is = is
+refused_by_fault m i Memory is = tt
+
+pub refused_by_system : (m : Mode) (i : Inputs) (ss : List Statement) (extra : List Guard) (e : JudgeFault) → ss ≡ i.stmts → extra ≡ extra_in m i → judge.IsFault ss i.sheet.items extra (length i.names) e
+    → IsUnanswered m i (judging_stop e)
+refused_by_system m i ss extra e same same' is =
+    refused_by_fault m i e
+    (subst (λ (z : List Statement). judge.IsFault z i.sheet.items (extra_in m i) (length i.names) e) same
+    (subst (λ (z : List Guard). judge.IsFault ss i.sheet.items z (length i.names) e) same' is))
+
+module _ (m : Mode) (limits : Limits) (page : Option ℕ) (x : Texts) where
+  pub not_read : (e : Stop) → IsRead (read_inputs page x) (Err e) → IsSaying m limits page x (Err e)
+  not_read stop.Words is = absurd is
+  not_read (stop.TooLarge part) is = absurd is
+  not_read (stop.ReadFault part) is = absurd is
+  not_read (stop.Unread refusal) is = is
+  not_read (stop.Judging f) is = absurd is
+  not_read stop.WriteFault is = absurd is
+  not_read stop.NoMemory is = tt
+
+  pub not_answered : (i : Inputs) (e : Stop) → read_inputs page x ≡ Ok i → IsUnanswered m i e → IsSaying m limits page x (Err e)
+  not_answered i stop.Words read is = absurd is
+  not_answered i (stop.TooLarge part) read is = absurd is
+  not_answered i (stop.ReadFault part) read is = absurd is
+  not_answered i (stop.Unread refusal) read is = absurd is
+  not_answered i (stop.Judging f) read is = (i, read, is)
+  not_answered i stop.WriteFault read is = absurd is
+  not_answered i stop.NoMemory read is = tt

@@ -1,0 +1,95 @@
+-- How the answers of statements themselves tell whether a verdict is open, and whether it is dead.
+use Rattle.std.proofs.Common.{◌≡◌, ℕ, zero, suc, ◌+◌, ◌<◌, ◌||◌, Bool, true, false, List, [], ◌∷◌, length, map, drop, get_or, take, Option, Some, None, slice_get, unwrap_or, option_map, refl, sym, ap, ◌∙◌, arith}
+use Rattle.std.specs.List.{list_any}
+use Rattle.std.proofs.lemmas.List.{length-map}
+use Rattle.std.proofs.lemmas.Option.{unwrap_or-slice_get}
+use Rattle.usage_report.specs.declared.answers.Answer as code
+use Rattle.usage_report.specs.Answers.{Answer, used, used_unshown, unused, skipped, spent}
+use Rattle.usage_report.specs.Views.{answer_of}
+use Rattle.jq_sem.specs.declared.stmts.Stmt.{Stmt}
+use Rattle.jq_sem.specs.Views.{chain_of, statements_of}
+use Rattle.dead_script.specs.Verdicts as dead
+use Rattle.treeped_app.specs.declared.statuses.Question.{Question}
+use Rattle.treeped_app.specs.declared.statuses.Question.TheVariants.{Open, Dead}
+use Rattle.treeped_app.specs.Verdicts.{is_so, is_so_of}
+
+-- behind handlers a statement is dead, and not open
+pub record IsDead (v : dead.Verdict) : Type 0 where
+  pub is : dead.is_dead v ≡ true
+  pub closed : dead.is_open v ≡ false
+
+always_dead : (k : ℕ) (answers : List Answer) → IsDead (dead.dead_behind k answers)
+always_dead k [] = record { is = refl; closed = refl }
+always_dead k (a ∷ later) = here a (always_dead (k + 1) later)
+  where
+    here : (a : Answer) → IsDead (dead.dead_behind (k + 1) later) → IsDead (dead.dead_here k a (dead.dead_behind (k + 1) later))
+    here (used proof steps shown) is = is
+    here used_unshown is = is
+    here unused is = record { is = refl; closed = refl }
+    here (skipped cause at) is = is
+    here spent is = is
+
+by_own : (q : Question) (a : Answer) (v : dead.Verdict) → IsDead v → is_so q (dead.verdict_by a v) ≡ is_so_of q (Some a)
+by_own Open (used proof steps shown) v is = refl
+by_own Open used_unshown v is = refl
+by_own Open unused v is = is.closed
+by_own Open (skipped cause at) v is = refl
+by_own Open spent v is = refl
+by_own Dead (used proof steps shown) v is = refl
+by_own Dead used_unshown v is = refl
+by_own Dead unused v is = is.is
+by_own Dead (skipped cause at) v is = refl
+by_own Dead spent v is = refl
+
+-- an answer that isn't there is spent
+or_spent : (q : Question) (o : Option Answer) → is_so_of q (Some (unwrap_or o spent)) ≡ is_so_of q o
+or_spent Open None = refl
+or_spent Dead None = refl
+or_spent q (Some a) = refl
+
+one_so : (q : Question) (n : ℕ) (answers : List Answer) → is_so q (dead.verdict_of n answers) ≡ is_so_of q (slice_get answers n)
+one_so q n answers =
+    by_own q (get_or answers n spent) (dead.dead_behind 0 (take n answers)) (always_dead 0 (take n answers))
+    ∙ ap (λ a. is_so_of q (Some a)) (sym (unwrap_or-slice_get answers n spent))
+    ∙ or_spent q (slice_get answers n)
+
+map_get : {X Y : Type 0} (f : X → Y) (xs : List X) (n : ℕ) → slice_get (map f xs) n ≡ option_map f (slice_get xs n)
+map_get f [] n = refl
+map_get f (x ∷ xs) zero = refl
+map_get f (x ∷ xs) (suc n) = map_get f xs n
+
+map_drop : {X Y : Type 0} (f : X → Y) (xs : List X) (n : ℕ) → drop n (map f xs) ≡ map f (drop n xs)
+map_drop f xs zero = refl
+map_drop f [] (suc n) = refl
+map_drop f (x ∷ xs) (suc n) = map_drop f xs n
+
+abbrev pub any_so : Question → List Stmt → List code.Answer → Bool
+any_so q stmts answers = list_any (is_so q) (dead.verdicts (statements_of stmts) (map answer_of answers))
+
+-- the first statement's own answer, and the verdicts of the others
+first_so : (q : Question) (s : Stmt) (stmts : List Stmt) (answers : List code.Answer)
+    → any_so q (s ∷ stmts) answers ≡ (is_so_of q (option_map answer_of (slice_get answers (length s.handlers))) || any_so q stmts (drop (length s.handlers + 1) answers))
+first_so q s stmts answers =
+    let many : length (map chain_of s.handlers) ≡ length s.handlers = length-map s.handlers chain_of in
+    ap (λ n. is_so q (dead.verdict_of n (map answer_of answers)) || list_any (is_so q) (dead.verdicts (statements_of stmts) (drop (n + 1) (map answer_of answers)))) many
+    ∙ ap (λ b. b || list_any (is_so q) (dead.verdicts (statements_of stmts) (drop (length s.handlers + 1) (map answer_of answers)))) (one_so q (length s.handlers) (map answer_of answers) ∙ ap (is_so_of q) (map_get answer_of answers (length s.handlers)))
+    ∙ ap (λ xs. is_so_of q (option_map answer_of (slice_get answers (length s.handlers))) || list_any (is_so q) (dead.verdicts (statements_of stmts) xs)) (map_drop answer_of answers (length s.handlers + 1))
+
+-- from the k-th statement on
+pub next_so : (q : Question) (stmts : List Stmt) (k : ℕ) (s : Stmt) (answers : List code.Answer) → k < length stmts → s ≡ get_or stmts k s
+    → any_so q (drop k stmts) answers ≡ (is_so_of q (option_map answer_of (slice_get answers (length s.handlers))) || any_so q (drop (suc k) stmts) (drop (length s.handlers + 1) answers))
+next_so q [] k s answers within at = absurd (omega (arith, within))
+next_so q (x ∷ stmts) zero s answers within at = rw at (first_so q x stmts answers)
+next_so q (x ∷ stmts) (suc k) s answers within at = next_so q stmts k s answers (omega (arith, within)) at
+
+pub or_true : (a b : Bool) → a ≡ true → (a || b) ≡ true
+or_true true b e = refl
+or_true false b e = cc
+
+pub or_false : (a b : Bool) → a ≡ false → (a || b) ≡ b
+or_false true b e = cc
+or_false false b e = refl
+
+pub none_left : (q : Question) (stmts : List Stmt) (answers : List code.Answer) → any_so q (drop (length stmts) stmts) answers ≡ false
+none_left q [] answers = refl
+none_left q (s ∷ stmts) answers = none_left q stmts answers

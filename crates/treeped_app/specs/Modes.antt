@@ -1,0 +1,168 @@
+-- What each mode promises: what it asks besides the selectors of a sheet, what it writes of the answers, and the status that they give.
+--     Said                 what was read of a page, and what is said of it
+--     goals_in m i         the goals that are asked besides the sheet's selectors
+--     AreAnswersOf         right answers for the sheet's items and for those goals
+--     HasTraces m s        where the mode asks for whole runs, each answer that shows steps has the trace of their runs
+--     text_of t said       what is written
+--     status_of t said     the status: 7 where a line is open, else 1 where a line is unused or dead, else 0
+use Rattle.std.specs.Prelude.{◌≡◌, ℕ, Bool, true, false, ◌||◌, List, [], ◌∷◌, ◌++◌, length, map, Option}
+use Rattle.std.specs.List.{list_any}
+use Rattle.tp_base.specs.Names.{Named}
+use Rattle.tp_base.specs.declared.places.Place.{Place}
+use Rattle.tree_sem.specs.Trees.{LabelTree}
+use Rattle.css_read.specs.Sheets.{Sheet}
+use Rattle.jq_sem.specs.Statements.{Statement}
+use Rattle.guard_sem.specs.Guards.{Guard}
+use Rattle.usage_report.specs.Answers.{Answer, used_unshown, unused, spent}
+use Rattle.usage_report.specs.Report.{report, report_with}
+use Rattle.usage_report.specs.RunTraces.{RunTrace}
+use Rattle.run_trace.specs.Traces.{AreTracesOf}
+use Rattle.judge.specs.Answers.{judged_in}
+use Rattle.judge.specs.Goals.{Goal, matching, selecting}
+use Rattle.judge.specs.Outcomes as judge
+use Rattle.limits.specs.declared.budgets.Limits.{Limits}
+use Rattle.command_words.specs.declared.words.Mode.{Mode}
+use Rattle.command_words.specs.declared.words.Mode.TheVariants.{Dead, Runs, Site}
+use Rattle.dead_script.specs.Probes.{all_probes, probe_guards}
+use Rattle.dead_script.specs.Verdicts as dead
+use Rattle.site_judge.specs.Sites as sites
+use Rattle.site_judge.specs.SiteReport.{site_report}
+use Rattle.treeped_app.specs.declared.status.Status.{Status}
+use Rattle.treeped_app.specs.declared.status.Status.TheVariants as status
+use Rattle.treeped_app.specs.Answers.{AreRight, AreRightFor, IsPastBudget}
+use Rattle.treeped_app.specs.Summary.{summary}
+use Rattle.treeped_app.specs.Tasks.{Source, ring, Task}
+
+-- the texts of a page's three files
+pub record Texts : Type 0 where
+  pub page : List ℕ
+  pub sheet : List ℕ
+  pub script : List ℕ
+
+-- what is read: the page's tree, the sheet, the script's statements, and all names
+pub record Inputs : Type 0 where
+  pub tree : LabelTree
+  pub sheet : Sheet
+  pub stmts : List Statement
+  pub names : List Named
+
+-- a page's texts, what was read of them, an answer for each item of the sheet, one for each other goal, and for whole runs a trace
+-- for each item or none
+pub record Said : Type 0 where
+  pub texts : Texts
+  pub inputs : Inputs
+  pub items : List Answer
+  pub others : List Answer
+  pub traces : List (Option RunTrace)
+
+abbrev pub places_of : Inputs → List Place
+places_of i = map (λ (s : Statement). s.place) i.stmts
+
+-- ---- what is asked
+
+-- whether each handler of each statement ever runs, and the statement itself
+abbrev pub goals_in : Mode → Inputs → List Goal
+goals_in Dead i = map selecting (all_probes i.stmts)
+goals_in _ i = []
+
+-- the guards of these goals
+abbrev pub extra_in : Mode → Inputs → List Guard
+extra_in Dead i = probe_guards i.stmts
+extra_in _ i = []
+
+abbrev pub guards_in : Mode → Inputs → List Guard
+guards_in m i = judge.guards_in i.sheet.items (extra_in m i)
+
+-- One right answer for each item, and one for each other goal; and as exactly as `judge_more` decides it.
+pub record AreAnswersOf (m : Mode) (limits : Limits) (i : Inputs) (answers others : List Answer) : Type 0 where
+  pub right : AreRight i.tree i.stmts (guards_in m i) (length i.names) limits i.sheet.items answers
+  pub others_right : AreRightFor i.tree i.stmts (guards_in m i) (length i.names) limits (goals_in m i) others
+  pub within : judge.IsWithin i.stmts i.sheet.items (extra_in m i) (length i.names)
+  pub exactly : judge.AreJudged i.stmts i.sheet.items (extra_in m i) (length i.names) i.tree limits answers others
+
+abbrev pub AreTracesIn : Mode → Inputs → List Answer → List (Option RunTrace) → Type 0
+AreTracesIn Runs i items traces = AreTracesOf i.tree i.stmts i.sheet.items items traces
+AreTracesIn _ i items traces = traces ≡ []
+
+abbrev pub HasTraces : Mode → Said → Type 0
+HasTraces m s = AreTracesIn m s.inputs s.items s.traces
+
+-- a budget doesn't suffice for each answer
+abbrev pub IsOverBudget : Mode → Limits → Inputs → Type 0
+IsOverBudget m limits i = IsPastBudget i.tree i.stmts (guards_in m i) (length i.names) limits (map matching (judged_in i.sheet.items) ++ goals_in m i)
+
+-- ---- what is written
+
+abbrev pub is_unused : Answer → Bool
+is_unused unused = true
+is_unused _ = false
+
+-- something is left open: the steps, or whether there are any
+abbrev pub is_open : Answer → Bool
+is_open used_unshown = true
+is_open spent = true
+is_open _ = false
+
+abbrev pub report_on : Said → List ℕ
+report_on s = report s.texts.sheet s.inputs.names (places_of s.inputs) s.inputs.sheet s.items
+
+-- of one page: the report; the report, and then the statements; or the report with runs in the place of steps
+abbrev pub text_on : Mode → Said → List ℕ
+text_on Dead s = report_on s ++ dead.dead_text s.inputs.stmts s.others
+text_on Runs s = report_with s.texts.sheet s.inputs.names (places_of s.inputs) s.inputs.sheet s.items s.traces
+text_on _ s = report_on s
+
+-- the best answers of several pages
+abbrev pub site_on : List Said → sites.Site
+site_on said = sites.site_of (map (λ (s : Said). s.items) said)
+
+abbrev pub best_in : List Said → List Answer
+best_in said = map (λ (b : sites.Best). b.answer) (site_on said).items
+
+-- by the sheet and the names of the last page
+abbrev pub site_by : List Said → Said → List ℕ
+site_by said s = site_report s.texts.sheet s.inputs.names (map (λ (x : Said). places_of x.inputs) said) s.inputs.sheet (site_on said)
+
+-- of the last page, if there is one
+abbrev pub of_last : (Said → List ℕ) → List Said → List ℕ
+of_last f [] = []
+of_last f (s ∷ []) = f s
+of_last f (s ∷ x ∷ said) = of_last f (x ∷ said)
+
+abbrev pub text_by : Mode → List Said → List ℕ
+text_by Site said = of_last (site_by said) said
+text_by m said = of_last (text_on m) said
+
+-- on a ring there is one line that counts the answers
+abbrev pub text_from : Source → Mode → List Said → List ℕ
+text_from (ring k) m said = of_last (λ s. summary k s.items) said
+text_from _ m said = text_by m said
+
+abbrev pub text_of : Task → List Said → List ℕ
+text_of t said = text_from t.source t.mode said
+
+-- ---- the status
+
+-- the answers for the items: those of a page, or the best of several
+abbrev pub lines_in : Mode → List Said → List Answer
+lines_in Site said = best_in said
+lines_in _ [] = []
+lines_in _ (s ∷ said) = s.items
+
+abbrev pub verdicts_in : Mode → List Said → List dead.Verdict
+verdicts_in Dead (s ∷ said) = dead.verdicts s.inputs.stmts s.others
+verdicts_in _ said = []
+
+-- whether something is left open, and whether something is unused or dead
+abbrev pub status_by : Bool → Bool → Status
+status_by true b = status.Budget
+status_by false true = status.Unused
+status_by false false = status.Complete
+
+abbrev pub status_of : Task → List Said → Status
+status_of t said =
+    status_by (list_any is_open (lines_in t.mode said) || list_any dead.is_open (verdicts_in t.mode said)) (list_any is_unused (lines_in t.mode said) || list_any dead.is_dead (verdicts_in t.mode said))
+
+-- the status of one page
+abbrev pub status_on : Mode → Said → Status
+status_on m s = status_by (list_any is_open s.items || list_any dead.is_open (verdicts_in m (s ∷ []))) (list_any is_unused s.items || list_any dead.is_dead (verdicts_in m (s ∷ [])))

@@ -1,0 +1,100 @@
+-- What is known of a site behind some of its pages, and what further pages come to.
+--     IsBegun ..        what the first page comes to
+--     PageAdded ..      what one page more comes to
+--     MorePages ..      what the pages behind it come to
+--     Finished ..       what writing comes to
+use Rattle.std.specs.Prelude.{◌≡◌, ◌⊎◌, ℕ, ◌+◌, List, [], ◌∷◌, ◌++◌, length, map, Option, Some, Result, Ok, Err, Vec}
+use Rattle.std.specs.declared.alloc.Global.{Global}
+use Rattle.std.specs.List.{list_any}
+use Rattle.tp_base.specs.declared.places.Place.{Place}
+use Rattle.tp_io.specs.Files.{Load}
+use Rattle.tp_io.specs.Sinks.{Adds, AddsPrefix, Rose}
+use Rattle.limits.specs.declared.budgets.Limits.{Limits}
+use Rattle.command_words.specs.declared.words.Mode.TheVariants.{Site}
+use Rattle.usage_report.specs.Answers.{Answer}
+use Rattle.usage_report.specs.Views.{answer_of}
+use Rattle.usage_report.specs.declared.faults.ReportFault.{ReportFault}
+use Rattle.usage_report.specs.declared.faults.ReportFault.TheVariants as report_fault
+use Rattle.site_judge.specs.Sites as sites
+use Rattle.site_judge.specs.SiteReport.{AreReportable, site_report}
+use Rattle.treeped_app.specs.declared.refusals.Part.TheVariants.{Page, Script}
+use Rattle.treeped_app.specs.declared.saying.Said as code
+use Rattle.treeped_app.specs.declared.sites.Seen.{Seen}
+use Rattle.treeped_app.specs.declared.status.Status.{Status}
+use Rattle.treeped_app.specs.declared.stops.Stop.{Stop}
+use Rattle.treeped_app.specs.Inputs.{AllLoaded, IsSaidOf, IsSaying}
+use Rattle.treeped_app.specs.Modes.{Texts, Said, places_of, is_open, is_unused, status_by}
+use Rattle.treeped_app.specs.Runs.{Told, Put, read_inputs}
+use Rattle.treeped_app.specs.Stops.{stop_of}
+use Rattle.treeped_app.specs.Tasks.{Wanted, wanted_as}
+use Rattle.treeped_app.specs.Views.{inputs_of}
+
+abbrev pub all_places : Seen → List (List Place)
+all_places seen = map (λ (ps : Vec Place Global). ps.items) seen.places.items
+
+-- what the first page comes to, or why there is nothing
+pub record HasFirst (s : Said) (seen : Seen) : Type 0 where
+  pub site : seen.site ≡ sites.first_page s.items
+  pub places : all_places seen ≡ places_of s.inputs ∷ []
+  pub last : inputs_of seen.last ≡ s.inputs
+
+abbrev pub IsBegun : Limits → Texts → Result Seen Stop → Type 0
+IsBegun limits x (Ok seen) = (s : Said) × (s.texts ≡ x) × IsSaidOf Site limits (Some 1) s × HasFirst s seen
+IsBegun limits x (Err e) = IsSaying Site limits (Some 1) x (Err e)
+
+-- what was read last was read of this sheet, there is an answer for each of its items, and they can be reported on it
+pub record IsKept (sheet : List ℕ) (seen : Seen) : Type 0 where
+  pub page : Option ℕ
+  pub texts : Texts
+  pub same : texts.sheet ≡ sheet
+  pub read : read_inputs page texts ≡ Ok (inputs_of seen.last)
+  pub many : length seen.site.items ≡ length (inputs_of seen.last).sheet.items
+  pub pages : seen.site.pages ≡ length (all_places seen)
+  pub reportable : AreReportable (all_places seen) (inputs_of seen.last).sheet.items seen.site.items
+
+pub record HasNext (s : Said) (old new : Seen) : Type 0 where
+  pub site : new.site ≡ sites.with_page old.site s.items
+  pub places : all_places new ≡ all_places old ++ places_of s.inputs ∷ []
+  pub last : inputs_of new.last ≡ s.inputs
+
+-- as the code has it
+abbrev pub IsFirst : code.Said → Seen → Type 0
+IsFirst s seen = (seen.site ≡ sites.first_page (map answer_of s.items.items)) × (all_places seen ≡ places_of (inputs_of s.inputs) ∷ [])
+
+abbrev pub IsAdded : code.Said → Seen → Seen → Type 0
+IsAdded s old new = (new.site ≡ sites.with_page old.site (map answer_of s.items.items)) × (all_places new ≡ all_places old ++ places_of (inputs_of s.inputs) ∷ [])
+
+abbrev pub page_wanted : ℕ → List ℕ × List ℕ → List Wanted
+page_wanted k pair = wanted_as (Page (Some k)) pair.0 ∷ wanted_as (Script (Some k)) pair.1 ∷ []
+
+-- What one page more comes to, of this number and with these names.
+abbrev pub PageAdded : {U : Type 0} → Told → Limits → List ℕ → ℕ → List ℕ × List ℕ → List Load → List Load → Seen → Seen → Result U Stop → Type 0
+PageAdded told limits sheet k pair start end old new (Ok u) =
+    (s : Said) × (s.texts.sheet ≡ sheet) × AllLoaded told (page_wanted k pair) start end (Ok (s.texts.page ∷ s.texts.script ∷ [])) × IsSaidOf Site limits (Some k) s × HasNext s old new
+PageAdded told limits sheet k pair start end old new (Err e) =
+    AllLoaded told (page_wanted k pair) start end (Err e)
+    ⊎ ((x : Texts) × (x.sheet ≡ sheet) × AllLoaded told (page_wanted k pair) start end (Ok (x.page ∷ x.script ∷ [])) × IsSaying Site limits (Some k) x (Err e))
+
+-- What the pages of these names come to, from this number on, up to the first that is refused.
+abbrev pub MorePages : {U : Type 0} → Told → Limits → List ℕ → ℕ → List (List ℕ × List ℕ) → List Load → List Load → Seen → Seen → Result U Stop → Type 0
+MorePages told limits sheet k [] start end old new (Ok u) = (end ≡ start) × (new ≡ old)
+MorePages told limits sheet k [] start end old new (Err e) = ⊥
+MorePages told limits sheet k (pair ∷ pairs) start end old new (Ok u) =
+    (mid : List Load) × (m : Seen) × PageAdded told limits sheet k pair start mid old m (Ok u) × MorePages told limits sheet (k + 1) pairs mid end m new (Ok u)
+MorePages {U = U} told limits sheet k (pair ∷ pairs) start end old new (Err e) =
+    PageAdded {U = U} told limits sheet k pair start end old new (Err e)
+    ⊎ ((mid : List Load) × (m : Seen) × (u : U) × PageAdded told limits sheet k pair start mid old m (Ok u) × MorePages {U = U} told limits sheet (k + 1) pairs mid end m new (Err e))
+
+abbrev pub best_answers : sites.Site → List Answer
+best_answers site = map (λ (b : sites.Best). b.answer) site.items
+
+abbrev pub site_status : sites.Site → Status
+site_status site = status_by (list_any is_open (best_answers site)) (list_any is_unused (best_answers site))
+
+abbrev pub text_of_site : List ℕ → Seen → List ℕ
+text_of_site sheet seen = site_report sheet (inputs_of seen.last).names (all_places seen) (inputs_of seen.last).sheet seen.site
+
+-- What writing the report on all pages comes to.
+abbrev pub Finished : List ℕ → Seen → Put → Result Status Stop → Type 0
+Finished sheet seen out (Ok s) = Adds out.held out.held' (text_of_site sheet seen) × (s ≡ site_status seen.site)
+Finished sheet seen out (Err e) = (f : ReportFault) × (e ≡ stop_of f) × AddsPrefix out.held out.held' (text_of_site sheet seen) × (f ≡ report_fault.Write → Rose out.faults out.faults')

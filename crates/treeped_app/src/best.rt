@@ -1,0 +1,54 @@
+//! The status of the best answers of a site.
+ghost use Rattle.std.specs.Prelude.{◌≡◌, ◌<◌, length, Some, slice_get};
+ghost use Rattle.std.specs.List.{list_any};
+ghost use Rattle.usage_report.specs.Views.{answer_of};
+ghost use Rattle.site_judge.specs.Sites as sites;
+ghost use Rattle.treeped_app.specs.Sites as spec;
+ghost use Rattle.treeped_app.specs.Verdicts.{is_answer_so};
+
+use crate::status::Status;
+use crate::statuses::{Question, is_open, is_unused, status_by};
+use site_judge::Site;
+use usage_report::Answer;
+
+/// The status of a site, whose sheet has so many items. Linear in them.
+pub(crate) fn status_of_site(site: &Site, count: usize) -> Status
+    requires many { count ≡ length site.now.items }
+    ensures { result ≡ spec.site_status site.now }
+{
+    let unsure = any_best(Question::Open, site, count);
+    let unused = any_best(Question::Dead, site, count);
+    status_by(unsure, unused)
+}
+
+/// Whether it is so of one of the best answers.
+fn any_best(question: Question, site: &Site, count: usize) -> bool
+    requires many { count ≡ length site.now.items }
+    ensures { result ≡ list_any (is_answer_so question) (spec.best_answers site.now) }
+{
+    'items: for item in 0..count {
+        if is_so_at(question, site, item) {
+            return true;
+        }
+    }
+    false
+}
+
+/// Whether it is so of the best answer for an item.
+fn is_so_at(question: Question, site: &Site, item: usize) -> bool
+    ensures { (b : sites.Best) → slice_get site.now.items item ≡ Some b → result ≡ is_answer_so question b.answer }
+{
+    match site.answer(item) {
+        Some((_, answer)) => is_so(question, answer),
+        None => false,
+    }
+}
+
+fn is_so(question: Question, answer: &Answer) -> bool
+    ensures { result ≡ is_answer_so question (answer_of answer.now) }
+{
+    match question {
+        Question::Open => is_open(answer),
+        Question::Dead => is_unused(answer),
+    }
+}

@@ -1,0 +1,123 @@
+//! A run on one page, or on a ring.
+ghost use Rattle.std.specs.Prelude.{◌≡◌, ◌≤◌, List, ℕ, Some, length};
+ghost use Rattle.triple_gen.specs.declared.triple.TheConstants.{MOST_BOXES};
+ghost use Rattle.tp_io.specs.Files.{Load};
+ghost use Rattle.limits.specs.Budgets.{IsInRange};
+ghost use Rattle.treeped_app.specs.Inputs.{Written};
+ghost use Rattle.treeped_app.specs.Modes as modes;
+ghost use Rattle.treeped_app.specs.Runs.{Told, Ends, Fit, put_of, run_of};
+ghost use Rattle.treeped_app.specs.Summary.{summary};
+ghost use Rattle.treeped_app.specs.Tasks as task;
+ghost use Rattle.treeped_app.specs.Views.{names_of, texts_of};
+
+use crate::loading::{Wanted, load_three};
+use crate::reading::Texts;
+use crate::refusals::Part;
+use crate::saying::say;
+use crate::status::Status;
+use crate::statuses::status_of;
+use crate::stops::Stop;
+use crate::summaries::write_summary;
+use crate::tasks::Names;
+use crate::writing::write_one;
+use command_words::Mode;
+use limits::Limits;
+use std::alloc::Global;
+use tp_io::{Files, Sink};
+use triple_gen::generate;
+
+/// Loads, reads and judges a page with its sheet and its script, and writes what the mode says of it.
+pub(crate) fn run_page<F: Files, O: Sink>(
+    alloc: Global,
+    names: &Names<'_>,
+    mode: Mode,
+    limits: &Limits,
+    files: &mut F,
+    out: &mut O,
+) -> Result<Status, Stop>
+    requires limits { IsInRange limits.now }
+    requires one { ¬ (mode ≡ Mode.Site) }
+    ensures { (words : List (List ℕ)) → task.command words ≡ Some (task.task_by (task.one (names_of names.now)) mode limits.now) → Ends (run_of (F.told files.old) words (F.loads files.old) (F.loads files.new)
+        (put_of (O.written out.old) (O.written out.new) (O.faults out.old) (O.faults out.new))) result }
+{
+    let page = Wanted {
+        part: Part::Page(None),
+        name: names.page,
+    };
+    let sheet = Wanted {
+        part: Part::Sheet,
+        name: names.sheet,
+    };
+    let script = Wanted {
+        part: Part::Script(None),
+        name: names.script,
+    };
+    let loaded = load_three(alloc, &page, &sheet, &script, files)?;
+    let texts = Texts {
+        page: &loaded.0,
+        sheet: &loaded.1,
+        script: &loaded.2,
+    };
+    answer(alloc, mode, limits, &texts, out)
+}
+
+/// Reads and judges the texts of a page, and writes what the mode says of it.
+fn answer<O: Sink>(
+    alloc: Global,
+    mode: Mode,
+    limits: &Limits,
+    texts: &Texts<'_>,
+    out: &mut O,
+) -> Result<Status, Stop>
+    requires limits { IsInRange limits.now }
+    requires fit { Fit (texts_of texts.now) }
+    ensures { Written mode limits.now (texts_of texts.now) (modes.text_on mode) (put_of (O.written out.old) (O.written out.new) (O.faults out.old) (O.faults out.new)) result }
+{
+    let said = say(alloc, mode, limits, None, texts)?;
+    write_one(alloc, mode, texts, &said, out)?;
+    Ok(status_of(mode, &said))
+}
+
+/// Judges a ring of n boxes, and writes the line that counts the answers.
+pub(crate) fn run_ring<O: Sink>(
+    alloc: Global,
+    n: u32,
+    mode: Mode,
+    limits: &Limits,
+    out: &mut O,
+) -> Result<Status, Stop>
+    requires limits { IsInRange limits.now }
+    requires few { n ≤ MOST_BOXES }
+    requires one { ¬ (mode ≡ Mode.Site) }
+    ensures { (told : Told) (words : List (List ℕ)) (loads : List Load) → task.command words ≡ Some (task.task_by (task.ring n) mode limits.now) → Ends (run_of told words loads loads
+        (put_of (O.written out.old) (O.written out.new) (O.faults out.old) (O.faults out.new))) result }
+{
+    let triple = generate(alloc, n)?;
+    let page = triple.page.into_items();
+    let sheet = triple.sheet.into_items();
+    let script = triple.script.into_items();
+    let texts = Texts {
+        page: &page,
+        sheet: &sheet,
+        script: &script,
+    };
+    count(alloc, n, mode, limits, &texts, out)
+}
+
+/// Reads and judges the texts of a ring of n boxes, and writes the line that counts the answers.
+fn count<O: Sink>(
+    alloc: Global,
+    n: u32,
+    mode: Mode,
+    limits: &Limits,
+    texts: &Texts<'_>,
+    out: &mut O,
+) -> Result<Status, Stop>
+    requires limits { IsInRange limits.now }
+    requires fit { Fit (texts_of texts.now) }
+    ensures { Written mode limits.now (texts_of texts.now) (λ s. summary n s.items) (put_of (O.written out.old) (O.written out.new) (O.faults out.old) (O.faults out.new)) result }
+{
+    let said = say(alloc, mode, limits, None, texts)?;
+    write_summary(alloc, n, &said.items, out)?;
+    Ok(status_of(mode, &said))
+}

@@ -1,0 +1,119 @@
+//! The texts of a page, and what is read of them.
+ghost use Rattle.std.specs.Prelude.{◌≡◌, ◌≤◌, length, IfOk};
+ghost use Rattle.tp_base.specs.declared.places.TheConstants.{MOST_BYTES};
+ghost use Rattle.treeped_app.specs.Runs as spec;
+ghost use Rattle.tree_sem.specs.Nodes.{IsTreeOver};
+ghost use Rattle.sel_core.specs.Results.{IsFront};
+ghost use Rattle.html_subset.specs.Reading as html;
+ghost use Rattle.css_read.specs.Reading as css;
+ghost use Rattle.css_read.specs.Places.{ArePlaced};
+ghost use Rattle.css_read.specs.Readable.{AllReadable};
+ghost use Rattle.css_read.specs.Views.{sheet_of};
+ghost use Rattle.jq_sem.specs.Tables.{AreStatementsOver};
+ghost use Rattle.jq_sem.specs.Views.{statements_of};
+ghost use Rattle.jq_read.specs.Limits.{AreWithin};
+ghost use Rattle.jq_read.specs.Script.{script};
+ghost use Rattle.treeped_app.specs.Inputs.{AreInputs, IsOpened, IsRead};
+ghost use Rattle.treeped_app.specs.Refusals.{page_stop, sheet_stop};
+ghost use Rattle.treeped_app.specs.Views.{inputs_of, texts_of};
+
+use crate::stops::{Stop, page_stop, script_stop, sheet_stop};
+use css_read::{Sheet, read_sheet};
+use html_subset::read_page;
+use jq_read::read_script;
+use jq_sem::Stmt;
+use std::alloc::Global;
+use tp_base::AtomTable;
+use tree_sem::Tree;
+
+/// The bytes of the three texts of a page.
+#[derive(Clone, Copy)]
+pub(crate) struct Texts<'a> {
+    pub(crate) page: &'a [u8],
+    pub(crate) sheet: &'a [u8],
+    pub(crate) script: &'a [u8],
+}
+
+/// What was read of them, with their names.
+#[derive(Drop)]
+pub(crate) struct Inputs {
+    pub(crate) page: Tree,
+    pub(crate) sheet: Sheet,
+    pub(crate) stmts: Vec<Stmt>,
+    pub(crate) atoms: AtomTable,
+}
+
+/// Reads the page, the sheet and the script, in this order, with one table of names. The page has a number where there are several.
+#[tactic(auto, unfolding(crate::specs::Runs::read_inputs))]
+pub(crate) fn read_all(
+    alloc: Global,
+    number: Option<u32>,
+    texts: &Texts<'_>,
+) -> Result<Inputs, Stop>
+    requires fit { spec.Fit (texts_of texts.now) }
+    ensures read { IsRead (spec.read_inputs number (texts_of texts.now)) result }
+    ensures given { IfOk result (λ i. AreInputs (inputs_of i)) }
+    ensures placed { IfOk result (λ i. ArePlaced (length (texts_of texts.now).sheet) i.sheet.items) }
+{
+    let mut atoms = AtomTable::new(alloc);
+    let page = open_page(alloc, number, texts.page, &mut atoms)?;
+    let sheet = open_sheet(alloc, texts.sheet, &mut atoms)?;
+    let stmts = open_script(alloc, number, texts.script, &mut atoms)?;
+    Ok(Inputs {
+        page,
+        sheet,
+        stmts,
+        atoms,
+    })
+}
+
+/// What was read of a page, or why the run stops at it.
+fn open_page(
+    alloc: Global,
+    number: Option<u32>,
+    text: &[u8],
+    atoms: &mut AtomTable,
+) -> Result<Tree, Stop>
+    requires { length text.now ≤ MOST_BYTES }
+    ensures opened { IsOpened (λ t. t) (spec.read_as (page_stop number text.now) (html.read_page text.now atoms.old)) result atoms.new }
+    ensures over { IfOk result (λ t. IsTreeOver (length atoms.new) t) }
+{
+    match read_page(alloc, text, atoms) {
+        Ok(tree) => Ok(tree),
+        Err(fault) => Err(page_stop(number, text, fault)),
+    }
+}
+
+/// What was read of a sheet, or why the run stops at it.
+fn open_sheet(alloc: Global, text: &[u8], atoms: &mut AtomTable) -> Result<Sheet, Stop>
+    requires { length text.now ≤ MOST_BYTES }
+    ensures opened { IsOpened sheet_of (spec.read_as (sheet_stop text.now) (css.read_sheet text.now atoms.old)) result atoms.new }
+    ensures readable { IfOk result (λ s. AllReadable atoms.new (sheet_of s).items) }
+    ensures placed { IfOk result (λ s. ArePlaced (length text.now) s.items) }
+    ensures front { IsFront atoms.old atoms.new }
+{
+    match read_sheet(alloc, text, atoms) {
+        Ok(sheet) => Ok(sheet),
+        Err(fault) => Err(sheet_stop(text, fault)),
+    }
+}
+
+/// The statements of a script, or why the run stops at it.
+#[tactic(auto, using(crate::proofs::ReadingLemmas::not_opened))]
+fn open_script(
+    alloc: Global,
+    number: Option<u32>,
+    text: &[u8],
+    atoms: &mut AtomTable,
+) -> Result<Vec<Stmt>, Stop>
+    requires { length text.now ≤ MOST_BYTES }
+    ensures opened { IsOpened (λ v. statements_of v.items) (spec.read_script_as number text.now (script text.now atoms.old)) result atoms.new }
+    ensures over { IfOk result (λ v. AreStatementsOver (length atoms.new) (statements_of v.items)) }
+    ensures within { IfOk result (λ v. AreWithin (statements_of v.items)) }
+    ensures front { IsFront atoms.old atoms.new }
+{
+    match read_script(alloc, text, atoms) {
+        Ok(statements) => Ok(statements),
+        Err(fault) => Err(script_stop(number, text, fault)),
+    }
+}

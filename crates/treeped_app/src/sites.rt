@@ -1,0 +1,223 @@
+//! A run on several pages that use one sheet.
+ghost use Rattle.std.specs.Prelude.{◌≡◌, ◌<◌, ◌≤◌, ◌+◌, ◌∷◌, List, ℕ, Some, length, map, OnOk, IfOk};
+ghost use Rattle.tp_base.specs.declared.places.TheConstants.{MOST_BYTES};
+ghost use Rattle.limits.specs.Budgets.{IsInRange};
+ghost use Rattle.css_read.specs.Places.{ArePlaced};
+ghost use Rattle.site_judge.specs.declared.sites.TheConstants.{MOST_PAGES};
+ghost use Rattle.site_judge.specs.SiteReport.{AreReportable};
+ghost use Rattle.treeped_app.specs.Sites.{IsBegun, IsFirst, IsAdded, PageAdded, MorePages, Finished, IsKept};
+ghost use Rattle.treeped_app.specs.Runs.{Ends, Fit, put_of, run_of};
+ghost use Rattle.treeped_app.specs.Tasks.{command, paired, several, task_by};
+ghost use Rattle.treeped_app.specs.Views.{inputs_of, texts_of};
+
+use crate::best::status_of_site;
+use crate::loading::{Wanted, load_three, load_two};
+use crate::reading::{Inputs, Texts};
+use crate::refusals::Part;
+use crate::saying::{Said, say};
+use crate::status::Status;
+use crate::stops::Stop;
+use crate::tasks::Names;
+use crate::writing::places_of;
+use command_words::{Mode, Word};
+use limits::Limits;
+use site_judge::{Site, write_site};
+use std::alloc::Global;
+use tp_base::{NoMemory, Place};
+use tp_io::{Files, Sink};
+
+/// What is known of a site behind some of its pages: their best answers, the places of each one's statements, and what was read of
+/// the last one.
+#[derive(Drop)]
+pub(crate) struct Seen {
+    pub(crate) site: Site,
+    pub(crate) places: Vec<Vec<Place>>,
+    pub(crate) last: Inputs,
+}
+
+/// What all pages share.
+#[derive(Clone, Copy)]
+pub(crate) struct Shared<'a> {
+    pub(crate) sheet: &'a [u8],
+    pub(crate) limits: &'a Limits,
+}
+
+/// A page's number, from 1, and the names of the page and its script.
+#[derive(Clone, Copy)]
+pub(crate) struct Page<'a> {
+    pub(crate) number: u32,
+    pub(crate) page: &'a str,
+    pub(crate) script: &'a str,
+}
+
+/// Loads the sheet, and then loads, reads and judges each page with its script, and writes the report on all of them.
+pub(crate) fn run_site<F: Files, O: Sink>(
+    alloc: Global,
+    first: &Names<'_>,
+    later: &[Word],
+    limits: &Limits,
+    files: &mut F,
+    out: &mut O,
+) -> Result<Status, Stop>
+    requires limits { IsInRange limits.now }
+    requires few { length (paired later.now) + 1 ≤ MOST_PAGES }
+    ensures { (words : List (List ℕ)) → command words ≡ Some (task_by (several first.now.sheet.now ((first.now.page.now, first.now.script.now) ∷ paired later.now)) Mode.Site limits.now) → Ends (run_of (F.told files.old) words (F.loads files.old) (F.loads files.new)
+        (put_of (O.written out.old) (O.written out.new) (O.faults out.old) (O.faults out.new))) result }
+{
+    let sheet = Wanted {
+        part: Part::Sheet,
+        name: first.sheet,
+    };
+    let page = Wanted {
+        part: Part::Page(Some(1)),
+        name: first.page,
+    };
+    let script = Wanted {
+        part: Part::Script(Some(1)),
+        name: first.script,
+    };
+    let loaded = load_three(alloc, &sheet, &page, &script, files)?;
+    let texts = Texts {
+        page: &loaded.1,
+        sheet: &loaded.0,
+        script: &loaded.2,
+    };
+    let mut seen = begun(alloc, limits, &texts)?;
+    let shared = Shared {
+        sheet: &loaded.0,
+        limits,
+    };
+    more_pages(alloc, 2, later, &shared, files, &mut seen)?;
+    finished(alloc, &loaded.0, &seen, out)
+}
+
+/// What is known of a site behind its first page.
+fn begun(alloc: Global, limits: &Limits, texts: &Texts<'_>) -> Result<Seen, Stop>
+    requires limits { IsInRange limits.now }
+    requires fit { Fit (texts_of texts.now) }
+    ensures begun { IsBegun limits.now (texts_of texts.now) result }
+    ensures kept { IfOk result (λ s. IsKept (texts_of texts.now).sheet s) }
+    ensures placed { IfOk result (λ s. ArePlaced (length (texts_of texts.now).sheet) s.last.sheet.items) }
+{
+    let said = say(alloc, Mode::Site, limits, Some(1), texts)?;
+    let seen = seen_first(alloc, said)?;
+    Ok(seen)
+}
+
+/// What is known of a site by what is said of its first page.
+fn seen_first(alloc: Global, said: Said) -> Result<Seen, NoMemory>
+    ensures first { IfOk result (λ s. IsFirst said s) }
+    ensures last { IfOk result (λ s. s.last ≡ said.inputs) }
+{
+    let places = places_of(alloc, &said.inputs.stmts)?;
+    let mut all = Vec::new(alloc);
+    all.push(places)?;
+    let site = Site::first(alloc, said.items)?;
+    Ok(Seen {
+        site,
+        places: all,
+        last: said.inputs,
+    })
+}
+
+/// Loads, reads and judges the pages of these names, each with its script, from this number on.
+fn more_pages<F: Files>(
+    alloc: Global,
+    number: u32,
+    later: &[Word],
+    shared: &Shared<'_>,
+    files: &mut F,
+    seen: &mut Seen,
+) -> Result<(), Stop>
+    requires limits { IsInRange shared.now.limits.now }
+    requires in_limit { length shared.now.sheet.now ≤ MOST_BYTES }
+    requires kept { IsKept shared.now.sheet.now seen.old }
+    requires here { number ≡ seen.old.site.pages + 1 }
+    requires few { seen.old.site.pages + length (paired later.now) ≤ MOST_PAGES }
+    ensures same_files { F.told files.new ≡ F.told files.old }
+    ensures more { MorePages (F.told files.old) shared.now.limits.now shared.now.sheet.now number (paired later.now) (F.loads files.old) (F.loads files.new) seen.old seen.new result }
+    ensures kept { OnOk result (IsKept shared.now.sheet.now seen.new) }
+    ensures placed { OnOk result (ArePlaced (length shared.now.sheet.now) seen.old.last.sheet.items → ArePlaced (length shared.now.sheet.now) seen.new.last.sheet.items) }
+{
+    match later {
+        [page, script, rest @ ..] => {
+            let next = Page {
+                number,
+                page: page.as_str(),
+                script: script.as_str(),
+            };
+            next_page(alloc, &next, shared, files, seen)?;
+            more_pages(alloc, number + 1, rest, shared, files, seen)
+        }
+        _ => Ok(()),
+    }
+}
+
+/// Loads, reads and judges one page with its script.
+fn next_page<F: Files>(
+    alloc: Global,
+    next: &Page<'_>,
+    shared: &Shared<'_>,
+    files: &mut F,
+    seen: &mut Seen,
+) -> Result<(), Stop>
+    requires limits { IsInRange shared.now.limits.now }
+    requires in_limit { length shared.now.sheet.now ≤ MOST_BYTES }
+    requires kept { IsKept shared.now.sheet.now seen.old }
+    requires room { seen.old.site.pages < MOST_PAGES }
+    ensures same_files { F.told files.new ≡ F.told files.old }
+    ensures added { PageAdded (F.told files.old) shared.now.limits.now shared.now.sheet.now next.now.number (next.now.page.now, next.now.script.now) (F.loads files.old) (F.loads files.new) seen.old seen.new result }
+    ensures kept { OnOk result (IsKept shared.now.sheet.now seen.new) }
+    ensures placed { OnOk result (ArePlaced (length shared.now.sheet.now) seen.new.last.sheet.items) }
+{
+    let page = Wanted {
+        part: Part::Page(Some(next.number)),
+        name: next.page,
+    };
+    let script = Wanted {
+        part: Part::Script(Some(next.number)),
+        name: next.script,
+    };
+    let loaded = load_two(alloc, &page, &script, files)?;
+    let texts = Texts {
+        page: &loaded.0,
+        sheet: shared.sheet,
+        script: &loaded.1,
+    };
+    let said = say(alloc, Mode::Site, shared.limits, Some(next.number), &texts)?;
+    add(alloc, said, seen)?;
+    Ok(())
+}
+
+/// Adds what is said of a page.
+fn add(alloc: Global, said: Said, seen: &mut Seen) -> Result<(), NoMemory>
+    requires one_length { length said.items.items ≡ length seen.old.site.items }
+    requires room { seen.old.site.pages < MOST_PAGES }
+    ensures added { OnOk result (IsAdded said seen.old seen.new) }
+    ensures last { OnOk result (seen.new.last ≡ said.inputs) }
+{
+    let places = places_of(alloc, &said.inputs.stmts)?;
+    seen.places.push(places)?;
+    seen.site.add(said.items);
+    seen.last = said.inputs;
+    Ok(())
+}
+
+/// Writes the report on all pages.
+fn finished<O: Sink>(alloc: Global, sheet: &[u8], seen: &Seen, out: &mut O) -> Result<Status, Stop>
+    requires in_limit { length sheet.now ≤ MOST_BYTES }
+    requires placed { ArePlaced (length sheet.now) seen.now.last.sheet.items }
+    requires reportable { AreReportable (map (λ ps. ps.items) seen.now.places.items) (inputs_of seen.now.last).sheet.items seen.now.site.items }
+    ensures { Finished sheet.now seen.now (put_of (O.written out.old) (O.written out.new) (O.faults out.old) (O.faults out.new)) result }
+{
+    write_site(
+        alloc,
+        &seen.last.sheet,
+        sheet,
+        &seen.last.atoms,
+        &seen.places,
+        &seen.site,
+        out,
+    )?;
+    Ok(status_of_site(&seen.site, seen.last.sheet.items.items().len()))
+}

@@ -1,0 +1,118 @@
+//! The status that answers give.
+ghost use Rattle.std.specs.Prelude.{◌≡◌, ◌+◌, ◌∷◌, [], drop, map, option_map, slice_get};
+ghost use Rattle.std.specs.List.{list_any};
+ghost use Rattle.jq_sem.specs.Views.{statements_of};
+ghost use Rattle.usage_report.specs.Views.{answer_of};
+ghost use Rattle.dead_script.specs.Verdicts as dead;
+ghost use Rattle.treeped_app.specs.Modes as spec;
+ghost use Rattle.treeped_app.specs.Verdicts as verdict;
+ghost use Rattle.treeped_app.specs.Views.{said_of};
+
+use crate::saying::Said;
+use crate::status::Status;
+use command_words::Mode;
+use jq_sem::Stmt;
+use usage_report::Answer;
+
+/// What is asked of a statement's verdict.
+#[derive(Clone, Copy)]
+pub(crate) enum Question {
+    Open,
+    Dead,
+}
+
+/// The status of what a mode says of a page.
+#[tactic(auto, using(crate::proofs::StopLemmas::any_seen))]
+pub(crate) fn status_of(mode: Mode, said: &Said) -> Status
+    ensures { (x : spec.Texts) → result ≡ spec.status_on mode (said_of x said.now) }
+{
+    let unsure = any_open(&said.items) || asks(mode, Question::Open, said);
+    let unused = any_unused(&said.items) || asks(mode, Question::Dead, said);
+    status_by(unsure, unused)
+}
+
+/// The status, by whether something is left open, and whether something is unused or dead.
+pub(crate) fn status_by(unsure: bool, unused: bool) -> Status
+    ensures { result ≡ spec.status_by unsure unused }
+{
+    if unsure {
+        Status::Budget
+    } else if unused {
+        Status::Unused
+    } else {
+        Status::Complete
+    }
+}
+
+pub(crate) fn any_open(answers: &[Answer]) -> bool
+    ensures { result ≡ list_any (λ a. spec.is_open (answer_of a)) answers.now }
+{
+    answers.iter().any(|a| is_open(a))
+}
+
+/// Whether something is left open: the steps, or whether there are any.
+pub(crate) fn is_open(answer: &Answer) -> bool
+    ensures { result ≡ spec.is_open (answer_of answer.now) }
+{
+    matches!(answer, Answer::UsedUnshown | Answer::Spent)
+}
+
+pub(crate) fn any_unused(answers: &[Answer]) -> bool
+    ensures { result ≡ list_any (λ a. spec.is_unused (answer_of a)) answers.now }
+{
+    answers.iter().any(|a| is_unused(a))
+}
+
+pub(crate) fn is_unused(answer: &Answer) -> bool
+    ensures { result ≡ spec.is_unused (answer_of answer.now) }
+{
+    matches!(answer, Answer::Unused)
+}
+
+/// Whether it is so of a statement's verdict, in a mode that has verdicts.
+fn asks(mode: Mode, question: Question, said: &Said) -> bool
+    ensures { (x : spec.Texts) → result ≡ list_any (verdict.is_so question) (spec.verdicts_in mode (said_of x said.now ∷ [])) }
+{
+    match mode {
+        Mode::Dead => any_verdict(question, &said.inputs.stmts, &said.others),
+        _ => false,
+    }
+}
+
+/// Whether it is so of one of the verdicts of the statements, by an answer for each of their probes. Linear in the statements.
+fn any_verdict(question: Question, stmts: &[Stmt], answers: &[Answer]) -> bool
+    ensures { result ≡ list_any (verdict.is_so question) (dead.verdicts (statements_of stmts.now) (map answer_of answers.now)) }
+{
+    let mut left = answers;
+    'statements: for stmt in stmts {
+        let handlers = stmt.handlers.items().len();
+        if is_so(question, left, handlers) {
+            return true;
+        }
+        left = behind(left, handlers);
+    }
+    false
+}
+
+/// The answers behind those of a statement with so many handlers.
+fn behind(answers: &[Answer], handlers: usize) -> &[Answer]
+    ensures { result.now ≡ drop (handlers + 1) answers.now }
+{
+    if handlers < answers.len() {
+        &answers[handlers + 1..]
+    } else {
+        &[]
+    }
+}
+
+/// Whether it is so of a statement whose own answer is at that place: it is dead where that is unused, and open where that is.
+fn is_so(question: Question, answers: &[Answer], at: usize) -> bool
+    ensures { result ≡ verdict.is_so_of question (option_map answer_of (slice_get answers.now at)) }
+{
+    match (question, answers.get(at)) {
+        (Question::Dead, Some(Answer::Unused)) => true,
+        (Question::Dead, _) => false,
+        (Question::Open, Some(Answer::Used { .. } | Answer::Unused)) => false,
+        (Question::Open, _) => true,
+    }
+}

@@ -1,0 +1,128 @@
+//! What a mode writes of a page.
+ghost use Rattle.std.specs.Prelude.{◌≡◌, ◌≤◌, ◌++◌, length, map, IfOk, OnOk, OnErr};
+ghost use Rattle.tp_base.specs.declared.places.TheConstants.{MOST_BYTES};
+ghost use Rattle.tp_io.specs.Sinks.{Adds, AddsPrefix, Rose};
+ghost use Rattle.css_read.specs.Places.{ArePlaced};
+ghost use Rattle.jq_sem.specs.Views.{statements_of};
+ghost use Rattle.treeped_app.specs.Modes as spec;
+ghost use Rattle.treeped_app.specs.Inputs.{IsWritable};
+ghost use Rattle.treeped_app.specs.Views.{inputs_of, said_of, texts_of};
+ghost use Rattle.usage_report.specs.Reportable.{AreReportable};
+ghost use Rattle.usage_report.specs.Views.{answer_of};
+
+use crate::reading::Texts;
+use crate::saying::Said;
+use command_words::Mode;
+use dead_script::write_dead;
+use jq_sem::Stmt;
+use std::alloc::Global;
+use tp_base::{NoMemory, Place};
+use tp_io::Sink;
+use usage_report::{ReportFault, write_report, write_traces};
+
+/// The places of the statements, in their order.
+pub(crate) fn places_of(alloc: Global, stmts: &[Stmt]) -> Result<Vec<Place>, NoMemory>
+    ensures { IfOk result (λ places. places.items ≡ map (λ s. s.place) (statements_of stmts.now)) }
+{
+    let mut places = Vec::new(alloc);
+    'statements: for stmt in stmts {
+        places.push(stmt.place)?;
+    }
+    Ok(places)
+}
+
+/// Writes what a mode says of a page.
+pub(crate) fn write_one<O: Sink>(
+    alloc: Global,
+    mode: Mode,
+    texts: &Texts<'_>,
+    said: &Said,
+    out: &mut O,
+) -> Result<(), ReportFault>
+    requires in_limit { length (texts_of texts.now).sheet ≤ MOST_BYTES }
+    requires placed { ArePlaced (length (texts_of texts.now).sheet) said.now.inputs.sheet.items }
+    requires writable { IsWritable mode (said_of (texts_of texts.now) said.now) }
+    ensures ok { OnOk result (Adds (O.written out.old) (O.written out.new) (spec.text_on mode (said_of (texts_of texts.now) said.now))) }
+    ensures err { OnErr result (AddsPrefix (O.written out.old) (O.written out.new) (spec.text_on mode (said_of (texts_of texts.now) said.now))) }
+    ensures write { result ≡ Err ReportFault.Write → Rose (O.faults out.old) (O.faults out.new) }
+{
+    match mode {
+        Mode::Dead => write_dead_too(alloc, texts, said, out),
+        Mode::Runs => write_runs(alloc, texts, said, out),
+        _ => write_page(alloc, texts, said, out),
+    }
+}
+
+/// Writes the report on a page.
+fn write_page<O: Sink>(
+    alloc: Global,
+    texts: &Texts<'_>,
+    said: &Said,
+    out: &mut O,
+) -> Result<(), ReportFault>
+    requires in_limit { length (texts_of texts.now).sheet ≤ MOST_BYTES }
+    requires placed { ArePlaced (length (texts_of texts.now).sheet) said.now.inputs.sheet.items }
+    requires reportable { AreReportable (spec.places_of (inputs_of said.now.inputs)) (inputs_of said.now.inputs).sheet.items (map answer_of said.now.items.items) }
+    ensures ok { OnOk result (Adds (O.written out.old) (O.written out.new) (spec.report_on (said_of (texts_of texts.now) said.now))) }
+    ensures err { OnErr result (AddsPrefix (O.written out.old) (O.written out.new) (spec.report_on (said_of (texts_of texts.now) said.now))) }
+    ensures write { result ≡ Err ReportFault.Write → Rose (O.faults out.old) (O.faults out.new) }
+    ensures never_falls { O.faults out.old ≤ O.faults out.new }
+{
+    let inputs = &said.inputs;
+    let places = places_of(alloc, &inputs.stmts)?;
+    write_report(
+        alloc,
+        &inputs.sheet,
+        texts.sheet,
+        &inputs.atoms,
+        &places,
+        &said.items,
+        out,
+    )
+}
+
+/// Writes the report, and then what is said of each statement.
+fn write_dead_too<O: Sink>(
+    alloc: Global,
+    texts: &Texts<'_>,
+    said: &Said,
+    out: &mut O,
+) -> Result<(), ReportFault>
+    requires in_limit { length (texts_of texts.now).sheet ≤ MOST_BYTES }
+    requires placed { ArePlaced (length (texts_of texts.now).sheet) said.now.inputs.sheet.items }
+    requires writable { IsWritable Mode.Dead (said_of (texts_of texts.now) said.now) }
+    ensures ok { OnOk result (Adds (O.written out.old) (O.written out.new) (spec.text_on Mode.Dead (said_of (texts_of texts.now) said.now))) }
+    ensures err { OnErr result (AddsPrefix (O.written out.old) (O.written out.new) (spec.text_on Mode.Dead (said_of (texts_of texts.now) said.now))) }
+    ensures write { result ≡ Err ReportFault.Write → Rose (O.faults out.old) (O.faults out.new) }
+{
+    write_page(alloc, texts, said, out)?;
+    write_dead(alloc, &said.inputs.stmts, &said.others, out)
+}
+
+/// Writes the report with whole runs in the place of steps.
+fn write_runs<O: Sink>(
+    alloc: Global,
+    texts: &Texts<'_>,
+    said: &Said,
+    out: &mut O,
+) -> Result<(), ReportFault>
+    requires in_limit { length (texts_of texts.now).sheet ≤ MOST_BYTES }
+    requires placed { ArePlaced (length (texts_of texts.now).sheet) said.now.inputs.sheet.items }
+    requires writable { IsWritable Mode.Runs (said_of (texts_of texts.now) said.now) }
+    ensures ok { OnOk result (Adds (O.written out.old) (O.written out.new) (spec.text_on Mode.Runs (said_of (texts_of texts.now) said.now))) }
+    ensures err { OnErr result (AddsPrefix (O.written out.old) (O.written out.new) (spec.text_on Mode.Runs (said_of (texts_of texts.now) said.now))) }
+    ensures write { result ≡ Err ReportFault.Write → Rose (O.faults out.old) (O.faults out.new) }
+{
+    let inputs = &said.inputs;
+    let places = places_of(alloc, &inputs.stmts)?;
+    write_traces(
+        alloc,
+        &inputs.sheet,
+        texts.sheet,
+        &inputs.atoms,
+        &places,
+        &said.items,
+        &said.traces,
+        out,
+    )
+}
