@@ -1,7 +1,8 @@
-use crate::trees::{has_shape, path_of, set_of};
+use crate::trees::has_shape;
 use std::alloc::Global;
 use std::test::Fail;
-use tp_base::{ClassSet, Path};
+use test_building::{is_path, path_of, set_of};
+use tp_base::ClassSet;
 use tree_sem::{Tree, TreeBuilder, TreeFault};
 
 // What is done with a builder: it goes down to a child or up some levels, gives the current node or the one at a path a
@@ -120,24 +121,12 @@ fn done(alloc: Global, builder: &mut TreeBuilder, turn: &Turn) -> Result<u32, Tr
     }
 }
 
-fn is_at(path: &Path, steps: &[u32]) -> bool {
-    if path.len() != steps.len() {
-        return false;
-    }
-    for i in 0..path.len() {
-        if path.at(i) != steps[i] {
-            return false;
-        }
-    }
-    true
-}
-
 // Whether each turn answers and ends as its row says.
 fn turns(alloc: Global, builder: &mut TreeBuilder) -> bool {
     let mut right = true;
     for row in &TURNS {
         let answer = done(alloc, builder, &row.turn);
-        right = right && answer == row.answer && is_at(builder.path(), row.at);
+        right = right && answer == row.answer && is_path(builder.path(), row.at);
     }
     right
 }

@@ -1,7 +1,7 @@
-use crate::trees::set_of;
 use class_diagrams::{DiagramFault, Diagrams};
 use std::alloc::Global;
 use std::test::Fail;
+use test_building::set_of;
 use tp_base::{Atom, ClassSet};
 
 // Whether three branches are room for two variables and their conjunction, and not for their disjunction.

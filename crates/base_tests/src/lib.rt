@@ -1,4 +1,4 @@
-//! Tests of trees, selectors and diagrams, as a caller sees them.
+//! Tests of sets, trees, selectors and diagrams, as a caller sees them.
 #![tactic(auto)]
 
 #[cfg(test)]
@@ -9,6 +9,8 @@ mod diagrams;
 mod losses;
 #[cfg(test)]
 mod selectors;
+#[cfg(test)]
+mod sets;
 #[cfg(test)]
 mod trees;
 #[cfg(test)]

@@ -1,78 +1,9 @@
-use crate::trees::{add_child, family, has_shape, path_of, set_of};
+use crate::trees::{family, has_shape};
 use std::alloc::Global;
 use std::test::Fail;
-use tp_base::{Atom, ClassSet, NoMemory};
+use test_building::{add_child, path_of, set_of};
+use tp_base::{Atom, NoMemory};
 use tree_sem::{Tree, TreeFault};
-
-// A set, an atom that is taken out of it, whether it was there, and what is left.
-struct Taking {
-    atoms: &'static [u32],
-    taken: u32,
-    had: bool,
-    left: &'static [u32],
-}
-
-static TAKINGS: [Taking; 6] = [
-    Taking {
-        atoms: &[9, 3, 5],
-        taken: 5,
-        had: true,
-        left: &[3, 9],
-    },
-    Taking {
-        atoms: &[3, 5, 9],
-        taken: 3,
-        had: true,
-        left: &[5, 9],
-    },
-    Taking {
-        atoms: &[3, 5, 9],
-        taken: 9,
-        had: true,
-        left: &[3, 5],
-    },
-    Taking {
-        atoms: &[3, 5, 9],
-        taken: 4,
-        had: false,
-        left: &[3, 5, 9],
-    },
-    Taking {
-        atoms: &[2],
-        taken: 2,
-        had: true,
-        left: &[],
-    },
-    Taking {
-        atoms: &[],
-        taken: 2,
-        had: false,
-        left: &[],
-    },
-];
-
-fn atoms_of(alloc: Global, set: &ClassSet) -> Result<Vec<u32>, NoMemory> {
-    let mut atoms = Vec::new(alloc);
-    for i in 0..set.len() {
-        atoms.push(set.at(i).0)?;
-    }
-    Ok(atoms)
-}
-
-// Whether the call answers as its row says, and leaves what it says.
-fn takes(alloc: Global, row: &Taking) -> Result<bool, NoMemory> {
-    let mut set = set_of(alloc, row.atoms)?;
-    let had = set.take(Atom(row.taken));
-    Ok(had == row.had && atoms_of(alloc, &set)?.as_slice() == row.left)
-}
-
-#[test]
-fn takes_an_atom(rt: HostRuntime) -> Result<(), Fail> {
-    for row in &TAKINGS {
-        assert!(rt; takes(rt.alloc(), row)?);
-    }
-    Ok(())
-}
 
 // A class that is taken from the node at a path, what the call answers, and what it answers once more.
 // The nodes after it stand as in rows of shapes.

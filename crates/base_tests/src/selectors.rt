@@ -1,16 +1,16 @@
-use crate::trees::path_of;
 use sel_core::{
     SelFault, Selector, Skip, fits, matches, read_selector, read_strict_list, write_selector,
 };
 use std::alloc::Global;
 use std::test::Fail;
-use tp_base::{AtomKind, AtomTable, ClassSet, NoMemory, Path};
+use test_building::{NodeRow, path_of, tree_of};
+use tp_base::{AtomKind, AtomTable, NoMemory, Path};
 use tree_sem::Tree;
 
 type Text = (&'static str, Result<&'static str, (Skip, usize)>);
 
 // A text, and how the selector that it is reads when it is written; or the cause and the place where it is none.
-static TEXTS: [Text; 28] = [
+static TEXTS: [Text; 32] = [
     ("a:hover", Ok("a")),
     ("LI.Item#Top", Ok("li.Item#Top")),
     ("  ul >li  .x:AFTER /* all */", Ok("ul > li .x")),
@@ -26,7 +26,11 @@ static TEXTS: [Text; 28] = [
     ("a:hover(", Err((Skip::Pseudo, 1))),
     ("a::hover", Err((Skip::Pseudo, 1))),
     ("a:ho/**/ver", Err((Skip::Pseudo, 1))),
-    (".a[b]", Err((Skip::Attribute, 2))),
+    (".a[b]", Ok(".a[b]")),
+    ("[data-K=V]", Ok("[data-k=\"v\"]")),
+    ("[ A = 'x\"y' ]", Ok("[a='x\"y']")),
+    ("a[href^='#']", Err((Skip::Attribute, 1))),
+    ("[class]", Err((Skip::Attribute, 0))),
     ("a\\b", Err((Skip::Escape, 1))),
     ("a/**/b", Err((Skip::Bad, 5))),
     ("a*", Err((Skip::Bad, 1))),
@@ -57,43 +61,14 @@ static MATCHES: [Match; 10] = [
     ("b > b c", &[0, 0, 0], false, true),
 ];
 
-fn label_of(alloc: Global, atoms: &mut AtomTable, name: &[u8]) -> Result<ClassSet, SelFault> {
-    let mut label = ClassSet::new(alloc);
-    label.add(atoms.intern(AtomKind::Element, name)?)?;
-    Ok(label)
-}
+// A tree of one branch: a, then b, a and c, which are the atoms 0, 1 and 2.
+static BRANCH: [NodeRow; 3] = [(&[], &[1]), (&[0], &[0]), (&[0, 0], &[2])];
 
-fn add_child(
-    alloc: Global,
-    atoms: &mut AtomTable,
-    tree: &mut Tree,
-    at: &Path,
-    name: &[u8],
-) -> Result<bool, SelFault> {
-    let label = label_of(alloc, atoms, name)?;
-    Ok(tree.add_child(at, label).is_ok())
-}
-
-// Whether each child was added.
-fn grow(alloc: Global, atoms: &mut AtomTable, tree: &mut Tree) -> Result<bool, SelFault> {
-    let mut at = Path::root(alloc);
-    for name in [b"b", b"a", b"c"] {
-        if !add_child(alloc, atoms, tree, &at, name)? {
-            return Ok(false);
-        }
-        at.push(0)?;
+fn enter_names(atoms: &mut AtomTable) -> Result<(), SelFault> {
+    for name in [b"a", b"b", b"c"] {
+        atoms.intern(AtomKind::Element, name)?;
     }
-    Ok(true)
-}
-
-// A tree of one branch: a, then b, a and c.
-fn branch(alloc: Global, atoms: &mut AtomTable) -> Result<Tree, SelFault> {
-    let mut tree = Tree::new(alloc, label_of(alloc, atoms, b"a")?)?;
-    if grow(alloc, atoms, &mut tree)? {
-        Ok(tree)
-    } else {
-        Err(SelFault::Memory)
-    }
+    Ok(())
 }
 
 fn subject_fits(tree: &Tree, at: &Path, selector: &Selector) -> bool {
@@ -180,27 +155,30 @@ fn reads_lists(alloc: Global, atoms: &mut AtomTable) -> Result<bool, SelFault> {
 fn selectors_read_and_write(rt: HostRuntime) -> Result<(), Fail> {
     let mut atoms = AtomTable::new(rt.alloc());
     for row in &TEXTS {
-        assert!(rt; is_read(rt.alloc(), &mut atoms, row)?, "{}", row.0);
+        assert!(rt; is_read(rt.alloc(), &mut atoms, row)?);
     }
     assert!(rt; reads_lists(rt.alloc(), &mut atoms)?);
     Ok(())
 }
 
-// The text of a row that isn't right, where there is one.
-fn wrong_row(alloc: Global, atoms: &mut AtomTable) -> Result<&'static str, SelFault> {
-    let tree = branch(alloc, atoms)?;
+fn are_right(alloc: Global, tree: &Tree, atoms: &mut AtomTable) -> Result<bool, SelFault> {
     for row in &MATCHES {
-        if !is_right(alloc, &tree, atoms, row)? {
-            return Ok(row.0);
+        if !is_right(alloc, tree, atoms, row)? {
+            return Ok(false);
         }
     }
-    Ok("")
+    Ok(true)
+}
+
+fn all_match(alloc: Global, atoms: &mut AtomTable) -> Result<bool, Fail> {
+    enter_names(atoms)?;
+    let tree = tree_of(alloc, &[0], &BRANCH)?;
+    Ok(are_right(alloc, &tree, atoms)?)
 }
 
 #[test]
 fn selectors_match(rt: HostRuntime) -> Result<(), Fail> {
     let mut atoms = AtomTable::new(rt.alloc());
-    let wrong = wrong_row(rt.alloc(), &mut atoms)?;
-    assert!(rt; wrong.is_empty(), "{wrong}");
+    assert!(rt; all_match(rt.alloc(), &mut atoms)?);
     Ok(())
 }

@@ -1,28 +1,10 @@
 use std::alloc::Global;
 use std::test::Fail;
+use test_building::{NodeRow, add_child, path_of, set_of, tree_of};
 use tp_base::{Atom, ClassSet, NoMemory, Path};
 use tree_sem::{Action, Forest, Tree, TreeFault, Trees, go_on};
 
 const CLASS: Atom = Atom(7);
-
-pub(crate) fn path_of(alloc: Global, steps: &[u32]) -> Result<Path, NoMemory> {
-    let mut at = Path::root(alloc);
-    for step in steps {
-        at.push(*step)?;
-    }
-    Ok(at)
-}
-
-// One child more for the node at a path, with these classes; its number.
-pub(crate) fn add_child(
-    alloc: Global,
-    tree: &mut Tree,
-    parent: &[u32],
-    classes: &[u32],
-) -> Result<u32, TreeFault> {
-    let at = path_of(alloc, parent)?;
-    tree.add_child(&at, set_of(alloc, classes)?)
-}
 
 // Whether each call answers that the label grew the first time, and not again.
 fn grows_once(tree: &mut Tree, at: &Path, both: &ClassSet) -> Result<bool, TreeFault> {
@@ -98,15 +80,7 @@ fn reads_well(alloc: Global, tree: &Tree) -> Result<bool, NoMemory> {
     Ok(true)
 }
 
-pub(crate) fn set_of(alloc: Global, atoms: &[u32]) -> Result<ClassSet, NoMemory> {
-    let mut set = ClassSet::new(alloc);
-    for atom in atoms {
-        set.add(Atom(*atom))?;
-    }
-    Ok(set)
-}
-
-static FAMILY: [(&[u32], &[u32]); 6] = [
+static FAMILY: [NodeRow; 6] = [
     (&[], &[2]),
     (&[], &[3, 13]),
     (&[], &[4]),
@@ -118,11 +92,7 @@ static FAMILY: [(&[u32], &[u32]); 6] = [
 // A tree of seven nodes, each with a class or two: the root with 1, its children with 2, with 3 and 13 and with 4,
 // those of the second with 5 and 6, and one of 5 with 7.
 pub(crate) fn family(alloc: Global) -> Result<Tree, TreeFault> {
-    let mut tree = leaf(alloc, 1)?;
-    for (parent, classes) in &FAMILY {
-        add_child(alloc, &mut tree, parent, classes)?;
-    }
-    Ok(tree)
+    tree_of(alloc, &[1], &FAMILY)
 }
 
 fn leaf(alloc: Global, class: u32) -> Result<Tree, TreeFault> {
@@ -130,9 +100,7 @@ fn leaf(alloc: Global, class: u32) -> Result<Tree, TreeFault> {
 }
 
 fn with_child(alloc: Global) -> Result<Tree, TreeFault> {
-    let mut tree = leaf(alloc, 1)?;
-    add_child(alloc, &mut tree, &[], &[2])?;
-    Ok(tree)
+    tree_of(alloc, &[1], &[(&[], &[2])])
 }
 
 // Two trees: one of a node with the class 1 and a child with the class 2, and one of a node with the class 3.
@@ -286,10 +254,7 @@ pub(crate) fn has_shape(
 }
 
 fn two_leaves(alloc: Global) -> Result<Tree, TreeFault> {
-    let mut tree = Tree::new(alloc, ClassSet::new(alloc))?;
-    add_child(alloc, &mut tree, &[], &[])?;
-    add_child(alloc, &mut tree, &[], &[])?;
-    Ok(tree)
+    tree_of(alloc, &[], &[(&[], &[]), (&[], &[])])
 }
 
 fn add_class(alloc: Global, tree: &mut Tree, at: &[Path]) -> Result<(), TreeFault> {

@@ -1,6 +1,7 @@
-use crate::trees::{family, last_class, path_of};
+use crate::trees::{family, last_class};
 use std::alloc::Global;
 use std::test::Fail;
+use test_building::path_of;
 use tp_base::NoMemory;
 use tree_sem::Tree;
 

@@ -1,10 +1,12 @@
 ghost use Rattle.std.specs.Prelude.{◌≤◌};
 
-use crate::building::{always, either, set_of};
-use class_diagrams::{DiagramFault, Diagrams, MOST_BRANCHES};
+use crate::building::{always, either};
+use class_diagrams::{DiagramFault, Diagrams};
 use diagram_ops::{compose, size, support};
+use limits::MOST_BRANCHES;
 use std::alloc::Global;
 use std::test::Fail;
+use test_building::set_of;
 use tp_base::{Atom, ClassSet};
 
 const A: Atom = Atom(1);

@@ -3,73 +3,14 @@ ghost use Rattle.std.specs.Prelude.{IfOk, OnOk};
 ghost use Rattle.class_diagrams.specs.References.{Reference};
 ghost use Rattle.class_diagrams.specs.Arena.{IsIn};
 
-use crate::building::{always, either, kinds, links, locals, one, set_of, spawns};
+use crate::building::{always, either, one};
 use class_diagrams::{DiagramFault, Diagrams, Ref};
-use simple_core::{Kinds, Links, Locals, Spawns, System};
+use simple_core::System;
 use std::alloc::Global;
-use tp_base::{ClassSet, NoMemory};
+use test_building::{Script, rules_of};
+use tp_base::NoMemory;
 
-// A system, as the functions of `building` take its lists.
-struct Lists {
-    local: &'static [(u32, u32, u32)],
-    up: &'static [(u32, u32)],
-    down: &'static [(u32, u32)],
-    child: &'static [(u32, u32)],
-    kinds: &'static [(u32, u32)],
-    visible: &'static [u32],
-}
-
-// A box (3, a div, and 4, its class) gets boxes. 6 is below a box, 7 a box below a box, 8 below such a one, 9 a box
-// below such a one; 12 tells that there is one. 10 is a box's child; 5, 11 and 13 never come.
-static BOXES: Lists = Lists {
-    local: &[(4, 6, 7), (4, 8, 9), (5, 10, 11), (9, 9, 12), (11, 11, 13)],
-    up: &[(4, 6), (6, 6), (7, 8), (8, 8), (4, 10)],
-    down: &[(12, 12), (13, 13)],
-    child: &[(4, 0)],
-    kinds: &[(3, 4)],
-    visible: &[4, 6, 7, 8],
-};
-
-// A box (6) gets a paragraph (8, with 14), and that an error (9, a span, and 10, its class). 11 is above an error, 12
-// such a form (3), which is bad then (7); 13 is a bad form, 15 tells that there is one.
-static FORMS: Lists = Lists {
-    local: &[(3, 11, 12), (3, 7, 13), (12, 12, 7), (13, 13, 15)],
-    up: &[],
-    down: &[(10, 11), (11, 11), (15, 15)],
-    child: &[(6, 0), (14, 1)],
-    kinds: &[(8, 14), (9, 10)],
-    visible: &[],
-};
-
-// The rules that look at two nodes, or add one.
-fn outer_rules(alloc: Global, lists: &Lists) -> Result<(Links, Links, Spawns), NoMemory> {
-    let up = links(alloc, lists.up)?;
-    let down = links(alloc, lists.down)?;
-    let child = spawns(alloc, lists.child)?;
-    Ok((up, down, child))
-}
-
-// The rules that look at one node, the kinds, and what is visible.
-fn inner_rules(alloc: Global, lists: &Lists) -> Result<(Locals, Kinds, ClassSet), NoMemory> {
-    let visible = set_of(alloc, lists.visible)?;
-    let kinds = kinds(alloc, lists.kinds)?;
-    let local = locals(alloc, lists.local)?;
-    Ok((local, kinds, visible))
-}
-
-fn listed(alloc: Global, lists: &Lists) -> Result<System, NoMemory> {
-    let (up, down, child) = outer_rules(alloc, lists)?;
-    let (local, kinds, visible) = inner_rules(alloc, lists)?;
-    Ok(System {
-        local,
-        up,
-        down,
-        child,
-        kinds,
-        visible,
-    })
-}
-
+/// A script of `test_building`: boxes that get boxes (a div, 3, of the class 4), or forms (3) that are bad (7) where an error is below.
 #[derive(Clone, Copy)]
 pub enum Example {
     Boxes,
@@ -78,8 +19,8 @@ pub enum Example {
 
 pub fn system_of(alloc: Global, example: Example) -> Result<System, NoMemory> {
     match example {
-        Example::Boxes => listed(alloc, &BOXES),
-        Example::Forms => listed(alloc, &FORMS),
+        Example::Boxes => test_building::system_of(alloc, rules_of(Script::Boxes)),
+        Example::Forms => test_building::system_of(alloc, rules_of(Script::Errors)),
     }
 }
 

@@ -1,5 +1,5 @@
 -- Checks of lists, element by element.
-use Rattle.std.proofs.Common.{◌≡◌, ◌⊎◌, ℕ, ◌+◌, ◌<◌, ◌≤◌, List, [], ◌∷◌, ◌++◌, map, take, length, Some, IsSome, slice_get, Contains, refl, sym, subst, inr}
+use Rattle.std.proofs.Common.{◌≡◌, ◌⊎◌, ℕ, ◌+◌, ◌<◌, ◌≤◌, List, [], ◌∷◌, ◌++◌, map, take, length, Some, IsSome, slice_get, Contains, All, refl, sym, subst, inr}
 use Rattle.std.proofs.lemmas.List.{take_all}
 use Rattle.std.proofs.lemmas.List.Elements.{All-more, All-nil}
 use Rattle.tree_sem.specs.Trees.{LabelTree, node_at}
@@ -13,9 +13,13 @@ use Rattle.sel_core.specs.Selectors.{Selector, simple}
 use Rattle.sel_core.specs.Parts.{and_then, with_parts, selector_from}
 use Rattle.jq_sem.specs.Views.{atoms_of}
 use Rattle.css_read.specs.declared.sheets.SheetItem.{SheetItem}
-use Rattle.css_read.specs.Sheets.{Outcome, judged, skipped}
+use Rattle.css_read.specs.Sheets.{Outcome, judged, skipped, Item}
 use Rattle.css_read.specs.Views.{outcome_of, item_of}
+use Rattle.jq_sem.specs.Statements.{Statement}
+use Rattle.guard_sem.specs.Guards.{Guard}
+use Rattle.guard_simplify.specs.Law.{IsOver}
 use Rattle.judge.specs.Answers.{judged_of, judged_in}
+use Rattle.judge.specs.Outcomes.{AreGiven}
 use Rattle.jq_sem.specs.Tables.{AreAtoms, AreCompoundsOver, IsSelectorOver, AreSelectorsOver}
 
 pub atoms_more : (n : ℕ) (xs : List ℕ) (i a : ℕ) → i < length xs → slice_get xs i ≡ Some a → a < n → AreAtoms n (take i xs) → AreAtoms n (take (i + 1) xs)
@@ -46,3 +50,14 @@ root_node t at root = subst (λ v. IsSome (node_at v t)) (sym root) refl
 -- each node with an atom is the root or comes after it
 pub root_left : (n : ℕ) (t : LabelTree) (at : List ℕ) → at ≡ [] → (v : List ℕ) (a : ℕ) → HasAtom t v a → (a < n) ⊎ Contains (at ∷ rest_of at t) v
 root_left n t at root v a has = inr (subst (λ (p : List ℕ). Contains (p ∷ rest_of p t) v) (sym root) ((Contains-paths_of t v).1 (HasAtom-node t v a has)))
+
+-- what may be judged may be judged with further guards
+pub with_guards : (ss : List Statement) (items : List Item) (extra : List Guard) (n : ℕ) (page : LabelTree) → AreGiven ss items [] n page → All (IsOver n) extra → AreGiven ss items extra n page
+with_guards ss items extra n page given guards = record {
+  statements = given.statements;
+  selectors = given.selectors;
+  guards = guards;
+  tree = given.tree;
+  few_statements = given.few_statements;
+  few_nodes = given.few_nodes;
+}

@@ -1,19 +1,19 @@
 ghost use Rattle.std.specs.Prelude.{◌≤◌};
-ghost use Rattle.class_diagrams.specs.declared.refs.TheConstants.{MOST_BRANCHES};
-ghost use Rattle.judge.specs.declared.proving.TheConstants.{MOST_LISTED};
+ghost use Rattle.limits.specs.declared.budgets.TheConstants.{MOST_BRANCHES};
+ghost use Rattle.proof_core.specs.declared.unfolded.TheConstants.{MOST_LISTED};
 
-use crate::building::{add_class, append, statements};
 use crate::checks::is_given;
+use crate::reading::script_of;
 use crate::rows::{Budget, ROWS, Row, SPENT};
 use crate::texts::text_of;
-use class_diagrams::MOST_BRANCHES;
 use css_read::{Sheet, read_sheet};
 use html_subset::read_page;
 use jq_sem::Stmt;
 use judge::{JudgeFault, Limits, MOST_LISTED, judge};
+use limits::MOST_BRANCHES;
 use std::alloc::{AllocError, Global};
 use std::test::Fail;
-use tp_base::AtomTable;
+use tp_base::{AtomKind, AtomTable, MOST_ATOMS};
 use tree_sem::Tree;
 use usage_report::Answer;
 
@@ -89,7 +89,7 @@ fn said_by(
     sheet: &Sheet,
     atoms: &mut AtomTable,
 ) -> Result<String, Fail> {
-    let stmts = statements(alloc, row.2, atoms)?;
+    let stmts = script_of(alloc, row.2, atoms)?;
     told(alloc, page, sheet, &stmts, atoms, engine, row.3)
 }
 
@@ -163,25 +163,21 @@ fn sheet_of_all(alloc: Global, count: u32) -> Result<String, AllocError> {
     Ok(text)
 }
 
-// A box gets a box of the class of this number.
-fn add_box(
-    alloc: Global,
-    number: u32,
-    stmts: &mut Vec<Stmt>,
-    atoms: &mut AtomTable,
-) -> Result<(), Fail> {
-    let markup = format!(in alloc; "<div class='box c{number}'></div>")?;
-    append(alloc, ".box", markup.as_str(), stmts, atoms)
+// A box gets boxes of so many classes, and an `i` of the class `z`.
+fn put_boxes(text: &mut String, count: u32) -> Result<(), AllocError> {
+    for number in 1..=count {
+        write!(
+            text,
+            "$('.box').append('<div class=\"box c{number}\"></div>'); "
+        )?;
+    }
+    text.push_str("$('.box').append('<i class=z></i>')")
 }
 
-// A box gets boxes of so many classes, and an `i` of the class `z`.
 fn script_of_all(alloc: Global, count: u32, atoms: &mut AtomTable) -> Result<Vec<Stmt>, Fail> {
-    let mut stmts = Vec::new(alloc);
-    for number in 1..=count {
-        add_box(alloc, number, &mut stmts, atoms)?;
-    }
-    append(alloc, ".box", "<i class='z'></i>", &mut stmts, atoms)?;
-    Ok(stmts)
+    let mut text = String::new(alloc);
+    put_boxes(&mut text, count)?;
+    Ok(script_of(alloc, text.as_str(), atoms)?)
 }
 
 fn said_of_all(
@@ -346,67 +342,64 @@ fn is_long_said(alloc: Global, count: u32, wanted: &str) -> Result<bool, Fail> {
     Ok(said_of_long(alloc, count)?.as_str() == wanted)
 }
 
-// A compound looks at its parent by one visible atom, and takes two atoms in all.
+// Three atoms serve this selector besides its names. A page has three names of its own.
+static FULL: Row = ("", "html > body{}", "", (0, 0, 0), "TooManyAtoms");
+
+fn enter(alloc: Global, atoms: &mut AtomTable, number: u32) -> Result<(), Fail> {
+    let name = number.to_string(alloc)?;
+    atoms.intern(AtomKind::Class, name.as_bytes())?;
+    Ok(())
+}
+
+fn fill(alloc: Global, atoms: &mut AtomTable, count: u32) -> Result<(), Fail> {
+    for number in 0..count {
+        enter(alloc, atoms, number)?;
+    }
+    Ok(())
+}
+
+// Whether there is one atom too many where five names more would fill the table.
+fn is_full_said(alloc: Global) -> Result<bool, Fail> {
+    let mut atoms = AtomTable::new(alloc);
+    fill(alloc, &mut atoms, MOST_ATOMS - 5)?;
+    let page = read_page(alloc, FULL.0.as_bytes(), &mut atoms)?;
+    Ok(said_of(alloc, ROOMY, &FULL, &page, &mut atoms)?.as_str() == FULL.4)
+}
+
+// A compound looks at its parent by one visible atom.
 #[test]
 fn limits_of_the_system(rt: HostRuntime) -> Result<(), Fail> {
     let alloc = rt.alloc();
     assert!(rt; is_long_said(alloc, 33, "TooManyVisible")?);
-    assert!(rt; is_long_said(alloc, 65, "TooManyAtoms")?);
+    assert!(rt; is_full_said(alloc)?);
     Ok(())
 }
 
-// A node of this class and the class of the level gives its parent a class of that level.
-fn add_side(
-    alloc: Global,
-    (side, given): (&str, &str),
-    level: u32,
-    stmts: &mut Vec<Stmt>,
-    atoms: &mut AtomTable,
-) -> Result<(), Fail> {
-    let list = format!(in alloc; ".{side}.d{level}")?;
-    let class = format!(in alloc; ".{given}{level}")?;
-    add_class(alloc, list.as_str(), true, class.as_str(), stmts, atoms)
-}
-
-// A node with what both sides of a level give has the class of the next one.
-fn add_both(
-    alloc: Global,
-    level: u32,
-    stmts: &mut Vec<Stmt>,
-    atoms: &mut AtomTable,
-) -> Result<(), Fail> {
+// A node of either side with the class of a level gives its parent a class of that level, and a node with what both sides
+// give has the class of the next one.
+fn put_level(text: &mut String, level: u32) -> Result<(), AllocError> {
     let next = u64::from(level) + 1;
-    let list = format!(in alloc; ".p{level}.q{level}")?;
-    let class = format!(in alloc; ".d{next}")?;
-    add_class(alloc, list.as_str(), false, class.as_str(), stmts, atoms)
+    write!(text, "$('.l.d{level}').parent().addClass('p{level}'); ")?;
+    write!(text, "$('.r.d{level}').parent().addClass('q{level}'); ")?;
+    write!(text, "$('.p{level}.q{level}').addClass('d{next}'); ")
 }
 
-fn add_level(
-    alloc: Global,
-    level: u32,
-    stmts: &mut Vec<Stmt>,
-    atoms: &mut AtomTable,
-) -> Result<(), Fail> {
-    add_side(alloc, ("l", "p"), level, stmts, atoms)?;
-    add_side(alloc, ("r", "q"), level, stmts, atoms)?;
-    add_both(alloc, level, stmts, atoms)
-}
-
-// A node gets a child of each side, and the class of the first level.
-fn add_start(alloc: Global, stmts: &mut Vec<Stmt>, atoms: &mut AtomTable) -> Result<(), Fail> {
-    append(alloc, ".n", "<div class='n l'></div>", stmts, atoms)?;
-    append(alloc, ".n", "<div class='n r'></div>", stmts, atoms)?;
-    add_class(alloc, ".n", false, ".d1", stmts, atoms)
-}
-
-// A class of one level comes from both children of a node that have the class of the level below.
-fn doubling(alloc: Global, levels: u32, atoms: &mut AtomTable) -> Result<Vec<Stmt>, Fail> {
-    let mut stmts = Vec::new(alloc);
-    add_start(alloc, &mut stmts, atoms)?;
+// A node gets a child of each side, and the class of the first level. A class of one level comes from both children of a node
+// that have the class of the level below.
+fn put_levels(text: &mut String, levels: u32) -> Result<(), AllocError> {
+    text.push_str("$('.n').append('<div class=\"n l\"></div>'); ")?;
+    text.push_str("$('.n').append('<div class=\"n r\"></div>'); ")?;
+    text.push_str("$('.n').addClass('d1'); ")?;
     for level in 1..=levels {
-        add_level(alloc, level, &mut stmts, atoms)?;
+        put_level(text, level)?;
     }
-    Ok(stmts)
+    Ok(())
+}
+
+fn doubling(alloc: Global, levels: u32, atoms: &mut AtomTable) -> Result<Vec<Stmt>, Fail> {
+    let mut text = String::new(alloc);
+    put_levels(&mut text, levels)?;
+    Ok(script_of(alloc, text.as_str(), atoms)?)
 }
 
 fn said_by_doubling(

@@ -71,6 +71,13 @@ fn put_found(text: &mut String, found: &Result<Vec<Answer>, JudgeFault>) -> Resu
     }
 }
 
+/// The answers as text.
+pub fn answers_text(alloc: Global, answers: &[Answer]) -> Result<String, AllocError> {
+    let mut text = String::new(alloc);
+    put_answers(&mut text, answers)?;
+    Ok(text)
+}
+
 /// The answers as text, or the fault.
 pub fn text_of(alloc: Global, found: &Result<Vec<Answer>, JudgeFault>) -> Result<String, Fail> {
     let mut text = String::new(alloc);

@@ -1,10 +1,10 @@
 //! Long proofs: chains of entries, each of which names the one before it.
-use crate::building::{links_of, set_of};
 use proof_core::Below::Grown;
 use proof_core::Reason::{Down, Start};
 use proof_core::{Entries, Entry, PageItem, PageItems, Proof, ProofItem, ProofItems};
 use simple_core::{Kind, Kinds, Links, Locals, Spawn, Spawns, System};
 use std::alloc::Global;
+use test_building::{links, set_of};
 use tp_base::{Atom, ClassSet, NoMemory, Path};
 
 /// How many kinds the system of a chain has, each below the one before it. The first one comes by a step.
@@ -43,7 +43,7 @@ fn below_nodes(alloc: Global) -> Result<(Spawns, Kinds), NoMemory> {
 
 /// A node with the atom 0 gets a child of each kind that may stand there. Its parent gets 1 and 2 from the child's 0, and 1 from its 1.
 pub fn chain_system(alloc: Global) -> Result<System, NoMemory> {
-    let down = links_of(alloc, &[(0, 1), (1, 1), (0, 2)])?;
+    let down = links(alloc, &[(0, 1), (1, 1), (0, 2)])?;
     let local = Locals::new(Vec::new(alloc))?;
     let (child, kinds) = below_nodes(alloc)?;
     Ok(System {

@@ -1,7 +1,8 @@
 //! Proofs, as tables: those that hold, with what they unfold to, and the same with one thing wrong.
-use crate::systems::{BESIDE, BOXES, ERRORS, LISTS, NodeRow, SHARED, SystemRow};
+use crate::systems::{BESIDE, BOXES, ERRORS, LISTS, SHARED};
 use proof_core::Below::{Grown, Real};
 use proof_core::Reason::{self, Down, Local, Start, Up};
+use test_building::{NodeRow, Rules};
 
 /// Which system a proof is over.
 #[derive(Clone, Copy)]
@@ -13,7 +14,7 @@ pub enum Script {
     Beside,
 }
 
-pub fn system_row(script: Script) -> &'static SystemRow {
+pub fn rules_of(script: Script) -> &'static Rules {
     match script {
         Script::Boxes => &BOXES,
         Script::Errors => &ERRORS,

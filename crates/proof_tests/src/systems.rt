@@ -1,54 +1,22 @@
-//! Systems and pages, as tables.
-
-/// A rule that looks at one node: what it needs, what it gives, and its statement.
-pub type LocalRow = (&'static [u32], u32, Option<u32>);
-
-/// A link, from an atom to another.
-pub type LinkRow = (u32, u32);
-
-/// A rule that adds a child: what it needs, and the kind.
-pub type SpawnRow = (u32, u32);
-
-/// A node but the root: its parent's path, and its label.
-pub type NodeRow = (&'static [u32], &'static [u32]);
-
-pub struct KindRow {
-    pub label: &'static [u32],
-    pub stmt: u32,
-    pub above: Option<u32>,
-    pub number: u32,
-    pub siblings: u32,
-    pub beside: bool,
-}
-
-pub struct SystemRow {
-    pub local: &'static [LocalRow],
-    pub up: &'static [LinkRow],
-    pub down: &'static [LinkRow],
-    pub child: &'static [SpawnRow],
-    pub kinds: &'static [KindRow],
-}
+//! Systems, as tables.
+use test_building::{KIND, KindRow, Rules};
 
 /// `$('.box').append('<div class="box"></div>')` with `.box .box .box`, where `div` is 3 and `box` is 4.
-pub static BOXES: SystemRow = SystemRow {
+pub static BOXES: Rules = Rules {
     local: &[(&[4, 5], 6, None), (&[4, 7], 8, None), (&[8], 9, None)],
     up: &[(4, 5), (5, 5), (6, 7), (7, 7)],
     down: &[(9, 9)],
     child: &[(4, 0)],
     kinds: &[KindRow {
         label: &[3, 4],
-        stmt: 0,
-        above: None,
-        number: 0,
-        siblings: 1,
-        beside: false,
+        ..KIND
     }],
 };
 
 /// `$('.box').append('<p><span class="err"></span></p>')`, then `$('.err').parents('form').addClass('bad')`, with
 /// `form.bad`. `form` is 3, `box` is 6, `bad` is 7 and `err` is 10. A further kind is a `p` of its own, which has what asks for
 /// the `span` too.
-pub static ERRORS: SystemRow = SystemRow {
+pub static ERRORS: Rules = Rules {
     local: &[
         (&[3, 11], 12, None),
         (&[3, 7], 13, None),
@@ -61,34 +29,24 @@ pub static ERRORS: SystemRow = SystemRow {
     kinds: &[
         KindRow {
             label: &[8, 14],
-            stmt: 0,
-            above: None,
-            number: 0,
-            siblings: 1,
-            beside: false,
+            ..KIND
         },
         KindRow {
             label: &[9, 10],
-            stmt: 0,
             above: Some(0),
-            number: 0,
-            siblings: 1,
-            beside: false,
+            ..KIND
         },
         KindRow {
             label: &[8, 14],
             stmt: 2,
-            above: None,
-            number: 0,
-            siblings: 1,
-            beside: false,
+            ..KIND
         },
     ],
 };
 
 /// `$('.list').append('<li class="item"></li>')`, then `$('.list').on('click', '.item', ..)` whose function does
 /// `$(this).addClass('on')`, with `li.on`. `list` is 4, `li` is 5, `on` is 6 and `item` is 7.
-pub static LISTS: SystemRow = SystemRow {
+pub static LISTS: Rules = Rules {
     local: &[
         (&[7, 8], 9, None),
         (&[5, 6], 10, None),
@@ -100,18 +58,14 @@ pub static LISTS: SystemRow = SystemRow {
     child: &[(4, 0)],
     kinds: &[KindRow {
         label: &[5, 7],
-        stmt: 0,
-        above: None,
-        number: 0,
-        siblings: 1,
-        beside: false,
+        ..KIND
     }],
 };
 
 /// `$('.a').append('<ul><li class="x"></li></ul>')`, `$('.x').append('<b class="p"></b>')`,
 /// `$('.x').append('<i class="q"></i>')`, `$('.p').addClass('s')`, `$('.q').addClass('r')` and
 /// `$('ul').has('.s').has('.r').addClass('z')`, with `ul.z`. `a` is 4, `ul` is 5, `z` is 6 and `x` is 8.
-pub static SHARED: SystemRow = SystemRow {
+pub static SHARED: Rules = Rules {
     local: &[
         (&[5, 15], 16, None),
         (&[16, 17], 18, None),
@@ -127,42 +81,29 @@ pub static SHARED: SystemRow = SystemRow {
     kinds: &[
         KindRow {
             label: &[5, 20],
-            stmt: 0,
-            above: None,
-            number: 0,
-            siblings: 1,
-            beside: false,
+            ..KIND
         },
         KindRow {
             label: &[7, 8],
-            stmt: 0,
             above: Some(0),
-            number: 0,
-            siblings: 1,
-            beside: false,
+            ..KIND
         },
         KindRow {
             label: &[9, 10],
             stmt: 1,
-            above: None,
-            number: 0,
-            siblings: 1,
-            beside: false,
+            ..KIND
         },
         KindRow {
             label: &[11, 12],
             stmt: 2,
-            above: None,
-            number: 0,
-            siblings: 1,
-            beside: false,
+            ..KIND
         },
     ],
 };
 
 /// Forests that come beside a child: `$('.a').append('<b class="x"></b>')`, `$('.x').after('<i class="y"></i><u></u>')`,
 /// and what has a `.y` below it gets `z`, below which a `.y` is looked for. `a` is 4, `z` is 6, `y` is 7 and `x` is 9.
-pub static BESIDE: SystemRow = SystemRow {
+pub static BESIDE: Rules = Rules {
     local: &[(&[7, 16], 17, None), (&[14], 6, Some(2)), (&[17], 18, None)],
     up: &[(6, 16), (16, 16)],
     down: &[(9, 13), (7, 14), (18, 18)],
@@ -170,27 +111,22 @@ pub static BESIDE: SystemRow = SystemRow {
     kinds: &[
         KindRow {
             label: &[8, 9],
-            stmt: 0,
-            above: None,
-            number: 0,
-            siblings: 1,
-            beside: false,
+            ..KIND
         },
         KindRow {
             label: &[7, 10],
             stmt: 1,
-            above: None,
-            number: 0,
             siblings: 2,
             beside: true,
+            ..KIND
         },
         KindRow {
             label: &[11],
             stmt: 1,
-            above: None,
             number: 1,
             siblings: 2,
             beside: true,
+            ..KIND
         },
     ],
 };

@@ -1,10 +1,11 @@
-use crate::building::{are_few, page_of, path_of, proof_of, set_of, system_of};
+use crate::building::{are_few, proof_of};
 use crate::long::{DEPTH, chain, chain_system, twice};
-use crate::rows::{INVALID, ProofRow, StepRow, VALID, WantRow, system_row};
+use crate::rows::{INVALID, ProofRow, StepRow, VALID, WantRow, rules_of};
 use proof_core::{Proof, UnfoldFault, Unfolded, check, steps, unfold};
 use simple_core::System;
 use std::alloc::Global;
 use std::test::Fail;
+use test_building::{is_path, set_of, system_of, tree_of};
 use tp_base::{Atom, NoMemory, Path};
 use tree_sem::{Step, Tree, TreeFault};
 
@@ -34,7 +35,7 @@ fn told_on_page(
     proof: &Proof,
     system: &System,
 ) -> Result<Option<Told>, TreeFault> {
-    let page = page_of(alloc, row.page)?;
+    let page = tree_of(alloc, &[0], row.page)?;
     Ok(told(proof, system, &page, row.target, limit)?)
 }
 
@@ -44,17 +45,13 @@ fn told_by(
     limit: u64,
     proof: &Proof,
 ) -> Result<Option<Told>, TreeFault> {
-    let system = system_of(alloc, system_row(row.script))?;
+    let system = system_of(alloc, rules_of(row.script))?;
     told_on_page(alloc, row, limit, proof, &system)
 }
 
 fn told_of(alloc: Global, row: &ProofRow, limit: u64) -> Result<Option<Told>, TreeFault> {
     let proof = proof_of(alloc, row)?;
     told_by(alloc, row, limit, &proof)
-}
-
-fn is_path(path: &Path, numbers: &[u32]) -> bool {
-    path.len() == numbers.len() && (0..path.len()).all(|i| path.at(i) == numbers[i])
 }
 
 fn are_steps(steps: &[Step], rows: &[StepRow]) -> bool {

@@ -3,9 +3,10 @@ use std::alloc::{AllocError, Global};
 use std::path::{Path, PathBuf};
 use std::test::Fail;
 use std::{env, fs, process};
+use tp_base::MOST_BYTES;
 use tp_io::{
-    Files, HostFiles, HostSink, LoadFault, MOST_BYTES, MemFiles, MemSink, Sink, SinkFault,
-    SureFiles, SureSink, put_all,
+    Files, HostFiles, HostSink, LoadFault, MemFiles, MemSink, Sink, SinkFault, SureFiles, SureSink,
+    put_all,
 };
 
 // Two entries have one name: the first counts.

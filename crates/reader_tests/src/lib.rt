@@ -1,4 +1,4 @@
-//! Worked examples of the crates that read and write: names and paths, files and sinks, and pages, sheets, scripts and reports.
+//! Worked examples of the crates that read and write: names and paths, files and sinks, sheets at their limits, and reports.
 #![tactic(auto)]
 
 #[cfg(test)]
@@ -6,10 +6,6 @@ mod edges;
 #[cfg(test)]
 mod names;
 #[cfg(test)]
-mod pages;
-#[cfg(test)]
 mod reports;
 #[cfg(test)]
 mod sheets;
-#[cfg(test)]
-mod tokens;

@@ -1,5 +1,0 @@
-use Rattle.std.proofs.Common.{◌≡◌}
-use Rattle.closing_tests.proofs.tests.answers_as_wanted.Given as goal
-
-abbrev pub invariant-questions : goal.invariant-questions
-invariant-questions l = l.sums.system ≡ l.system

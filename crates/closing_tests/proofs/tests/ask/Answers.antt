@@ -1,6 +1,0 @@
-use Rattle.std.proofs.Common.{All, Contains, sym, subst}
-use Rattle.simple_core.specs.declared.system.System.{System}
-use Rattle.closing_tests.proofs.tests.ask.Goals as goal
-
-pub gain-requires-clause-visible : goal.gain-requires-clause-visible
-gain-requires-clause-visible c = subst (λ (s : System). All (Contains s.visible) c.args.parent.now) (sym c.requires) (c.within.ensures.members.0 c.if-not-within.false)

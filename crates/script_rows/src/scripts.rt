@@ -1,0 +1,62 @@
+//! Scripts: the places of their statements, and what each does to a node.
+use crate::places::places;
+use jq_read::{ScriptFault, read_script};
+use jq_sem::Stmt;
+use std::alloc::{AllocError, Global};
+use tp_base::{AtomTable, MOST_BYTES};
+use tree_sem::Action;
+
+#[derive(Clone, Copy)]
+pub(crate) enum OfScript {
+    Places,
+    Actions,
+}
+
+pub(crate) fn of_script(alloc: Global, case: OfScript, text: &[u8]) -> Result<String, ScriptFault> {
+    if text.len() > MOST_BYTES as usize {
+        return Ok(String::from_str(alloc, "too large")?);
+    }
+    let mut atoms = AtomTable::new(alloc);
+    let stmts = read_script(alloc, text, &mut atoms)?;
+    Ok(written(alloc, case, &stmts, &atoms)?)
+}
+
+fn written(
+    alloc: Global,
+    case: OfScript,
+    stmts: &[Stmt],
+    atoms: &AtomTable,
+) -> Result<String, AllocError> {
+    match case {
+        OfScript::Places => places(alloc, stmts),
+        OfScript::Actions => actions(alloc, stmts, atoms),
+    }
+}
+
+fn actions(alloc: Global, stmts: &[Stmt], atoms: &AtomTable) -> Result<String, AllocError> {
+    let mut out = String::new(alloc);
+    for stmt in stmts {
+        push_stmt(alloc, &mut out, stmt, atoms)?;
+    }
+    Ok(out)
+}
+
+fn push_stmt(
+    alloc: Global,
+    out: &mut String,
+    stmt: &Stmt,
+    atoms: &AtomTable,
+) -> Result<(), AllocError> {
+    let place = format!(in alloc; "{}:{} ", stmt.place.line, stmt.place.column)?;
+    out.push_str(&place)?;
+    push_action(out, &stmt.action, atoms)?;
+    out.push_str(" ")
+}
+
+fn push_action(out: &mut String, action: &Action, atoms: &AtomTable) -> Result<(), AllocError> {
+    match action {
+        Action::Classes(classes) => row_text::push_names(out, classes, atoms),
+        Action::Inside(_) => out.push_str("inside"),
+        Action::Beside(_) => out.push_str("beside"),
+    }
+}

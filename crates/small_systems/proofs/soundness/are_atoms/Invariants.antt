@@ -1,9 +1,0 @@
-use Rattle.std.proofs.Common.{◌-◌, length, take, All}
-use Rattle.simple_core.specs.Systems.{IsAtom}
-use Rattle.small_systems.proofs.soundness.are_atoms.Given as goal
-
-abbrev pub invariant-atoms : goal.invariant-atoms
-invariant-atoms l = All IsAtom (take l.i l.set)
-
-abbrev pub decreases-atoms : goal.decreases-atoms
-decreases-atoms l = length l.set - l.i

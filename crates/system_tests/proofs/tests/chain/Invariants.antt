@@ -1,6 +1,0 @@
-use Rattle.std.proofs.Common.{ℕ, ◌<◌}
-use Rattle.guard_simplify.specs.Law.{IsOver}
-use Rattle.system_tests.proofs.tests.chain.Given as goal
-
-abbrev pub invariant-compounds : goal.invariant-compounds
-invariant-compounds l = (n : ℕ) → l.first < n → l.inner < n → IsOver n l.made

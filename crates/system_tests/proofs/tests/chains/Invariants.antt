@@ -1,6 +1,0 @@
-use Rattle.std.proofs.Common.{length, All}
-use Rattle.guard_simplify.specs.Law.{IsOver}
-use Rattle.system_tests.proofs.tests.chains.Given as goal
-
-abbrev pub invariant-chains : goal.invariant-chains
-invariant-chains l = All (IsOver (length l.atoms)) l.guards.items
