@@ -8,13 +8,13 @@ use Rattle.html_subset.specs.declared.faults.PageFault.TheVariants.{Memory}
 use Rattle.html_tokens.specs.Tokens.{Token}
 use Rattle.html_subset.specs.Pages.{Ending, page_of, forest_of}
 use Rattle.html_subset.specs.Machine as machine
-use Rattle.html_subset.specs.Machine.{Machine, trees_of}
+use Rattle.html_subset.specs.Machine.{Machine, labelled_tree, trees_of}
 use Rattle.html_subset.specs.Results.{Reads}
 use Rattle.html_subset.proofs.Simulation.{page_same, forest_same}
 
 -- ---- a page
 
-pub page_reads : (ts : List Token) (table : List Named) (m n : Machine) → machine.bare_page table ≡ Ok m → machine.run ts m ≡ Ok n → page_of ts table ≡ (n.table, Ok n.tree)
+page_reads : (ts : List Token) (table : List Named) (m n : Machine) → machine.bare_page table ≡ Ok m → machine.run ts m ≡ Ok n → page_of ts table ≡ (n.table, Ok (labelled_tree n))
 unfolding machine.page_of
 page_reads ts table m n begins runs = page_same ts table ∙ rw (begins, runs) refl
 
@@ -25,6 +25,11 @@ page_stops ts table e begins = page_same ts table ∙ rw begins refl
 pub page_fails : (ts : List Token) (table : List Named) (m : Machine) (e : PageFault × List Named) → machine.bare_page table ≡ Ok m → machine.run ts m ≡ Err e → page_of ts table ≡ (e.1, Err e.0)
 unfolding machine.page_of
 page_fails ts table m e begins runs = page_same ts table ∙ rw (begins, runs) refl
+
+pub page_finished : (r : Result LabelTree PageFault) (ts : List Token) (table : List Named) (m n : Machine) → machine.bare_page table ≡ Ok m → machine.run ts m ≡ Ok n
+    → IfOk r (λ t. labelled_tree n ≡ t) → IfErr r (λ e. e ≡ Memory) → Reads (λ t. t) r n.table (page_of ts table)
+page_finished (Ok t) ts table m n begins runs same memory = page_reads ts table m n begins runs ∙ ap (λ (x : LabelTree). let e : Ending LabelTree = (n.table, Ok x) in e) same
+page_finished (Err e) ts table m n begins runs same memory = λ known. absurd (known memory)
 
 -- ---- markup
 

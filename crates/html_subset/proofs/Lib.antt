@@ -1,6 +1,5 @@
 pub mod ElementNames
 pub mod Fronts
-pub mod GatheredLemmas
 pub mod LabelLemmas
 pub mod AttributeLemmas
 pub mod ClassSteps
@@ -14,9 +13,10 @@ pub mod MachineLemmas
 pub mod GrowthLemmas
 pub mod TableLemmas
 pub mod Shown
+pub mod AtomLemmas
+pub mod RisingLabels
 pub mod Simulation
 pub mod ReadingSteps
 pub mod EndingLemmas
-pub mod AtomLemmas
 pub mod NamesKept
 mod Rows

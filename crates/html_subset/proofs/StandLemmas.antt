@@ -7,7 +7,7 @@ use Rattle.tree_sem.specs.Actions.{add_classes}
 use Rattle.tree_sem.specs.Order.{paths_of}
 use Rattle.tree_sem.proofs.NodeLemmas.{Contains-paths_of}
 use Rattle.tree_sem.proofs.ShapeLemmas.{bare_tree-edit_at, paths_of-same}
-use Rattle.tree_sem.proofs.CountLemmas.{count_of-add_child, count_of-add_classes}
+use Rattle.tree_sem.proofs.CountLemmas.{count_of-add_child}
 
 pub counted_child : (p l : List ℕ) (t : LabelTree) (n : ℕ) → IsSome (node_at p t) → count_of t ≤ n + 1 → count_of (edit_at p (add_child l) t) ≤ n + 1 + 1
 counted_child p l t n some le = let s = there (node_at p t) some in omega (arith, count_of-add_child p l t s.0 s.1, le)
@@ -29,6 +29,3 @@ there_after_classes p q classes t is =
     let u = edit_at p (add_classes classes) t in
     let same : paths_of u ≡ paths_of t = paths_of-same u t (bare_tree-edit_at p (add_classes classes) (λ s. refl) t) in
     (Contains-paths_of u q).0 (subst (λ (vs : List (List ℕ)). Contains vs q) (sym same) ((Contains-paths_of t q).1 is))
-
-pub counted_classes : (p classes : List ℕ) (t : LabelTree) (n : ℕ) → count_of t ≤ n → count_of (edit_at p (add_classes classes) t) ≤ n
-counted_classes p classes t n le = omega (arith, count_of-add_classes p classes t, le)

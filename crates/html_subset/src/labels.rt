@@ -6,17 +6,17 @@ ghost use Rattle.tp_base.specs.declared.atoms.AtomKind.TheVariants as named;
 ghost use Rattle.html_tokens.specs.Bytes.{lowered};
 ghost use Rattle.html_tokens.specs.Words.{word_len};
 ghost use Rattle.html_subset.specs.Labels as spec;
-ghost use Rattle.html_subset.specs.Building.{node_names, unless_given, and_names};
-ghost use Rattle.html_subset.specs.Builders.{names_in, given_of};
-ghost use Rattle.html_subset.specs.Machine.{none_given};
-ghost use Rattle.html_subset.specs.Counting.{with_attribute, name_then, with_attributes, names_then, names_besides, given_besides};
+ghost use Rattle.html_subset.specs.Building.{node_names};
+ghost use Rattle.html_subset.specs.Builders.{names_in};
+ghost use Rattle.html_subset.specs.Pages.{root_label};
+ghost use Rattle.html_subset.specs.Counting.{with_attribute, name_then, with_attributes, names_then};
 ghost use Rattle.html_subset.specs.Results.{Does, IsFront};
 ghost use Rattle.html_tokens.specs.Attributes.{without_case};
 ghost use Rattle.html_tokens.specs.Views.{attribute_of, bytes_of, start_tag_of};
 
 use crate::faults::PageFault;
-use crate::gathered::Gathered;
 use crate::name_places::lowered;
+use gathered::Gathered;
 use html_tokens::{Attribute, StartTag, next_attribute, word_len};
 use indexmap::IndexSet;
 use std::alloc::Global;
@@ -107,7 +107,7 @@ fn add_id(
 
 /// Adds the id, and then the classes as they are written.
 #[tactic(auto, using(crate::proofs::LabelLemmas::in_turn, crate::proofs::LabelLemmas::no_name, crate::proofs::Fronts::front_of_front, crate::proofs::Fronts::front_itself))]
-fn add_id_and_classes(
+pub(crate) fn add_id_and_classes(
     label: &mut Gathered,
     id: Option<&[u8]>,
     class: Option<&[u8]>,
@@ -196,9 +196,10 @@ fn add_attribute(
     Ok(())
 }
 
-/// Adds the atoms of the attributes in a tag, from behind its name on, that aren't set apart and whose names are new. Linear in the tag, on average.
+/// Adds the atoms of the attributes in a tag, from behind its name on, that aren't set apart and whose names are new. Linear in
+/// the tag, on average.
 #[tactic(auto, using(crate::proofs::AttributeLemmas::goes_on, crate::proofs::AttributeLemmas::names_go_on, crate::proofs::AttributeLemmas::fails, crate::proofs::AttributeLemmas::ends, crate::proofs::AttributeLemmas::names_end, crate::proofs::Fronts::front_of_front, crate::proofs::Fronts::front_itself))]
-fn add_attributes(
+pub(crate) fn add_attributes(
     alloc: Global,
     label: &mut Gathered,
     given: &mut NamesGiven,
@@ -218,63 +219,6 @@ fn add_attributes(
     Ok(())
 }
 
-/// What tags gave html, head or body: an id, classes, and other attributes.
-#[derive(Drop)]
-pub(crate) struct Given {
-    pub(crate) id: bool,
-    pub(crate) class: bool,
-    pub(crate) others: NamesGiven,
-}
-
-/// An attribute of a tag, where no tag gave it before.
-fn unless_given<'a>(given: bool, value: Option<&'a [u8]>) -> Option<&'a [u8]>
-    ensures { bytes_of result ≡ unless_given given (bytes_of value.entry) }
-{
-    if given { None } else { value }
-}
-
-impl Given {
-    pub(crate) fn new(alloc: Global) -> Self
-        ensures { given_of result ≡ none_given }
-    {
-        Given {
-            id: false,
-            class: false,
-            others: NamesGiven::new(alloc),
-        }
-    }
-
-    /// The atoms of what a tag gives that no tag gave before.
-    #[tactic(auto, using(crate::proofs::AttributeLemmas::given_in_turn, crate::proofs::AttributeLemmas::others_then, crate::proofs::Fronts::front_of_front))]
-    pub(crate) fn take(
-        &mut self,
-        alloc: Global,
-        tag: StartTag<'_>,
-        atoms: &mut AtomTable,
-    ) -> Result<ClassSet, PageFault>
-        ensures does { Does (λ l. (l, atoms.new)) result atoms.new (spec.labelled tag.entry.at (names_besides (given_of self.old) (start_tag_of tag.entry)) [] atoms.old) }
-        ensures given { OnOk result (given_of self.new ≡ given_besides (given_of self.old) (start_tag_of tag.entry)) }
-        ensures front { IsFront atoms.old atoms.new }
-    {
-        let mut names = Gathered::new(alloc);
-        let id = unless_given(self.id, tag.id);
-        let class = unless_given(self.class, tag.class);
-        add_id_and_classes(&mut names, id, class, tag.at, atoms)?;
-        add_attributes(
-            alloc,
-            &mut names,
-            &mut self.others,
-            tag.attributes,
-            tag.at,
-            atoms,
-        )?;
-        self.id = self.id || tag.id.is_some();
-        self.class = self.class || tag.class.is_some();
-        let set = names.into_set()?;
-        Ok(set)
-    }
-}
-
 /// Adds the atom of an element's name.
 #[tactic(auto, using(crate::proofs::LabelLemmas::one_name, crate::proofs::Fronts::front_itself))]
 fn add_element(
@@ -291,21 +235,19 @@ fn add_element(
     add_name(label, AtomKind::Element, name.as_slice(), at, atoms)
 }
 
-/// The label of an element of this name without attributes, for a tag at `at`.
+/// The atom of an element of this name, of which there is no tag yet.
 #[tactic(auto, using(crate::proofs::Fronts::front_itself))]
 pub(crate) fn element_label(
     alloc: Global,
     name: &[u8],
-    at: usize,
     atoms: &mut AtomTable,
-) -> Result<ClassSet, PageFault>
-    ensures does { Does (λ l. (l, atoms.new)) result atoms.new (spec.labelled at ((named.Element, lowered name.now) ∷ []) [] atoms.old) }
+) -> Result<Gathered, PageFault>
+    ensures does { Does (λ l. (l, atoms.new)) result atoms.new (root_label (lowered name.now) atoms.old) }
     ensures front { IsFront atoms.old atoms.new }
 {
     let mut label = Gathered::new(alloc);
-    add_element(alloc, &mut label, name, at, atoms)?;
-    let set = label.into_set()?;
-    Ok(set)
+    add_element(alloc, &mut label, name, 0, atoms)?;
+    Ok(label)
 }
 
 /// The label of the node that a tag adds. Linear in the tag, on average, but for one sort of its atoms.

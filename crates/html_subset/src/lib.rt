@@ -4,12 +4,12 @@
 mod builder;
 mod elements;
 mod faults;
-mod gathered;
 mod labels;
 mod name_places;
 mod nearest;
 mod open_elements;
 mod reading;
+mod roots;
 mod scopes;
 mod stack;
 

@@ -48,6 +48,7 @@ fn take_all<'a>(
     requires within { length text.now ≤ size }
     requires stands { Stands builder.old }
     ensures does { Does (λ _. machine_of builder.new atoms.new) result atoms.new (machine.run (tokens size text.now) (machine_of builder.old atoms.old)) }
+    ensures stands { OnOk result (Stands builder.new) }
     ensures front { IsFront atoms.old atoms.new }
 {
     let mut rest = text;
@@ -59,14 +60,14 @@ fn take_all<'a>(
     Ok(())
 }
 
-#[tactic(auto, using(crate::proofs::EndingLemmas::page_reads, crate::proofs::EndingLemmas::page_stops, crate::proofs::EndingLemmas::page_fails, crate::proofs::Fronts::front_of_front))]
+#[tactic(auto, using(crate::proofs::EndingLemmas::page_stops, crate::proofs::EndingLemmas::page_fails, crate::proofs::Fronts::front_of_front))]
 fn page(alloc: Global, text: &[u8], atoms: &mut AtomTable) -> Result<Tree, PageFault>
     ensures reads { Reads (λ t. t) result atoms.new (page_of (tokens (length text.now) (order_mark.behind_order_mark text.now)) atoms.old) }
     ensures front { IsFront atoms.old atoms.new }
 {
     let mut builder = Builder::start_page(alloc, atoms)?;
     take_all(&mut builder, text.len(), behind_order_mark(text), atoms)?;
-    Ok(builder.finish_page())
+    builder.finish_page()
 }
 
 #[tactic(auto, using(crate::proofs::Fronts::front_itself))]
@@ -80,8 +81,7 @@ fn forest(alloc: Global, text: &[u8], atoms: &mut AtomTable) -> Result<Forest, P
 }
 
 /// Reads a page: its tree has html at the root, and head and body below it. The names that were read before a refusal stay in the
-/// table. Linear in the file, on average, but for one sort of each node's atoms, and but that a further tag of html, head or body that gives something costs
-/// the length of that node's label too.
+/// table. Linear in the file, on average, but for one sort of each node's atoms; html, head and body may have any number of tags.
 #[tactic(auto, unfolding(crate::specs::Reading::read_page), using(crate::proofs::ReadingSteps::valid_len, crate::proofs::Fronts::front_itself))]
 pub fn read_page(alloc: Global, text: &[u8], atoms: &mut AtomTable) -> Result<Tree, PageFault>
     ensures reads { Reads (λ t. t) result atoms.new (spec.read_page text.now atoms.old) }

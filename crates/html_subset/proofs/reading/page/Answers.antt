@@ -1,7 +1,10 @@
-use Rattle.std.proofs.Common.{Ok, ap, ◌∙◌}
 use Rattle.std.proofs.lemmas.Result.{err_from_is_err_and}
-use Rattle.html_subset.proofs.EndingLemmas.{page_reads, page_fails}
+use Rattle.html_subset.proofs.EndingLemmas.{page_finished, page_fails}
+use Rattle.html_subset.proofs.Simulation.{page_kind}
 use Rattle.html_subset.proofs.reading.page.Goals as goal
+
+pub finish_page-requires-clause-page : goal.finish_page-requires-clause-page
+finish_page-requires-clause-page c = page_kind _ _ _ _ c.in_ok-builder.ensures.does c.in_ok-take_all.ensures.does
 
 pub returns-in_err-take_all-clause-reads : goal.returns-in_err-take_all-clause-reads
 returns-in_err-take_all-clause-reads c =
@@ -10,5 +13,4 @@ returns-in_err-take_all-clause-reads c =
 
 pub returns-clause-reads : goal.returns-clause-reads
 returns-clause-reads c =
-    rw (← c.behind_order_mark.ensures.gives) (page_reads _ _ _ _ c.in_ok-builder.ensures.does c.in_ok-take_all.ensures.does
-    ∙ ap (λ t. (c.take_all.new.atoms, Ok t)) c.finish_page.ensures)
+    rw (← c.behind_order_mark.ensures.gives) (page_finished c.finish_page.result _ _ _ _ c.in_ok-builder.ensures.does c.in_ok-take_all.ensures.does c.finish_page.ensures.tree c.finish_page.ensures.memory)
