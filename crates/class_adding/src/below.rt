@@ -15,6 +15,7 @@ use crate::added::add_added;
 use crate::gift_table::GiftTable;
 use crate::indexed_system::IndexedSystem;
 use crate::plans::is_round;
+use gathered::Gathered;
 use simple_core::{GainFault, Summaries};
 use tp_base::ClassSet;
 
@@ -36,7 +37,7 @@ pub(crate) fn look_below<S: Summaries>(
     fresh: &ClassSet,
     wake: Option<u64>,
     k: u64,
-    next: &mut ClassSet,
+    next: &mut Gathered,
 ) -> Result<Option<u64>, GainFault>
     requires sound { IsSound system.now }
     requires made { S.system sums.old ≡ system.now }

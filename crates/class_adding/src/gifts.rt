@@ -5,6 +5,7 @@ ghost use Rattle.class_adding.specs.Gifts.{given_by, AreEarly, IsGiven};
 ghost use Rattle.class_adding.specs.Filling.{IsBefore};
 
 use crate::indexed_system::IndexedSystem;
+use gathered::Gathered;
 use simple_core::Summaries;
 use std::alloc::Global;
 use tp_base::{Atom, ClassSet, NoMemory};
@@ -40,7 +41,7 @@ pub(crate) fn gifts_of<S: Summaries>(
 }
 
 // Adds what is given after k rounds.
-fn add_gifts(gifts: &[Gift], k: u64, next: &mut ClassSet) -> Result<(), NoMemory>
+fn add_gifts(gifts: &[Gift], k: u64, next: &mut Gathered) -> Result<(), NoMemory>
     ensures { OnOk result (next.new ≡ union_of next.old (given_by k gifts.now)) }
 {
     let mut rest = gifts;
@@ -92,7 +93,7 @@ fn gift_after(gifts: &[Gift], k: u64) -> Option<u64>
 }
 
 /// Adds what is given after k rounds, and tells the next round that brings more.
-pub(crate) fn give(gifts: &[Gift], k: u64, next: &mut ClassSet) -> Result<Option<u64>, NoMemory>
+pub(crate) fn give(gifts: &[Gift], k: u64, next: &mut Gathered) -> Result<Option<u64>, NoMemory>
     requires early { AreEarly gifts.now }
     ensures given { OnOk result (next.new ≡ union_of next.old (given_by k gifts.now)) }
     ensures same { IfOk result (λ wake. (m : ℕ) → k ≤ m → IsBefore m wake → given_by m gifts.now ≡ given_by k gifts.now) }

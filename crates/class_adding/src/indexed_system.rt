@@ -7,6 +7,7 @@ ghost use Rattle.class_adding.specs.Fresh.{IsMore, AreMet, AsksAnew};
 ghost use Rattle.class_adding.specs.Indexes.{row_of, at_place, at_row, by_label, given_in, to_of, kind_of, AreKinds, AreLocalsAt, AreLinksAt, AreSpawnsAt};
 
 use crate::places::Index;
+use gathered::Gathered;
 use simple_core::{Link, Local, Spawn, System};
 use std::alloc::Global;
 use std::marker::Model;
@@ -71,7 +72,7 @@ impl<'a> IndexedSystem<'a> {
         &self,
         label: &ClassSet,
         fresh: &ClassSet,
-        next: &mut ClassSet,
+        next: &mut Gathered,
     ) -> Result<(), NoMemory>
         requires { AreMet self.now.local label.now fresh.now }
         ensures { OnOk result (IsMore label.now (given_by_rules self.now.local label.now) next.old next.new) }
@@ -80,14 +81,14 @@ impl<'a> IndexedSystem<'a> {
     }
 
     /// Adds what the label of the parent gives.
-    pub(crate) fn add_up(&self, label: &ClassSet, next: &mut ClassSet) -> Result<(), NoMemory>
+    pub(crate) fn add_up(&self, label: &ClassSet, next: &mut Gathered) -> Result<(), NoMemory>
         ensures { OnOk result (next.new ≡ union_of next.old (given_by_links self.now.up label.now)) }
     {
         add_linked(self.system.up.items(), &self.up, label, next)
     }
 
     /// Adds what the label of a child gives.
-    pub(crate) fn add_down(&self, label: &ClassSet, next: &mut ClassSet) -> Result<(), NoMemory>
+    pub(crate) fn add_down(&self, label: &ClassSet, next: &mut Gathered) -> Result<(), NoMemory>
         ensures { OnOk result (next.new ≡ union_of next.old (given_by_links self.now.down label.now)) }
     {
         add_linked(self.system.down.items(), &self.down, label, next)
@@ -144,7 +145,7 @@ fn add_rule(
     rules: &[Local],
     place: usize,
     label: &ClassSet,
-    next: &mut ClassSet,
+    next: &mut Gathered,
 ) -> Result<(), NoMemory>
     ensures { OnOk result (next.new ≡ union_of next.old (at_place (given_in label.now) rules.now place)) }
 {
@@ -160,7 +161,7 @@ fn add_rules(
     rules: &[Local],
     row: &[usize],
     label: &ClassSet,
-    next: &mut ClassSet,
+    next: &mut Gathered,
 ) -> Result<(), NoMemory>
     ensures { OnOk result (next.new ≡ union_of next.old (at_row (given_in label.now) rules.now row.now)) }
 {
@@ -178,7 +179,7 @@ fn add_by_each(
     index: &Index,
     label: &ClassSet,
     fresh: &ClassSet,
-    next: &mut ClassSet,
+    next: &mut Gathered,
 ) -> Result<(), NoMemory>
     ensures { OnOk result (next.new ≡ union_of next.old (by_label (given_in label.now) rules.now index.now (λ a. a + 1) fresh.now)) }
 {
@@ -194,7 +195,7 @@ fn add_by_needs(
     index: &Index,
     label: &ClassSet,
     fresh: &ClassSet,
-    next: &mut ClassSet,
+    next: &mut Gathered,
 ) -> Result<(), NoMemory>
     requires index { AreLocalsAt rules.now index.now }
     requires met { AreMet rules.now label.now fresh.now }
@@ -205,7 +206,7 @@ fn add_by_needs(
     Ok(())
 }
 
-fn add_link(links: &[Link], place: usize, next: &mut ClassSet) -> Result<(), NoMemory>
+fn add_link(links: &[Link], place: usize, next: &mut Gathered) -> Result<(), NoMemory>
     ensures { OnOk result (next.new ≡ union_of next.old (at_place to_of links.now place)) }
 {
     if let Some(link) = links.get(place) {
@@ -214,7 +215,7 @@ fn add_link(links: &[Link], place: usize, next: &mut ClassSet) -> Result<(), NoM
     Ok(())
 }
 
-fn add_links(links: &[Link], row: &[usize], next: &mut ClassSet) -> Result<(), NoMemory>
+fn add_links(links: &[Link], row: &[usize], next: &mut Gathered) -> Result<(), NoMemory>
     ensures { OnOk result (next.new ≡ union_of next.old (at_row to_of links.now row.now)) }
 {
     let mut rest = row;
@@ -229,13 +230,12 @@ fn add_linked(
     links: &[Link],
     index: &Index,
     label: &ClassSet,
-    next: &mut ClassSet,
+    next: &mut Gathered,
 ) -> Result<(), NoMemory>
     requires { AreLinksAt links.now index.now }
     ensures { OnOk result (next.new ≡ union_of next.old (given_by_links links.now label.now)) }
 {
-    // Its contract says that a set rises.
-    let _ = next.len();
+    next.rises();
     for i in 0..label.len() {
         let atom = label.at(i);
         add_links(links, index.of(atom.0 as usize), next)?;

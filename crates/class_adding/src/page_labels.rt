@@ -14,6 +14,7 @@ use crate::indexed_system::IndexedSystem;
 use crate::nodes::PageNodes;
 use crate::paths::all_paths;
 use crate::places::Index;
+use gathered::Gathered;
 use std::alloc::Global;
 use std::marker::Model;
 use tp_base::{ClassSet, NoMemory, Path};
@@ -205,7 +206,7 @@ fn add_one(
     system: &IndexedSystem,
     own: &[ClassSet],
     number: usize,
-    next: &mut ClassSet,
+    next: &mut Gathered,
 ) -> Result<(), NoMemory>
     ensures { OnOk result (next.new ≡ union_of next.old (given_by_links system.now.down (get_or own.now number []))) }
 {
@@ -220,7 +221,7 @@ pub(crate) fn add_each(
     system: &IndexedSystem,
     own: &[ClassSet],
     row: &[usize],
-    next: &mut ClassSet,
+    next: &mut Gathered,
 ) -> Result<(), NoMemory>
     ensures { OnOk result (next.new ≡ union_of next.old (given_at system.now own.now row.now)) }
 {

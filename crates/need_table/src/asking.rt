@@ -8,6 +8,7 @@ ghost use Rattle.need_table.specs.Tables.{pair_of, labels, IsTable, IsMore, AreN
 use crate::entries::First;
 use crate::pair_table::Table;
 use crate::settling::fill;
+use gathered::Gathered;
 use simple_core::{GainFault, System};
 use std::alloc::Global;
 use tp_base::{Atom, ClassSet, NoMemory};
@@ -16,12 +17,13 @@ use tp_base::{Atom, ClassSet, NoMemory};
 fn atoms_of(alloc: Global, firsts: &[First]) -> Result<ClassSet, NoMemory>
     ensures { IfOk result (λ l. l ≡ set_of (map (λ f. f.atom) firsts.now)) }
 {
-    let mut label = ClassSet::new(alloc);
+    let mut label = Gathered::new(alloc);
     let mut rest = firsts;
     'firsts: while let Some((first, others)) = rest.split_first() {
         label.add(first.atom)?;
         rest = others;
     }
+    let label = label.into_set()?;
     Ok(label)
 }
 

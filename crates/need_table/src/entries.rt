@@ -4,6 +4,7 @@ ghost use Rattle.tp_base.specs.Classes.{has_class};
 ghost use Rattle.simple_core.specs.Labels.{set_of};
 ghost use Rattle.need_table.specs.Tables.{atoms_by, fresh_of};
 
+use gathered::Gathered;
 use std::alloc::Global;
 use tp_base::{Atom, ClassSet, NoMemory};
 
@@ -29,7 +30,7 @@ pub(crate) struct Entry {
 pub(crate) fn label_by(alloc: Global, firsts: &[First], round: u64) -> Result<ClassSet, NoMemory>
     ensures { IfOk result (λ l. l ≡ set_of (atoms_by round firsts.now)) }
 {
-    let mut label = ClassSet::new(alloc);
+    let mut label = Gathered::new(alloc);
     let mut rest = firsts;
     'firsts: while let Some((first, others)) = rest.split_first() {
         if first.round <= round {
@@ -37,6 +38,7 @@ pub(crate) fn label_by(alloc: Global, firsts: &[First], round: u64) -> Result<Cl
         }
         rest = others;
     }
+    let label = label.into_set()?;
     Ok(label)
 }
 

@@ -1,5 +1,5 @@
 -- What a look at one atom gives.
---     chosen_start, chosen_later    the chosen reason, by the atom's first round
+--     chosen_found, chosen_none     the chosen reason, by the way that is found
 --     first_some                    an atom that comes has a first round
 --     page_glance, added_glance     a look at a place, as one at its spot
 use Rattle.std.proofs.Common.{◌≡◌, ℕ, suc, ◌<◌, List, length, Contains, find, get_or, slice_get, Option, Some, None, option_map, unwrap_or, refl, sym, ap, ◌∙◌, subst}
@@ -8,29 +8,24 @@ use Rattle.std.proofs.lemmas.Option.{slice_get-get_or}
 use Rattle.tree_sem.specs.Trees.{LabelTree}
 use Rattle.simple_core.specs.declared.system.System.{System}
 use Rattle.simple_core.specs.Rounds.{IsFirst}
-use Rattle.proof_maker.specs.declared.choices.Choice.{Choice}
+use Rattle.proof_maker.specs.declared.choices.Found.{Found}
 use Rattle.proof_maker.specs.declared.choices.Choice.TheVariants.{Start}
 use Rattle.proof_maker.specs.declared.glances.Glance.{Glance}
 use Rattle.proof_maker.specs.declared.spots.TripleKey.{TripleKey}
 use Rattle.proof_maker.specs.declared.worlds.Place.TheVariants.{Node, Added}
-use Rattle.proof_maker.specs.Choices.{Setting, stands, ways, chosen}
+use Rattle.proof_maker.specs.Choices.{Setting, at_start, stands, ways, chosen}
 use Rattle.proof_maker.specs.Glances.{IsGlanceAt, IsGlance}
 use Rattle.proof_maker.specs.Needs.{Triple, page_node, added}
-use Rattle.proof_maker.specs.Reasons.{reason_of}
+use Rattle.proof_maker.specs.Reasons.{reason_of, found_reason}
 use Rattle.proof_maker.specs.Spots.{triple_of, triples_in}
 use Rattle.proof_maker.proofs.SetLemmas.{slice_get_map}
 
-module _ (s : System) (set : Setting) (v : List ℕ) (a : ℕ) where
-  pub chosen_start : (round : ℕ) → round ≡ 0 → reason_of Start ≡ chosen s set v a round
-  chosen_start round first = ap (chosen s set v a) (sym first)
+module _ (s : System) (set : Setting) (v : List ℕ) (a round before : ℕ) (later : round ≡ suc before) (o : Option Found) (is : option_map found_reason o ≡ find (stands s set before v) (ways s set v a)) where
+  pub chosen_found : (f : Found) → o ≡ Some f → found_reason f ≡ chosen s set v a round
+  chosen_found f at = ap (λ w. unwrap_or w at_start) (ap (option_map found_reason) (sym at) ∙ is) ∙ ap (chosen s set v a) (sym later)
 
-  or_start : (o : Option Choice) → reason_of (unwrap_or o Start) ≡ unwrap_or (option_map reason_of o) (reason_of Start)
-  or_start None = refl
-  or_start (Some w) = refl
-
-  pub chosen_later : (round before : ℕ) (o : Option Choice) → round ≡ suc before → option_map reason_of o ≡ find (stands s set before v) (ways s set v a)
-      → reason_of (unwrap_or o Start) ≡ chosen s set v a round
-  chosen_later round before o later is = or_start o ∙ ap (λ w. unwrap_or w (reason_of Start)) is ∙ ap (chosen s set v a) (sym later)
+  pub chosen_none : (f : Found) → o ≡ None → f.choice ≡ Start → found_reason f ≡ chosen s set v a round
+  chosen_none f none start = ap reason_of start ∙ ap (λ w. unwrap_or w at_start) (ap (option_map found_reason) (sym none) ∙ is) ∙ ap (chosen s set v a) (sym later)
 
 pub first_some : (f : ℕ → List ℕ) (a : ℕ) (o : Option ℕ) → ((k : ℕ) × Contains (f k) a) → IsFirst f a o → IsFirst f a (Some (unwrap_or o 0))
 first_some f a None comes first = absurd (first comes.0 comes.1)

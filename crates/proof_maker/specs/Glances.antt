@@ -9,7 +9,9 @@ use Rattle.simple_core.specs.Pairs.{Pair}
 use Rattle.simple_core.specs.Knowledge.{KeepsAsking}
 use Rattle.proof_maker.specs.declared.choices.Choice.{Choice}
 use Rattle.proof_maker.specs.declared.choices.Choice.TheVariants.{Start, Local, Up, Real, Spawn}
+use Rattle.proof_maker.specs.declared.choices.Found.{Found}
 use Rattle.proof_maker.specs.declared.worlds.Place.{Place}
+use Rattle.proof_maker.specs.declared.worlds.World.{World}
 use Rattle.proof_maker.specs.Choices.{chosen}
 use Rattle.proof_maker.specs.Worlds.{setting_of, path_of, labels_of}
 use Rattle.simple_core.specs.Rounds.{IsFirst}
@@ -23,6 +25,10 @@ is_spawn (Local l) = false
 is_spawn (Up l) = false
 is_spawn (Real l n) = false
 is_spawn (Spawn l c) = true
+
+-- a spawn is found with the visible label at the place in the round
+abbrev pub HasBelow : World → Place → ℕ → Found → Type 0
+HasBelow world place k f = is_spawn f.choice ≡ true → f.below ≡ visible_in world.system.now (labels_of world.system.now world.page.now place k)
 
 pub record IsGlanceAt (s : System) (page : LabelTree) (place : Place) (a : ℕ) (g : Glance) : Type 0 where
   pub first : IsFirst (labels_of s page place) a (Some g.round)

@@ -1,5 +1,5 @@
 //! The reason that is chosen for an atom at a place: the first one all of whose premises stand in the round before the atom's first round.
-ghost use Rattle.std.specs.Prelude.{◌≡◌, ◌&&◌, ◌++◌, ◌∷◌, [], ◌<◌, length, map, find, slice_get, Contains, IsSome, IfOk, option_map, unwrap_or};
+ghost use Rattle.std.specs.Prelude.{◌≡◌, ◌&&◌, ◌++◌, ◌∷◌, [], ◌<◌, ◌-◌, length, map, find, slice_get, Contains, IsSome, IfOk, IfSome, option_map, unwrap_or};
 ghost use Rattle.std.specs.List.{flat_map, range_with_len};
 ghost use Rattle.tp_base.specs.Classes.{has_class};
 ghost use Rattle.tree_sem.specs.Trees.{node_at, children_at};
@@ -9,7 +9,8 @@ ghost use Rattle.simple_core.specs.Pages.{page_round};
 ghost use Rattle.class_adding.specs.ClosedPages.{IsClosedPage};
 ghost use Rattle.proof_maker.specs.Choices.{by_local, by_up, ways_down, ways, chosen};
 ghost use Rattle.proof_maker.specs.Worlds.{setting_of, path_of, labels_of, IsPlace, IsNodeOf, IsReady, stands_at, real_has, spawn_has};
-ghost use Rattle.proof_maker.specs.Reasons.{reason_of};
+ghost use Rattle.proof_maker.specs.Glances.{HasBelow};
+ghost use Rattle.proof_maker.specs.Reasons.{found_reason};
 
 use crate::worlds::{Place, World, added_has, has, has_all, is_above, node_has, visible_at};
 use simple_core::{Link, Spawn, Summaries};
@@ -26,6 +27,23 @@ pub(crate) enum Choice {
     Spawn(u64, u64),
 }
 
+/// A reason, and for a spawn the visible label in the round before: with it the reason was found.
+#[derive(Drop)]
+pub(crate) struct Found {
+    pub(crate) choice: Choice,
+    pub(crate) below: ClassSet,
+}
+
+// A reason that is no spawn.
+fn alone(alloc: Global, choice: Choice) -> Found
+    ensures { result.choice ≡ choice }
+{
+    Found {
+        choice,
+        below: ClassSet::new(alloc),
+    }
+}
+
 /// The reason for an atom whose first round is `round`.
 pub(crate) fn chosen<S: Summaries>(
     alloc: Global,
@@ -34,17 +52,21 @@ pub(crate) fn chosen<S: Summaries>(
     place: &Place<'_>,
     atom: Atom,
     round: u64,
-) -> Result<Choice, NoMemory>
+) -> Result<Found, NoMemory>
     requires made { S.system sums.now ≡ world.now.system.now }
     requires ready { IsReady world.now (S.known sums.now) }
     requires place { IsPlace world.now.page.now (S.known sums.now) place.now }
-    ensures { IfOk result (λ w. reason_of w ≡ chosen world.now.system.now (setting_of world.now.system.now world.now.page.now place.now) (path_of place.now) atom round) }
+    ensures choice { IfOk result (λ f. found_reason f ≡ chosen world.now.system.now (setting_of world.now.system.now world.now.page.now place.now) (path_of place.now) atom round) }
+    ensures below { IfOk result (HasBelow world.now place.now (round - 1)) }
 {
     match round.checked_sub(1) {
-        None => Ok(Choice::Start),
+        None => Ok(alone(alloc, Choice::Start)),
         Some(before) => {
             let way = way(alloc, world, sums, place, atom, before)?;
-            Ok(way.unwrap_or(Choice::Start))
+            match way {
+                Some(found) => Ok(found),
+                None => Ok(alone(alloc, Choice::Start)),
+            }
         }
     }
 }
@@ -57,18 +79,19 @@ fn way<S: Summaries>(
     place: &Place<'_>,
     atom: Atom,
     round: u64,
-) -> Result<Option<Choice>, NoMemory>
+) -> Result<Option<Found>, NoMemory>
     requires made { S.system sums.now ≡ world.now.system.now }
     requires ready { IsReady world.now (S.known sums.now) }
     requires place { IsPlace world.now.page.now (S.known sums.now) place.now }
-    ensures { IfOk result (λ w. option_map reason_of w
+    ensures below { IfOk result (λ w. IfSome w (HasBelow world.now place.now round)) }
+    ensures choice { IfOk result (λ w. option_map found_reason w
         ≡ find (stands_at world.now place.now round) (ways world.now.system.now (setting_of world.now.system.now world.now.page.now place.now) (path_of place.now) atom)) }
 {
     if let Some(rule) = local_way(world, sums, place, world.locals.of(atom), round) {
-        return Ok(Some(Choice::Local(rule as u64)));
+        return Ok(Some(alone(alloc, Choice::Local(rule as u64))));
     }
     if let Some(link) = up_way(world, place, world.ups.of(atom), round)? {
-        return Ok(Some(Choice::Up(link as u64)));
+        return Ok(Some(alone(alloc, Choice::Up(link as u64))));
     }
     down_way(alloc, world, sums, place, world.downs.of(atom), round)
 }
@@ -147,11 +170,12 @@ fn down_way<S: Summaries>(
     place: &Place<'_>,
     links: &[usize],
     round: u64,
-) -> Result<Option<Choice>, NoMemory>
+) -> Result<Option<Found>, NoMemory>
     requires made { S.system sums.now ≡ world.now.system.now }
     requires ready { IsReady world.now (S.known sums.now) }
     requires place { IsPlace world.now.page.now (S.known sums.now) place.now }
-    ensures { IfOk result (λ w. option_map reason_of w
+    ensures below { IfOk result (λ w. IfSome w (HasBelow world.now place.now round)) }
+    ensures choice { IfOk result (λ w. option_map found_reason w
         ≡ find (stands_at world.now place.now round) (flat_map (ways_down world.now.system.now (setting_of world.now.system.now world.now.page.now place.now) (path_of place.now)) links.now)) }
 {
     for link in links {
@@ -171,20 +195,24 @@ fn link_way<S: Summaries>(
     place: &Place<'_>,
     link: usize,
     round: u64,
-) -> Result<Option<Choice>, NoMemory>
+) -> Result<Option<Found>, NoMemory>
     requires made { S.system sums.now ≡ world.now.system.now }
     requires ready { IsReady world.now (S.known sums.now) }
     requires place { IsPlace world.now.page.now (S.known sums.now) place.now }
-    ensures { IfOk result (λ w. option_map reason_of w
+    ensures below { IfOk result (λ w. IfSome w (HasBelow world.now place.now round)) }
+    ensures choice { IfOk result (λ w. option_map found_reason w
         ≡ find (stands_at world.now place.now round) (ways_down world.now.system.now (setting_of world.now.system.now world.now.page.now place.now) (path_of place.now) link)) }
 {
     let from = from_of(world.system.down.items(), link);
     if let Some(child) = real_child(world, place, from, round)? {
-        return Ok(Some(Choice::Real(link as u64, child)));
+        return Ok(Some(alone(alloc, Choice::Real(link as u64, child))));
     }
     let visible = visible_at(alloc, world, sums, place, round)?;
     match added_child(world, sums, place, from, &visible, round) {
-        Some(spawn) => Ok(Some(Choice::Spawn(link as u64, spawn as u64))),
+        Some(spawn) => Ok(Some(Found {
+            choice: Choice::Spawn(link as u64, spawn as u64),
+            below: visible,
+        })),
         None => Ok(None),
     }
 }

@@ -1,15 +1,14 @@
 //! What is looked up of one atom.
-ghost use Rattle.std.specs.Prelude.{◌≡◌, ◌<◌, ◌-◌, ℕ, List, length, slice_get, Some, true, Contains, IfOk, OnOk};
-ghost use Rattle.simple_core.specs.Labels.{visible_in};
+ghost use Rattle.std.specs.Prelude.{◌≡◌, ◌<◌, ℕ, List, length, slice_get, Some, Contains, IfOk, OnOk};
 ghost use Rattle.simple_core.specs.Knowledge.{KeepsAsking};
 ghost use Rattle.proof_maker.specs.Needs.{Triple, page_node, added};
 ghost use Rattle.proof_maker.specs.Worlds.{labels_of, IsPlace, IsAsking, IsReady};
 ghost use Rattle.proof_maker.specs.Spots.{paths_in, triples_in};
-ghost use Rattle.proof_maker.specs.Glances.{IsGlance, IsGlanceAt, IsNodeAt, IsTripleAt, is_spawn};
+ghost use Rattle.proof_maker.specs.Glances.{IsGlance, IsGlanceAt, IsNodeAt, IsTripleAt};
 
 use crate::choices::{Choice, chosen};
 use crate::spots::{TripleKey, path_of, set_of};
-use crate::worlds::{Place, World, first, visible_at};
+use crate::worlds::{Place, World, first};
 use indexmap::IndexSet;
 use simple_core::Summaries;
 use std::alloc::Global;
@@ -39,33 +38,12 @@ fn glance_in<S: Summaries>(
     ensures asking { OnOk result (IsAsking world.now.system.now (S.known sums.now) place.now) }
 {
     let round = first(world, sums, place, atom).unwrap_or(0);
-    let choice = chosen(alloc, world, sums, place, atom, round)?;
-    let below = below_of(alloc, world, sums, place, choice, round)?;
+    let found = chosen(alloc, world, sums, place, atom, round)?;
     Ok(Glance {
         round,
-        choice,
-        below,
+        choice: found.choice,
+        below: found.below,
     })
-}
-
-// The visible label in the round before, where the reason is a spawn.
-fn below_of<S: Summaries>(
-    alloc: Global,
-    world: &World<'_>,
-    sums: &S,
-    place: &Place<'_>,
-    choice: Choice,
-    round: u64,
-) -> Result<ClassSet, NoMemory>
-    requires made { S.system sums.now ≡ world.now.system.now }
-    requires ready { IsReady world.now (S.known sums.now) }
-    requires place { IsPlace world.now.page.now (S.known sums.now) place.now }
-    ensures { IfOk result (λ b. is_spawn choice ≡ true → b ≡ visible_in world.now.system.now (labels_of world.now.system.now world.now.page.now place.now (round - 1))) }
-{
-    match choice {
-        Choice::Spawn(_, _) => visible_at(alloc, world, sums, place, round.saturating_sub(1)),
-        _ => Ok(ClassSet::new(alloc)),
-    }
 }
 
 // Looks at an atom that comes at the node of this number.

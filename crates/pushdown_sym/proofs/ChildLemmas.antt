@@ -1,11 +1,12 @@
 -- The children that links look at, and their terms.
-use Rattle.std.proofs.Common.{◌≡◌, ℕ, ◌+◌, ◌<◌, ◌==◌, List, [], ◌∷◌, ◌++◌, map, fold, take, length, get_or, All, Contains, Result, refl, sym, ap, subst, ◌∙◌, inl, inr, if◌then◌else◌, append-nil}
+use Rattle.std.proofs.Common.{◌≡◌, ◌≢◌, ℕ, ◌+◌, ◌<◌, ◌==◌, true, false, not, List, [], ◌∷◌, ◌++◌, map, fold, take, length, get_or, All, Contains, Result, refl, sym, ap, subst, ◌∙◌, append-nil}
 use Rattle.std.specs.List.{filter, flat_map}
-use Rattle.std.proofs.lemmas.Bool.{cases_Bool, eqb-true}
+use Rattle.std.specs.List.Sorted.{IsStrictlyIncreasing}
 use Rattle.std.proofs.lemmas.List.{take_more}
 use Rattle.tree_sem.proofs.NodeLemmas.{map-Contains}
 use Rattle.tp_base.proofs.Rising.{All-from_Contains}
-use Rattle.class_diagrams.specs.References.{Reference}
+use Rattle.simple_core.proofs.Members.{filter-Contains}
+use Rattle.class_diagrams.specs.References.{Reference, leaf_reference}
 use Rattle.class_diagrams.specs.declared.faults.DiagramFault.{DiagramFault}
 use Rattle.class_diagrams.specs.Trees.{Tree, tand}
 use Rattle.class_diagrams.specs.Arena.{StartsWith, IsIn, Arena, IsArena}
@@ -15,17 +16,19 @@ use Rattle.simple_core.specs.declared.rules.Link.{Link}
 use Rattle.simple_core.specs.declared.rules.Spawn.{Spawn}
 use Rattle.simple_core.specs.declared.system.System.{System}
 use Rattle.pushdown_sym.specs.declared.gathering.Child.{Child}
-use Rattle.pushdown_sym.specs.CellMap.{Entries, trees_in}
+use Rattle.pushdown_sym.specs.CellMap.{Entries, place_in, trees_in, is_false}
 use Rattle.pushdown_sym.specs.Terms.{Term, down_term}
 use Rattle.pushdown_sym.specs.Adding.{AreIn, Adds, of_down}
-use Rattle.simple_core.specs.Givers.{places_from}
-use Rattle.pushdown_sym.specs.Givers.{of_place}
-use Rattle.pushdown_sym.specs.Children.{child_by, children_by, children_of, with_child, different, term_of}
+use Rattle.simple_core.specs.Givers.{places_from, places_in}
+use Rattle.pushdown_sym.specs.Givers.{of_place, AreMakers}
+use Rattle.pushdown_sym.specs.Children.{child_by, children_by, children_of, stands, standing_by, standing_each, standing_of, with_child, different, term_of}
 use Rattle.pushdown_sym.proofs.AddLemmas.{cells_same, flat_map-append}
 use Rattle.pushdown_sym.proofs.CellLemmas.{flat_map_found}
 use Rattle.pushdown_sym.proofs.GiverLemmas.{filtered_places}
 use Rattle.pushdown_sym.proofs.LinkLemmas.{map-as-flat, map-append, filtered_flat}
 use Rattle.pushdown_sym.proofs.DifferentLemmas.{fold_is, firsts_among, different_add}
+use Rattle.pushdown_sym.proofs.PlaceLemmas.{enough_places}
+use Rattle.pushdown_sym.proofs.StandingLemmas.{standing_add, standing_are, none_standing}
 
 -- ### one more, in a loop
 
@@ -35,15 +38,6 @@ fold-append f z (x ∷ xs) ys = fold-append f (f z x) xs ys
 
 taken : {X : Type 0} (xs : List X) (i : ℕ) (x : X) → i < length xs → x ≡ get_or xs i x → take (i + 1) xs ≡ take i xs ++ x ∷ []
 taken xs i x less item = take_more xs i x less ∙ (λ n. take i xs ++ sym item n ∷ [])
-
-pub with_one_more : {X : Type 0} (f : X → Child) (start : List Child) (xs : List X) (i : ℕ) (x : X) (now new : List Child) → i < length xs → x ≡ get_or xs i x
-    → now ≡ fold with_child start (map f (take i xs)) → new ≡ with_child now (f x) → new ≡ fold with_child start (map f (take (i + 1) xs))
-with_one_more f start xs i x now new less item before more =
-    more
-    ∙ ap (λ (cs : List Child). with_child cs (f x)) before
-    ∙ sym (ap (λ ys. fold with_child start (map f ys)) (taken xs i x less item)
-    ∙ ap (fold with_child start) (map-append f (take i xs) (x ∷ []))
-    ∙ fold-append with_child start (map f (take i xs)) (f x ∷ []))
 
 pub with_more : {X : Type 0} (f : X → List Child) (start : List Child) (xs : List X) (i : ℕ) (x : X) (now new : List Child) → i < length xs → x ≡ get_or xs i x
     → now ≡ fold with_child start (flat_map f (take i xs)) → new ≡ fold with_child now (f x) → new ≡ fold with_child start (flat_map f (take (i + 1) xs))
@@ -62,11 +56,12 @@ child_in ts s cells a inside c there =
     let spawn = map-Contains (child_by cells of.0) s.child c of.2 in
     subst (λ (d : Child). IsIn ts d.diagram) (sym spawn.2) (inside spawn.0.kind of.0.from)
 
-pub different_in : (ts : List Tree) (s : System) (cells : Entries) (a : ℕ) (children : List Child) → AreIn ts cells → children ≡ different (children_of s cells a)
+pub different_in : (ts : List Tree) (s : System) (cells : Entries) (a : ℕ) (children : List Child) → AreIn ts cells → children ≡ different (standing_of s cells a)
     → All (λ c. IsIn ts c.diagram) children
 different_in ts s cells a children inside are =
     All-from_Contains (λ (c : Child). IsIn ts c.diagram) children (λ c there.
-    child_in ts s cells a inside c (firsts_among [] (children_of s cells a) c (subst (λ (cs : List Child). Contains cs c) (are ∙ fold_is [] (children_of s cells a)) there)))
+    child_in ts s cells a inside c (filter-Contains stands (children_of s cells a) c
+    (firsts_among [] (standing_of s cells a) c (subst (λ (cs : List Child). Contains cs c) (are ∙ fold_is [] (standing_of s cells a)) there))).0)
 
 -- ### the terms of a child stay
 
@@ -103,26 +98,32 @@ terms_are ts s cells j a =
     ∙ sym (filtered_flat (λ (l : Link). l.to == a) (λ l. map (down_term (trees_in ts cells) j l) s.child) s.down)
 
 pub children_add : (s : System) (cells : Entries) (j a : ℕ) (c d : Arena) (g : Reference) (r : Result Reference DiagramFault) (children : List Child)
-    → IsArena c → AreIn c.branches cells → IsIn c.branches g → children ≡ different (children_of s cells a)
+    → IsArena c → AreIn c.branches cells → IsIn c.branches g → children ≡ different (standing_of s cells a)
     → Adds c d g (flat_map (λ (x : Child). term_of c.branches cells j x ∷ []) children) r
     → Adds c d g (flat_map (of_down s.child (trees_in c.branches cells) j a) s.down) r
 children_add s cells j a c d g r children arena inside within are adds =
     subst (λ (ts : List Term). Adds c d g ts r) (terms_are c.branches s cells j a)
-    (different_add c d cells j arena inside g within (children_of s cells a) r
-    (subst (λ (ts : List Term). Adds c d g ts r) (map-as-flat (term_of c.branches cells j) children ∙ ap (map (term_of c.branches cells j)) are) adds))
+    (standing_add c d cells j g arena (children_of s cells a) r
+    (different_add c d cells j arena inside g within (standing_of s cells a) r
+    (subst (λ (ts : List Term). Adds c d g ts r) (map-as-flat (term_of c.branches cells j) children ∙ ap (map (term_of c.branches cells j)) are) adds)))
 
--- ### what is kept
+-- ### those that stand
 
-pub kept_more : (good : ℕ → List Child → Type 0) (old new : ℕ → List Child) (atom : ℕ) (children : List Child)
-    → ((a : ℕ) → new a ≡ (if atom == a then children else old a)) → good atom children → ((a : ℕ) → good a (old a)) → (a : ℕ) → good a (new a)
-kept_more good old new atom children put here before a = elim (cases_Bool (atom == a)) [
-  | inl same ↦ subst (λ (cs : List Child). good a cs) (sym (rw same at (put a))) (subst (λ b. good b children) (eqb-true atom a same) here)
-  | inr other ↦ subst (λ (cs : List Child). good a cs) (sym (rw other at (put a))) (before a)
-]
+stands_no : (p : Reference) → p ≡ leaf_reference false → not (is_false p) ≡ true → ⊥
+stands_no p none passes = let wrong : false ≡ true = ap (λ q. not (is_false q)) (sym none) ∙ passes in cc
 
 -- what the links at the places look at is what those that give the atom look at
 pub gathered : (s : System) (cells : Entries) (a : ℕ) (links : List Link) (spawns : List Spawn) (places : List ℕ) → links ≡ s.down → spawns ≡ s.child
-    → places ≡ places_from (λ (l : Link). l.to == a) 0 s.down → fold with_child [] (flat_map (of_place (children_by cells spawns) links) places) ≡ different (children_of s cells a)
+    → places ≡ places_from (λ (l : Link). l.to == a) 0 s.down → fold with_child [] (flat_map (of_place (standing_each cells spawns) links) places) ≡ different (standing_of s cells a)
 gathered s cells a links spawns places links_are spawns_are places_are =
-    (λ n. fold with_child [] (flat_map (of_place (children_by cells (spawns_are n)) (links_are n)) (places_are n)))
-    ∙ ap (fold with_child []) (filtered_places (children_by cells s.child) (λ (l : Link). l.to == a) s.down)
+    (λ n. fold with_child [] (flat_map (of_place (standing_each cells (spawns_are n)) (links_are n)) (places_are n)))
+    ∙ ap (fold with_child []) (filtered_places (standing_each cells s.child) (λ (l : Link). l.to == a) s.down ∙ standing_are s cells a)
+
+-- what a link looks at, where these places are all those of the rules that make a kind which may have its left side
+pub link_added : (cells : Entries) (l : Link) (spawns : List Spawn) (makers : List (ℕ × List ℕ)) (kinds places : List ℕ) → AreMakers spawns makers
+    → ((j : ℕ) → place_in cells j l.from ≢ leaf_reference false → Contains kinds j) → IsStrictlyIncreasing places
+    → ((j : ℕ) → Contains kinds j → (i : ℕ) → Contains (places_in makers j) i → Contains places i)
+    → flat_map (of_place (standing_by cells l) spawns) places ≡ flat_map (standing_by cells l) spawns
+link_added cells l spawns makers kinds places are whole rises listed =
+    enough_places (standing_by cells l) (λ (c : Spawn). stands (child_by cells l c)) (none_standing cells l) spawns places rises (λ i c at passes.
+    listed c.kind (whole c.kind (λ none. stands_no (place_in cells c.kind l.from) none passes)) i (are i c at))

@@ -12,3 +12,5 @@ mod ChildLemmas
 pub mod MapLemmas
 mod Rows
 mod GiverLemmas
+mod PlaceLemmas
+mod StandingLemmas

@@ -1,9 +1,10 @@
 -- The children that links look at, each different one once.
 --     child_by cells l c           the child of a spawn, by a link
 --     children_of s cells a        all that the links that give an atom look at, in order
+--     standing_of s cells a        those of them whose diagram isn't false
 --     different children           each of them where it comes first
 --     term_of ts cells j child     what a node of kind j gets by it
-use Rattle.std.specs.Prelude.{◌≡◌, ℕ, Bool, ◌==◌, ◌&&◌, List, [], ◌∷◌, fold, map, filter, unwrap_or, ◌⊎◌}
+use Rattle.std.specs.Prelude.{◌≡◌, ℕ, Bool, not, ◌==◌, ◌&&◌, List, [], ◌∷◌, fold, map, filter, Option, None, Some, ◌⊎◌}
 use Rattle.std.specs.List.{flat_map}
 use Rattle.std.specs.Map.{lookup}
 use Rattle.indexmap.specs.IndexSet.{insert_key}
@@ -15,7 +16,7 @@ use Rattle.simple_core.specs.declared.rules.Link.{Link}
 use Rattle.simple_core.specs.declared.rules.Spawn.{Spawn}
 use Rattle.simple_core.specs.declared.system.System.{System}
 use Rattle.pushdown_sym.specs.declared.gathering.Child.{Child}
-use Rattle.pushdown_sym.specs.CellMap.{Entries, place_in, trees_in}
+use Rattle.pushdown_sym.specs.CellMap.{Entries, place_in, trees_in, is_false}
 use Rattle.pushdown_sym.specs.Terms.{Term}
 
 abbrev pub child_by : Entries → Link → Spawn → Child
@@ -26,6 +27,19 @@ children_by cells spawns l = map (child_by cells l) spawns
 
 abbrev pub children_of : System → Entries → ℕ → List Child
 children_of s cells a = flat_map (children_by cells s.child) (filter (λ l. l.to == a) s.down)
+
+-- its diagram holds under some label
+abbrev pub stands : Child → Bool
+stands c = not (is_false c.diagram)
+
+abbrev pub standing_by : Entries → Link → Spawn → List Child
+standing_by cells l c = filter stands (child_by cells l c ∷ [])
+
+abbrev pub standing_each : Entries → List Spawn → Link → List Child
+standing_each cells spawns l = flat_map (standing_by cells l) spawns
+
+abbrev pub standing_of : System → Entries → ℕ → List Child
+standing_of s cells a = filter stands (children_of s cells a)
 
 abbrev pub same_child : Child → Child → Bool
 same_child c d = (c.needs == d.needs) && (number_of c.diagram == number_of d.diagram)
@@ -44,10 +58,10 @@ term_of branches cells j c = record {
   before = trees_in branches cells j c.needs ∷ inner_results (tree_at branches c.diagram) (trees_in branches cells j);
 }
 
--- the children that are kept for an atom, none where nothing is
-abbrev pub kept_in : List (ℕ × List Child) → ℕ → List Child
-kept_in entries a = unwrap_or (lookup (λ key. a == key) entries) []
+-- the children that are kept for an atom
+abbrev pub kept_in : List (ℕ × List Child) → ℕ → Option (List Child)
+kept_in entries a = lookup (λ key. a == key) entries
 
--- for each atom nothing is kept, or the different children
+-- for each atom nothing is kept, or the different children that stand
 abbrev pub AreKept : System → Entries → List (ℕ × List Child) → Type 0
-AreKept s cells entries = (a : ℕ) → (kept_in entries a ≡ []) ⊎ (kept_in entries a ≡ different (children_of s cells a))
+AreKept s cells entries = (a : ℕ) → (kept_in entries a ≡ None) ⊎ (kept_in entries a ≡ Some (different (standing_of s cells a)))

@@ -4,7 +4,7 @@ ghost use Rattle.class_diagrams.specs.References.{Reference};
 ghost use Rattle.class_diagrams.specs.Arena.{tree_at, IsIn, IsArena, StartsWith};
 ghost use Rattle.diagram_ops.specs.Steps.{held_with_all, AreAmong, Calculates};
 ghost use Rattle.pushdown_sym.specs.Adding.{AreIn, next_in, results_in};
-ghost use Rattle.pushdown_sym.specs.Children.{children_of, different};
+ghost use Rattle.pushdown_sym.specs.Children.{standing_of, different};
 ghost use Rattle.simple_core.specs.Systems.{IsSound};
 ghost use Rattle.pushdown_sym.specs.Rounds.{cell};
 ghost use Rattle.pushdown_sym.specs.Laws.{Tells};
@@ -15,6 +15,7 @@ use crate::children::add_children;
 use crate::gathering::{Child, Children};
 use crate::links::add_ups;
 use crate::locals::add_locals;
+use crate::makers::Makers;
 use class_diagrams::{DiagramFault, Diagrams, Ref};
 use simple_core::{Givers, System};
 use std::alloc::Global;
@@ -28,17 +29,19 @@ pub struct Equations {
     locals: Givers,
     ups: Givers,
     downs: Givers,
+    makers: Makers,
 }
 
 impl Model for Equations {
     ghost use Rattle.simple_core.specs.declared.system.System.{System};
     ghost use Rattle.pushdown_sym.specs.Adding.{AreAllGivers};
+    ghost use Rattle.pushdown_sym.specs.Givers.{AreMakers};
 
     ghost Value = { System };
 
     ghost view = { λ e. e.system };
 
-    ghost invariant = { λ e. AreAllGivers e.system e.locals e.ups e.downs };
+    ghost invariant = { λ e. AreAllGivers e.system e.locals e.ups e.downs × AreMakers e.system.child e.makers };
 }
 
 impl Equations {
@@ -51,12 +54,14 @@ impl Equations {
             locals: Givers::of_locals(alloc, system.local.items())?,
             ups: Givers::of_links(alloc, system.up.items())?,
             downs: Givers::of_links(alloc, system.down.items())?,
+            makers: Makers::of_spawns(alloc, system.child.items())?,
         })
     }
 
     /// The cell of a kind and an atom in the round behind `now`. Of the rules that give the atom: a conjunction for each
-    /// atom that a local one needs, for each link from a child a look at each kind of child, and a composition for each
-    /// different pair of a child's diagram and the atom that makes the child. `Round` looks once for all kinds.
+    /// atom that a local one needs, for each link from a child a look at each kind of child that may have its left side, and
+    /// a composition for each different pair of a child's diagram and the atom that makes the child. `Round` looks once for
+    /// all kinds.
     pub fn next_cell(
         &self,
         alloc: Global,
@@ -101,14 +106,14 @@ impl Equations {
         }
     }
 
-    // The different children that the links that give the atom look at.
+    // The different children that the links that give the atom look at, without those that can't be there.
     pub(crate) fn children(
         &self,
         alloc: Global,
         now: &Cells,
         atom: Atom,
     ) -> Result<Children, NoMemory>
-        ensures { IfOk result (λ c. c ≡ different (children_of self.now now.now atom)) }
+        ensures { IfOk result (λ c. c ≡ different (standing_of self.now now.now atom)) }
     {
         let places = self.downs.of(atom);
         Children::of(
@@ -117,6 +122,7 @@ impl Equations {
             self.system.down.items(),
             places,
             self.system.child.items(),
+            &self.makers,
         )
     }
 
@@ -131,7 +137,7 @@ impl Equations {
     ) -> Result<Ref, DiagramFault>
         requires inside { AreIn d.old.branches now.now }
         requires arena { IsArena d.old }
-        requires children { children.now ≡ different (children_of self.now now.now cell.1) }
+        requires children { children.now ≡ different (standing_of self.now now.now cell.1) }
         ensures { Calculates d.old d.new (results_in self.now d.old now.now cell.0 cell.1) (next_in self.now d.old now.now cell.0 cell.1) result }
     {
         let locals = self.locals.of(cell.1);
@@ -154,7 +160,7 @@ fn next_of(
     requires arena { IsArena d.old }
     requires locals { givers.0.now ≡ places_from (λ r. r.gives == cell.1) 0 system.now.local }
     requires ups { givers.1.now ≡ places_from (λ l. l.to == cell.1) 0 system.now.up }
-    requires children { children.now ≡ different (children_of system.now now.now cell.1) }
+    requires children { children.now ≡ different (standing_of system.now now.now cell.1) }
     ensures { Calculates d.old d.new (results_in system.now d.old now.now cell.0 cell.1) (next_in system.now d.old now.now cell.0 cell.1) result }
 {
     let (kind, atom) = cell;

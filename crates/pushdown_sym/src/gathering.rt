@@ -1,11 +1,11 @@
-//! The children that links look at, each different one once.
-ghost use Rattle.std.specs.Prelude.{◌≡◌, fold, map, [], IfOk, OnOk};
+//! The children that links look at and that may be there, each different one once.
+ghost use Rattle.std.specs.Prelude.{◌≡◌, fold, [], IfOk, OnOk};
 ghost use Rattle.std.specs.List.{flat_map};
-ghost use Rattle.simple_core.specs.declared.rules.Spawn.{Spawn};
-ghost use Rattle.pushdown_sym.specs.Children.{child_by, children_by, with_child};
-ghost use Rattle.pushdown_sym.specs.Givers.{of_place};
+ghost use Rattle.pushdown_sym.specs.Children.{standing_by, standing_each, with_child};
+ghost use Rattle.pushdown_sym.specs.Givers.{of_place, AreMakers};
 
-use crate::cells::Cells;
+use crate::cells::{Cells, is_false};
+use crate::makers::Makers;
 use class_diagrams::Ref;
 use indexmap::IndexSet;
 use simple_core::{Link, Spawn};
@@ -44,17 +44,50 @@ impl Children {
         }
     }
 
-    // What a link looks at.
-    fn add_link(&mut self, now: &Cells, link: &Link, spawns: &[Spawn]) -> Result<(), NoMemory>
-        ensures { OnOk result (self.new ≡ fold with_child self.old (map (child_by now.now link.now) spawns.now)) }
+    // The child of a spawn rule by a link, if its diagram isn't false.
+    fn add_standing(&mut self, now: &Cells, link: &Link, spawn: &Spawn) -> Result<(), NoMemory>
+        ensures { OnOk result (self.new ≡ fold with_child self.old (standing_by now.now link.now spawn.now)) }
     {
-        for i in 0..spawns.len() {
-            let spawn = spawns[i];
-            let diagram = now.get(spawn.kind, link.from);
-            self.set.insert(Child {
-                needs: spawn.needs,
-                diagram,
-            })?;
+        let diagram = now.get(spawn.kind, link.from);
+        if !is_false(diagram) {
+            let needs = spawn.needs;
+            self.set.insert(Child { needs, diagram })?;
+        }
+        Ok(())
+    }
+
+    // The same of the spawn rule at a place.
+    fn add_spawn_at(
+        &mut self,
+        now: &Cells,
+        link: &Link,
+        spawns: &[Spawn],
+        place: usize,
+    ) -> Result<(), NoMemory>
+        ensures { OnOk result (self.new ≡ fold with_child self.old (of_place (standing_by now.now link.now) spawns.now place)) }
+    {
+        if place < spawns.len() {
+            self.add_standing(now, link, &spawns[place])?;
+        }
+        Ok(())
+    }
+
+    // What a link looks at: the children of the kinds that may have its left side.
+    fn add_link(
+        &mut self,
+        alloc: Global,
+        now: &Cells,
+        link: &Link,
+        spawns: &[Spawn],
+        makers: &Makers,
+    ) -> Result<(), NoMemory>
+        requires makers { AreMakers spawns.now makers.now }
+        ensures { OnOk result (self.new ≡ fold with_child self.old (flat_map (standing_by now.now link.now) spawns.now)) }
+    {
+        let places = makers.of_each(alloc, now.kinds_with(link.from))?;
+        for i in 0..places.len() {
+            let place = places[i];
+            self.add_spawn_at(now, link, spawns, place)?;
         }
         Ok(())
     }
@@ -62,33 +95,38 @@ impl Children {
     // What the link at a place looks at.
     fn add_link_at(
         &mut self,
+        alloc: Global,
         now: &Cells,
         links: &[Link],
         place: usize,
         spawns: &[Spawn],
+        makers: &Makers,
     ) -> Result<(), NoMemory>
-        ensures { OnOk result (self.new ≡ fold with_child self.old (of_place (children_by now.now spawns.now) links.now place)) }
+        requires makers { AreMakers spawns.now makers.now }
+        ensures { OnOk result (self.new ≡ fold with_child self.old (of_place (standing_each now.now spawns.now) links.now place)) }
     {
         if place < links.len() {
-            self.add_link(now, &links[place], spawns)?;
+            self.add_link(alloc, now, &links[place], spawns, makers)?;
         }
         Ok(())
     }
 
-    /// What the links at these places look at. A look at each spawn for each of them.
+    /// What the links at these places look at. A look at each kind of child that may have the left side of one of them.
     pub(crate) fn of(
         alloc: Global,
         now: &Cells,
         links: &[Link],
         places: &[usize],
         spawns: &[Spawn],
+        makers: &Makers,
     ) -> Result<Self, NoMemory>
-        ensures { IfOk result (λ c. c ≡ fold with_child [] (flat_map (of_place (children_by now.now spawns.now) links.now) places.now)) }
+        requires makers { AreMakers spawns.now makers.now }
+        ensures { IfOk result (λ c. c ≡ fold with_child [] (flat_map (of_place (standing_each now.now spawns.now) links.now) places.now)) }
     {
         let mut children = Children::new(alloc);
         for i in 0..places.len() {
             let place = places[i];
-            children.add_link_at(now, links, place, spawns)?;
+            children.add_link_at(alloc, now, links, place, spawns, makers)?;
         }
         Ok(children)
     }

@@ -8,6 +8,7 @@ mod gathering;
 mod laws;
 mod links;
 mod locals;
+mod makers;
 mod rounds;
 
 pub use cells::Cells;

@@ -1,5 +1,5 @@
 //! The cells of a round, and those behind it.
-ghost use Rattle.std.specs.Prelude.{◌≡◌, ◌<◌, ◌==◌, if◌then◌else◌, length, ℕ, suc, IsErrOf, IfOk, OnOk, OnErr, []};
+ghost use Rattle.std.specs.Prelude.{◌≡◌, ◌<◌, ◌==◌, if◌then◌else◌, length, ℕ, suc, IsErrOf, IfOk, OnOk, OnErr, [], Some, is_some, unwrap_or};
 ghost use Rattle.class_diagrams.specs.References.{Reference};
 ghost use Rattle.class_diagrams.specs.Arena.{tree_at, IsIn, IsArena, StartsWith};
 ghost use Rattle.diagram_ops.specs.Steps.{held_with_all, AreAmong, Calculates};
@@ -8,7 +8,7 @@ ghost use Rattle.pushdown_sym.specs.Rounds.{cell};
 ghost use Rattle.pushdown_sym.specs.Laws.{Tells};
 ghost use Rattle.pushdown_sym.specs.CellMap.{place_in};
 ghost use Rattle.pushdown_sym.specs.Adding.{AreIn, next_in, results_in};
-ghost use Rattle.pushdown_sym.specs.Children.{children_of, different, kept_in, AreKept};
+ghost use Rattle.pushdown_sym.specs.Children.{standing_of, different, kept_in, AreKept};
 
 use crate::cells::Cells;
 use crate::equations::Equations;
@@ -19,7 +19,7 @@ use std::alloc::Global;
 use std::marker::Model;
 use tp_base::{Atom, NoMemory};
 
-// For some atoms the different children that links look at.
+// For some atoms the different children that links look at and that may be there.
 #[derive(Drop)]
 struct Kept {
     map: IndexMap<Atom, Children>,
@@ -43,8 +43,15 @@ impl Kept {
         }
     }
 
+    fn has(&self, atom: Atom) -> bool
+        ensures { result ≡ is_some (kept_in self.now atom) }
+    {
+        self.map.get(&atom).is_some()
+    }
+
+    // The children of an atom, none where nothing is kept.
     fn of(&self, atom: Atom) -> &[Child]
-        ensures { result.now ≡ kept_in self.now atom }
+        ensures { result.now ≡ unwrap_or (kept_in self.now atom) [] }
     {
         match self.map.get(&atom) {
             None => &[],
@@ -53,7 +60,7 @@ impl Kept {
     }
 
     fn keep(&mut self, atom: Atom, children: Children) -> Result<(), NoMemory>
-        ensures ok { OnOk result ((a : ℕ) → kept_in self.new a ≡ (if atom == a then children else kept_in self.old a)) }
+        ensures ok { OnOk result ((a : ℕ) → kept_in self.new a ≡ (if atom == a then Some children else kept_in self.old a)) }
         ensures err { OnErr result (self.new ≡ self.old) }
     {
         self.map.insert(atom, children)?;
@@ -70,9 +77,9 @@ impl Kept {
     ) -> Result<(), NoMemory>
         requires { AreKept equations.now now.now self.old }
         ensures kept { AreKept equations.now now.now self.new }
-        ensures there { OnOk result (kept_in self.new atom ≡ different (children_of equations.now now.now atom)) }
+        ensures there { OnOk result (kept_in self.new atom ≡ Some (different (standing_of equations.now now.now atom))) }
     {
-        if self.of(atom).len() == 0 {
+        if !self.has(atom) {
             let children = equations.children(alloc, now, atom)?;
             self.keep(atom, children)?;
         }
@@ -121,8 +128,8 @@ impl<'e, 'c> Round<'e, 'c> {
     }
 
     /// The cell of a kind and an atom in the round behind this one, as `Equations::next_cell` gives it. Once for each atom,
-    /// each link that gives it costs a look at each kind of child; and then each cell a composition for each different pair
-    /// of a child's diagram and the atom that makes the child.
+    /// each link that gives it costs a look at each kind of child that may have its left side; and then each cell a
+    /// composition for each different pair of a child's diagram and the atom that makes the child.
     pub fn next_cell(
         &mut self,
         alloc: Global,

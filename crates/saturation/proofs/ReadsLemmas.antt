@@ -1,7 +1,7 @@
 -- What the rules of a system look at.
 use Rattle.std.proofs.Common.{◌≡◌, ℕ, List, [], map, Contains, sym, ap, subst, ◌∙◌, inl, inr}
 use Rattle.tp_base.specs.Classes.{union_of}
-use Rattle.tp_base.proofs.ClassLemmas.{Contains-union_of}
+use Rattle.tp_base.proofs.ClassLemmas.{Contains-union_of, union_of-keeps_right}
 use Rattle.tp_base.proofs.Rising.{Contains-none}
 use Rattle.tree_sem.proofs.NodeLemmas.{Contains-map, map-Contains}
 use Rattle.simple_core.specs.declared.rules.Link.{Link}
@@ -10,21 +10,14 @@ use Rattle.simple_core.specs.declared.rules.Spawn.{Spawn}
 use Rattle.simple_core.specs.declared.system.System.{System}
 use Rattle.saturation.specs.Tables.{OfNeeds, OfLinks, OfSpawns, AreReads}
 
-union_from : (start old new xs ys : List ℕ) → old ≡ start → new ≡ union_of old xs → xs ≡ ys → new ≡ union_of start ys
-union_from start old new xs ys at is same = is ∙ ap (λ (zs : List ℕ). union_of zs xs) at ∙ ap (union_of start) same
-
 -- from what the tables and the sets were made of
 module _ (s : System) (by_needs by_child makers : ℕ → List ℕ) (locals : List Local) (downs : List Link) (spawns : List Spawn)
     (local_is : locals ≡ s.local) (down_is : downs ≡ s.down) (spawn_is : spawns ≡ s.child)
     (needs : OfNeeds locals by_needs) (child : OfLinks downs by_child) (spawned : OfSpawns spawns makers) where
-  module _ (none ends visible looked : List ℕ) (links : List Link) (makes : List Spawn) (links_are : links ≡ s.down) (makes_are : makes ≡ s.child)
-      (nothing : none ≡ []) (ends_are : ends ≡ union_of none (map (λ (l : Link). l.to) links))
-      (visible_is : visible ≡ s.visible) (looked_are : looked ≡ union_of visible (map (λ (c : Spawn). c.needs) makes)) where
+  module _ (ends looked : List ℕ) (links : List Link) (links_are : links ≡ s.down) (ends_are : ends ≡ union_of [] (map (λ (l : Link). l.to) links))
+      (looked_be : looked ≡ union_of (union_of [] s.visible) (map (λ (c : Spawn). c.needs) s.child)) where
     ends_be : ends ≡ union_of [] (map (λ (l : Link). l.to) s.down)
-    ends_be = union_from [] none ends _ _ nothing ends_are (ap (map (λ (l : Link). l.to)) links_are)
-
-    looked_be : looked ≡ union_of s.visible (map (λ (c : Spawn). c.needs) s.child)
-    looked_be = union_from s.visible visible looked _ _ visible_is looked_are (ap (map (λ (c : Spawn). c.needs)) makes_are)
+    ends_be = ends_are ∙ ap (λ (ls : List Link). union_of [] (map (λ (l : Link). l.to) ls)) links_are
 
     pub all_reads : AreReads s by_needs by_child makers ends looked
     all_reads = record {
@@ -42,8 +35,8 @@ module _ (s : System) (by_needs by_child makers : ℕ → List ℕ) (locals : Li
           ]);
       making = λ c listed.
           subst (λ (xs : List ℕ). Contains xs c.needs) (sym looked_be)
-          ((Contains-union_of s.visible (map (λ (c : Spawn). c.needs) s.child) c.needs).1 (inr (Contains-map (λ (c : Spawn). c.needs) s.child c listed)));
+          ((Contains-union_of (union_of [] s.visible) (map (λ (c : Spawn). c.needs) s.child) c.needs).1 (inr (Contains-map (λ (c : Spawn). c.needs) s.child c listed)));
       visible = λ b there.
           subst (λ (xs : List ℕ). Contains xs b) (sym looked_be)
-          ((Contains-union_of s.visible (map (λ (c : Spawn). c.needs) s.child) b).1 (inl there));
+          ((Contains-union_of (union_of [] s.visible) (map (λ (c : Spawn). c.needs) s.child) b).1 (inl (union_of-keeps_right [] s.visible b there)));
     }

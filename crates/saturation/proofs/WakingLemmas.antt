@@ -1,7 +1,8 @@
 -- Which cells are among those that are calculated again.
-use Rattle.std.proofs.Common.{◌≡◌, ◌≢◌, ℕ, ◌+◌, ◌<◌, Bool, true, false, true≢false, List, [], ◌∷◌, ◌++◌, take, length, ◌&&◌, slice_get, Some, append_assoc, append-nil, nat_eq, All, Contains, if◌then◌else◌, refl, sym, ap, subst, ◌∙◌, arith, inl, inr}
+use Rattle.std.proofs.Common.{◌≡◌, ◌≢◌, ℕ, ◌+◌, ◌<◌, ◌≤◌, Bool, true, false, List, [], ◌∷◌, ◌++◌, take, length, ◌&&◌, slice_get, Some, append_assoc, append-nil, nat_eq, All, Contains, if◌then◌else◌, refl, sym, ap, subst, ◌∙◌, arith, inl, inr}
 use Rattle.std.specs.List.{flat_map}
-use Rattle.std.proofs.lemmas.Bool.{cases_Bool, cases_order, eqb-true, and_parts}
+use Rattle.std.proofs.lemmas.Bool.{cases_Bool, eqb-true, and_parts}
+use Rattle.std.proofs.lemmas.List.{take_all}
 use Rattle.std.specs.Cmp.{IsEquivalence}
 use Rattle.std.specs.List.Retain.{IsFiltered, DiffersFromLast}
 use Rattle.std.proofs.lemmas.Cmp.{nat_eq_equiv, on_equiv, and_equiv}
@@ -12,7 +13,9 @@ use Rattle.tp_base.specs.Classes.{has_class}
 use Rattle.tp_base.proofs.ClassLemmas.{has_class-Contains}
 use Rattle.tp_base.proofs.Rising.{Contains-here, Contains-cons, Contains-none, All-from_Contains}
 use Rattle.tree_sem.proofs.NodeLemmas.{Contains-map, map-Contains}
-use Rattle.class_diagrams.specs.References.{Reference}
+use Rattle.class_diagrams.specs.References.{Reference, leaf_reference}
+use Rattle.class_diagrams.specs.Arena.{tree_at}
+use Rattle.pushdown_sym.specs.CellMap.{Entries, place_in, trees_in}
 use Rattle.class_diagrams.specs.Trees.{Tree, leaf}
 use Rattle.simple_core.specs.declared.system.System.{System}
 use Rattle.pushdown_sym.specs.Terms.{CellTrees}
@@ -169,26 +172,34 @@ module _ (s : System) (now other : CellTrees) (same : (j a : ℕ) → j < length
 -- ### the kinds whose nodes may have an atom
 
 -- one kind more
-module _ (f : ℕ → Tree) (kinds : List ℕ) (count j : ℕ) (below : j < count) where
-  pub kind_kept : (((i : ℕ) → i < j → f i ≢ leaf false → Contains kinds i) × All (λ i. i < count) kinds) → (f j ≢ leaf false → false ≡ true)
-      → ((i : ℕ) → i < j + 1 → f i ≢ leaf false → Contains kinds i) × All (λ i. i < count) kinds
-  kind_kept before none = (
-    λ i less some. elim (cases_order i j) [
-      | inl here ↦ absurd (true≢false (sym (none (subst (λ k. f k ≢ leaf false) here some))))
-      | inr apart ↦ elim apart [ inl earlier ↦ before.0 i earlier some | inr later ↦ absurd (omega arith) ]
+module _ (kinds : List ℕ) (i kind count : ℕ) (makers : List ℕ) (at : slice_get kinds i ≡ Some kind)
+    (before : ((j : ℕ) → Contains (take i kinds) j → j < count → Contains makers j) × All (λ j. j < count) makers) where
+  pub maker_pushed : kind < count → (more : List ℕ) → more ≡ makers ++ kind ∷ [] → ((j : ℕ) → Contains (take (i + 1) kinds) j → j < count → Contains more j) × All (λ j. j < count) more
+  maker_pushed below more is = (
+    λ j there less. subst (λ (ks : List ℕ). Contains ks j) (sym is) (elim (last_cases (take i kinds) kind j (subst (λ (ks : List ℕ). Contains ks j) (longer_by kinds i kind at) there)) [
+      | inl earlier ↦ Contains-append_left makers (kind ∷ []) j (before.0 j earlier less)
+      | inr last ↦ Contains-append_right makers (kind ∷ []) j (Contains-here j kind [] last)
+    ]),
+    subst (λ (ks : List ℕ). All (λ j. j < count) ks) (sym is) (All-append (λ j. j < count) makers (kind ∷ []) before.1 (all_one (λ j. j < count) kind below)),
+  )
+
+  pub maker_skipped : count ≤ kind → ((j : ℕ) → Contains (take (i + 1) kinds) j → j < count → Contains makers j) × All (λ j. j < count) makers
+  maker_skipped past = (
+    λ j there less. elim (last_cases (take i kinds) kind j (subst (λ (ks : List ℕ). Contains ks j) (longer_by kinds i kind at) there)) [
+      | inl earlier ↦ before.0 j earlier less
+      | inr last ↦ absurd (omega (arith, last, less, past))
     ],
     before.1,
   )
 
-  pub kind_pushed : (more : List ℕ) → more ≡ kinds ++ j ∷ [] → (((i : ℕ) → i < j → f i ≢ leaf false → Contains kinds i) × All (λ i. i < count) kinds)
-      → ((i : ℕ) → i < j + 1 → f i ≢ leaf false → Contains more i) × All (λ i. i < count) more
-  kind_pushed more is before = (
-    λ i less some. subst (λ (ks : List ℕ). Contains ks i) (sym is) (elim (cases_order i j) [
-      | inl here ↦ Contains-append_right kinds (j ∷ []) i (Contains-here i j [] here)
-      | inr apart ↦ elim apart [ inl earlier ↦ Contains-append_left kinds (j ∷ []) i (before.0 i earlier some) | inr later ↦ absurd (omega arith) ]
-    ]),
-    subst (λ (ks : List ℕ). All (λ i. i < count) ks) (sym is) (All-append (λ i. i < count) kinds (j ∷ []) before.1 (all_one (λ i. i < count) j below)),
-  )
+pub makers_are : (branches : List Tree) (cells : Entries) (count a : ℕ) (kinds makers : List ℕ) (i : ℕ) → length kinds ≤ i
+    → ((j : ℕ) → place_in cells j a ≢ leaf_reference false → Contains kinds j) → ((j : ℕ) → Contains (take i kinds) j → j < count → Contains makers j) × All (λ j. j < count) makers
+    → AreMakers (trees_in branches cells) count a makers
+makers_are branches cells count a kinds makers i past whole all = record {
+  whole = λ j less some. all.0 j
+      (subst (λ (ks : List ℕ). Contains ks j) (sym (take_all i kinds past)) (whole j (λ none. some (ap (tree_at branches) none)))) less;
+  below = all.1;
+}
 
 -- ### the cells of those that can make a child
 

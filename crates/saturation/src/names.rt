@@ -5,11 +5,12 @@ ghost use Rattle.tp_base.specs.Classes.{union_of};
 ghost use Rattle.pushdown_sym.specs.Rounds.{given_atoms};
 ghost use Rattle.saturation.specs.Waking.{named, named_each};
 
+use gathered::Gathered;
 use simple_core::{Kind, Link, Local, MOST_KINDS, System};
 use std::alloc::Global;
 use tp_base::{Atom, ClassSet, NoMemory};
 
-fn add_labels(kinds: &[Kind], atoms: &mut ClassSet) -> Result<(), NoMemory>
+fn add_labels(kinds: &[Kind], atoms: &mut Gathered) -> Result<(), NoMemory>
     ensures { OnOk result (atoms.new ≡ union_of atoms.old (flat_map (λ k. k.label) kinds.now)) }
 {
     let mut rest = kinds;
@@ -20,7 +21,7 @@ fn add_labels(kinds: &[Kind], atoms: &mut ClassSet) -> Result<(), NoMemory>
     Ok(())
 }
 
-fn add_gives(rules: &[Local], atoms: &mut ClassSet) -> Result<(), NoMemory>
+fn add_gives(rules: &[Local], atoms: &mut Gathered) -> Result<(), NoMemory>
     ensures { OnOk result (atoms.new ≡ union_of atoms.old (map (λ r. r.gives) rules.now)) }
 {
     let mut rest = rules;
@@ -31,7 +32,7 @@ fn add_gives(rules: &[Local], atoms: &mut ClassSet) -> Result<(), NoMemory>
     Ok(())
 }
 
-pub(crate) fn add_ends(links: &[Link], atoms: &mut ClassSet) -> Result<(), NoMemory>
+pub(crate) fn add_ends(links: &[Link], atoms: &mut Gathered) -> Result<(), NoMemory>
     ensures { OnOk result (atoms.new ≡ union_of atoms.old (map (λ l. l.to) links.now)) }
 {
     let mut rest = links;
@@ -46,12 +47,12 @@ pub(crate) fn add_ends(links: &[Link], atoms: &mut ClassSet) -> Result<(), NoMem
 pub(crate) fn given(alloc: Global, system: &System) -> Result<ClassSet, NoMemory>
     ensures { IfOk result (λ atoms. atoms ≡ given_atoms system.now) }
 {
-    let mut atoms = ClassSet::new(alloc);
+    let mut atoms = Gathered::new(alloc);
     add_labels(system.kinds.items(), &mut atoms)?;
     add_gives(system.local.items(), &mut atoms)?;
     add_ends(system.up.items(), &mut atoms)?;
     add_ends(system.down.items(), &mut atoms)?;
-    Ok(atoms)
+    atoms.into_set()
 }
 
 // So many kinds, each with each atom that some kind or rule gives.

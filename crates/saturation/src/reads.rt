@@ -1,12 +1,14 @@
 //! Which cells read a cell.
-ghost use Rattle.std.specs.Prelude.{◌≡◌, map, Contains, IfOk, OnOk};
+ghost use Rattle.std.specs.Prelude.{◌≡◌, [], map, Contains, IfOk, OnOk};
 ghost use Rattle.tp_base.specs.Classes.{union_of};
+ghost use Rattle.simple_core.specs.declared.rules.Link.{Link};
 ghost use Rattle.simple_core.specs.declared.rules.Spawn.{Spawn};
 ghost use Rattle.saturation.specs.Tables.{AreReadsOf};
 
 use crate::names::add_ends;
 use crate::tables::Table;
-use simple_core::{Spawn, System};
+use gathered::Gathered;
+use simple_core::{Link, Spawn, System};
 use std::alloc::Global;
 use tp_base::{ClassSet, NoMemory};
 
@@ -27,10 +29,8 @@ impl Reads {
         let by_needs = Table::of_needs(alloc, system.local.items())?;
         let by_child = Table::of_links(alloc, system.down.items())?;
         let makers = Table::of_spawns(alloc, system.child.items())?;
-        let mut ends = ClassSet::new(alloc);
-        add_ends(system.down.items(), &mut ends)?;
-        let mut looked = system.visible.copy()?;
-        add_makers(system.child.items(), &mut looked)?;
+        let ends = ends_of(alloc, system.down.items())?;
+        let looked = looked_at(alloc, system)?;
         Ok(Reads {
             by_needs,
             by_child,
@@ -41,7 +41,26 @@ impl Reads {
     }
 }
 
-fn add_makers(spawns: &[Spawn], atoms: &mut ClassSet) -> Result<(), NoMemory>
+// What links give.
+fn ends_of(alloc: Global, links: &[Link]) -> Result<ClassSet, NoMemory>
+    ensures { IfOk result (λ ends. ends ≡ union_of [] (map (λ (l : Link). l.to) links.now)) }
+{
+    let mut ends = Gathered::new(alloc);
+    add_ends(links, &mut ends)?;
+    ends.into_set()
+}
+
+// The visible atoms, and those that make children.
+fn looked_at(alloc: Global, system: &System) -> Result<ClassSet, NoMemory>
+    ensures { IfOk result (λ looked. looked ≡ union_of (union_of [] system.now.visible) (map (λ (c : Spawn). c.needs) system.now.child)) }
+{
+    let mut looked = Gathered::new(alloc);
+    looked.union(&system.visible)?;
+    add_makers(system.child.items(), &mut looked)?;
+    looked.into_set()
+}
+
+fn add_makers(spawns: &[Spawn], atoms: &mut Gathered) -> Result<(), NoMemory>
     ensures { OnOk result (atoms.new ≡ union_of atoms.old (map (λ (c : Spawn). c.needs) spawns.now)) }
 {
     let mut rest = spawns;

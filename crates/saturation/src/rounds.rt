@@ -1,5 +1,5 @@
 //! A round's changes noted.
-ghost use Rattle.std.specs.Prelude.{◌≡◌, ◌≤◌, ℕ, suc, length, List, [], ◌∷◌, ◌++◌, All, Contains, IfOk, OnOk};
+ghost use Rattle.std.specs.Prelude.{◌≡◌, ℕ, suc, length, List, [], ◌∷◌, ◌++◌, All, Contains, IfOk, OnOk};
 ghost use Rattle.class_diagrams.specs.References.{Reference};
 ghost use Rattle.class_diagrams.specs.Arena.{Arena, tree_at, IsIn};
 ghost use Rattle.simple_core.specs.declared.system.System.{System};
@@ -17,7 +17,6 @@ use crate::reads::Reads;
 use crate::waking::readers;
 use class_diagrams::{Diagrams, Ref};
 use pushdown_sym::Cells;
-use simple_core::MOST_KINDS;
 use std::alloc::Global;
 use tp_base::{Atom, NoMemory};
 
@@ -78,7 +77,6 @@ pub(crate) fn noted(
 ) -> Result<Vec<(u32, Atom)>, NoMemory>
     requires cells { AreIn d.now.branches cells.old }
     requires inside { All (λ c. IsIn d.now.branches c.1) changes.now }
-    requires few { count ≤ MOST_KINDS }
     ensures { (s : System) (nodes k : ℕ) (old : Arena) (todo : List CellName) → round ≡ suc k → IsSound s → count ≡ length s.kinds
         → AreReadsOf s reads.now
         → IsDone s nodes k old (history_in histories.old) cells.old todo → AreChanges s k old d.now todo changes.now
@@ -86,6 +84,6 @@ pub(crate) fn noted(
         → IfOk result (λ next. IsDone s nodes (suc k) d.now (history_in histories.new) cells.new next.items) }
 {
     note_all(d, cells, histories, round, changes)?;
-    let next = readers(alloc, d, cells, count, reads, changes)?;
+    let next = readers(alloc, cells, count, reads, changes)?;
     Ok(next)
 }

@@ -1,17 +1,16 @@
 //! The cells that are calculated again.
-ghost use Rattle.std.specs.Prelude.{◌≡◌, ◌<◌, ◌≤◌, ◌++◌, ℕ, length, All, Contains, IfOk, OnOk};
+ghost use Rattle.std.specs.Prelude.{◌≡◌, ◌<◌, ◌++◌, ℕ, List, length, All, Contains, IfOk, OnOk};
 ghost use Rattle.simple_core.specs.declared.system.System.{System};
 ghost use Rattle.pushdown_sym.specs.CellMap.{trees_in};
-ghost use Rattle.pushdown_sym.specs.Adding.{AreIn};
+ghost use Rattle.class_diagrams.specs.Trees.{Tree};
 ghost use Rattle.saturation.specs.Tables.{noted_in, AreReadsOf};
 ghost use Rattle.saturation.specs.Waking.{CellName, named, named_each, by_rules, looking, by_makers, of_each, AreReaders};
 
 use crate::names::add_kind;
 use crate::parents::add_above;
 use crate::reads::Reads;
-use class_diagrams::{Diagrams, Ref};
+use class_diagrams::Ref;
 use pushdown_sym::Cells;
-use simple_core::MOST_KINDS;
 use std::alloc::Global;
 use tp_base::{Atom, ClassSet, NoMemory};
 
@@ -128,25 +127,22 @@ fn different(kinds: Vec<u32>) -> Vec<u32>
 /// The cells to calculate after these changes: those that read one that changed.
 pub(crate) fn readers(
     alloc: Global,
-    d: &Diagrams,
     now: &Cells,
     count: usize,
     reads: &Reads,
     changes: &[((u32, Atom), Ref)],
 ) -> Result<Vec<(u32, Atom)>, NoMemory>
-    requires inside { AreIn d.now.branches now.now }
-    requires few { count ≤ MOST_KINDS }
-    ensures { (s : System) → count ≡ length s.kinds
+    ensures { (s : System) (branches : List Tree) → count ≡ length s.kinds
         → AreReadsOf s reads.now
         → All (λ c. c.0.0 < length s.kinds) changes.now
-        → IfOk result (λ todo. AreReaders s (trees_in d.now.branches now.now) changes.now todo.items) }
+        → IfOk result (λ todo. AreReaders s (trees_in branches now.now) changes.now todo.items) }
 {
     let woken = woken_by(alloc, reads, changes)?;
     let mut todo = woken.cells;
     let kinds = different(woken.kinds);
     add_kinds(&mut todo, &kinds, &reads.ends)?;
     let pairs = sorted(woken.above)?;
-    add_above(alloc, d, now, count, &pairs, &mut todo)?;
+    add_above(alloc, now, count, &pairs, &mut todo)?;
     let once = sorted(todo)?;
     Ok(once)
 }

@@ -11,4 +11,4 @@ loop-i-preserved c =
     let long = c.len-i-end.ensures.len in
     let within : c.loop-i.i < length keys = subst (λ xs. c.loop-i.i < length xs) (sym c.as_slice.ensures.keys) (omega (arith, less, long)) in
     entries_more c.args.needs.now order c.args.system.now c.args.orders.now c.loop-i.i _ keys c.deref.result.now _ c.loop-i.entries c.push.new.self c.in_ok-entry.entry
-    c.as_slice.ensures.keys (slice_get-get_or keys c.loop-i.i _ within) c.requires.orders c.deref.ensures.value c.loop-i.invariant c.in_ok-entry.ensures.made c.in_ok-entry.ensures.steps c.in_ok-push.ensures
+    c.as_slice.ensures.keys (slice_get-get_or keys c.loop-i.i _ within) c.requires.orders c.deref.ensures.value c.loop-i.invariant c.in_ok-entry.ensures.made c.in_ok-entry.ensures.steps c.in_ok-push.ensures.ok

@@ -9,6 +9,6 @@ returns-clause-glance g c =
     let labels = labels_of c.args.world.now.system.now c.args.world.now.page.now c.args.place.now in
     record {
       first = subst (λ z. IsFirst labels c.args.atom (Some z)) (sym c.unwrap_or-round.ensures) (first_some labels c.args.atom c.first.result c.requires.comes c.first.ensures.first);
-      choice = c.in_ok-choice.ensures;
-      below = c.in_ok-below.ensures;
+      choice = c.in_ok-found.ensures.choice;
+      below = c.in_ok-found.ensures.below;
     }

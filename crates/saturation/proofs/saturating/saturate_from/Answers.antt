@@ -107,9 +107,6 @@ noted-requires-clause-inside c =
     let changed = c.in_ok-changes.ensures.changes nodes k h c.requires.sound done in
     subst (λ (cs : List (CellName × Reference)). All (λ (x : CellName × Reference). IsIn c.changed_cells.new.d.branches x.1) cs) (sym c.as_slice-list.ensures.value) changed.inside
 
-pub noted-requires-clause-few : goal.noted-requires-clause-few
-noted-requires-clause-few c = omega (arith, c.requires.count, c.requires.sound.few_kinds)
-
 pub rounds-preserved : goal.rounds-preserved
 rounds-preserved c =
     let s = c.args.equations.now in

@@ -6,8 +6,8 @@ use Rattle.saturation.proofs.WakingLemmas.{readers_are, readers_kept}
 use Rattle.saturation.proofs.waking.readers.Goals as goal
 
 pub returns : goal.returns
-returns c s count reads below =
-    let now = trees_in c.args.d.now.branches c.args.now.now in
+returns c s branches count reads below =
+    let now = trees_in branches c.args.now.now in
     let r = c.args.reads.now in
     let w = c.in_ok-woken.ensures in
     readers_kept s now c.args.changes.now c.add_above.new.todo.items c.in_ok-once.once.items
@@ -20,5 +20,5 @@ returns c s count reads below =
     c.add_kinds.new.todo.items (c.in_ok-add_kinds.ensures ∙ ap (λ (ks : List ℕ). c.in_ok-woken.woken.cells.items ++ named_each ks r.ends) c.deref.ensures.value)
     c.add_above.new.todo.items
     (subst (λ (n : ℕ). AreAbove now n c.in_ok-pairs.pairs.items c.add_kinds.new.todo.items c.add_above.new.todo.items) count
-    (subst (λ (cs : List CellName). AreAbove now c.args.count cs c.add_kinds.new.todo.items c.add_above.new.todo.items) c.deref-2.ensures.value c.in_ok-add_above.ensures)))
+    (subst (λ (cs : List CellName). AreAbove now c.args.count cs c.add_kinds.new.todo.items c.add_above.new.todo.items) c.deref-2.ensures.value (c.in_ok-add_above.ensures branches))))
     c.in_ok-once.ensures.kept c.in_ok-once.ensures.only

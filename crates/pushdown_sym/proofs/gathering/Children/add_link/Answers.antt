@@ -1,13 +1,16 @@
-use Rattle.std.proofs.Common.{◌∙◌}
-use Rattle.pushdown_sym.specs.Children.{child_by, with_child}
-use Rattle.pushdown_sym.proofs.ChildLemmas.{with_one_more}
+use Rattle.std.proofs.Common.{fold, ap, ◌∙◌, arith}
+use Rattle.std.proofs.lemmas.List.{take_all}
+use Rattle.std.specs.List.{flat_map}
+use Rattle.pushdown_sym.specs.Givers.{of_place}
+use Rattle.pushdown_sym.specs.Children.{standing_by, with_child}
+use Rattle.pushdown_sym.proofs.ChildLemmas.{link_added}
 use Rattle.pushdown_sym.proofs.gathering.Children.add_link.Goals as goal
 
-pub loop-i-init : goal.loop-i-init
-loop-i-init c = c.self.view_is
-
-pub loop-i-preserved : goal.loop-i-preserved
-loop-i-preserved c =
-    with_one_more (child_by c.args.now.now c.args.link.now) c.args.self.now c.args.spawns.now c.loop-i.i c.index-spawns-i.result c.loop-i.self-inside.set.keys c.insert.new.self.keys c.loop-i-test.true
-    c.index-spawns-i.is c.loop-i.invariant
-    (c.in_ok-insert.ensures.keys ∙ (λ n. with_child c.loop-i.self-inside.set.keys (record { needs = c.index-spawns-i.result.needs; diagram = c.get-diagram.ensures n })))
+pub returns : goal.returns
+returns c =
+    let f = of_place (standing_by c.args.now.now c.args.link.now) c.args.spawns.now in
+    c.loop-i.invariant
+    ∙ ap (λ ps. fold with_child c.args.self.now (flat_map f ps)) (take_all c.loop-i.i c.in_ok-places.places.items (omega (arith, c.len-i-end.ensures, c.loop-i-test.false)))
+    ∙ ap (fold with_child c.args.self.now)
+    (link_added c.args.now.now c.args.link.now c.args.spawns.now c.args.makers.now c.kinds_with.result.now c.in_ok-places.places.items c.requires.makers c.kinds_with.ensures
+    c.in_ok-places.ensures.rising c.in_ok-places.ensures.whole)

@@ -1,6 +1,8 @@
-use Rattle.std.proofs.Common.{◌≡◌, fold, map, take}
-use Rattle.pushdown_sym.specs.Children.{child_by, with_child}
+use Rattle.std.proofs.Common.{◌≡◌, fold, take}
+use Rattle.std.specs.List.{flat_map}
+use Rattle.pushdown_sym.specs.Givers.{of_place}
+use Rattle.pushdown_sym.specs.Children.{standing_by, with_child}
 use Rattle.pushdown_sym.proofs.gathering.Children.add_link.Given as goal
 
 abbrev pub invariant-loop-i : goal.invariant-loop-i
-invariant-loop-i l = l.self-inside.set.keys ≡ fold with_child l.fn.self (map (child_by l.now l.link) (take l.i l.spawns))
+invariant-loop-i l = l.self ≡ fold with_child l.fn.self (flat_map (of_place (standing_by l.now l.link) l.spawns) (take l.i l.places.items))
