@@ -10,22 +10,34 @@ use crate::nodes::Nodes;
 use crate::page_checks::{Ground, page_holds};
 use crate::proofs::Proof;
 use simple_core::{Link, System};
+use std::alloc::Global;
 use tp_base::{Atom, ClassSet, NoMemory};
 use tree_sem::Tree;
 
 /// Whether the proof shows that the page's root gets the atom. Linear in the items, in the lengths of their paths and the sizes of the
 /// sets that their rules and entries need, on average.
 #[tactic(auto, using(crate::proofs::CheckLemmas::valid_decides))]
-pub fn check(proof: &Proof, system: &System, page: &Tree, target: Atom) -> Result<bool, NoMemory>
+pub fn check(
+    alloc: Global,
+    proof: &Proof,
+    system: &System,
+    page: &Tree,
+    target: Atom,
+) -> Result<bool, NoMemory>
     ensures { IfOk result (λ b. IsTrue b ↔ IsValid system.now page.now proof.now target) }
 {
-    is_valid(proof, system, page, target)
+    is_valid(alloc, proof, system, page, target)
 }
 
-fn is_valid(proof: &Proof, system: &System, page: &Tree, target: Atom) -> Result<bool, NoMemory>
+fn is_valid(
+    alloc: Global,
+    proof: &Proof,
+    system: &System,
+    page: &Tree,
+    target: Atom,
+) -> Result<bool, NoMemory>
     ensures { IfOk result (λ b. b ≡ is_valid system.now page.now proof.now target) }
 {
-    let alloc = proof.entries.allocator();
     let mut inside = Firsts::new(alloc);
     if !entries_hold(&proof.entries, system, &mut inside)? {
         return Ok(false);

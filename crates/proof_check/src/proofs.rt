@@ -1,5 +1,5 @@
 //! Proofs that the root of a page gets an atom.
-ghost use Rattle.std.specs.Prelude.{◌≡◌, ◌++◌, ◌∷◌, [], OnOk};
+ghost use Rattle.std.specs.Prelude.{◌≡◌, ◌++◌, ◌∷◌, [], OnErr, OnOk};
 
 use std::alloc::Global;
 use std::marker::Model;
@@ -90,7 +90,8 @@ impl Entries {
 
     /// Adds an entry at the end.
     pub fn push(&mut self, entry: Entry) -> Result<(), NoMemory>
-        ensures { OnOk result (self.new ≡ self.old ++ entry ∷ []) }
+        ensures ok { OnOk result (self.new ≡ self.old ++ entry ∷ []) }
+        ensures err { OnErr result (self.new ≡ self.old) }
     {
         self.items.push(entry)?;
         Ok(())

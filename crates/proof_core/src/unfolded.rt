@@ -43,6 +43,7 @@ impl From<NoMemory> for UnfoldFault {
 /// one of those that a sound system meets. Linear in the items that are passed, each as often as it is named, and in the lengths of
 /// the paths of the steps and of the page's items, on average.
 pub fn unfold(
+    alloc: Global,
     proof: &Proof,
     system: &System,
     page: &Tree,
@@ -59,7 +60,7 @@ pub fn unfold(
     if is_over(proof, system, page, target, limit) {
         return Err(UnfoldFault::OverLimit);
     }
-    match unfold_all(proof, system, page, target) {
+    match unfold_all(alloc, proof, system, page, target) {
         Ok(u) => Ok(u),
         Err(_) => Err(UnfoldFault::Memory),
     }
@@ -83,6 +84,7 @@ fn is_over(proof: &Proof, system: &System, page: &Tree, target: Atom, limit: u64
 }
 
 fn unfold_all(
+    alloc: Global,
     proof: &Proof,
     system: &System,
     page: &Tree,
@@ -93,7 +95,6 @@ fn unfold_all(
     ensures steps { IfOk result (λ u. u.steps ≡ (unfolded system.now proof.now page.now target).0) }
     ensures at { IfOk result (λ u. u.at ≡ (unfolded system.now proof.now page.now target).1) }
 {
-    let alloc = proof.entries.allocator();
     let items = proof.page.items();
     let nodes = Nodes::of(alloc, items)?;
     let forests = Forests::of(alloc, system.kinds.items())?;

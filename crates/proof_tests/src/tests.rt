@@ -21,11 +21,15 @@ fn told(
     limit: u64,
 ) -> Result<Option<Told>, NoMemory> {
     let target = Atom(target);
-    if !check(proof, system, page, target)? || !are_few(system.kinds.items()) || limit > 1_000_000 {
+    let alloc = proof.entries.allocator();
+    if !check(alloc, proof, system, page, target)?
+        || !are_few(system.kinds.items())
+        || limit > 1_000_000
+    {
         return Ok(None);
     }
     let count = steps(proof, system);
-    Ok(Some((count, unfold(proof, system, page, target, limit))))
+    Ok(Some((count, unfold(alloc, proof, system, page, target, limit))))
 }
 
 fn told_on_page(

@@ -1,0 +1,4 @@
+//! The size of a site.
+
+/// How many pages a site has at most.
+pub const MOST_PAGES: u32 = 64;
