@@ -35,7 +35,7 @@ lower false a b n first second = second
 unit_within : (gap : Bool) (n others size : ℕ) → n + others ≤ size → with_unit gap n others ≤ size
 unit_within gap n others size within = lower (gap && others == 0) 0 (n + others) size (omega arith) within
 
-solid_within : (skip : ℕ) (bs : List ℕ) → solid_len skip bs ≤ length bs - skip
+pub solid_within : (skip : ℕ) (bs : List ℕ) → solid_len skip bs ≤ length bs - skip
 unfolding solid_len
 solid_within skip [] = omega arith
 solid_within (suc skip) (b ∷ bs) = let others = solid_within skip bs in omega arith

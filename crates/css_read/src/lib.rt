@@ -3,12 +3,18 @@
 
 mod brackets;
 mod faults;
+mod finding;
 mod fronts;
+mod holders;
+mod laws;
 mod pieces;
 mod reading;
 mod sheets;
 mod units;
 
 pub use faults::{MOST_SELECTORS, SheetFault};
+pub use finding::read_holders;
+pub use holders::{Holder, HolderList, Holders, Owners};
+pub use laws::{one_text_one_shape, pruning_keeps_the_sheet};
 pub use reading::read_sheet;
 pub use sheets::{Outcome, Range, Ranges, Sheet, SheetItem, SheetItems};

@@ -1,0 +1,7 @@
+-- What was found by the code is to the definitions.
+use Rattle.std.specs.Prelude.{reverse}
+use Rattle.css_read.specs.declared.finding.Found.{Found}
+use Rattle.css_read.specs.FoundHolders as spec
+
+abbrev pub found_of : Found → spec.Found
+found_of f = record { holders = f.holders.items; owners = f.owners.items; opened = reverse f.opened.items }
