@@ -1,0 +1,7 @@
+pub mod AlikeLemmas
+mod CopyLemmas
+pub mod EffectLemmas
+mod GroupLemmas
+mod HoldingLemmas
+mod ListLemmas
+mod ReadingLemmas

@@ -1,0 +1,7 @@
+pub mod Alike
+pub mod Copying
+pub mod Flags
+pub mod Groups
+pub mod Holding
+pub mod Lists
+pub mod NodeEffects
