@@ -14,13 +14,13 @@ use Rattle.tree_sem.specs.declared.actions.Action.TheVariants.{Classes}
 use Rattle.html_subset.specs.declared.faults.PageFault.{PageFault}
 use Rattle.html_subset.specs.Reading.{read_forest}
 use Rattle.js_scan.specs.Tokens.{script_tokens}
-use Rattle.jq_sem.specs.Statements.{Chain, Statement, Call, add, back}
+use Rattle.jq_sem.specs.Statements.{Chain, Statement, Call, filter, add, back}
 use Rattle.jq_words.specs.declared.faults.ScriptFault.TheVariants.{TooManyForestNodes, TooManyStatements, TooLong, ThisOutside}
 use Rattle.jq_words.specs.declared.faults.TheConstants.{MOST_STATEMENTS, MOST_CALLS, MOST_FOREST_NODES, MOST_OPEN}
 use Rattle.jq_words.specs.Words.{Word, words, Outcome, ◌>>=◌, is_mark, is_name, is_any_name, is_name_among, fits, first_is, is_form, spelled, begins, begins_name, place, unexpected, want, want_name, want_open, end}
 use Rattle.jq_words.specs.Brackets.{is_empty, arguments, behind_arguments}
 use Rattle.jq_words.specs.Texts.{texts, is_markup}
-use Rattle.jq_words.specs.Calls.{Form, moves, unites, goes_back, classes, attributes, grows, places, handles, listens, passes}
+use Rattle.jq_words.specs.Calls.{Form, moves, takes_first, unites, goes_back, classes, attributes, grows, places, handles, listens, passes}
 use Rattle.jq_parts.specs.Keywords.{jquery, pages}
 use Rattle.jq_parts.specs.Bindings.{Value, elements, everywhere, markup, placed, Declaration, bound, latest, if_chain, under_bound}
 use Rattle.jq_parts.specs.Scopes.{Handler, Scope, used, if_bound, is_this, places_of, this_at}
@@ -357,6 +357,7 @@ module _ (block : Block) (keeps : Keeps block) where
       → IsIn (pending v + k) s → IfOk (arguments_of block room c v (record { name = name; fewest = fewest; most = most; form = f }) count s ws) (DoneIn k)
   unfolding arguments_of
   arguments_in k room c v (moves step) name fewest most count s ws here = move_in k c (moves step) (count == 0 && fewest == 0) v s ws here
+  arguments_in k room c v takes_first name fewest most count s ws here = called_in k v (filter ([] ∷ [])) s here
   arguments_in k room c v unites name fewest most count s ws here = unite_in k c v s ws here
   arguments_in k room c v goes_back name fewest most count s ws here = called_in k v back s here
   arguments_in k room c v classes name fewest most count s ws here = class_in k room c v s ws here
@@ -455,7 +456,7 @@ module _ (blocks : Blocks) (keeps : (opened : ℕ) → Keeps (blocks opened)) wh
   declared_in k room c s ws here =
       either _ (begins_name (codes "function") ws) _ _
       (and_then _ _ (function (blocks 0) room (in_handler c None) s ws) _ (function_in (blocks 0) (keeps 0) k room (in_handler c None) s ws here) (λ f known. (refl, known)))
-      (either _ (is_chain s.declarations ws) _ _
+      (either _ (is_chain false s.declarations ws) _ _
       (and_then _ _ (chain (blocks 1) room c s ws) _ (chain_in (blocks 1) (keeps 1) k room c s ws here) (λ r known. known))
       (any_then _ (plain_list c room ws) _ (λ rest. (refl, here))))
 

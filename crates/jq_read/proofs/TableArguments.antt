@@ -10,7 +10,7 @@ use Rattle.tree_sem.specs.declared.actions.Action.TheVariants.{Classes}
 use Rattle.jq_sem.specs.Statements.{Call, add}
 use Rattle.jq_words.specs.Words.{Word, is_name_among, first_is, begins, place, want_open}
 use Rattle.jq_words.specs.Texts.{texts}
-use Rattle.jq_words.specs.Calls.{Form, moves, finding, to_children, to_parent, to_parents, filtering, having, unites, goes_back, classes, attributes, grows, places, handles, listens, passes}
+use Rattle.jq_words.specs.Calls.{Form, moves, finding, to_children, to_parent, to_parents, filtering, having, to_closest, to_siblings, takes_first, unites, goes_back, classes, attributes, grows, places, handles, listens, passes}
 use Rattle.jq_parts.specs.Keywords.{jquery}
 use Rattle.jq_parts.specs.Bindings.{Value, elements, everywhere, markup, placed}
 use Rattle.jq_parts.specs.Selections.{selectors, compounds, class_set, is_attribute, with_attribute}
@@ -49,6 +49,9 @@ made_over n (moves to_parent) cs over = over
 made_over n (moves to_parents) cs over = over
 made_over n (moves filtering) cs over = over
 made_over n (moves having) cs over = over
+made_over n (moves to_closest) cs over = over
+made_over n (moves to_siblings) cs over = over
+made_over n takes_first cs over = tt
 made_over n unites cs over = tt
 made_over n goes_back cs over = tt
 made_over n classes cs over = tt

@@ -1,11 +1,12 @@
 -- Functions and chains leave what is over the table of names so.
-use Rattle.std.proofs.Common.{ℕ, zero, suc, ◌-◌, ◌==◌, Bool, true, false, ◌&&◌, List, [], ◌∷◌, ◌++◌, length, map, take, Option, Some, None, codes}
+use Rattle.std.proofs.Common.{ℕ, zero, suc, ◌-◌, ◌<◌, ◌==◌, Bool, true, false, ◌&&◌, List, [], ◌∷◌, ◌++◌, length, map, take, Option, Some, None, codes}
 use Rattle.std.specs.Prelude.{IfOk}
+use Rattle.std.proofs.lemmas.List.Elements.{All-nil}
 use Rattle.std.proofs.lemmas.Result.{IfOk-weaker}
 use Rattle.sel_core.specs.Selectors.{simple}
-use Rattle.jq_sem.specs.Statements.{Chain, find, back}
+use Rattle.jq_sem.specs.Statements.{Chain, find, filter, back}
 use Rattle.jq_words.specs.Words.{Word, Outcome, is_mark, is_any_name, begins, begins_name, place, want, want_name, want_open}
-use Rattle.jq_words.specs.Calls.{Form, moves, unites, goes_back, classes, attributes, grows, places, handles, listens, passes}
+use Rattle.jq_words.specs.Calls.{Form, moves, takes_first, unites, goes_back, classes, attributes, grows, places, handles, listens, passes}
 use Rattle.jq_parts.specs.Bindings.{Value, elements, everywhere, markup, placed, Declaration}
 use Rattle.jq_parts.specs.Scopes.{Handler}
 use Rattle.jq_parts.specs.Selections.{compounds}
@@ -169,6 +170,7 @@ module _ (block : Block) (keeps : KeepsOver block) where
       → AreOver c s → IsValueOver (count s) v → IfOk (arguments_of block room c v (record { name = name; fewest = fewest; most = most; form = f }) n s ws) (DoneOver c s)
   unfolding arguments_of
   arguments_over room c v (moves step) name fewest most n s ws over of = move_over c (moves step) (n == 0 && fewest == 0) v s ws over of
+  arguments_over room c v takes_first name fewest most n s ws over of = (same c s over, called_over (count s) v (filter ([] ∷ [])) of (All-nil (λ a. a < count s), tt), tt)
   arguments_over room c v unites name fewest most n s ws over of = unite_over c v s ws over of
   arguments_over room c v goes_back name fewest most n s ws over of = (same c s over, called_over (count s) v back of tt, tt)
   arguments_over room c v classes name fewest most n s ws over of = class_over c room v s ws over of

@@ -81,7 +81,7 @@ module _ (blocks : Blocks) (keeps : (opened : ℕ) → KeepsOver (blocks opened)
   declared_over room c s ws over =
       either _ (begins_name (codes "function") ws) _ _
       (and_then _ _ (function (blocks 0) room (in_handler c None) s ws) _ (in_handler_over (blocks 0) (keeps 0) room c None s ws tt over) (λ f later. (later, tt)))
-      (either _ (is_chain s.declarations ws) _ _
+      (either _ (is_chain false s.declarations ws) _ _
       (and_then _ _ (chain (blocks 1) room c s ws) _ (chain_is_over (blocks 1) (keeps 1) room c s ws over) (λ r known. known))
       (any_then _ (plain_list c room ws) _ (λ rest. (same c s over, tt))))
 

@@ -6,12 +6,12 @@ use Rattle.tp_base.specs.Names.{Named}
 use Rattle.tree_sem.specs.Trees.{LabelTree}
 use Rattle.tree_sem.specs.declared.actions.Action.{Action}
 use Rattle.tree_sem.specs.declared.actions.Action.TheVariants.{Classes, Inside, Beside}
-use Rattle.jq_sem.specs.Statements.{Call, find, children, parent, parents, filter, has, add, back, Chain}
+use Rattle.jq_sem.specs.Statements.{Call, find, children, parent, parents, filter, has, around, near, add, back, Chain}
 use Rattle.jq_words.specs.declared.faults.ScriptFault.TheVariants.{ComplexArgument}
 use Rattle.jq_words.specs.Words.{Word, begins, Outcome, ◌>>=◌, unexpected}
 use Rattle.jq_words.specs.Brackets.{is_empty, argument, behind_argument}
 use Rattle.jq_words.specs.FreeLists.{free}
-use Rattle.jq_words.specs.Calls.{Form, moves, finding, to_children, to_parent, to_parents, filtering, having}
+use Rattle.jq_words.specs.Calls.{Form, moves, finding, to_children, to_parent, to_parents, filtering, having, to_closest, to_siblings}
 use Rattle.jq_parts.specs.Bindings.{Value, elements, markup, placed}
 use Rattle.jq_parts.specs.Selections.{selectors, compounds, class_set, is_attribute, with_attribute}
 use Rattle.jq_parts.specs.Arguments.{text_argument, markup_argument, target}
@@ -36,6 +36,8 @@ made (moves to_parent) cs = parent cs
 made (moves to_parents) cs = parents cs
 made (moves filtering) cs = filter cs
 made (moves having) cs = has cs
+made (moves to_closest) cs = around cs
+made (moves to_siblings) cs = near cs
 made f cs = back
 
 -- the chain of a value that is a set of elements, with one call more; no other value gets a call that makes a set

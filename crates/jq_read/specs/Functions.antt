@@ -2,7 +2,7 @@
 --     function       a function, with a name or without
 --     in_handler     what holds in one that is handed to a call with elements
 --     handed         what is handed to a call
-use Rattle.std.specs.Prelude.{ℕ, Bool, true, if◌then◌else◌, List, [], ◌∷◌, ◌++◌, length, take, drop, codes, Option, Some, None, is_some, Ok}
+use Rattle.std.specs.Prelude.{ℕ, Bool, true, false, if◌then◌else◌, List, [], ◌∷◌, ◌++◌, length, take, drop, codes, Option, Some, None, is_some, Ok}
 use Rattle.jq_sem.specs.Statements.{Chain}
 use Rattle.jq_words.specs.Words.{Word, is_any_name, is_name_among, first_is, begins_name, place, Outcome, ◌>>=◌, unexpected}
 use Rattle.jq_words.specs.FreeLists.{Rules, free}
@@ -64,7 +64,7 @@ in_handler c h = record c { handlers = with_handler h c.handlers; has_this = is_
 
 -- what a list of expressions may hold
 abbrev pub rules_in : Context → ℕ → Bool → Rules
-rules_in c room braces = record { declared = c.declared; has_this = c.has_this; braces = braces; room = room }
+rules_in c room braces = record { exact = false; declared = c.declared; has_this = c.has_this; braces = braces; room = room }
 
 -- what is handed over that is no function: the name of a declared one, which is read where it stands, or a list, where one may stand
 unfoldable pub handed_other : Bool → ℕ → Context → List Word → Outcome (List Word)

@@ -124,7 +124,7 @@ named_function blocks room c s ws = do
 unfoldable pub declared_value : Blocks → ℕ → Context → State → List Word → Outcome (Option Value × State × List Word)
 declared_value blocks room c s ws =
     if begins_name (codes "function") ws then (function (blocks 0) room (in_handler c None) s ws >>= λ f. Ok (None, f.0, f.1))
-    else if is_chain s.declarations ws then (chain (blocks 1) room c s ws >>= λ r. Ok (Some r.0, r.1, r.2))
+    else if is_chain false s.declarations ws then (chain (blocks 1) room c s ws >>= λ r. Ok (Some r.0, r.1, r.2))
     else (plain_list c room ws >>= λ rest. Ok (None, s, rest))
 
 -- behind a name that is declared: its value, where there is one

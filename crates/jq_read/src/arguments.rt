@@ -2,7 +2,7 @@
 ghost use Rattle.std.specs.Prelude.{◌≡◌, ◌≤◌, ◌==◌, true, false, [], ◌∷◌, length, take, drop, map, option_map, Some, None, Ok, IfOk, IfErr, OnOk};
 ghost use Rattle.sel_core.specs.Results.{IsFront};
 ghost use Rattle.sel_core.specs.Views.{selector_of};
-ghost use Rattle.jq_sem.specs.Statements.{back};
+ghost use Rattle.jq_sem.specs.Statements.{filter, back};
 ghost use Rattle.jq_sem.specs.Views as sem;
 ghost use Rattle.jq_words.specs.Brackets.{argument, behind_argument, is_empty};
 ghost use Rattle.jq_words.specs.CallViews.{form_of};
@@ -23,7 +23,7 @@ use jq_parts::{
 };
 use jq_sem::{Call, Selectors, SharedCompounds};
 use jq_words::{Form, ScriptFault, Words, argument_len, begins, place};
-use sel_core::Compound;
+use sel_core::{Atoms, Compound};
 use std::alloc::Global;
 use text_bytes::with_value;
 use tp_base::{AtomTable, ClassSet, NoMemory};
@@ -41,6 +41,8 @@ fn made(form: Form, compounds: Vec<Compound>) -> Result<Call, NoMemory>
         Form::Parents => Call::Parents(compounds),
         Form::Filter => Call::Filter(compounds),
         Form::Has => Call::Has(compounds),
+        Form::Closest => Call::Around(compounds),
+        Form::Siblings => Call::Near(compounds),
         _ => Call::End,
     })
 }
@@ -95,6 +97,29 @@ pub(crate) fn go_back(alloc: Global, reached: Reached) -> Result<Done, ScriptFau
     ensures only_memory { IfErr result (λ e. e ≡ Memory) }
 {
     let reached = with_call(alloc, reached, Call::End)?;
+    Ok(Done {
+        reached,
+        effect: None,
+    })
+}
+
+/// The compound that fits every node.
+fn any(alloc: Global) -> Result<SharedCompounds, NoMemory>
+    ensures { IfOk result (λ s. sem.atoms_of s ≡ [] ∷ []) }
+{
+    let mut compounds = Vec::new(alloc);
+    compounds.push(Compound {
+        atoms: Atoms::new(Vec::new(alloc)),
+    })?;
+    SharedCompounds::new(compounds)
+}
+
+/// A call that keeps the first node, of which every node is judged in its place.
+pub(crate) fn take_first(alloc: Global, reached: Reached) -> Result<Done, ScriptFault>
+    ensures gives { IfOk result (λ d. done_of d ≡ (spec.and_call (reached_of reached) (filter ([] ∷ [])), None)) }
+    ensures only_memory { IfErr result (λ e. e ≡ Memory) }
+{
+    let reached = with_call(alloc, reached, Call::Filter(any(alloc)?))?;
     Ok(Done {
         reached,
         effect: None,

@@ -73,7 +73,7 @@ fn call_name(
     if !word.is_any_name() {
         return Err(ScriptFault::UnknownForm(word.at()));
     }
-    let Some(row) = row_of(word.spelling()) else {
+    let Some(row) = row_of(false, word.spelling()) else {
         return Err(ScriptFault::UnknownCall(word.letters(reader.alloc)?, word.at()));
     };
     words.pass();

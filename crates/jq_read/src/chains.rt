@@ -14,7 +14,7 @@ ghost use Rattle.jq_read.specs.Views.{reached_of, done_of};
 
 use crate::arguments::{
     attribute_arguments, class_arguments, go_back, grow_arguments, move_arguments, place_arguments,
-    unite_arguments,
+    take_first, unite_arguments,
 };
 use crate::bodies::handed;
 use crate::calls::{admitted, and_stated, dot_name, ended, listening, pass_comma};
@@ -116,9 +116,20 @@ pub(crate) fn call_arguments<'a>(
     ensures front { IsFront atoms.old atoms.new }
 {
     match row.3 {
-        Form::Find | Form::Children | Form::Parent | Form::Parents | Form::Filter | Form::Has => {
+        Form::Find
+        | Form::Children
+        | Form::Parent
+        | Form::Parents
+        | Form::Filter
+        | Form::Has
+        | Form::Closest
+        | Form::Siblings => {
             let none = is_left_out(row.1, count);
             move_arguments(reader, row.3, none, reached, state, atoms, words)
+        }
+        Form::First => {
+            let done = take_first(reader.alloc, reached)?;
+            Ok(done)
         }
         Form::Unites => unite_arguments(reader, reached, state, atoms, words),
         Form::GoesBack => {

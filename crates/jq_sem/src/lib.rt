@@ -5,9 +5,11 @@ mod actions;
 mod chains;
 mod evaluation;
 mod laws;
+mod marked_nodes;
 mod runs;
 mod selection;
 mod sets;
+mod sharp;
 mod standing_calls;
 mod stmts;
 
@@ -19,5 +21,7 @@ pub use laws::{
 };
 pub use runs::{run_whole, run_within};
 pub use selection::selects;
+pub use sets::{fitting, matched_nodes, matching, may_fit, of_call};
+pub use sharp::{ExactStmt, Sharp, SharpKind, Sharps, kind_at};
 pub use standing_calls::standing;
 pub use stmts::{Chains, Stmt};

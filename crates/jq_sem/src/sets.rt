@@ -42,6 +42,16 @@ pub fn of_call(tree: &NumberedTree, call: &Call, marks: &Marks) -> Result<Marks,
             let over = tree.far_over(&fit)?;
             tree.in_both(marks, &over)
         }
+        Call::Around(cs) => {
+            let over = tree.far_over(marks)?;
+            let around = tree.in_either(marks, &over)?;
+            chosen(tree, cs.items(), &around)
+        }
+        Call::Near(cs) => {
+            let over = tree.over(marks)?;
+            let near = tree.below(&over)?;
+            narrowed(tree, cs.items(), &near)
+        }
         Call::Add(selectors) => {
             let matched = matching(tree, selectors.items())?;
             tree.in_either(marks, &matched)
@@ -57,7 +67,7 @@ pub fn matching(tree: &NumberedTree, selectors: &[Selector]) -> Result<Marks, No
     let mut marks = tree.no_node()?;
     let mut rest = selectors;
     'selectors: while let Some((first, others)) = rest.split_first() {
-        let matched = of_selector(tree, first)?;
+        let matched = matched_nodes(tree, first)?;
         let more = tree.in_either(&marks, &matched)?;
         marks = more;
         rest = others;
@@ -65,8 +75,9 @@ pub fn matching(tree: &NumberedTree, selectors: &[Selector]) -> Result<Marks, No
     Ok(marks)
 }
 
-// What the selector matches: from left to right, for each compound what all those up to it match.
-fn of_selector(tree: &NumberedTree, s: &Selector) -> Result<Marks, NoMemory>
+/// What the selector matches: from left to right, for each compound what all those up to it match. A few steps for each node
+/// and each of its compounds and atoms.
+pub fn matched_nodes(tree: &NumberedTree, s: &Selector) -> Result<Marks, NoMemory>
     ensures { IfOk result (λ m. (v : List ℕ) → IsMarked tree.now m v ↔ Matches tree.now v (selector_of s.now)) }
 {
     match s.parts.items().split_first() {
@@ -143,8 +154,8 @@ fn narrowed(tree: &NumberedTree, compounds: &[Compound], marks: &Marks) -> Resul
     tree.in_both(&may, marks)
 }
 
-// The nodes that one of the compounds fits, where there are compounds.
-fn may_fit(tree: &NumberedTree, compounds: &[Compound]) -> Result<Marks, NoMemory>
+/// The nodes that one of the compounds fits; every node, where there are none.
+pub fn may_fit(tree: &NumberedTree, compounds: &[Compound]) -> Result<Marks, NoMemory>
     ensures { IfOk result (λ m. (v : List ℕ) → IsMarked tree.now m v ↔ MayFit tree.now (atoms_of compounds.now) v) }
 {
     if compounds.is_empty() {
@@ -153,8 +164,8 @@ fn may_fit(tree: &NumberedTree, compounds: &[Compound]) -> Result<Marks, NoMemor
     fitting(tree, compounds)
 }
 
-// The nodes that one of the compounds fits.
-fn fitting(tree: &NumberedTree, compounds: &[Compound]) -> Result<Marks, NoMemory>
+/// The nodes that one of the compounds fits.
+pub fn fitting(tree: &NumberedTree, compounds: &[Compound]) -> Result<Marks, NoMemory>
     ensures { IfOk result (λ m. (v : List ℕ) → IsMarked tree.now m v ↔ FitsOne tree.now (atoms_of compounds.now) v) }
 {
     let mut marks = tree.no_node()?;

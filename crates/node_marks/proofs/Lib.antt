@@ -1,3 +1,5 @@
+mod BesideLemmas
 mod NumberLemmas
+mod PassLemmas
 mod SetLemmas
 mod WalkLemmas

@@ -207,7 +207,7 @@ fn chained(
     scope: &Scope<'_>,
     words: &Cursor<'_, '_>,
 ) -> Result<String, ScriptFault> {
-    let answer = is_chain(alloc, &scope.declarations, words)?;
+    let answer = is_chain(alloc, false, &scope.declarations, words)?;
     Ok(format!(in alloc; "{answer}")?)
 }
 

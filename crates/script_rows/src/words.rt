@@ -62,6 +62,7 @@ pub(crate) fn lettered(alloc: Global, letters: Option<Vec<u8>>) -> Result<String
 /// Where the words behind a list of expressions stand.
 fn behind_list(alloc: Global, size: usize, mut words: Words<'_>) -> Result<String, ScriptFault> {
     let rules = Rules {
+        exact: false,
         declared: &[],
         has_this: false,
         braces: false,

@@ -1,0 +1,106 @@
+//! An action at all nodes that have a mark, in one walk.
+ghost use Rattle.std.specs.Prelude.{◌≡◌, ◌-◌, ◌≤◌, ◌↔◌, IsTrue, IfOk, OnOk};
+ghost use Rattle.tree_sem.specs.Order.{paths_of};
+ghost use Rattle.tree_sem.specs.Trees.{count_of};
+ghost use Rattle.tree_sem.specs.Nodes.{IsNode};
+ghost use Rattle.jq_sem.specs.Runs.{run_at, if_marked, marked_from, count_marked};
+
+use crate::actions::act_at;
+use node_marks::Marks;
+use std::alloc::Global;
+use tp_base::{NoMemory, Path};
+use tree_sem::{Action, MOST_NODES, Tree, TreeFault, go_on, has_room};
+
+/// How many nodes have a mark, from the one of a number on, where there are so many in all.
+pub fn marked_count(marks: &Marks, from: u32, nodes: u32) -> u32
+    requires { from ≤ nodes }
+    ensures count { result ≡ count_marked marks.now from (nodes - from) }
+    ensures few { result ≤ nodes }
+{
+    let mut count = 0;
+    for number in from..nodes {
+        let marked = marks.at(number as usize);
+        if marked {
+            count += 1;
+        }
+    }
+    count
+}
+
+/// Whether the tree has at most so many nodes where the action is done at its marked nodes. Linear in the nodes and in the
+/// trees that are added; it takes no memory, and looks at no more trees than there is room for nodes.
+pub fn stays_within(action: &Action, tree: &Tree, marks: &Marks, most: u32) -> bool
+    ensures { IsTrue result ↔ count_of (run_at action.now (marked_from marks.now 0 (paths_of tree.now)) tree.now) ≤ most }
+{
+    let nodes = tree.count();
+    match action {
+        Action::Classes(_) => nodes <= most,
+        Action::Inside(forest) => {
+            let times = marked_count(marks, 0, nodes);
+            has_room(nodes, times as usize, forest.tops.items(), most)
+        }
+        // The root, which has no parent, is the first node.
+        Action::Beside(forest) => {
+            let times = marked_count(marks, 1, nodes);
+            has_room(nodes, times as usize, forest.tops.items(), most)
+        }
+    }
+}
+
+/// What the action makes of the tree at all its marked nodes, one after another. It costs a copy of the tree, a walk over it,
+/// and what is added. Children stand behind those that were there, so that each node keeps its path.
+pub fn act_at_all(
+    alloc: Global,
+    action: &Action,
+    tree: &Tree,
+    marks: &Marks,
+) -> Result<Tree, NoMemory>
+    requires { count_of (run_at action.now (marked_from marks.now 0 (paths_of tree.now)) tree.now) ≤ MOST_NODES }
+    ensures { IfOk result (λ u. u ≡ run_at action.now (marked_from marks.now 0 (paths_of tree.now)) tree.now) }
+{
+    let mut made = tree.copy()?;
+    act_on_copy(alloc, action, tree, marks, &mut made)?;
+    Ok(made)
+}
+
+// The same in a copy of the tree.
+fn act_on_copy(
+    alloc: Global,
+    action: &Action,
+    tree: &Tree,
+    marks: &Marks,
+    made: &mut Tree,
+) -> Result<(), NoMemory>
+    requires copy { made.old ≡ tree.now }
+    requires room { count_of (run_at action.now (marked_from marks.now 0 (paths_of tree.now)) tree.now) ≤ MOST_NODES }
+    ensures { OnOk result (made.new ≡ run_at action.now (marked_from marks.now 0 (paths_of tree.now)) tree.now) }
+{
+    let mut at = Path::root(alloc);
+    let nodes = tree.count() as usize;
+    'nodes: for number in 0..nodes {
+        let marked = marks.at(number);
+        act_if(marked, action, made, &at)?;
+        let more = go_on(tree, &mut at)?;
+        if !more {
+            return Ok(());
+        }
+    }
+    Ok(())
+}
+
+// Does what the action does, where the node of the path has a mark.
+fn act_if(marked: bool, action: &Action, made: &mut Tree, at: &Path) -> Result<(), NoMemory>
+    requires node { IsNode made.old at.now }
+    requires room { count_of (run_at action.now (if_marked marked at.now) made.old) ≤ MOST_NODES }
+    ensures { OnOk result (made.new ≡ run_at action.now (if_marked marked at.now) made.old) }
+{
+    if !marked {
+        return Ok(());
+    }
+    match act_at(action, made, at) {
+        Ok(()) => Ok(()),
+        Err(TreeFault::Memory) => Err(NoMemory),
+        // There are a node and room.
+        Err(_) => unreachable!(),
+    }
+}
