@@ -1,6 +1,6 @@
 //! Answers once more.
 ghost use Rattle.std.specs.Prelude.{◌≡◌, IfOk};
-ghost use Rattle.usage_report.specs.Answers.{used};
+ghost use Rattle.usage_report.specs.Answers.{used, maybe};
 ghost use Rattle.usage_report.specs.Views.{answer_of};
 
 use proof_check::{Entries, Entry, PageItem, PageItems, Proof, ProofItems, Steps, Unfolded};
@@ -99,6 +99,12 @@ pub(crate) fn copy_answer(alloc: Global, answer: &Answer) -> Result<Answer, NoMe
             steps,
             shown,
         } => copy_used(alloc, proof, *steps, shown),
+        Answer::Maybe {
+            proof,
+            steps,
+            shown,
+            broken,
+        } => copy_maybe(alloc, proof, *steps, shown, *broken),
         Answer::UsedUnshown => Ok(Answer::UsedUnshown),
         Answer::Unused => Ok(Answer::Unused),
         Answer::Skipped(cause, at) => Ok(Answer::Skipped(*cause, *at)),
@@ -120,5 +126,24 @@ fn copy_used(
         proof,
         steps,
         shown,
+    })
+}
+
+fn copy_maybe(
+    alloc: Global,
+    proof: &Proof,
+    steps: u64,
+    shown: &Option<Unfolded>,
+    broken: Option<usize>,
+) -> Result<Answer, NoMemory>
+    ensures { IfOk result (λ a. answer_of a ≡ maybe proof.now steps shown.now broken) }
+{
+    let proof = copy_proof(alloc, proof)?;
+    let shown = copy_shown(alloc, shown)?;
+    Ok(Answer::Maybe {
+        proof,
+        steps,
+        shown,
+        broken,
     })
 }

@@ -42,7 +42,8 @@ fn listed(ground: &Ground<'_>, proof: &Proof, atom: Atom) -> Result<Option<Unfol
     ensures { IfOk result (λ shown. IsShown (unfolded ground.now.system.now proof.now ground.now.page.now atom) ground.now.limits.now.list shown) }
 {
     let list = u64::from(ground.limits.list);
-    match unfold(proof, ground.system, ground.page, atom, list) {
+    let alloc = proof.entries.allocator();
+    match unfold(alloc, proof, ground.system, ground.page, atom, list) {
         Ok(unfolded) => Ok(Some(unfolded)),
         Err(UnfoldFault::OverLimit) => Ok(None),
         Err(UnfoldFault::Memory) => Err(NoMemory),

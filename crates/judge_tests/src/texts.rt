@@ -46,6 +46,7 @@ fn put_used(text: &mut String, steps: u64, shown: &Option<Unfolded>) -> Result<(
 fn put_answer(text: &mut String, answer: &Answer) -> Result<(), AllocError> {
     match answer {
         Answer::Used { steps, shown, .. } => put_used(text, *steps, shown),
+        Answer::Maybe { steps, .. } => write!(text, "maybe {steps}"),
         Answer::UsedUnshown => text.push_str("used-unshown"),
         Answer::Unused => text.push_str("unused"),
         Answer::Skipped(cause, at) => write!(text, "skipped {cause:?} {at}"),

@@ -6,7 +6,7 @@ use Rattle.sel_core.specs.Selectors.{Selector}
 use Rattle.css_read.specs.Sheets.{judged, Item}
 use Rattle.usage_report.specs.declared.answers.Answer as code
 use Rattle.usage_report.specs.Views.{answer_of}
-use Rattle.usage_report.specs.Answers.{Answer, used, used_unshown, unused, skipped, spent}
+use Rattle.usage_report.specs.Answers.{Answer, used, maybe, used_unshown, unused, skipped, spent}
 use Rattle.usage_report.specs.Reportable as usage
 use Rattle.usage_report.specs.Reportable.{IsReportable}
 use Rattle.dead_script.specs.Verdicts.{IsProbed}
@@ -15,6 +15,7 @@ use Rattle.site_judge.specs.SiteReport.{IsBestReportable, AreReportable}
 
 pub reportable : (places : List Place) (s : Selector) (a : Answer) → IsProbed places a → IsReportable places (judged s) a
 reportable places s (used proof steps shown) is = (tt, is)
+reportable places s (maybe proof steps shown broken) is = (tt, is.0, is.1)
 reportable places s used_unshown is = tt
 reportable places s unused is = tt
 reportable places s (skipped cause at) is = absurd is

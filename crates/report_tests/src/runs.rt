@@ -128,6 +128,7 @@ fn is_tracked(
             ..
         } => leads(alloc, page, stmts, selector, shown),
         Answer::Used { shown: None, .. } => Ok(true),
+        Answer::Maybe { .. } => Ok(true),
         Answer::UsedUnshown => Ok(true),
         Answer::Unused => Ok(true),
         Answer::Skipped(..) => Ok(true),

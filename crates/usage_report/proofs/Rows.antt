@@ -15,7 +15,7 @@ use Rattle.css_read.specs.Sheets.{judged, skipped, Item}
 use Rattle.usage_report.specs.Answers as answers
 use Rattle.usage_report.specs.Reportable.{IsReportable, AreReportable}
 use Rattle.usage_report.specs.RunTraces.{RunTrace, listed, stopped}
-use Rattle.usage_report.specs.Report.{report, report_with, run_text, trace_text, place_text, path_text, step_text, shown_text, count_text, head_text}
+use Rattle.usage_report.specs.Report.{report, report_with, run_text, trace_text, place_text, path_text, step_text, shown_text, count_text, head_text, broken_text, illegal_text}
 
 -- `.a` at 1:1, and at 2:1 `.a > b`
 abbrev names : List Named
@@ -62,6 +62,16 @@ greatest : both (answers.used no_proof 18446744073709551615 None) (answers.used 
     ≡ codes "treeped 2\n1:1 used 18446744073709551615+ .a\n  not listed\n2:1 used 18446744073709551614 .a > b\n  not listed\n"
 unfolding digits head_text place_text selector_text count_text shown_text
 greatest = refl
+
+-- a step that isn't legal by the calls that its statement has, and steps that weren't replayed
+illegal_step : both (answers.maybe no_proof 2 (Some (record { steps = record { stmt = 0; at = 1 ∷ 0 ∷ [] } ∷ record { stmt = 1; at = [] } ∷ []; at = [] })) (Some 1)) answers.unused
+    ≡ codes "treeped 2\n1:1 maybe 2 .a\n  1 at 1:9 on /1/0\n  2 at 2:27 on /\n  illegal at step 2\n2:1 unused .a > b\n"
+unfolding digits head_text place_text selector_text count_text path_text step_text broken_text illegal_text
+illegal_step = refl
+
+not_replayed : both (answers.maybe no_proof 18446744073709551615 None None) answers.unused ≡ codes "treeped 2\n1:1 maybe 18446744073709551615+ .a\n  not replayed\n2:1 unused .a > b\n"
+unfolding digits head_text place_text selector_text count_text broken_text
+not_replayed = refl
 
 -- an item that is skipped, on its second line, and the place of the cause
 abbrev at_cause : Skip → ℕ → List ℕ
@@ -111,6 +121,10 @@ another_offset is = cc
 -- there are three statements
 no_place : ¬ IsReportable places first.outcome (answers.used no_proof 1 (Some (record { steps = record { stmt = 3; at = [] } ∷ []; at = [] })))
 no_place is = let less = All-head (λ (s : Step). s.stmt < length places) _ [] is.1 in absurd (omega (arith, less))
+
+-- there is one step
+no_such_step : ¬ IsReportable places first.outcome (answers.maybe no_proof 1 (Some (record { steps = record { stmt = 0; at = [] } ∷ []; at = [] })) (Some 1))
+no_such_step is = let less = is.2 in absurd (omega (arith, less))
 
 no_answer : ¬ AreReportable places (row ∷ []) []
 no_answer is = is

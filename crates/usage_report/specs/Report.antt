@@ -12,7 +12,7 @@ use Rattle.sel_core.specs.SelectorText.{selector_text}
 use Rattle.css_read.specs.Sheets as sheets
 use Rattle.proof_check.specs.declared.unfolded.Unfolded.{Unfolded}
 use Rattle.usage_report.specs.RunTraces.{RunTrace, listed, stopped}
-use Rattle.usage_report.specs.Answers.{Answer, used, used_unshown, unused, skipped, spent}
+use Rattle.usage_report.specs.Answers.{Answer, used, maybe, used_unshown, unused, skipped, spent}
 
 -- `line:column`
 unfoldable pub place_text : Place → List ℕ
@@ -47,6 +47,15 @@ shown_text places None trace = codes "  not listed\n"
 shown_text places (Some u) None = flat_map (step_text places) u.steps ++ codes "  match " ++ path_text u.at ++ codes "\n"
 shown_text places (Some u) (Some trace) = trace_text places trace
 
+-- the step that isn't legal, counted from 1
+unfoldable pub illegal_text : ℕ → List ℕ
+illegal_text i = codes "  illegal at step " ++ decimal (i + 1) ++ codes "\n"
+
+-- the steps and the one that isn't legal, or that they were not replayed
+unfoldable pub broken_text : List Place → Option Unfolded → Option ℕ → List ℕ
+broken_text places (Some u) (Some i) = flat_map (step_text places) u.steps ++ illegal_text i
+broken_text places shown broken = codes "  not replayed\n"
+
 -- a number of steps, with `+` where it is the greatest that is counted and there may be more
 unfoldable pub count_text : ℕ → List ℕ
 count_text steps = decimal steps ++ (if steps == 2 ^ 64 - 1 then codes "+" else [])
@@ -62,6 +71,7 @@ cause_text cause.Bad = codes "bad"
 -- the first line of an answer in a sheet of this text, for an item whose place and whose selector's text are these
 unfoldable pub head_text : List ℕ → List ℕ → List ℕ → Answer → List ℕ
 head_text text place selector (used proof steps shown) = place ++ codes " used " ++ count_text steps ++ codes " " ++ selector ++ codes "\n"
+head_text text place selector (maybe proof steps shown broken) = place ++ codes " maybe " ++ count_text steps ++ codes " " ++ selector ++ codes "\n"
 head_text text place selector used_unshown = place ++ codes " used-unshown " ++ selector ++ codes "\n"
 head_text text place selector unused = place ++ codes " unused " ++ selector ++ codes "\n"
 head_text text place selector (skipped cause at) = place ++ codes " skipped " ++ cause_text cause ++ codes " at " ++ place_text (place_at text at) ++ codes "\n"
@@ -70,6 +80,7 @@ head_text text place selector spent = place ++ codes " spent " ++ selector ++ co
 -- a text, and behind it the lines of an answer's trace, if it has one
 abbrev pub with_trace : List Place → List ℕ → Answer → Option RunTrace → List ℕ
 with_trace places front (used proof steps shown) trace = front ++ shown_text places shown trace
+with_trace places front (maybe proof steps shown broken) trace = front ++ broken_text places shown broken
 with_trace places front _ trace = front
 
 -- the lines of an answer

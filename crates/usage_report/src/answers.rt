@@ -12,6 +12,14 @@ pub enum Answer {
         steps: u64,
         shown: Option<Unfolded>,
     },
+    /// It matches a node after such steps by what is judged in the place of sharper calls. By the calls themselves the step of this
+    /// number, counted from 0, is the first that isn't legal; or the steps were too many to be shown, and were not replayed.
+    Maybe {
+        proof: Proof,
+        steps: u64,
+        shown: Option<Unfolded>,
+        broken: Option<usize>,
+    },
     /// It matches a node after some steps, whose proof is larger than a budget.
     UsedUnshown,
     /// It matches no node, whatever the steps.

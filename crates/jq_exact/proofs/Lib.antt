@@ -1,0 +1,11 @@
+mod CallLemmas
+mod NumberLemmas
+mod OrderedLemmas
+mod PlainLemmas
+pub mod ProofLemmas
+mod ReplayLemmas
+mod RoomLemmas
+pub mod SettlingLemmas
+mod StandingLemmas
+mod TogetherLemmas
+pub mod WideLemmas

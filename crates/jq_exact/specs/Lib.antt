@@ -1,0 +1,10 @@
+pub mod Events
+pub mod Exact
+pub mod Laws
+pub mod Ordered
+pub mod Replays
+pub mod Room
+pub mod Settling
+pub mod SharpProofs
+pub mod Standing
+pub mod Together

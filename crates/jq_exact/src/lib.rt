@@ -1,0 +1,21 @@
+//! What a statement selects exactly where some of its calls are sharper than what is judged in their place.
+#![tactic(auto)]
+
+mod evaluation;
+mod laws;
+mod replays;
+mod selection;
+mod sets;
+mod settling;
+mod sharp_proofs;
+mod sharp_statements;
+mod standing_calls;
+
+pub use laws::{
+    exact_is_narrower, exact_reach_is_less, exact_steps_are_steps, plain_is_exact,
+    plain_steps_are_exact, used_is_exact,
+};
+pub use replays::{ReplayFault, replay_exact};
+pub use selection::selects_exact;
+pub use settling::settle;
+pub use sharp_proofs::has_sharp_step;
