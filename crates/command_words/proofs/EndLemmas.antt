@@ -5,7 +5,7 @@ use Rattle.clap.specs.Walk.{Row, Rule, Text, Walk, idle, has_row, finished, noth
 use Rattle.clap.specs.Simple.{built, entered, matches_of}
 use Rattle.clap.specs.Kinds.{Kinds, or_else}
 use Rattle.clap.specs.Faults.{check_fault, default_fault, defaults_fault, entered_fault, fault_of, is_simple_and_free, settle_fault, walk_fault}
-use Rattle.command_words.specs.Parts.{Flag, plain, dead, runs, site, flag_name, Key, pairs, nodes, entries, list, gen, key_name, anything}
+use Rattle.command_words.specs.Parts.{Flag, plain, dead, runs, site, prune, flag_name, Key, pairs, nodes, entries, list, gen, key_name, anything}
 use Rattle.command_words.specs.Command.{app}
 use Rattle.command_words.proofs.Runs.{shape, rule_flag, rule_key, rule_names, rules_all, none, gate, at, end_of, wanted}
 use Rattle.command_words.proofs.TurnLemmas.{or_else_nil}
@@ -49,9 +49,9 @@ quiet (r ∷ rs) (quiet_more _ _ so behind) rows = ap (λ z. or_else z (defaults
 
 all_quiet : AreQuiet rules_all
 all_quiet =
-    quiet_more _ _ (flag_default plain) (quiet_more _ _ (flag_default dead) (quiet_more _ _ (flag_default runs) (quiet_more _ _ (flag_default site)
+    quiet_more _ _ (flag_default plain) (quiet_more _ _ (flag_default dead) (quiet_more _ _ (flag_default runs) (quiet_more _ _ (flag_default site) (quiet_more _ _ (flag_default prune)
     (quiet_more _ _ (key_default pairs) (quiet_more _ _ (key_default nodes) (quiet_more _ _ (key_default entries) (quiet_more _ _ (key_default list) (quiet_more _ _ (key_default gen)
-    (quiet_more _ _ names_default quiet_end)))))))))
+    (quiet_more _ _ names_default quiet_end))))))))))
 
 or_else_three : (a b c d e : Kinds) → b ≡ [] → d ≡ [] → e ≡ [] → or_else a (or_else b (or_else c (or_else d e))) ≡ or_else a c
 or_else_three a b c d e no_b no_d no_e = ap (or_else a) (ap (λ z. or_else z (or_else c (or_else d e))) no_b ∙ ap (or_else c) (ap (λ z. or_else z e) no_d ∙ no_e) ∙ or_else_nil c)

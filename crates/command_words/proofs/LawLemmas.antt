@@ -10,9 +10,9 @@ use Rattle.triple_gen.specs.declared.triple.TheConstants.{MOST_BOXES}
 use Rattle.command_words.specs.declared.words.Mode.{Mode}
 use Rattle.command_words.specs.declared.words.Mode.TheVariants as mode
 use Rattle.command_words.specs.declared.words.Order.{Order}
-use Rattle.command_words.specs.declared.words.TheConstants.{MOST_PAGES}
+use Rattle.limits.specs.declared.pages.TheConstants.{MOST_PAGES}
 use Rattle.command_words.specs.Parts.{Text, Part, pairs, nodes, entries, list, gen, anything, reading}
-use Rattle.command_words.specs.Orders.{are_once, is_number, is_good, are_good, is_report, are_names, is_named, are_named, is_well, is_between, number, mode_in, value_in, names_in, limits_by, order_by, order_from, order_in, order_of}
+use Rattle.command_words.specs.Orders.{are_once, is_number, is_good, are_good, is_report, is_site, takes_pages, are_names, is_named, are_named, is_well, is_between, number, mode_in, value_in, names_in, limits_by, order_by, order_from, order_in, order_of}
 use Rattle.command_words.proofs.NumberLemmas.{both}
 use Rattle.command_words.proofs.ReadLemmas.{some_if}
 
@@ -43,9 +43,11 @@ from_parts ws o is = go (reading anything ws) is
 -- a mode takes names
 some_names : (m : Mode) (ns : List Text) → are_names m (length ns) ≡ true → ns ≡ [] → ⊥
 some_names mode.Report ns e none = true≢false (sym e ∙ ap (λ z. are_names mode.Report (length z)) none)
+some_names mode.Prune ns e none = true≢false (sym e ∙ ap (λ z. are_names mode.Prune (length z)) none)
 some_names mode.Dead ns e none = true≢false (sym e ∙ ap (λ z. are_names mode.Dead (length z)) none)
 some_names mode.Runs ns e none = true≢false (sym e ∙ ap (λ z. are_names mode.Runs (length z)) none)
 some_names mode.Site ns e none = true≢false (sym e ∙ ap (λ z. are_names mode.Site (length z)) none)
+some_names mode.SitePrune ns e none = true≢false (sym e ∙ ap (λ z. are_names mode.SitePrune (length z)) none)
 
 no_names : (ns : List Text) → length ns ≡ 0 → ns ≡ []
 no_names [] e = refl
@@ -77,11 +79,15 @@ few ws o is =
     subst (λ (z : Order). IfSome z.size (λ n. n ≤ MOST_BOXES)) from.same (few_there (value_in gen ps) ps refl good)
 
 -- a mode takes no more names than a site of the most pages
+short_site : (n : ℕ) → is_site n ≡ true → n ≤ 2 * MOST_PAGES + 1
+short_site n e = leb-true n (2 * MOST_PAGES + 1) (both (nat_le 3 n) (nat_le n (2 * MOST_PAGES + 1)) (both (n % 2 == 1) (nat_le 3 n && nat_le n (2 * MOST_PAGES + 1)) e).1).1
+
 short_names : (m : Mode) (n : ℕ) → are_names m n ≡ true → n ≤ 2 * MOST_PAGES + 1
-short_names mode.Report n e = let is = eqb-true n 3 e in omega (arith, is)
-short_names mode.Dead n e = let is = eqb-true n 3 e in omega (arith, is)
-short_names mode.Runs n e = let is = eqb-true n 3 e in omega (arith, is)
-short_names mode.Site n e = leb-true n (2 * MOST_PAGES + 1) (both (nat_le 3 n) (nat_le n (2 * MOST_PAGES + 1)) (both (n % 2 == 1) (nat_le 3 n && nat_le n (2 * MOST_PAGES + 1)) e).1).1
+short_names m n e = go (takes_pages m) e
+  where
+    go : (b : Bool) → (if b then is_site n else n == 3) ≡ true → n ≤ 2 * MOST_PAGES + 1
+    go true e' = short_site n e'
+    go false e' = let is = eqb-true n 3 e' in omega (arith, is)
 
 short_there : (m : Mode) (o : Option Text) (n : ℕ) → is_named m (is_some o) n ≡ true → n ≤ 2 * MOST_PAGES + 1
 short_there m None n e = short_names m n e

@@ -11,7 +11,7 @@ use Rattle.clap.specs.Faults.{fault_of}
 use Rattle.clap.specs.declared.error.kind.ErrorKind.{ErrorKind}
 use Rattle.clap.specs.declared.builder.value_parser.Reading.{Reading}
 use Rattle.clap.specs.declared.parser.matches.ValueSource.TheVariants.{CommandLine, DefaultValue}
-use Rattle.command_words.specs.Parts.{Flag, plain, dead, runs, site, flag_name, Key, pairs, nodes, entries, list, gen, key_name, Part, flag, given, name, anything, reading}
+use Rattle.command_words.specs.Parts.{Flag, plain, dead, runs, site, prune, flag_name, Key, pairs, nodes, entries, list, gen, key_name, Part, flag, given, name, anything, reading}
 use Rattle.command_words.specs.Orders.{is_same, are_once, says, value_from, names_in, order_of, order_in, order_from}
 use Rattle.command_words.specs.Says.{AreRows}
 use Rattle.command_words.specs.Command.{app}
@@ -158,8 +158,11 @@ name_kept rows = either_same (has_row (codes "names") rows) rows
 abbrev pub flagged : Flag → List Row → List Row
 flagged f rows = with_default rows (rule_flag f)
 
+abbrev pub first_flagged : List Row → List Row
+first_flagged rows = flagged site (flagged runs (flagged dead (flagged plain rows)))
+
 abbrev pub all_flagged : List Row → List Row
-all_flagged rows = flagged site (flagged runs (flagged dead (flagged plain rows)))
+all_flagged rows = flagged prune (first_flagged rows)
 
 defaults_are : (rows : List Row) → fold with_default rows rules_all ≡ all_flagged rows
 defaults_are rows =
@@ -225,17 +228,20 @@ text_flagged f g rows other =
 
 flag_read : (f : Flag) (rows : List Row) → one_of (flag_name f) (all_flagged rows) ≡ flag_text f rows
 flag_read plain rows =
-    later_flagged plain site (flagged runs (flagged dead (flagged plain rows))) refl ∙ later_flagged plain runs (flagged dead (flagged plain rows)) refl ∙ later_flagged plain dead (flagged plain rows) refl
+    later_flagged plain prune (first_flagged rows) refl ∙ later_flagged plain site (flagged runs (flagged dead (flagged plain rows))) refl ∙ later_flagged plain runs (flagged dead (flagged plain rows)) refl ∙ later_flagged plain dead (flagged plain rows) refl
     ∙ own_flagged plain rows
 flag_read dead rows =
-    later_flagged dead site (flagged runs (flagged dead (flagged plain rows))) refl ∙ later_flagged dead runs (flagged dead (flagged plain rows)) refl ∙ own_flagged dead (flagged plain rows)
+    later_flagged dead prune (first_flagged rows) refl ∙ later_flagged dead site (flagged runs (flagged dead (flagged plain rows))) refl ∙ later_flagged dead runs (flagged dead (flagged plain rows)) refl ∙ own_flagged dead (flagged plain rows)
     ∙ text_flagged dead plain rows refl
 flag_read runs rows =
-    later_flagged runs site (flagged runs (flagged dead (flagged plain rows))) refl ∙ own_flagged runs (flagged dead (flagged plain rows)) ∙ text_flagged runs dead (flagged plain rows) refl
+    later_flagged runs prune (first_flagged rows) refl ∙ later_flagged runs site (flagged runs (flagged dead (flagged plain rows))) refl ∙ own_flagged runs (flagged dead (flagged plain rows)) ∙ text_flagged runs dead (flagged plain rows) refl
     ∙ text_flagged runs plain rows refl
 flag_read site rows =
-    own_flagged site (flagged runs (flagged dead (flagged plain rows))) ∙ text_flagged site runs (flagged dead (flagged plain rows)) refl ∙ text_flagged site dead (flagged plain rows) refl
+    later_flagged site prune (first_flagged rows) refl ∙ own_flagged site (flagged runs (flagged dead (flagged plain rows))) ∙ text_flagged site runs (flagged dead (flagged plain rows)) refl ∙ text_flagged site dead (flagged plain rows) refl
     ∙ text_flagged site plain rows refl
+flag_read prune rows =
+    own_flagged prune (first_flagged rows) ∙ text_flagged prune site (flagged runs (flagged dead (flagged plain rows))) refl ∙ text_flagged prune runs (flagged dead (flagged plain rows)) refl
+    ∙ text_flagged prune dead (flagged plain rows) refl ∙ text_flagged prune plain rows refl
 
 -- ---- the whole
 
@@ -273,9 +279,9 @@ rows_are ps rows e = record {
       ∙ ap (λ b. or_false_text b (flag_of f ps None)) (flag_there f ps [] rows e ∙ or_false (says f ps))
       ∙ said_text (says f ps) None;
   values = λ k.
-      kept k site (flagged runs (flagged dead (flagged plain rows))) ∙ kept k runs (flagged dead (flagged plain rows)) ∙ kept k dead (flagged plain rows) ∙ kept k plain rows ∙ values_are k ps [] rows e;
+      kept k prune (first_flagged rows) ∙ kept k site (flagged runs (flagged dead (flagged plain rows))) ∙ kept k runs (flagged dead (flagged plain rows)) ∙ kept k dead (flagged plain rows) ∙ kept k plain rows ∙ values_are k ps [] rows e;
   names = ap (λ o. unwrap_or o [])
-      (names_flagged site (flagged runs (flagged dead (flagged plain rows))) ∙ names_flagged runs (flagged dead (flagged plain rows)) ∙ names_flagged dead (flagged plain rows) ∙ names_flagged plain rows)
+      (names_flagged prune (first_flagged rows) ∙ names_flagged site (flagged runs (flagged dead (flagged plain rows))) ∙ names_flagged runs (flagged dead (flagged plain rows)) ∙ names_flagged dead (flagged plain rows) ∙ names_flagged plain rows)
       ∙ names_are ps [] rows e;
 }
   where

@@ -3,7 +3,7 @@ use Rattle.std.proofs.Common.{◌≡◌, true, false, List, [], ◌∷◌, ◌++
 use Rattle.limits.specs.declared.budgets.Limits.{Limits}
 use Rattle.limits.specs.Budgets.{standard}
 use Rattle.command_words.specs.declared.words.Mode.{Mode}
-use Rattle.command_words.specs.declared.words.Mode.TheVariants.{Report, Dead, Runs, Site}
+use Rattle.command_words.specs.declared.words.Mode.TheVariants.{Report, Prune, Dead, Runs, Site, SitePrune}
 use Rattle.command_words.specs.declared.words.Order.{Order}
 use Rattle.command_words.specs.Parts.{Text, reading}
 use Rattle.command_words.specs.Orders.{order_of, is_site}
@@ -35,9 +35,21 @@ between : order_of (codes "a" ∷ codes "--runs" ∷ codes "b" ∷ codes "c" ∷
 unfolding reading
 between = refl
 
-unknown : order_of (codes "--prune" ∷ three_names) ≡ None
+unknown : order_of (codes "--pruned" ∷ three_names) ≡ None
 unfolding reading
 unknown = refl
+
+pruned : order_of (three_names ++ codes "--prune" ∷ []) ≡ ordered Prune three_names standard
+unfolding reading
+pruned = refl
+
+pruned_dead : order_of (codes "--prune" ∷ codes "--dead" ∷ three_names) ≡ None
+unfolding reading
+pruned_dead = refl
+
+pruned_runs : order_of (codes "--runs" ∷ codes "--prune" ∷ three_names) ≡ None
+unfolding reading
+pruned_runs = refl
 
 dead : order_of (codes "--dead" ∷ codes "--plain" ∷ three_names) ≡ ordered Dead three_names (record standard { plain = true })
 unfolding reading
@@ -80,6 +92,10 @@ dead_site : order_of (codes "--site" ∷ codes "--dead" ∷ three_names) ≡ Non
 unfolding reading
 dead_site = refl
 
+pruned_site : order_of (codes "--prune" ∷ codes "a" ∷ codes "--site" ∷ codes "b" ∷ codes "c" ∷ []) ≡ ordered SitePrune three_names standard
+unfolding reading
+pruned_site = refl
+
 most_pages : is_site 129 ≡ true
 most_pages = refl
 
@@ -94,6 +110,10 @@ generated = refl
 generated_dead : order_of (codes "--dead" ∷ codes "--gen" ∷ codes "20" ∷ []) ≡ None
 unfolding reading
 generated_dead = refl
+
+generated_pruned : order_of (codes "--prune" ∷ codes "--gen" ∷ codes "20" ∷ []) ≡ None
+unfolding reading
+generated_pruned = refl
 
 generated_names : order_of (codes "--gen=5" ∷ three_names) ≡ None
 unfolding reading

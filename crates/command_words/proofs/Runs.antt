@@ -6,7 +6,7 @@ use Rattle.clap.specs.Simple.{Shape, built, filled, with_index}
 use Rattle.clap.specs.Faults.{walk_fault, settle_fault}
 use Rattle.clap.specs.Kinds.{Kinds, or_else}
 use Rattle.command_words.specs.Command.{flag_rule, option_rule, names_rule, app}
-use Rattle.command_words.specs.Parts.{Flag, plain, dead, runs, site, flag_name, Key, pairs, nodes, entries, list, gen, key_name, Part, flag, given, name, State, reading}
+use Rattle.command_words.specs.Parts.{Flag, plain, dead, runs, site, prune, flag_name, Key, pairs, nodes, entries, list, gen, key_name, Part, flag, given, name, State, reading}
 
 abbrev pub rule_flag : Flag → Rule
 rule_flag f = filled (flag_rule (flag_name f))
@@ -18,7 +18,7 @@ abbrev pub rule_names : Rule
 rule_names = with_index 1 (filled names_rule)
 
 abbrev pub rules_all : List Rule
-rules_all = rule_flag plain ∷ rule_flag dead ∷ rule_flag runs ∷ rule_flag site ∷ rule_key pairs ∷ rule_key nodes ∷ rule_key entries ∷ rule_key list ∷ rule_key gen ∷ rule_names ∷ []
+rules_all = rule_flag plain ∷ rule_flag dead ∷ rule_flag runs ∷ rule_flag site ∷ rule_flag prune ∷ rule_key pairs ∷ rule_key nodes ∷ rule_key entries ∷ rule_key list ∷ rule_key gen ∷ rule_names ∷ []
 
 abbrev pub shape : Shape
 shape = (built app).top

@@ -8,7 +8,7 @@ use Rattle.clap.specs.Walk.{Row, Rule, Text, Walk, Waiting, idle, positional, op
 use Rattle.clap.specs.Faults.{settle_fault, walk_fault, turn_fault, use_fault, flags_fault}
 use Rattle.clap.specs.Kinds.{Kinds, or_else}
 use Rattle.clap.specs.declared.error.kind.ErrorKind.{ErrorKind}
-use Rattle.command_words.specs.Parts.{Flag, plain, dead, runs, site, flag_name, flag_of, Key, pairs, nodes, entries, list, gen, key_name, key_of, Part, flag, given, with_part, Word, dashes, long, dashed, bare, word_of, word_behind, is_equals, value_in}
+use Rattle.command_words.specs.Parts.{Flag, plain, dead, runs, site, prune, flag_name, flag_of, Key, pairs, nodes, entries, list, gen, key_name, key_of, Part, flag, given, with_part, Word, dashes, long, dashed, bare, word_of, word_behind, is_equals, value_in}
 use Rattle.command_words.proofs.Runs.{shape, rules_all, rule_flag, rule_key, rule_names, Hold, none, one, word, unfilled, held_at, hold_text, use_hold, use_part, use_all, gate, at, got, end_of}
 
 pub shape_is : shape.rules ≡ rules_all
@@ -139,24 +139,25 @@ abbrev pub rule_of : Option Flag → Option Key → Option Rule
 rule_of (Some f) k = Some (rule_flag f)
 rule_of None k = option_map rule_key k
 
-pick : (p d r s a b c e f : Bool) → (if p then Some (rule_flag plain) else (if d then Some (rule_flag dead) else (if r then Some (rule_flag runs) else (if s then Some (rule_flag site) else (if a then Some (rule_key pairs) else (if b then Some (rule_key nodes) else (if c then Some (rule_key entries) else (if e then Some (rule_key list) else (if f then Some (rule_key gen) else None)))))))))
-    ≡ rule_of (if p then Some plain else (if d then Some dead else (if r then Some runs else (if s then Some site else None)))) (if a then Some pairs else (if b then Some nodes else (if c then Some entries else (if e then Some list else (if f then Some gen else None)))))
-pick true d r s a b c e f = refl
-pick false true r s a b c e f = refl
-pick false false true s a b c e f = refl
-pick false false false true a b c e f = refl
-pick false false false false true b c e f = refl
-pick false false false false false true c e f = refl
-pick false false false false false false true e f = refl
-pick false false false false false false false true f = refl
-pick false false false false false false false false true = refl
-pick false false false false false false false false false = refl
+pick : (p d r s u a b c e f : Bool) → (if p then Some (rule_flag plain) else (if d then Some (rule_flag dead) else (if r then Some (rule_flag runs) else (if s then Some (rule_flag site) else (if u then Some (rule_flag prune) else (if a then Some (rule_key pairs) else (if b then Some (rule_key nodes) else (if c then Some (rule_key entries) else (if e then Some (rule_key list) else (if f then Some (rule_key gen) else None))))))))))
+    ≡ rule_of (if p then Some plain else (if d then Some dead else (if r then Some runs else (if s then Some site else (if u then Some prune else None))))) (if a then Some pairs else (if b then Some nodes else (if c then Some entries else (if e then Some list else (if f then Some gen else None)))))
+pick true d r s u a b c e f = refl
+pick false true r s u a b c e f = refl
+pick false false true s u a b c e f = refl
+pick false false false true u a b c e f = refl
+pick false false false false true a b c e f = refl
+pick false false false false false true b c e f = refl
+pick false false false false false false true c e f = refl
+pick false false false false false false false true e f = refl
+pick false false false false false false false false true f = refl
+pick false false false false false false false false false true = refl
+pick false false false false false false false false false false = refl
 
 -- the rule of a long name
 pub long_rule : (n : Text) → arg_by_long shape.rules n ≡ rule_of (flag_of n) (key_of n)
 long_rule n =
-    rw (or_none (bytes_eq (flag_name plain) n), or_none (bytes_eq (flag_name dead) n), or_none (bytes_eq (flag_name runs) n), or_none (bytes_eq (flag_name site) n), or_none (bytes_eq (key_name pairs) n), or_none (bytes_eq (key_name nodes) n), or_none (bytes_eq (key_name entries) n), or_none (bytes_eq (key_name list) n), or_none (bytes_eq (key_name gen) n))
-    (pick (bytes_eq (flag_name plain) n) (bytes_eq (flag_name dead) n) (bytes_eq (flag_name runs) n) (bytes_eq (flag_name site) n) (bytes_eq (key_name pairs) n) (bytes_eq (key_name nodes) n) (bytes_eq (key_name entries) n) (bytes_eq (key_name list) n) (bytes_eq (key_name gen) n))
+    rw (or_none (bytes_eq (flag_name plain) n), or_none (bytes_eq (flag_name dead) n), or_none (bytes_eq (flag_name runs) n), or_none (bytes_eq (flag_name site) n), or_none (bytes_eq (flag_name prune) n), or_none (bytes_eq (key_name pairs) n), or_none (bytes_eq (key_name nodes) n), or_none (bytes_eq (key_name entries) n), or_none (bytes_eq (key_name list) n), or_none (bytes_eq (key_name gen) n))
+    (pick (bytes_eq (flag_name plain) n) (bytes_eq (flag_name dead) n) (bytes_eq (flag_name runs) n) (bytes_eq (flag_name site) n) (bytes_eq (flag_name prune) n) (bytes_eq (key_name pairs) n) (bytes_eq (key_name nodes) n) (bytes_eq (key_name entries) n) (bytes_eq (key_name list) n) (bytes_eq (key_name gen) n))
 
 pub uses_flag : (f : Flag) (rows : List Row) → gate (use_fault false (rule_flag f) [] rows) (used (rule_flag f) [] rows) ≡ use_part rows (flag f)
 uses_flag f rows = repeat_is (has_row (flag_name f) rows) _ _

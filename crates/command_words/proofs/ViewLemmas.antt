@@ -8,7 +8,7 @@ use Rattle.clap.specs.Walk.{Row, Text, has_row, at_row, first_of, all_of, one_of
 use Rattle.clap.specs.declared.builder.value_parser.Reading.{Reading}
 use Rattle.clap.specs.declared.builder.value_parser.Reading.TheVariants.{AsWritten}
 use Rattle.clap.specs.declared.parser.matches.ValueSource.TheVariants.{CommandLine}
-use Rattle.command_words.specs.Parts.{Flag, plain, dead, runs, site, flag_name, Key, pairs, nodes, entries, list, gen, key_name, Part, flag, given, name}
+use Rattle.command_words.specs.Parts.{Flag, plain, dead, runs, site, prune, flag_name, Key, pairs, nodes, entries, list, gen, key_name, Part, flag, given, name}
 use Rattle.command_words.specs.Orders.{value_after}
 use Rattle.command_words.proofs.Runs.{rule_flag, rule_key, rule_names, use_part}
 
@@ -106,6 +106,11 @@ flag_key site nodes = refl
 flag_key site entries = refl
 flag_key site list = refl
 flag_key site gen = refl
+flag_key prune pairs = refl
+flag_key prune nodes = refl
+flag_key prune entries = refl
+flag_key prune list = refl
+flag_key prune gen = refl
 
 pub key_flag : (k : Key) (f : Flag) → bytes_eq (key_name k) (flag_name f) ≡ false
 key_flag pairs plain = refl
@@ -128,24 +133,32 @@ key_flag nodes site = refl
 key_flag entries site = refl
 key_flag list site = refl
 key_flag gen site = refl
+key_flag pairs prune = refl
+key_flag nodes prune = refl
+key_flag entries prune = refl
+key_flag list prune = refl
+key_flag gen prune = refl
 
 pub names_flag : (f : Flag) → bytes_eq (codes "names") (flag_name f) ≡ false
 names_flag plain = refl
 names_flag dead = refl
 names_flag runs = refl
 names_flag site = refl
+names_flag prune = refl
 
 pub flag_names : (f : Flag) → bytes_eq (flag_name f) (codes "names") ≡ false
 flag_names plain = refl
 flag_names dead = refl
 flag_names runs = refl
 flag_names site = refl
+flag_names prune = refl
 
 pub flag_flag : (f : Flag) → bytes_eq (flag_name f) (flag_name f) ≡ true
 flag_flag plain = refl
 flag_flag dead = refl
 flag_flag runs = refl
 flag_flag site = refl
+flag_flag prune = refl
 
 pub names_key : (k : Key) → bytes_eq (codes "names") (key_name k) ≡ false
 names_key pairs = refl

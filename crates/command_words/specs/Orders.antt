@@ -13,8 +13,8 @@ use Rattle.command_words.specs.declared.numbers.TheConstants.{MOST_DIGITS}
 use Rattle.command_words.specs.declared.words.Mode.{Mode}
 use Rattle.command_words.specs.declared.words.Mode.TheVariants as mode
 use Rattle.command_words.specs.declared.words.Order.{Order}
-use Rattle.command_words.specs.declared.words.TheConstants.{MOST_PAGES}
-use Rattle.command_words.specs.Parts.{Text, Flag, plain, dead, runs, site, flag_name, Key, pairs, nodes, entries, list, gen, key_name, Part, flag, given, name, anything, reading}
+use Rattle.limits.specs.declared.pages.TheConstants.{MOST_PAGES}
+use Rattle.command_words.specs.Parts.{Text, Flag, plain, dead, runs, site, prune, flag_name, Key, pairs, nodes, entries, list, gen, key_name, Part, flag, given, name, anything, reading}
 
 -- ---- each option stands at most once
 
@@ -87,25 +87,32 @@ names_in (name x ∷ ps) = x ∷ names_in ps
 
 -- ---- the order
 
--- what is done: of `--dead`, `--runs` and `--site` at most one stands
-abbrev pub mode_by : Bool → Bool → Bool → Option Mode
-mode_by false false false = Some mode.Report
-mode_by true false false = Some mode.Dead
-mode_by false true false = Some mode.Runs
-mode_by false false true = Some mode.Site
-mode_by _ _ _ = None
+-- what is done: of `--prune`, `--dead`, `--runs` and `--site` at most one stands, or `--prune` beside `--site`
+abbrev pub mode_by : Bool → Bool → Bool → Bool → Option Mode
+mode_by false false false false = Some mode.Report
+mode_by true false false false = Some mode.Prune
+mode_by false true false false = Some mode.Dead
+mode_by false false true false = Some mode.Runs
+mode_by false false false true = Some mode.Site
+mode_by true false false true = Some mode.SitePrune
+mode_by _ _ _ _ = None
 
 abbrev pub mode_in : List Part → Option Mode
-mode_in ps = mode_by (says dead ps) (says runs ps) (says site ps)
+mode_in ps = mode_by (says prune ps) (says dead ps) (says runs ps) (says site ps)
 
 -- a sheet, and so many pages with their scripts
 abbrev pub is_site : ℕ → Bool
 is_site n = n % 2 == 1 && (nat_le 3 n && nat_le n (2 * MOST_PAGES + 1))
 
+-- whether a mode is on several pages
+abbrev pub takes_pages : Mode → Bool
+takes_pages mode.Site = true
+takes_pages mode.SitePrune = true
+takes_pages _ = false
+
 -- as many names as a mode takes; none with a size, which no other mode takes
 abbrev pub are_names : Mode → ℕ → Bool
-are_names mode.Site n = is_site n
-are_names _ n = n == 3
+are_names m n = if takes_pages m then is_site n else n == 3
 
 abbrev pub is_report : Mode → Bool
 is_report mode.Report = true

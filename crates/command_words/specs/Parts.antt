@@ -14,15 +14,17 @@ pub data Flag : Type 0 where
   dead : Flag
   runs : Flag
   site : Flag
+  prune : Flag
 
 abbrev pub flag_name : Flag → Text
 flag_name plain = codes "plain"
 flag_name dead = codes "dead"
 flag_name runs = codes "runs"
 flag_name site = codes "site"
+flag_name prune = codes "prune"
 
 abbrev pub flags : List Flag
-flags = plain ∷ dead ∷ runs ∷ site ∷ []
+flags = plain ∷ dead ∷ runs ∷ site ∷ prune ∷ []
 
 abbrev pub flag_of : Text → Option Flag
 flag_of n = find (λ f. bytes_eq (flag_name f) n) flags

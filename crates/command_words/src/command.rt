@@ -54,7 +54,8 @@ fn with_flags<'a>(alloc: Global) -> Result<Command<'a>, NoMemory>
     let command = with_flag(alloc, bare(alloc), "plain")?;
     let command = with_flag(alloc, command, "dead")?;
     let command = with_flag(alloc, command, "runs")?;
-    with_flag(alloc, command, "site")
+    let command = with_flag(alloc, command, "site")?;
+    with_flag(alloc, command, "prune")
 }
 
 /// The options of the command, and names.

@@ -6,5 +6,6 @@ mod matched;
 mod numbers;
 mod words;
 
+pub use limits::MOST_PAGES;
 pub use numbers::MOST_DIGITS;
-pub use words::{MOST_PAGES, Mode, Order, Word, Words, WordsFault, read_words};
+pub use words::{Mode, Order, Word, Words, WordsFault, read_words};

@@ -65,25 +65,28 @@ pub(crate) fn size_of(matches: &ArgMatches<'_>) -> Option<Option<u32>>
     }
 }
 
-fn mode_by(dead: bool, runs: bool, site: bool) -> Option<Mode>
-    ensures { result ≡ spec.mode_by dead runs site }
+fn mode_by(prune: bool, dead: bool, runs: bool, site: bool) -> Option<Mode>
+    ensures { result ≡ spec.mode_by prune dead runs site }
 {
-    match (dead, runs, site) {
-        (false, false, false) => Some(Mode::Report),
-        (true, false, false) => Some(Mode::Dead),
-        (false, true, false) => Some(Mode::Runs),
-        (false, false, true) => Some(Mode::Site),
+    match (prune, dead, runs, site) {
+        (false, false, false, false) => Some(Mode::Report),
+        (true, false, false, false) => Some(Mode::Prune),
+        (false, true, false, false) => Some(Mode::Dead),
+        (false, false, true, false) => Some(Mode::Runs),
+        (false, false, false, true) => Some(Mode::Site),
+        (true, false, false, true) => Some(Mode::SitePrune),
         _ => None,
     }
 }
 
-/// What is to be written, where no more than one kind of it is asked for.
+/// What is to be written, where what is asked for goes together.
 pub(crate) fn mode_of(matches: &ArgMatches<'_>) -> Option<Mode>
     ensures { (ps : List Part) → Says ps matches.now → result ≡ spec.mode_in ps }
 {
+    let prune = says(matches, "prune");
     let dead = says(matches, "dead");
     let runs = says(matches, "runs");
-    mode_by(dead, runs, says(matches, "site"))
+    mode_by(prune, dead, runs, says(matches, "site"))
 }
 
 /// How many names there are.

@@ -2,6 +2,7 @@
 ghost use Rattle.std.specs.Prelude.{◌≡◌, ◌↔◌, ◌≤◌, ◌+◌, ◌*◌, List, [], length, IsSome, IfSome, None, Some, map, IfOk, IsErrOf, string_bytes};
 ghost use Rattle.triple_gen.specs.declared.triple.TheConstants.{MOST_BOXES};
 ghost use Rattle.limits.specs.Budgets.{IsInRange};
+ghost use Rattle.limits.specs.declared.pages.TheConstants.{MOST_PAGES};
 ghost use Rattle.command_words.specs.Parts.{Part};
 ghost use Rattle.command_words.specs.Orders as spec;
 ghost use Rattle.command_words.specs.Says.{Says};
@@ -10,7 +11,7 @@ use crate::command::command;
 use crate::matched::{count_of, limits_of, mode_of, size_of};
 use clap::ArgMatches;
 use clap::error::ErrorKind;
-use limits::Limits;
+use limits::{Limits, MOST_PAGES};
 use std::alloc::Global;
 use std::marker::Model;
 use thiserror::Error;
@@ -68,17 +69,26 @@ impl Words {
     }
 }
 
-/// How many pages a site has at most.
-pub const MOST_PAGES: u32 = 64;
-
-/// What is written of a run: the report; the report, and what of the script is dead; the report with whole runs of statements in
-/// the place of steps; or the report on several pages that use one sheet.
+/// What is written of a run: the report; the sheet without its unused selectors; the report, and what of the script is dead; the
+/// report with whole runs of statements in the place of steps; the report on several pages that use one sheet; or that sheet
+/// without the selectors that are unused on each of them.
 #[derive(Clone, Copy, Debug, PartialEq, Eq)]
 pub enum Mode {
     Report,
+    Prune,
     Dead,
     Runs,
     Site,
+    SitePrune,
+}
+
+impl Mode {
+    /// Whether it is on several pages.
+    pub fn takes_pages(self) -> bool
+        ensures { result ≡ spec.takes_pages self }
+    {
+        matches!(self, Mode::Site | Mode::SitePrune)
+    }
 }
 
 /// What a run is to do: to judge the files of these names, or a triple that is generated in a size, within limits. The names are
@@ -145,7 +155,7 @@ fn is_named(mode: Mode, sized: bool, count: usize) -> bool
     match mode {
         Mode::Report if sized => count == 0,
         _ if sized => false,
-        Mode::Site => is_site(count),
+        _ if mode.takes_pages() => is_site(count),
         _ => count == 3,
     }
 }

@@ -1,5 +1,5 @@
 -- A status past a budget comes of an answer that is left open, and that of a budget that doesn't suffice.
-use Rattle.std.proofs.Common.{◌≡◌, ◌⊎◌, ℕ, zero, suc, ◌+◌, ◌<◌, ◌||◌, nat_lt, Bool, true, false, List, [], ◌∷◌, ◌++◌, length, map, take, drop, get_or, Contains, refl, sym, ap, ◌∙◌, inl, inr, subst, arith, length-append}
+use Rattle.std.proofs.Common.{if◌then◌else◌, ◌≡◌, ◌⊎◌, ℕ, zero, suc, ◌+◌, ◌<◌, ◌||◌, nat_lt, Bool, true, false, List, [], ◌∷◌, ◌++◌, length, map, take, drop, get_or, Contains, refl, sym, ap, ◌∙◌, inl, inr, subst, arith, length-append}
 use Rattle.std.specs.List.{list_any}
 use Rattle.std.proofs.lemmas.Bool.{true≢false, cases_Bool}
 use Rattle.std.proofs.lemmas.List.{map-append, length-map}
@@ -12,19 +12,20 @@ use Rattle.sel_core.specs.declared.faults.Skip.{Skip}
 use Rattle.css_read.specs.Sheets.{Outcome, judged, skipped as left_out, Item}
 use Rattle.jq_sem.specs.Statements.{Statement}
 use Rattle.guard_sem.specs.Guards.{Guard}
-use Rattle.usage_report.specs.Answers.{Answer, used, used_unshown, unused, skipped, spent}
+use Rattle.usage_report.specs.Answers.{Answer, used, maybe, used_unshown, unused, skipped, spent}
 use Rattle.limits.specs.declared.budgets.Limits.{Limits}
 use Rattle.judge.specs.Answers.{judged_of, judged_in}
 use Rattle.judge.specs.Goals.{Goal, matching, selecting}
 use Rattle.command_words.specs.declared.words.Mode.{Mode}
-use Rattle.command_words.specs.declared.words.Mode.TheVariants.{Report, Dead, Runs, Site}
+use Rattle.command_words.specs.declared.words.Mode.TheVariants.{Report, Prune, Dead, Runs, Site, SitePrune}
+use Rattle.command_words.specs.Orders.{takes_pages}
 use Rattle.dead_script.specs.Probes.{probes, all_probes}
 use Rattle.dead_script.specs.Verdicts as dead
 use Rattle.dead_script.proofs.ProbeLemmas.{probes_counted}
 use Rattle.site_judge.specs.Sites as sites
-use Rattle.treeped_app.specs.declared.status.Status.TheVariants as status
+use Rattle.run_ends.specs.declared.status.Status.TheVariants as status
 use Rattle.treeped_app.specs.Answers.{IsRight, IsRightFor, AreRight, AreRightFor, IsPastBudget}
-use Rattle.treeped_app.specs.Modes.{Said, goals_in, guards_in, AreAnswersOf, IsOverBudget, is_open, site_on, best_in, lines_in, verdicts_in, status_by, status_of}
+use Rattle.treeped_app.specs.Modes.{Said, goals_in, guards_in, AreAnswersOf, IsOverBudget, is_open, site_on, best_in, lines_in, lines_on, verdicts_in, status_by, status_of}
 use Rattle.treeped_app.specs.Tasks.{Task}
 
 budget_open : (a b : Bool) → status_by a b ≡ status.Budget → a ≡ true
@@ -52,6 +53,7 @@ module _ (t : LabelTree) (ss : List Statement) (guards : List Guard) (n : ℕ) (
 
   goal_open : (g : Goal) (a : Answer) → Contains goals g → IsRightFor t ss guards n limits g a → is_open a ≡ true → IsPast
   goal_open g (used proof steps shown) there right is = absurd (true≢false (sym is))
+  goal_open g (maybe proof steps shown broken) there right is = absurd right
   goal_open g used_unshown there right is = inr (g, there, right)
   goal_open g unused there right is = absurd (true≢false (sym is))
   goal_open g (skipped cause at) there right is = absurd right
@@ -90,6 +92,7 @@ module _ (t : LabelTree) (ss : List Statement) (guards : List Guard) (n : ℕ) (
     where
       here : (a : Answer) → dead.is_open (dead.dead_behind (k + 1) later) ≡ false → dead.is_open (dead.dead_here k a (dead.dead_behind (k + 1) later)) ≡ false
       here (used proof steps shown) is = is
+      here (maybe proof steps shown broken) is = is
       here used_unshown is = is
       here unused is = refl
       here (skipped cause at) is = is
@@ -97,6 +100,7 @@ module _ (t : LabelTree) (ss : List Statement) (guards : List Guard) (n : ℕ) (
 
   own_open : (a : Answer) (v : dead.Verdict) → dead.is_open v ≡ false → dead.is_open (dead.verdict_by a v) ≡ true → (is_open a ≡ true) ⊎ ((c : Skip) × (at : ℕ) × (a ≡ skipped c at))
   own_open (used proof steps shown) v none is = absurd (true≢false (sym is))
+  own_open (maybe proof steps shown broken) v none is = inl refl
   own_open used_unshown v none is = inl refl
   own_open unused v none is = absurd (true≢false (sym is ∙ none))
   own_open (skipped cause at) v none is = inr (cause, at, refl)
@@ -167,17 +171,16 @@ best_from said a there =
     let page = map-Contains (λ (s : Said). s.items) said answers mine in
     (page.0, page.1, subst (λ (z : List Answer). Contains z b) page.2 in_them)) of.0 of.1)
 
-first_from : (said : List Said) (a : Answer) → Contains (lines_in Report said) a → FromPage said a
+first_from : (said : List Said) (a : Answer) → Contains (lines_on said) a → FromPage said a
 first_from [] a there = absurd (Contains-none a there)
 first_from (s ∷ said) a there = (s, Contains-here s s said refl, there)
 
 line_from : (m : Mode) (said : List Said) (a : Answer) → Contains (lines_in m said) a → FromPage said a
-line_from Report said a there = first_from said a there
-line_from Dead [] a there = absurd (Contains-none a there)
-line_from Dead (s ∷ said) a there = (s, Contains-here s s said refl, there)
-line_from Runs [] a there = absurd (Contains-none a there)
-line_from Runs (s ∷ said) a there = (s, Contains-here s s said refl, there)
-line_from Site said a there = best_from said a there
+line_from m said a there = go (takes_pages m) there
+  where
+    go : (b : Bool) → Contains (if b then best_in said else lines_on said) a → FromPage said a
+    go true in_best = best_from said a in_best
+    go false in_first = first_from said a in_first
 
 -- ---- the status
 
@@ -204,8 +207,10 @@ module _ (t : Task) (said : List Said) (all : (x : Said) → Contains said x →
       (λ g listed. Contains-append_right (map matching (judged_in i.sheet.items)) (goals_in t.mode i) g (subst (λ m. Contains (goals_in m i) g) (sym same) listed)) right is in
       (x, there, past)
   over_by_verdict Report same ps among is = absurd (true≢false (sym is))
+  over_by_verdict Prune same ps among is = absurd (true≢false (sym is))
   over_by_verdict Runs same ps among is = absurd (true≢false (sym is))
   over_by_verdict Site same ps among is = absurd (true≢false (sym is))
+  over_by_verdict SitePrune same ps among is = absurd (true≢false (sym is))
 
   pub past_budget_on : status_of t said ≡ status.Budget → OverOn t said
   past_budget_on is =

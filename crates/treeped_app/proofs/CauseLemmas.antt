@@ -8,20 +8,22 @@ use Rattle.tp_base.proofs.Rising.{Contains-here, Contains-behind, Contains-cons,
 use Rattle.tp_io.specs.Files.{Load}
 use Rattle.tp_io.specs.Sinks.{Adds, Rose}
 use Rattle.tp_base.specs.declared.places.TheConstants.{MOST_BYTES}
-use Rattle.treeped_app.specs.declared.status.Status.{Status}
-use Rattle.treeped_app.specs.declared.status.Status.TheVariants as status
-use Rattle.treeped_app.specs.declared.refusals.JudgeRefusal.{JudgeRefusal}
-use Rattle.treeped_app.specs.declared.refusals.JudgeRefusal.TheVariants.{TooManyAtoms, TooManyVisible}
-use Rattle.treeped_app.specs.declared.refusals.Part.{Part}
-use Rattle.treeped_app.specs.declared.stops.Stop.{Stop}
-use Rattle.treeped_app.specs.declared.stops.Stop.TheVariants.{Words, TooLarge, ReadFault, Unread, Judging, WriteFault, NoMemory}
+use Rattle.run_ends.specs.declared.status.Status.{Status}
+use Rattle.run_ends.specs.declared.status.Status.TheVariants as status
+use Rattle.run_ends.specs.declared.refusals.JudgeRefusal.{JudgeRefusal}
+use Rattle.run_ends.specs.declared.refusals.JudgeRefusal.TheVariants.{TooManyAtoms, TooManyVisible}
+use Rattle.run_ends.specs.declared.refusals.Part.{Part}
+use Rattle.run_ends.specs.declared.stops.Stop.{Stop}
+use Rattle.run_ends.specs.declared.stops.Stop.TheVariants.{Words, TooLarge, ReadFault, Unread, Judging, WriteFault, NoMemory}
 use Rattle.command_words.specs.declared.words.Mode.{Mode}
 use Rattle.treeped_app.specs.Modes.{Texts, Inputs, Said, IsOverBudget, status_by, status_of}
 use Rattle.treeped_app.specs.Tasks.{Names, Source, one, several, ring, Wanted, Origin, named, generated, Visit, visits, visits_from, with_sheet, succeeded, failed, loads_of, all_loads, Task, command}
-use Rattle.treeped_app.specs.Stops.{line_of, status_of_stop}
-use Rattle.treeped_app.specs.Runs.{Told, Put, Run, Ends, Fit, AreFrom, AreTexts, Exceeds, read_inputs, IsRefusedBy, IsJudgeable, IsSaid, AreSaid, IsWhole, IsAt, IsLast}
+use Rattle.run_ends.specs.Stops.{line_of, status_of_stop}
+use Rattle.run_ends.specs.Tells.{Put}
+use Rattle.treeped_app.specs.Runs.{Told, Run, Ends, Fit, AreFrom, AreTexts, Exceeds, read_inputs, IsRefusedBy, IsJudgeable, IsSaid, AreSaid, IsWhole, IsAt, IsLast}
 use Rattle.treeped_app.proofs.BudgetLemmas.{past_budget_on}
-use Rattle.treeped_app.specs.Commands.{Reports, Says, IsTold, IsEnded, Fails, IsRefusal, FailedAt, AreToldFrom, FitFrom, IsWell, AreWell, HasVisit, IsRefusedOrFails, NothingFails, Causes}
+use Rattle.run_ends.specs.Tells.{Says, SaysWhy}
+use Rattle.treeped_app.specs.Commands.{Reports, IsTold, IsEnded, Fails, IsRefusal, FailedAt, AreToldFrom, FitFrom, IsWell, AreWell, HasVisit, IsRefusedOrFails, NothingFails, Causes}
 
 -- the stops whose line is said whole or not at all
 abbrev IsLined : Stop → Type 0
@@ -492,3 +494,15 @@ module _ (r : Run) (err : Put) (s : Status) where
         completes = λ t task well none. completes_of t task well none one';
         decides = λ t task well enough none. decided t task well enough one' (completes_of t task well none one');
       }
+
+-- ---- no reason is said beside a report
+
+no_memory_reported : (s : Status) → Reports s → s ≡ status.NoMemory → ⊥
+no_memory_reported s (inl a) b = cc
+no_memory_reported s (inr (inl a)) b = cc
+no_memory_reported s (inr (inr a)) b = cc
+
+pub no_reason : (r : Run) (err : Put) (s : Status) (wants_memory : Type 0) → Ends r (Ok s) → SaysWhy wants_memory err s
+no_reason r err s wants_memory ends =
+    let reports = status_reports r err s _ _ ends.4 in
+    record { write_fault = λ is. absurd (no_report_of_write_fault err s reports is); no_memory = λ is. absurd (no_memory_reported s reports is) }

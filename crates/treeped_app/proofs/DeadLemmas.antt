@@ -1,8 +1,9 @@
 -- What `judge_more` answers for the probes of a script's statements tells whether they are live.
-use Rattle.std.proofs.Common.{ℕ, zero, suc, ◌+◌, ◌<◌, List, [], ◌∷◌, length, map, take, Option, Some, None, IfSome, All, slice_get, unwrap_or, refl, sym, subst}
+use Rattle.std.proofs.Common.{ℕ, zero, suc, ◌+◌, ◌<◌, List, [], ◌∷◌, length, map, take, Option, Some, None, IfSome, All, Contains, ◌≡◌, slice_get, unwrap_or, refl, sym, subst}
 use Rattle.std.specs.List.{range_with_len}
 use Rattle.std.proofs.lemmas.List.{map-append}
 use Rattle.std.proofs.lemmas.List.Elements.{All-nil, All-cons, All-append}
+use Rattle.tp_base.proofs.Rising.{Contains-here, Contains-behind}
 use Rattle.tree_sem.specs.Trees.{LabelTree}
 use Rattle.tree_sem.specs.declared.actions.Step.{Step}
 use Rattle.jq_sem.specs.Statements.{Chain, Statement, Selected}
@@ -13,17 +14,16 @@ use Rattle.guard_simplify.specs.Law.{IsOver}
 use Rattle.rule_translate.specs.Translation.{guard_of}
 use Rattle.proof_check.specs.declared.proofs.Proof.{Proof}
 use Rattle.proof_check.specs.declared.unfolded.Unfolded.{Unfolded}
-use Rattle.usage_report.specs.Answers.{Answer, used, used_unshown, unused, skipped, spent}
+use Rattle.usage_report.specs.Answers.{Answer, used, maybe, used_unshown, unused, skipped, spent}
 use Rattle.limits.specs.declared.budgets.Limits.{Limits}
-use Rattle.judge.specs.Answers.{IsUsed, IsAnswerFor, AreAnswersFor}
+use Rattle.judge.specs.Answers.{IsUsed, AreAnswersFor}
 use Rattle.judge.specs.Goals.{selecting, holding}
 use Rattle.judge.specs.Witnesses.{trace}
 use Rattle.judge.proofs.MeaningLemmas.{same_guard_right}
 use Rattle.judge.proofs.TableLemmas.{rule_over}
 use Rattle.dead_script.specs.Probes.{probe, probes, all_probes, probe_guards}
-use Rattle.dead_script.specs.Verdicts.{verdicts}
-use Rattle.dead_script.specs.Laws.{IsWitness, IsTold, AreTold, AreRightVerdicts}
-use Rattle.dead_script.proofs.VerdictLemmas.{verdicts_right}
+use Rattle.dead_script.specs.Laws.{IsWitness, IsTold, AreTold}
+use Rattle.treeped_app.specs.Answers.{IsRightFor, AreRightFor}
 
 -- ---- from guards to probes, and from answers to what they tell
 
@@ -35,6 +35,9 @@ module _ (stmts : List Statement) (guards : List Guard) (n : ℕ) (page : LabelT
   of_guards (p ∷ ps) [] are = absurd are
   of_guards (p ∷ ps) (a ∷ answers) are = (same_guard_right stmts guards n page limits (holding (guard_of p)) (selecting p) refl a are.0, of_guards ps answers are.1)
 
+-- ---- from right answers to what they tell
+
+module _ (page : LabelTree) (stmts : List Statement) (guards : List Guard) (n : ℕ) (limits : Limits) where
   shown_witness : (p : Statement) (proof : Proof) (steps : ℕ) (shown : Option Unfolded) → IsUsed stmts guards n page limits (selecting p) proof steps shown → IfSome shown (IsWitness page stmts p)
   shown_witness p proof steps None is = tt
   shown_witness p proof steps (Some u) is = record {
@@ -44,23 +47,20 @@ module _ (stmts : List Statement) (guards : List Guard) (n : ℕ) (page : LabelT
         (subst (λ z. Selected (end_of page stmts (trace stmts guards n page (selecting p) proof).0) p z) (sym is.shows.2) is.witness.match);
   }
 
-  one_told : (p : Statement) (a : Answer) → IsAnswerFor stmts guards n page limits (selecting p) a → IsTold page stmts p a
-  one_told p (used proof steps shown) is = (is.reached, shown_witness p proof steps shown is)
-  one_told p used_unshown is = is.0
-  one_told p unused is = is
-  one_told p (skipped cause at) is = absurd is
-  one_told p spent is = absurd is
+  one_told : (p : Statement) (a : Answer) → IsRightFor page stmts guards n limits (selecting p) a → ¬ (spent ≡ a) → IsTold page stmts p a
+  one_told p (used proof steps shown) is found = (is.reached, shown_witness p proof steps shown is)
+  one_told p (maybe proof steps shown broken) is found = absurd is
+  one_told p used_unshown is found = is.0
+  one_told p unused is found = is
+  one_told p (skipped cause at) is found = absurd is
+  one_told p spent is found = absurd (found refl)
 
-  pub all_told : (ps : List Statement) (answers : List Answer) → AreAnswersFor stmts guards n page limits (map selecting ps) answers → AreTold page stmts ps answers
-  all_told [] [] are = tt
-  all_told [] (a ∷ answers) are = absurd are
-  all_told (p ∷ ps) [] are = absurd are
-  all_told (p ∷ ps) (a ∷ answers) are = (one_told p a are.0, all_told ps answers are.1)
-
-  -- A statement is dead exactly where it selects no node of any tree that legal steps reach, at the first handler that never runs; and what is
-  -- shown of a live one leads to a node that it selects.
-  pub verdicts_by : (answers : List Answer) → AreAnswersFor stmts guards n page limits (map holding (probe_guards stmts)) answers → AreRightVerdicts page stmts stmts (verdicts stmts answers)
-  verdicts_by answers are = verdicts_right page stmts stmts answers (all_told (all_probes stmts) answers (of_guards (all_probes stmts) answers are))
+  pub all_told : (ps : List Statement) (answers : List Answer) → AreRightFor page stmts guards n limits (map selecting ps) answers → ¬ Contains answers spent → AreTold page stmts ps answers
+  all_told [] [] are none = tt
+  all_told [] (a ∷ answers) are none = absurd are
+  all_told (p ∷ ps) [] are none = absurd are
+  all_told (p ∷ ps) (a ∷ answers) are none =
+      (one_told p a are.0 (λ same. none (Contains-here spent a answers same)), all_told ps answers are.1 (λ there. none (Contains-behind spent a answers there)))
 
 -- ---- the atoms of probes' guards are of the table
 

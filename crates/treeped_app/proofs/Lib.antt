@@ -12,6 +12,9 @@ pub mod TaskLemmas
 pub mod RunLemmas
 pub mod SheetLemmas
 pub mod SiteLemmas
+pub mod EachPageLemmas
 pub mod BestLemmas
 pub mod WritingLemmas
+pub mod PreservationLemmas
+mod PruneLemmas
 mod Rows

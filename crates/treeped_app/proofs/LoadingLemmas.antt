@@ -3,8 +3,8 @@ use Rattle.std.proofs.Common.{◌≡◌, ℕ, ◌≤◌, List, [], ◌∷◌, �
 use Rattle.std.proofs.lemmas.List.Elements.{All-nil, All-cons}
 use Rattle.tp_io.specs.Files.{Load}
 use Rattle.tp_base.specs.declared.places.TheConstants.{MOST_BYTES}
-use Rattle.treeped_app.specs.declared.stops.Stop.{Stop}
-use Rattle.treeped_app.specs.declared.stops.Stop.TheVariants.{Words, TooLarge, ReadFault, Unread, Judging, WriteFault, NoMemory}
+use Rattle.run_ends.specs.declared.stops.Stop.{Stop}
+use Rattle.run_ends.specs.declared.stops.Stop.TheVariants.{Words, TooLarge, ReadFault, Unread, Judging, WriteFault, NoMemory}
 use Rattle.treeped_app.specs.Tasks.{Wanted, succeeded, failed, loads_of}
 use Rattle.treeped_app.specs.Runs.{Told, Holds, Fits}
 use Rattle.treeped_app.specs.Inputs.{OneLoaded, AllLoaded, AreHeldBy, IsLastOf}

@@ -7,7 +7,7 @@ use Rattle.jq_words.specs.declared.faults.ScriptFault.{ScriptFault}
 use Rattle.jq_words.specs.declared.faults.ScriptFault.TheVariants as script
 use Rattle.jq_words.specs.Words.{Outcome}
 use Rattle.treeped_app.specs.Inputs.{IsOpened}
-use Rattle.treeped_app.specs.Refusals.{script_stop}
+use Rattle.run_ends.specs.Refusals.{script_stop}
 use Rattle.treeped_app.specs.Runs.{read_script_as}
 
 pub not_opened : {X : Type 0} (view : X → List Statement) (names : List Named) (page : Option ℕ) (text : List ℕ) (read : Outcome (List Statement × List Named)) (e : ScriptFault) →

@@ -12,7 +12,7 @@ use Rattle.jq_sem.specs.Reachability.{after_step, AreLegal}
 use Rattle.jq_sem.specs.Statements.{Statement, Selected}
 use Rattle.jq_sem.proofs.EventLemmas.{losses_reach_is}
 use Rattle.guard_sem.specs.Guards.{Guard}
-use Rattle.usage_report.specs.Answers.{Answer, used, used_unshown, unused, skipped, spent}
+use Rattle.usage_report.specs.Answers.{Answer, used, maybe, used_unshown, unused, skipped, spent}
 use Rattle.usage_report.specs.Reportable.{HavePlaces, IsReportable, AreReportable}
 use Rattle.run_trace.specs.Traces.{shown_in, IsTracked, AreTracked}
 use Rattle.run_trace.proofs.AnswerLemmas.{tracked_by}
@@ -34,6 +34,7 @@ module _ (t : LabelTree) (ss : List Statement) (guards : List Guard) (n : ℕ) (
 
   goal_right : (g : Goal) (a : Answer) → IsAnswerFor ss guards n t limits g a → IsRightFor t ss guards n limits g a
   goal_right g (used proof steps shown) is = is
+  goal_right g (maybe proof steps shown broken) is = absurd is
   goal_right g used_unshown is = is
   goal_right g unused is = missed g is
   goal_right g (skipped cause at) is = absurd is
@@ -83,6 +84,7 @@ module _ (t : LabelTree) (ss : List Statement) (guards : List Guard) (n : ℕ) (
   one_reportable (judged s) (used proof steps (Some u)) is =
       let t' = trace ss guards n t (matching s) proof in
       (tt, All-same (λ (x : Step). x.stmt < length places) u.steps t'.0 is.shows.1 (legal_placed t t'.0 is.witness.legal))
+  one_reportable (judged s) (maybe proof steps shown broken) is = absurd is
   one_reportable (judged s) used_unshown is = tt
   one_reportable (judged s) unused is = tt
   one_reportable (judged s) (skipped cause at) is = absurd is
@@ -102,6 +104,7 @@ module _ (t : LabelTree) (ss : List Statement) (guards : List Guard) (n : ℕ) (
   one_tracked (judged s) (used proof steps (Some u)) is =
       let t' = trace ss guards n t (matching s) proof in
       tracked_by t ss s u t'.0 t'.1 is.shows.1 is.shows.2 is.witness.legal is.witness.match
+  one_tracked (judged s) (maybe proof steps shown broken) is = absurd is
   one_tracked (judged s) used_unshown is = tt
   one_tracked (judged s) unused is = tt
   one_tracked (judged s) (skipped cause at) is = tt
@@ -121,6 +124,7 @@ module _ (t : LabelTree) (ss : List Statement) (guards : List Guard) (n : ℕ) (
   one_probed g (used proof steps (Some u)) is =
       let t' = trace ss guards n t g proof in
       All-same (λ (x : Step). x.stmt < length places) u.steps t'.0 is.shows.1 (legal_placed t t'.0 is.witness.legal)
+  one_probed g (maybe proof steps shown broken) is = absurd is
   one_probed g used_unshown is = tt
   one_probed g unused is = tt
   one_probed g (skipped cause at) is = absurd is

@@ -1,22 +1,26 @@
 -- From the parts of a run to its end.
-use Rattle.std.proofs.Common.{◌≡◌, ℕ, List, [], ◌∷◌, ◌++◌, length, take, Contains, Some, None, Result, Ok, Err, refl, sym, ap, ◌∙◌, subst, inl, inr, append_assoc, append-nil}
+use Rattle.std.proofs.Common.{◌≡◌, ◌||◌, ℕ, Bool, false, if◌then◌else◌, List, [], ◌∷◌, ◌++◌, length, take, Contains, Some, None, Result, Ok, Err, refl, sym, ap, ◌∙◌, subst, inl, inr, append_assoc, append-nil}
+use Rattle.std.specs.List.{list_any}
 use Rattle.std.proofs.Math.Seq.{take-append_seam}
 use Rattle.tp_base.proofs.Rising.{Contains-cons, Contains-none}
 use Rattle.tp_io.specs.Files.{Load}
 use Rattle.tp_io.specs.Sinks.{Adds, AddsPrefix, Rose}
 use Rattle.limits.specs.declared.budgets.Limits.{Limits}
 use Rattle.command_words.specs.declared.words.Mode.{Mode}
-use Rattle.command_words.specs.declared.words.Mode.TheVariants.{Report, Dead, Runs, Site}
+use Rattle.command_words.specs.Orders.{takes_pages}
+use Rattle.dead_script.specs.Verdicts as dead
+use Rattle.usage_report.specs.Answers.{Answer}
 use Rattle.usage_report.specs.declared.faults.ReportFault.{ReportFault}
 use Rattle.usage_report.specs.declared.faults.ReportFault.TheVariants as report_fault
-use Rattle.treeped_app.specs.declared.status.Status.{Status}
-use Rattle.treeped_app.specs.declared.stops.Stop.{Stop}
-use Rattle.treeped_app.specs.declared.stops.Stop.TheVariants.{Words, TooLarge, ReadFault, Unread, Judging, WriteFault, NoMemory}
-use Rattle.treeped_app.specs.Stops.{stop_of}
+use Rattle.run_ends.specs.declared.status.Status.{Status}
+use Rattle.run_ends.specs.declared.stops.Stop.{Stop}
+use Rattle.run_ends.specs.declared.stops.Stop.TheVariants.{Words, TooLarge, ReadFault, Unread, Judging, WriteFault, NoMemory}
+use Rattle.run_ends.specs.Stops.{stop_of}
 use Rattle.treeped_app.specs.Summary.{summary}
-use Rattle.treeped_app.specs.Modes.{Texts, Said, text_on, text_of, status_on, status_of}
+use Rattle.treeped_app.specs.Modes.{Texts, Said, text_on, text_of, of_last, site_by, best_in, verdicts_in, is_open, is_unused, status_by, status_on, status_of}
 use Rattle.treeped_app.specs.Tasks.{Names, Source, one, ring, Wanted, Visit, visits, only_visit, loads_of, all_loads, succeeded, failed, Task, task_by, command}
-use Rattle.treeped_app.specs.Runs.{Told, Put, Run, run_of, Ends, Fit, AreTexts, AreHeld, IsSaid, AreSaid, IsSilent, IsWhole, IsAt, IsLast, IsLoaded, ring_texts}
+use Rattle.run_ends.specs.Tells.{Put}
+use Rattle.treeped_app.specs.Runs.{Told, Run, run_of, Ends, Fit, AreTexts, AreHeld, IsSaid, AreSaid, IsSilent, IsWhole, IsAt, IsLast, IsLoaded, ring_texts}
 use Rattle.treeped_app.specs.Inputs.{AllLoaded, IsLastOf, IsSaidOf, IsSaying, Written}
 
 -- ---- loads
@@ -138,19 +142,15 @@ module _ (told : Told) (words : List (List ℕ)) (start end : List Load) (out : 
     written_ends (Err NoMemory) (inr (u, same, is, prefix)) = inr (inr (t', u ∷ [], whole u same is, subst (AddsPrefix out.held out.held') (sym (text_is u)) prefix))
 
 -- what is written of one page, and its status
-page_text : (n : Names) (m : Mode) (limits : Limits) → ¬ (m ≡ Site) → (u : Said) → text_of (task_by (one n) m limits) (u ∷ []) ≡ text_on m u
-page_text n Report limits other u = refl
-page_text n Dead limits other u = refl
-page_text n Runs limits other u = refl
-page_text n Site limits other u = absurd (other refl)
+page_text : (n : Names) (m : Mode) (limits : Limits) → takes_pages m ≡ false → (u : Said) → text_of (task_by (one n) m limits) (u ∷ []) ≡ text_on m u
+page_text n m limits one_page u = ap (λ (b : Bool). of_last (if b then site_by m (u ∷ []) else text_on m) (u ∷ [])) one_page
 
-page_status : (s : Source) (m : Mode) (limits : Limits) → ¬ (m ≡ Site) → (u : Said) → status_of (task_by s m limits) (u ∷ []) ≡ status_on m u
-page_status s Report limits other u = refl
-page_status s Dead limits other u = refl
-page_status s Runs limits other u = refl
-page_status s Site limits other u = absurd (other refl)
+page_status : (s : Source) (m : Mode) (limits : Limits) → takes_pages m ≡ false → (u : Said) → status_of (task_by s m limits) (u ∷ []) ≡ status_on m u
+page_status s m limits one_page u =
+    ap (λ (b : Bool). let lines : List Answer = if b then best_in (u ∷ []) else u.items in
+    status_by (list_any is_open lines || list_any dead.is_open (verdicts_in m (u ∷ []))) (list_any is_unused lines || list_any dead.is_dead (verdicts_in m (u ∷ [])))) one_page
 
-pub page_ends : (told : Told) (words : List (List ℕ)) (start end : List Load) (out : Put) (n : Names) (m : Mode) (limits : Limits) (x : Texts) (result : Result Status Stop) → ¬ (m ≡ Site) → command words ≡ Some (task_by (one n) m limits)
+pub page_ends : (told : Told) (words : List (List ℕ)) (start end : List Load) (out : Put) (n : Names) (m : Mode) (limits : Limits) (x : Texts) (result : Result Status Stop) → takes_pages m ≡ false → command words ≡ Some (task_by (one n) m limits)
     → AllLoaded told (only_visit n).wanted start end (Ok (x.page ∷ x.sheet ∷ x.script ∷ [])) → Written m limits x (text_on m) out result → Ends (run_of told words start end out) result
 page_ends told words start end out n m limits x result other task loaded written =
     written_ends told words start end out (one n) m limits task (only_visit n) refl refl x
@@ -164,7 +164,7 @@ pub page_stops : (told : Told) (words : List (List ℕ)) (start end : List Load)
 page_stops told words start end out n m limits e silent task loaded =
     load_stops told words start end out (one n) m limits task silent [] (only_visit n) [] refl [] tt e (subst (λ z. AllLoaded told (only_visit n).wanted z end (Err e)) (sym (append-nil start)) loaded)
 
-pub ring_ends : (told : Told) (words : List (List ℕ)) (loads : List Load) (out : Put) (k : ℕ) (m : Mode) (limits : Limits) (x : Texts) (result : Result Status Stop) → ¬ (m ≡ Site) → command words ≡ Some (task_by (ring k) m limits)
+pub ring_ends : (told : Told) (words : List (List ℕ)) (loads : List Load) (out : Put) (k : ℕ) (m : Mode) (limits : Limits) (x : Texts) (result : Result Status Stop) → takes_pages m ≡ false → command words ≡ Some (task_by (ring k) m limits)
     → x ≡ ring_texts k → Fit x → Written m limits x (λ u. summary k u.items) out result → Ends (run_of told words loads loads out) result
 ring_ends told words loads out k m limits x result other task from fit written =
     written_ends told words loads loads out (ring k) m limits task _ refl refl x (record { from = from; fit = fit }) (sym (append-nil loads)) (λ u. summary k u.items) (λ u. refl) (page_status (ring k) m limits other) result written

@@ -7,7 +7,7 @@ use Rattle.rule_translate.specs.Translation.{guard_of}
 use Rattle.usage_report.specs.Answers.{Answer, spent}
 use Rattle.limits.specs.declared.budgets.Limits.{Limits}
 use Rattle.command_words.specs.declared.words.Mode.{Mode}
-use Rattle.command_words.specs.declared.words.Mode.TheVariants.{Report, Dead, Runs, Site}
+use Rattle.command_words.specs.declared.words.Mode.TheVariants.{Report, Prune, Dead, Runs, Site, SitePrune}
 use Rattle.dead_script.specs.Probes.{all_probes}
 use Rattle.judge.specs.declared.faults.JudgeFault.{JudgeFault}
 use Rattle.judge.specs.declared.faults.JudgeFault.TheVariants.{TooManyAtoms, TooManyVisible, Memory}
@@ -18,14 +18,14 @@ use Rattle.run_trace.specs.Traces.{AreTracked}
 use Rattle.run_trace.proofs.AnswerLemmas.{traces_placed}
 use Rattle.usage_report.specs.Reportable.{AreReportable, AreTraceable}
 use Rattle.dead_script.specs.Verdicts.{IsProbed}
-use Rattle.treeped_app.specs.declared.stops.Stop.{Stop}
-use Rattle.treeped_app.specs.declared.stops.Stop.TheVariants as stop
+use Rattle.run_ends.specs.declared.stops.Stop.{Stop}
+use Rattle.run_ends.specs.declared.stops.Stop.TheVariants as stop
 use Rattle.treeped_app.specs.Answers.{AreRight, AreRightFor, IsSpent}
-use Rattle.treeped_app.specs.Inputs.{AreInputs, IsUnanswered, IsRead, IsSaying, IsWritable}
+use Rattle.treeped_app.specs.Inputs.{AreInputs, IsUnanswered, IsRead, IsSaying, IsWritable, judging_stop}
 use Rattle.treeped_app.specs.Modes.{Texts, Inputs, Said, places_of, goals_in, extra_in, guards_in, AreAnswersOf}
-use Rattle.treeped_app.specs.Runs.{read_inputs}
-use Rattle.treeped_app.specs.Stops.{judging_stop}
+use Rattle.treeped_app.specs.Runs.{IsSheetOf, read_inputs}
 use Rattle.treeped_app.proofs.DeadLemmas.{of_guards, guards_over}
+use Rattle.treeped_app.proofs.SheetLemmas.{sheet_read}
 use Rattle.treeped_app.proofs.RightLemmas.{answers_right, goals_right, all_spent, all_tracked, all_reportable, all_probed, as_many}
 
 -- ---- right answers
@@ -65,8 +65,12 @@ others_right Report limits i items others (inl (are, for, few)) = none_asked lim
 others_right Report limits i items others (inr (by, by', more)) = none_spent limits i (guards_in Report i) others by'
 others_right Runs limits i items others (inl (are, for, few)) = none_asked limits i (guards_in Runs i) others for
 others_right Runs limits i items others (inr (by, by', more)) = none_spent limits i (guards_in Runs i) others by'
+others_right Prune limits i items others (inl (are, for, few)) = none_asked limits i (guards_in Prune i) others for
+others_right Prune limits i items others (inr (by, by', more)) = none_spent limits i (guards_in Prune i) others by'
 others_right Site limits i items others (inl (are, for, few)) = none_asked limits i (guards_in Site i) others for
 others_right Site limits i items others (inr (by, by', more)) = none_spent limits i (guards_in Site i) others by'
+others_right SitePrune limits i items others (inl (are, for, few)) = none_asked limits i (guards_in SitePrune i) others for
+others_right SitePrune limits i items others (inr (by, by', more)) = none_spent limits i (guards_in SitePrune i) others by'
 
 pub answers_are : (m : Mode) (limits : Limits) (i : Inputs) (ss : List Statement) (extra : List Guard) (items others : List Answer) → ss ≡ i.stmts → extra ≡ extra_in m i
     → judge.IsWithin ss i.sheet.items extra (length i.names) → judge.AreJudged ss i.sheet.items extra (length i.names) i.tree limits items others → AreAnswersOf m limits i items others
@@ -89,19 +93,22 @@ tracked_of m limits i items others are = all_tracked i.tree i.stmts (guards_in m
 -- ---- what is said can be written
 
 pub reportable_of : (m : Mode) (s : Said) → IsWritable m s → AreReportable (places_of s.inputs) s.inputs.sheet.items s.items
-reportable_of m s (limits, are, traces) = all_reportable s.inputs.tree s.inputs.stmts (guards_in m s.inputs) (length s.inputs.names) limits s.inputs.sheet.items s.items are.right
+reportable_of m s (limits, page, is) = all_reportable s.inputs.tree s.inputs.stmts (guards_in m s.inputs) (length s.inputs.names) limits s.inputs.sheet.items s.items is.answers.right
 
 pub probed_of : (s : Said) → IsWritable Dead s → (length s.others ≡ length (all_probes s.inputs.stmts)) × All (IsProbed (places_of s.inputs)) s.others
-probed_of s (limits, are, traces) =
+probed_of s (limits, page, is) =
     let i = s.inputs in
     let goals = map selecting (all_probes i.stmts) in (
-      as_many i.tree i.stmts (guards_in Dead i) (length i.names) limits goals s.others are.others_right ∙ length-map {B = Goal} (all_probes i.stmts) selecting,
-      all_probed i.tree i.stmts (guards_in Dead i) (length i.names) limits goals s.others are.others_right,
+      as_many i.tree i.stmts (guards_in Dead i) (length i.names) limits goals s.others is.answers.others_right ∙ length-map {B = Goal} (all_probes i.stmts) selecting,
+      all_probed i.tree i.stmts (guards_in Dead i) (length i.names) limits goals s.others is.answers.others_right,
     )
 
 pub traceable_of : (s : Said) → IsWritable Runs s → AreTraceable (places_of s.inputs) s.inputs.sheet.items s.traces
-traceable_of s (limits, are, traces) =
-    traces_placed s.inputs.tree s.inputs.stmts s.inputs.sheet.items s.items s.traces (tracked_of Runs limits s.inputs s.items s.others are) traces
+traceable_of s (limits, page, is) =
+    traces_placed s.inputs.tree s.inputs.stmts s.inputs.sheet.items s.items s.traces (tracked_of Runs limits s.inputs s.items s.others is.answers) is.traces
+
+pub sheet_of_said : (m : Mode) (s : Said) → IsWritable m s → IsSheetOf s.texts.sheet s.inputs.sheet
+sheet_of_said m s (limits, page, is) = sheet_read page s.texts s.inputs is.read
 
 -- ---- what may be judged
 
@@ -117,7 +124,9 @@ extra_over Dead i given =
     }
 extra_over Report i given = given
 extra_over Runs i given = given
+extra_over Prune i given = given
 extra_over Site i given = given
+extra_over SitePrune i given = given
 
 pub given_with : (m : Mode) (i : Inputs) (ss : List Statement) (extra : List Guard) → AreInputs i → ss ≡ i.stmts → extra ≡ extra_in m i → judge.AreGiven ss i.sheet.items extra (length i.names) i.tree
 given_with m i ss extra given same same' =

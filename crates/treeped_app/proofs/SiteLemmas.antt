@@ -4,34 +4,42 @@ use Rattle.std.proofs.lemmas.List.{length-map, map-append}
 use Rattle.tp_base.specs.declared.places.Place.{Place}
 use Rattle.tp_base.proofs.Rising.{Contains-cons, Contains-none}
 use Rattle.std.specs.List.{list_any}
+use Rattle.std.proofs.lemmas.Bool.{true≢false}
 use Rattle.tp_io.specs.Files.{Load}
 use Rattle.tp_io.specs.Sinks.{Adds, AddsPrefix}
 use Rattle.tp_base.specs.declared.places.TheConstants.{MOST_BYTES}
 use Rattle.css_read.specs.Sheets.{Outcome, judged, skipped as left_out, Item}
 use Rattle.limits.specs.declared.budgets.Limits.{Limits}
-use Rattle.command_words.specs.declared.words.Mode.TheVariants.{Site}
-use Rattle.usage_report.specs.Answers.{Answer, used, used_unshown, unused, skipped, spent}
+use Rattle.css_read.specs.Pruned.{pruned}
+use Rattle.command_words.specs.declared.words.Mode.{Mode}
+use Rattle.command_words.specs.declared.words.Mode.TheVariants.{Report, Prune, Dead, Runs, Site, SitePrune}
+use Rattle.command_words.specs.Orders.{takes_pages}
+use Rattle.usage_report.specs.Answers.{Answer, used, maybe, used_unshown, unused, skipped, spent}
 use Rattle.usage_report.specs.Reportable as page
+use Rattle.dead_script.specs.Verdicts as dead
 use Rattle.site_judge.specs.Sites as sites
 use Rattle.site_judge.specs.SiteReport.{site_report, places_on, IsBestReportable, AreReportable}
-use Rattle.treeped_app.specs.declared.refusals.Part.TheVariants.{Sheet}
+use Rattle.run_ends.specs.declared.refusals.Part.TheVariants.{Sheet}
 use Rattle.treeped_app.specs.declared.sites.Seen.{Seen}
-use Rattle.treeped_app.specs.declared.status.Status.{Status}
-use Rattle.treeped_app.specs.declared.stops.Stop.{Stop}
-use Rattle.treeped_app.specs.Modes.{Texts, Inputs, Said, AreAnswersOf, guards_in, places_of, text_of, status_of, of_last, site_by, site_on, best_in, is_open, is_unused, status_by}
+use Rattle.run_ends.specs.declared.status.Status.{Status}
+use Rattle.run_ends.specs.declared.stops.Stop.{Stop}
+use Rattle.treeped_app.specs.Modes.{Texts, Inputs, Said, AreAnswersOf, guards_in, places_of, text_of, status_of, text_on, of_last, site_by, site_on, best_in, lines_on, verdicts_in, is_open, is_unused, status_by}
 use Rattle.treeped_app.specs.Tasks.{Source, several, Wanted, Visit, named, visits, visits_from, wanted_as, loads_of, all_loads, Task, task_by, command}
-use Rattle.treeped_app.specs.Runs.{Told, Holds, Put, run_of, Ends, AreTexts, IsSaid, AreSaid, IsWhole, read_inputs}
+use Rattle.run_ends.specs.Tells.{Put}
+use Rattle.treeped_app.specs.Runs.{Told, Holds, run_of, Ends, AreTexts, IsSaid, AreSaid, IsWhole, IsSheetOf, read_inputs}
 use Rattle.treeped_app.specs.Inputs.{AllLoaded, IsSaidOf}
-use Rattle.treeped_app.specs.Sites.{IsBegun, HasFirst, HasNext, IsKept, PageAdded, MorePages, Finished, all_places, page_wanted, text_of_site, site_status}
+use Rattle.treeped_app.specs.Sites.{IsBegun, HasFirst, HasNext, IsKept, PageAdded, MorePages, Finished, all_places, page_wanted, best_answers, text_of_site, site_status}
 use Rattle.treeped_app.specs.Views.{inputs_of}
 use Rattle.treeped_app.proofs.RightLemmas.{all_reportable}
 use Rattle.treeped_app.proofs.RunLemmas.{all_joined, load_stops, say_stops, not_whole}
-use Rattle.treeped_app.proofs.SheetLemmas.{IsAlikeOutcome, AreAlike, one_sheet_read}
+use Rattle.css_read.specs.Shapes.{IsAlikeOutcome, AreAlike}
+use Rattle.treeped_app.proofs.SheetLemmas.{one_sheet_read, sheet_read}
 
 -- ---- what can be reported on one of two alike sheets can be on the other
 
 outcome_back : (places : List Place) (o u : Outcome) (a : Answer) → IsAlikeOutcome o u → page.IsReportable places u a → page.IsReportable places o a
 outcome_back places (judged s) (judged u) (used proof steps shown) alike is = is
+outcome_back places (judged s) (judged u) (maybe proof steps shown broken) alike is = is
 outcome_back places (judged s) (judged u) used_unshown alike is = is
 outcome_back places (judged s) (judged u) unused alike is = is
 outcome_back places (judged s) (judged u) spent alike is = is
@@ -39,6 +47,7 @@ outcome_back places (judged s) (judged u) (skipped cause at) alike is = absurd c
 outcome_back places (judged s) (left_out d b) a alike is = absurd alike
 outcome_back places (left_out c b) (judged u) a alike is = absurd alike
 outcome_back places (left_out c b) (left_out d e) (used proof steps shown) alike is = absurd is.0
+outcome_back places (left_out c b) (left_out d e) (maybe proof steps shown broken) alike is = absurd is.0
 outcome_back places (left_out c b) (left_out d e) used_unshown alike is = absurd is
 outcome_back places (left_out c b) (left_out d e) unused alike is = absurd is
 outcome_back places (left_out c b) (left_out d e) spent alike is = absurd is
@@ -137,23 +146,27 @@ better_many (b ∷ bs) [] e = absurd (omega (arith, e))
 better_many (b ∷ bs) (c ∷ cs) e = ap suc (better_many bs cs (omega (arith, e)))
 
 -- what is said of a page can be reported
-rep_of : (limits : Limits) (s : Said) → AreAnswersOf Site limits s.inputs s.items s.others → page.AreReportable (places_of s.inputs) s.inputs.sheet.items s.items
-rep_of limits s are = all_reportable s.inputs.tree s.inputs.stmts (guards_in Site s.inputs) (length s.inputs.names) limits s.inputs.sheet.items s.items are.right
+rep_of : (mode : Mode) (limits : Limits) (s : Said) → AreAnswersOf mode limits s.inputs s.items s.others → page.AreReportable (places_of s.inputs) s.inputs.sheet.items s.items
+rep_of mode limits s are = all_reportable s.inputs.tree s.inputs.stmts (guards_in mode s.inputs) (length s.inputs.names) limits s.inputs.sheet.items s.items are.right
+
+-- the sheet that was read last
+pub kept_read : (sheet : List ℕ) (seen : Seen) → IsKept sheet seen → IsSheetOf sheet (inputs_of seen.last).sheet
+kept_read sheet seen is = subst (λ (z : List ℕ). IsSheetOf z (inputs_of seen.last).sheet) is.same (sheet_read is.page is.texts (inputs_of seen.last) is.read)
 
 -- a page that is read of the same sheet can be added
-pub can_add : (sheet : List ℕ) (seen : Seen) (limits : Limits) (k : Option ℕ) (s : Said) → IsKept sheet seen → s.texts.sheet ≡ sheet → IsSaidOf Site limits k s → length s.items ≡ length seen.site.items
-can_add sheet seen limits k s can same is =
+pub can_add : (sheet : List ℕ) (seen : Seen) (mode : Mode) (limits : Limits) (k : Option ℕ) (s : Said) → IsKept sheet seen → s.texts.sheet ≡ sheet → IsSaidOf mode limits k s → length s.items ≡ length seen.site.items
+can_add sheet seen mode limits k s can same is =
     let alike = one_sheet_read can.page k can.texts s.texts (inputs_of seen.last) s.inputs (can.same ∙ sym same) can.read is.read in
-    as_many (places_of s.inputs) s.inputs.sheet.items s.items (rep_of limits s is.answers) ∙ sym (alike_many (inputs_of seen.last).sheet.items s.inputs.sheet.items alike.items) ∙ sym can.many
+    as_many (places_of s.inputs) s.inputs.sheet.items s.items (rep_of mode limits s is.answers) ∙ sym (alike_many (inputs_of seen.last).sheet.items s.inputs.sheet.items alike.items) ∙ sym can.many
 
 -- and then another one
-pub added_can : (sheet : List ℕ) (old new : Seen) (limits : Limits) (k : ℕ) (s : Said) → IsKept sheet old → s.texts.sheet ≡ sheet → IsSaidOf Site limits (Some k) s → HasNext s old new → IsKept sheet new
-added_can sheet old new limits k s can same is next =
-    let many = can_add sheet old limits (Some k) s can same is in
+pub added_can : (sheet : List ℕ) (old new : Seen) (mode : Mode) (limits : Limits) (k : ℕ) (s : Said) → IsKept sheet old → s.texts.sheet ≡ sheet → IsSaidOf mode limits (Some k) s → HasNext s old new → IsKept sheet new
+added_can sheet old new mode limits k s can same is next =
+    let many = can_add sheet old mode limits (Some k) s can same is in
     let alike = one_sheet_read can.page (Some k) can.texts s.texts (inputs_of old.last) s.inputs (can.same ∙ sym same) can.read is.read in
     let before = site_forth (all_places old) (inputs_of old.last).sheet.items s.inputs.sheet.items old.site.items alike.items can.reportable in
     let number : old.site.pages + 1 ≡ length (all_places old) + 1 = ap (λ n. n + 1) can.pages in
-    let rep = page_added (all_places old) (places_of s.inputs) s.inputs.sheet.items old.site.items s.items (old.site.pages + 1) number before (rep_of limits s is.answers) in
+    let rep = page_added (all_places old) (places_of s.inputs) s.inputs.sheet.items old.site.items s.items (old.site.pages + 1) number before (rep_of mode limits s is.answers) in
     let on : length (sites.items_on (old.site.pages + 1) s.items) ≡ length s.items = length-map s.items _ in record {
       page = Some k;
       texts = s.texts;
@@ -161,7 +174,7 @@ added_can sheet old new limits k s can same is next =
       read = is.read ∙ ap Ok (sym next.last);
       many =
           ap (λ (z : sites.Site). length z.items) next.site ∙ better_many old.site.items (sites.items_on (old.site.pages + 1) s.items) (sym many ∙ sym on) ∙ sym many
-          ∙ as_many (places_of s.inputs) s.inputs.sheet.items s.items (rep_of limits s is.answers) ∙ ap (λ (z : Inputs). length z.sheet.items) (sym next.last);
+          ∙ as_many (places_of s.inputs) s.inputs.sheet.items s.items (rep_of mode limits s is.answers) ∙ ap (λ (z : Inputs). length z.sheet.items) (sym next.last);
       pages = ap (λ (z : sites.Site). z.pages) next.site ∙ number ∙ sym (ap length next.places ∙ length-append (all_places old) (places_of s.inputs ∷ []));
       reportable =
           subst (λ (z : sites.Site). AreReportable (all_places new) (inputs_of new.last).sheet.items z.items) (sym next.site)
@@ -169,19 +182,19 @@ added_can sheet old new limits k s can same is next =
           (subst (λ ps. AreReportable ps s.inputs.sheet.items (sites.with_page old.site s.items).items) (sym next.places) rep));
     }
 
-pub first_can : (sheet : List ℕ) (seen : Seen) (limits : Limits) (s : Said) → s.texts.sheet ≡ sheet → IsSaidOf Site limits (Some 1) s → HasFirst s seen → IsKept sheet seen
-first_can sheet seen limits s same is first = record {
+pub first_can : (sheet : List ℕ) (seen : Seen) (mode : Mode) (limits : Limits) (s : Said) → s.texts.sheet ≡ sheet → IsSaidOf mode limits (Some 1) s → HasFirst s seen → IsKept sheet seen
+first_can sheet seen mode limits s same is first = record {
   pages = ap (λ (z : sites.Site). z.pages) first.site ∙ sym (ap length first.places);
   reportable =
       subst (λ (z : sites.Site). AreReportable (all_places seen) (inputs_of seen.last).sheet.items z.items) (sym first.site)
       (subst (λ (z : Inputs). AreReportable (all_places seen) z.sheet.items (sites.items_on 1 s.items)) (sym first.last)
-      (subst (λ ps. AreReportable ps s.inputs.sheet.items (sites.items_on 1 s.items)) (sym first.places) (first_added (places_of s.inputs) s.inputs.sheet.items s.items (rep_of limits s is.answers))));
+      (subst (λ ps. AreReportable ps s.inputs.sheet.items (sites.items_on 1 s.items)) (sym first.places) (first_added (places_of s.inputs) s.inputs.sheet.items s.items (rep_of mode limits s is.answers))));
   page = Some 1;
   texts = s.texts;
   same = same;
   read = is.read ∙ ap Ok (sym first.last);
   many =
-      ap (λ (z : sites.Site). length z.items) first.site ∙ length-map s.items _ ∙ as_many (places_of s.inputs) s.inputs.sheet.items s.items (rep_of limits s is.answers)
+      ap (λ (z : sites.Site). length z.items) first.site ∙ length-map s.items _ ∙ as_many (places_of s.inputs) s.inputs.sheet.items s.items (rep_of mode limits s is.answers)
       ∙ ap (λ (z : Inputs). length z.sheet.items) (sym first.last);
 }
 
@@ -239,22 +252,22 @@ module _ (told : Told) (t : Task) (sheet : List ℕ) where
     pub last : inputs_of seen.last ≡ (last_said first more).inputs
     pub can : IsKept sheet seen
 
-module _ (told : Told) (limits : Limits) (source : Source) (sheet : List ℕ) where
+module _ (told : Told) (mode : Mode) (limits : Limits) (source : Source) (sheet : List ℕ) where
   abbrev t : Task
-  t = task_by source Site limits
+  t = task_by source mode limits
 
-  seen_first : (v : Visit) (s : Said) (seen : Seen) → v.number ≡ Some 1 → AreTexts told v s.texts → s.texts.sheet ≡ sheet → IsSaidOf Site limits (Some 1) s → HasFirst s seen → IsSeen told t sheet (v ∷ []) s [] seen
+  seen_first : (v : Visit) (s : Said) (seen : Seen) → v.number ≡ Some 1 → AreTexts told v s.texts → s.texts.sheet ≡ sheet → IsSaidOf mode limits (Some 1) s → HasFirst s seen → IsSeen told t sheet (v ∷ []) s [] seen
   seen_first v s seen number texts same is first = record {
     all = (record { texts = texts; read = subst (λ k. read_inputs k s.texts ≡ Ok s.inputs) (sym number) is.read; answers = is.answers; traces = is.traces }, tt);
     sheets = (same, tt);
     site = first.site;
     places = first.places;
     last = first.last;
-    can = first_can sheet seen limits s same is first;
+    can = first_can sheet seen mode limits s same is first;
   }
 
   seen_next : (done : List Visit) (v : Visit) (k : ℕ) (first : Said) (more : List Said) (s : Said) (old new : Seen) → v.number ≡ Some k → IsSeen told t sheet done first more old → AreTexts told v s.texts → s.texts.sheet ≡ sheet
-      → IsSaidOf Site limits (Some k) s → HasNext s old new → IsSeen told t sheet (done ++ v ∷ []) first (more ++ s ∷ []) new
+      → IsSaidOf mode limits (Some k) s → HasNext s old new → IsSeen told t sheet (done ++ v ∷ []) first (more ++ s ∷ []) new
   seen_next done v k first more s old new number seen texts same is next = record {
     all = said_joined told t sheet done (first ∷ more) v s seen.all (record { texts = texts; read = subst (λ k. read_inputs k s.texts ≡ Ok s.inputs) (sym number) is.read; answers = is.answers; traces = is.traces });
     sheets = sheet_joined told t sheet (first ∷ more) s seen.sheets same;
@@ -263,7 +276,7 @@ module _ (told : Told) (limits : Limits) (source : Source) (sheet : List ℕ) wh
         ∙ ap (sites.with_pages (sites.first_page first.items)) (sym (map-append (λ (z : Said). z.items) more (s ∷ [])));
     places = next.places ∙ ap (λ z. z ++ places_of s.inputs ∷ []) seen.places ∙ sym (map-append (λ (z : Said). places_of z.inputs) (first ∷ more) (s ∷ []));
     last = next.last ∙ sym (ap (λ (z : Said). z.inputs) (last_joined first more s));
-    can = added_can sheet old new limits k s seen.can same is next;
+    can = added_can sheet old new mode limits k s seen.can same is next;
   }
 
   -- ---- from page to page
@@ -288,7 +301,7 @@ module _ (told : Told) (limits : Limits) (source : Source) (sheet : List ℕ) wh
         ∙ ap (λ z. start ++ z) (ap (λ z. all_loads done ++ z) (sym (append-nil (loads_of v.wanted))) ∙ sym (all_joined done (v ∷ [])))
 
     pub walk : {U : Type 0} (u : U) (pairs : List (List ℕ × List ℕ)) (k : ℕ) (done : List Visit) (first : Said) (more : List Said) (mid end : List Load) (old new : Seen) → visits source ≡ done ++ visits_from k name pairs
-        → mid ≡ start ++ all_loads done → IsSeen told t sheet done first more old → MorePages {U = U} told limits sheet k pairs mid end old new (Ok u)
+        → mid ≡ start ++ all_loads done → IsSeen told t sheet done first more old → MorePages {U = U} told mode limits sheet k pairs mid end old new (Ok u)
         → (more' : List Said) × (end ≡ start ++ all_loads (visits source)) × IsSeen told t sheet (visits source) first more' new
     walk u [] k done first more mid end old new order loads seen (same, same') =
         let all : visits source ≡ done = order ∙ append-nil done in (
@@ -301,34 +314,44 @@ module _ (told : Told) (limits : Limits) (source : Source) (sheet : List ℕ) wh
         (seen_next done (visit_of k pair) k first more s old m refl seen (texts_of_page k pair mid mid' s.texts same loaded) same is next) rest
 
     pub walk_stops : (U : Type 0) (pairs : List (List ℕ × List ℕ)) (k : ℕ) (done : List Visit) (first : Said) (more : List Said) (mid end : List Load) (old new : Seen) (e : Stop) (out : Put) → out.held' ≡ out.held
-        → visits source ≡ done ++ visits_from k name pairs → mid ≡ start ++ all_loads done → IsSeen told t sheet done first more old → MorePages {U = U} told limits sheet k pairs mid end old new (Err e) → Ends (run_of told words start end out) (Err e)
+        → visits source ≡ done ++ visits_from k name pairs → mid ≡ start ++ all_loads done → IsSeen told t sheet done first more old → MorePages {U = U} told mode limits sheet k pairs mid end old new (Err e) → Ends (run_of told words start end out) (Err e)
     walk_stops U [] k done first more mid end old new e out silent order loads seen is = absurd is
     walk_stops U (pair ∷ pairs) k done first more mid end old new e out silent order loads seen (inl (inl load)) =
-        load_stops told words start end out source Site limits task silent done (visit_of k pair) (visits_from (k + 1) name pairs) order (first ∷ more) seen.all e
+        load_stops told words start end out source mode limits task silent done (visit_of k pair) (visits_from (k + 1) name pairs) order (first ∷ more) seen.all e
         (subst (λ z. AllLoaded told (page_wanted k pair) z end (Err e)) loads load)
     walk_stops U (pair ∷ pairs) k done first more mid end old new e out silent order loads seen (inl (inr (x, same, loaded, is))) =
-        say_stops told words start end out source Site limits task silent done (visit_of k pair) (visits_from (k + 1) name pairs) order (first ∷ more) seen.all x e
+        say_stops told words start end out source mode limits task silent done (visit_of k pair) (visits_from (k + 1) name pairs) order (first ∷ more) seen.all x e
         (loaded.0 ∙ ap (λ z. z ++ loads_of (page_wanted k pair)) loads) (texts_of_page k pair mid end x same loaded) is
     walk_stops U (pair ∷ pairs) k done first more mid end old new e out silent order loads seen (inr (mid', m, u, (s, same, loaded, is, next), rest)) =
         walk_stops U pairs (k + 1) (done ++ visit_of k pair ∷ []) first (more ++ s ∷ []) mid' end m new e out silent (order_on done k pair pairs order) (loads_on done (visit_of k pair) mid mid' loads loaded.0)
         (seen_next done (visit_of k pair) k first more s old m refl seen (texts_of_page k pair mid mid' s.texts same loaded) same is next) rest
 
 -- one page, and then the others
-pub more_joined : (U : Type 0) (u : U) (told told' : Told) (same : told' ≡ told) (limits : Limits) (sheet : List ℕ) (k : ℕ) (pair : List ℕ × List ℕ) (pairs : List (List ℕ × List ℕ)) (start mid end : List Load) (old m new : Seen) (r : Result U Stop)
-    → PageAdded {U = U} told limits sheet k pair start mid old m (Ok u) → MorePages {U = U} told' limits sheet (k + 1) pairs mid end m new r → MorePages {U = U} told limits sheet k (pair ∷ pairs) start end old new r
-more_joined U u told told' same limits sheet k pair pairs start mid end old m new (Ok v) added more =
-    (mid, m, added, subst (λ (z : Told). MorePages {U = U} z limits sheet (k + 1) pairs mid end m new (Ok v)) same more)
-more_joined U u told told' same limits sheet k pair pairs start mid end old m new (Err e) added more =
-    inr (mid, m, u, added, subst (λ (z : Told). MorePages {U = U} z limits sheet (k + 1) pairs mid end m new (Err e)) same more)
+pub more_joined : (U : Type 0) (u : U) (told told' : Told) (same : told' ≡ told) (mode : Mode) (limits : Limits) (sheet : List ℕ) (k : ℕ) (pair : List ℕ × List ℕ) (pairs : List (List ℕ × List ℕ)) (start mid end : List Load) (old m new : Seen) (r : Result U Stop)
+    → PageAdded {U = U} told mode limits sheet k pair start mid old m (Ok u) → MorePages {U = U} told' mode limits sheet (k + 1) pairs mid end m new r → MorePages {U = U} told mode limits sheet k (pair ∷ pairs) start end old new r
+more_joined U u told told' same mode limits sheet k pair pairs start mid end old m new (Ok v) added more =
+    (mid, m, added, subst (λ (z : Told). MorePages {U = U} z mode limits sheet (k + 1) pairs mid end m new (Ok v)) same more)
+more_joined U u told told' same mode limits sheet k pair pairs start mid end old m new (Err e) added more =
+    inr (mid, m, u, added, subst (λ (z : Told). MorePages {U = U} z mode limits sheet (k + 1) pairs mid end m new (Err e)) same more)
+
+-- a mode that writes the report
+pub site_reported : (m : Mode) (sheet : List ℕ) (seen : Seen) → (m ≡ SitePrune → ⊥) → text_of_site m sheet seen ≡ site_report sheet (inputs_of seen.last).names (all_places seen) (inputs_of seen.last).sheet seen.site
+site_reported Report sheet seen other = refl
+site_reported Prune sheet seen other = refl
+site_reported Dead sheet seen other = refl
+site_reported Runs sheet seen other = refl
+site_reported Site sheet seen other = refl
+site_reported SitePrune sheet seen other = absurd (other refl)
 
 -- ---- the end
 
-module _ (told : Told) (words : List (List ℕ)) (start : List Load) (limits : Limits) (name page1 script1 : List ℕ) (pairs : List (List ℕ × List ℕ)) (task : command words ≡ Some (task_by (several name ((page1, script1) ∷ pairs)) Site limits)) where
+module _ (told : Told) (words : List (List ℕ)) (start : List Load) (mode : Mode) (on_pages : takes_pages mode ≡ true) (limits : Limits) (name page1 script1 : List ℕ) (pairs : List (List ℕ × List ℕ))
+    (task : command words ≡ Some (task_by (several name ((page1, script1) ∷ pairs)) mode limits)) where
   abbrev source' : Source
   source' = several name ((page1, script1) ∷ pairs)
 
   abbrev t' : Task
-  t' = task_by source' Site limits
+  t' = task_by source' mode limits
 
   abbrev first_wanted : List Wanted
   first_wanted = wanted_as Sheet name ∷ page_wanted 1 (page1, script1)
@@ -344,29 +367,29 @@ module _ (told : Told) (words : List (List ℕ)) (start : List Load) (limits : L
 
   pub site_not_loaded : (end : List Load) (out : Put) (e : Stop) → out.held' ≡ out.held → AllLoaded told first_wanted start end (Err e) → Ends (run_of told words start end out) (Err e)
   site_not_loaded end out e silent loaded =
-      load_stops told words start end out source' Site limits task silent [] first_visit (visits_from 2 name pairs) refl [] tt e (subst (λ z. AllLoaded told first_wanted z end (Err e)) (sym (append-nil start)) loaded)
+      load_stops told words start end out source' mode limits task silent [] first_visit (visits_from 2 name pairs) refl [] tt e (subst (λ z. AllLoaded told first_wanted z end (Err e)) (sym (append-nil start)) loaded)
 
-  pub site_not_begun : (x : Texts) (end : List Load) (out : Put) (e : Stop) → out.held' ≡ out.held → AllLoaded told first_wanted start end (Ok (x.sheet ∷ x.page ∷ x.script ∷ [])) → IsBegun limits x (Err e)
+  pub site_not_begun : (x : Texts) (end : List Load) (out : Put) (e : Stop) → out.held' ≡ out.held → AllLoaded told first_wanted start end (Ok (x.sheet ∷ x.page ∷ x.script ∷ [])) → IsBegun mode limits x (Err e)
       → Ends (run_of told words start end out) (Err e)
   site_not_begun x end out e silent loaded is =
-      say_stops told words start end out source' Site limits task silent [] first_visit (visits_from 2 name pairs) refl [] tt x e (loaded.0 ∙ ap (λ z. z ++ loads_of first_wanted) (sym (append-nil start))) (first_texts x end loaded) is
+      say_stops told words start end out source' mode limits task silent [] first_visit (visits_from 2 name pairs) refl [] tt x e (loaded.0 ∙ ap (λ z. z ++ loads_of first_wanted) (sym (append-nil start))) (first_texts x end loaded) is
 
-  begun_seen : (x : Texts) (mid : List Load) (seen : Seen) → AllLoaded told first_wanted start mid (Ok (x.sheet ∷ x.page ∷ x.script ∷ [])) → (begun : IsBegun limits x (Ok seen)) → IsSeen told t' x.sheet (first_visit ∷ []) begun.0 [] seen
+  begun_seen : (x : Texts) (mid : List Load) (seen : Seen) → AllLoaded told first_wanted start mid (Ok (x.sheet ∷ x.page ∷ x.script ∷ [])) → (begun : IsBegun mode limits x (Ok seen)) → IsSeen told t' x.sheet (first_visit ∷ []) begun.0 [] seen
   begun_seen x mid seen loaded (s, same, is, first) =
-      seen_first told limits source' x.sheet first_visit s seen refl (subst (AreTexts told first_visit) (sym same) (first_texts x mid loaded)) (ap (λ (z : Texts). z.sheet) same) is first
+      seen_first told mode limits source' x.sheet first_visit s seen refl (subst (AreTexts told first_visit) (sym same) (first_texts x mid loaded)) (ap (λ (z : Texts). z.sheet) same) is first
 
   loads_first : (x : Texts) (mid : List Load) → AllLoaded told first_wanted start mid (Ok (x.sheet ∷ x.page ∷ x.script ∷ [])) → mid ≡ start ++ all_loads (first_visit ∷ [])
   loads_first x mid loaded = loaded.0 ∙ ap (λ z. start ++ z) (sym (append-nil (loads_of first_wanted)))
 
-  pub site_stops : (U : Type 0) (x : Texts) (mid end : List Load) (out : Put) (old new : Seen) (e : Stop) → out.held' ≡ out.held → AllLoaded told first_wanted start mid (Ok (x.sheet ∷ x.page ∷ x.script ∷ [])) → IsBegun limits x (Ok old)
-      → MorePages {U = U} told limits x.sheet 2 pairs mid end old new (Err e) → Ends (run_of told words start end out) (Err e)
+  pub site_stops : (U : Type 0) (x : Texts) (mid end : List Load) (out : Put) (old new : Seen) (e : Stop) → out.held' ≡ out.held → AllLoaded told first_wanted start mid (Ok (x.sheet ∷ x.page ∷ x.script ∷ [])) → IsBegun mode limits x (Ok old)
+      → MorePages {U = U} told mode limits x.sheet 2 pairs mid end old new (Err e) → Ends (run_of told words start end out) (Err e)
   site_stops U x mid end out old new e silent loaded begun more =
-      walk_stops told limits source' x.sheet words task name loaded.1.0 loaded.1.1 start U pairs 2 (first_visit ∷ []) begun.0 [] mid end old new e out silent refl (loads_first x mid loaded) (begun_seen x mid old loaded begun) more
+      walk_stops told mode limits source' x.sheet words task name loaded.1.0 loaded.1.1 start U pairs 2 (first_visit ∷ []) begun.0 [] mid end old new e out silent refl (loads_first x mid loaded) (begun_seen x mid old loaded begun) more
 
-  module _ (x : Texts) (mid end : List Load) (old new : Seen) (loaded : AllLoaded told first_wanted start mid (Ok (x.sheet ∷ x.page ∷ x.script ∷ []))) (begun : IsBegun limits x (Ok old)) {U : Type 0} (u : U)
-      (more : MorePages {U = U} told limits x.sheet 2 pairs mid end old new (Ok u)) where
+  module _ (x : Texts) (mid end : List Load) (old new : Seen) (loaded : AllLoaded told first_wanted start mid (Ok (x.sheet ∷ x.page ∷ x.script ∷ []))) (begun : IsBegun mode limits x (Ok old)) {U : Type 0} (u : U)
+      (more : MorePages {U = U} told mode limits x.sheet 2 pairs mid end old new (Ok u)) where
     abbrev all : (more' : List Said) × (end ≡ start ++ all_loads (visits source')) × IsSeen told t' x.sheet (visits source') begun.0 more' new
-    all = walk told limits source' x.sheet words task name loaded.1.0 loaded.1.1 start u pairs 2 (first_visit ∷ []) begun.0 [] mid end old new refl (loads_first x mid loaded) (begun_seen x mid old loaded begun) more
+    all = walk told mode limits source' x.sheet words task name loaded.1.0 loaded.1.1 start u pairs 2 (first_visit ∷ []) begun.0 [] mid end old new refl (loads_first x mid loaded) (begun_seen x mid old loaded begun) more
 
     whole : (out : Put) → IsWhole (run_of told words start end out) t' (begun.0 ∷ all.0)
     whole out = record {
@@ -376,34 +399,65 @@ module _ (told : Told) (words : List (List ℕ)) (start : List Load) (limits : L
       one_sheet = λ a b there there'. has_sheet told t' x.sheet (begun.0 ∷ all.0) all.2.sheets a there ∙ sym (has_sheet told t' x.sheet (begun.0 ∷ all.0) all.2.sheets b there');
     }
 
-    text_is : text_of t' (begun.0 ∷ all.0) ≡ text_of_site x.sheet new
-    text_is =
-        let said = begun.0 ∷ all.0 in
-        let u' = last_said begun.0 all.0 in
-        of_last_is (site_by said) begun.0 all.0
-        ∙ sym (ap (λ z. site_report x.sheet (inputs_of new.last).names z (inputs_of new.last).sheet new.site) all.2.places
-        ∙ ap (λ (z : Inputs). site_report x.sheet z.names (places_in said) z.sheet new.site) all.2.last
-        ∙ ap (λ z. site_report x.sheet u'.inputs.names (places_in said) u'.inputs.sheet z) all.2.site
-        ∙ ap (λ z. site_report z u'.inputs.names (places_in said) u'.inputs.sheet (site_on said)) (sym (last_sheet begun.0 all.0 all.2.sheets)))
-      where
-        last_sheet : (s : Said) (more' : List Said) → HaveSheet told t' x.sheet (s ∷ more') → (last_said s more').texts.sheet ≡ x.sheet
-        last_sheet s [] have = have.0
-        last_sheet s (y ∷ more') have = last_sheet y more' have.1
+    abbrev said' : List Said
+    said' = begun.0 ∷ all.0
 
-    status_is : status_of t' (begun.0 ∷ all.0) ≡ site_status new.site
+    abbrev last' : Said
+    last' = last_said begun.0 all.0
+
+    last_sheet : (s : Said) (more' : List Said) → HaveSheet told t' x.sheet (s ∷ more') → (last_said s more').texts.sheet ≡ x.sheet
+    last_sheet s [] have = have.0
+    last_sheet s (y ∷ more') have = last_sheet y more' have.1
+
+    report_is : site_report last'.texts.sheet last'.inputs.names (places_in said') last'.inputs.sheet (site_on said')
+        ≡ site_report x.sheet (inputs_of new.last).names (all_places new) (inputs_of new.last).sheet new.site
+    report_is =
+        sym (ap (λ z. site_report x.sheet (inputs_of new.last).names z (inputs_of new.last).sheet new.site) all.2.places
+        ∙ ap (λ (z : Inputs). site_report x.sheet z.names (places_in said') z.sheet new.site) all.2.last
+        ∙ ap (λ z. site_report x.sheet last'.inputs.names (places_in said') last'.inputs.sheet z) all.2.site
+        ∙ ap (λ z. site_report z last'.inputs.names (places_in said') last'.inputs.sheet (site_on said')) (sym (last_sheet begun.0 all.0 all.2.sheets)))
+
+    left_is : pruned last'.texts.sheet last'.inputs.sheet (map is_unused (best_in said')) ≡ pruned x.sheet (inputs_of new.last).sheet (map is_unused (best_answers new.site))
+    left_is =
+        sym (ap (λ (z : Inputs). pruned x.sheet z.sheet (map is_unused (best_answers new.site))) all.2.last
+        ∙ ap (λ z. pruned x.sheet last'.inputs.sheet (map is_unused (best_answers z))) all.2.site
+        ∙ ap (λ z. pruned z last'.inputs.sheet (map is_unused (best_in said'))) (sym (last_sheet begun.0 all.0 all.2.sheets)))
+
+    site_is : (m : Mode) → site_by m said' last' ≡ text_of_site m x.sheet new
+    site_is Report = report_is
+    site_is Prune = report_is
+    site_is Dead = report_is
+    site_is Runs = report_is
+    site_is Site = report_is
+    site_is SitePrune = left_is
+
+    text_is : text_of t' said' ≡ text_of_site mode x.sheet new
+    text_is = ap (λ (b : Bool). of_last (if b then site_by mode said' else text_on mode) said') on_pages ∙ of_last_is (site_by mode said') begun.0 all.0 ∙ site_is mode
+
+    no_verdicts : (m : Mode) → takes_pages m ≡ true → verdicts_in m said' ≡ []
+    no_verdicts Report is = refl
+    no_verdicts Prune is = refl
+    no_verdicts Dead is = absurd (true≢false (sym is))
+    no_verdicts Runs is = refl
+    no_verdicts Site is = refl
+    no_verdicts SitePrune is = refl
+
+    abbrev status_by_lines : List Answer → List dead.Verdict → Status
+    status_by_lines lines verdicts = status_by (list_any is_open lines || list_any dead.is_open verdicts) (list_any is_unused lines || list_any dead.is_dead verdicts)
+
+    status_is : status_of t' said' ≡ site_status new.site
     status_is =
-        ap (λ b. status_by b (list_any is_unused (best_in said') || false)) (or_none (list_any is_open (best_in said')))
+        ap (λ (b : Bool). status_by_lines (if b then best_in said' else lines_on said') (verdicts_in mode said')) on_pages
+        ∙ ap (status_by_lines (best_in said')) (no_verdicts mode on_pages)
+        ∙ ap (λ b. status_by b (list_any is_unused (best_in said') || false)) (or_none (list_any is_open (best_in said')))
         ∙ ap (status_by (list_any is_open (best_in said'))) (or_none (list_any is_unused (best_in said')))
         ∙ sym (ap site_status all.2.site)
       where
-        said' : List Said
-        said' = begun.0 ∷ all.0
-
         or_none : (b : Bool) → (b || false) ≡ b
         or_none true = refl
         or_none false = refl
 
-    pub site_ends : (out : Put) (result : Result Status Stop) → Finished x.sheet new out result → Ends (run_of told words start end out) result
+    pub site_ends : (out : Put) (result : Result Status Stop) → Finished mode x.sheet new out result → Ends (run_of told words start end out) result
     site_ends out (Ok st) (adds, status) = (t', begun.0 ∷ all.0, whole out, subst (λ z. Adds out.held out.held' z) (sym text_is) adds, status ∙ sym status_is)
     site_ends out (Err e) (f, same, prefix, rose) =
         subst (λ z. Ends (run_of told words start end out) (Err z)) (sym same) (not_whole (run_of told words start end out) t' (begun.0 ∷ all.0) f (whole out) (subst (λ z. AddsPrefix out.held out.held' z) (sym text_is) prefix) rose)

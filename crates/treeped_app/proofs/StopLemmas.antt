@@ -1,19 +1,12 @@
--- What a sink got, and what the answers of the code are to the definitions.
-use Rattle.std.proofs.Common.{◌≡◌, ℕ, Bool, ◌||◌, List, [], ◌∷◌, map, sum_by, Option, Result, Ok, Err, OnOk, OnErr, refl, sym, ap, ◌∙◌, append-nil}
+-- What the answers of the code are to the definitions.
+use Rattle.std.proofs.Common.{◌≡◌, ℕ, Bool, ◌||◌, List, [], ◌∷◌, map, sum_by, refl, sym, ap, ◌∙◌}
 use Rattle.std.specs.Prelude.{cond}
 use Rattle.std.specs.List.{list_any, count_by, sum}
 use Rattle.std.proofs.lemmas.List.Sums.{sum-map}
 use Rattle.std.proofs.lemmas.Simd.{map-map}
-use Rattle.tp_io.specs.Sinks.{Adds, AddsPrefix}
-use Rattle.tp_io.proofs.SinkLemmas.{adds_prefix_of}
 use Rattle.usage_report.specs.declared.answers.Answer as code
 use Rattle.usage_report.specs.Answers.{Answer}
 use Rattle.usage_report.specs.Views.{answer_of}
-
--- what was put is a front, whole or cut off
-pub either_way : {T E : Type 0} (r : Result T E) (old new : Option (List ℕ)) (xs : List ℕ) → OnOk r (Adds old new xs) → OnErr r (AddsPrefix old new xs) → AddsPrefix old new xs
-either_way (Ok x) old new xs whole front = rw append-nil at (adds_prefix_of old new xs [] whole)
-either_way (Err e) old new xs whole front = front
 
 -- a test of the views is one of what is seen
 pub any_seen : (p : Answer → Bool) (answers : List code.Answer) → list_any p (map answer_of answers) ≡ list_any (λ a. p (answer_of a)) answers

@@ -5,9 +5,9 @@ use Rattle.command_words.specs.declared.words.Order.{Order}
 use Rattle.command_words.specs.declared.words.WordsFault.{WordsFault}
 use Rattle.command_words.specs.declared.words.WordsFault.TheVariants as words
 use Rattle.command_words.specs.Orders.{order_of}
-use Rattle.command_words.specs.declared.words.TheConstants.{MOST_PAGES}
+use Rattle.limits.specs.declared.pages.TheConstants.{MOST_PAGES}
 use Rattle.treeped_app.specs.Tasks.{paired, Source, task_by, source_by, task_of, command}
-use Rattle.treeped_app.specs.Stops.{words_stop}
+use Rattle.run_ends.specs.Stops.{words_stop}
 use Rattle.treeped_app.specs.Runs.{Run, Ends}
 
 pub task_ordered : (ws : List (List ℕ)) (o : Order) (source : Source) → order_of ws ≡ Some o → source_by o.mode o.names o.size ≡ Some source → command ws ≡ Some (task_by source o.mode o.limits)

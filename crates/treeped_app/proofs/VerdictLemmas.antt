@@ -4,7 +4,7 @@ use Rattle.std.specs.List.{list_any}
 use Rattle.std.proofs.lemmas.List.{length-map}
 use Rattle.std.proofs.lemmas.Option.{unwrap_or-slice_get}
 use Rattle.usage_report.specs.declared.answers.Answer as code
-use Rattle.usage_report.specs.Answers.{Answer, used, used_unshown, unused, skipped, spent}
+use Rattle.usage_report.specs.Answers.{Answer, used, maybe, used_unshown, unused, skipped, spent}
 use Rattle.usage_report.specs.Views.{answer_of}
 use Rattle.jq_sem.specs.declared.stmts.Stmt.{Stmt}
 use Rattle.jq_sem.specs.Views.{chain_of, statements_of}
@@ -24,6 +24,7 @@ always_dead k (a ∷ later) = here a (always_dead (k + 1) later)
   where
     here : (a : Answer) → IsDead (dead.dead_behind (k + 1) later) → IsDead (dead.dead_here k a (dead.dead_behind (k + 1) later))
     here (used proof steps shown) is = is
+    here (maybe proof steps shown broken) is = is
     here used_unshown is = is
     here unused is = record { is = refl; closed = refl }
     here (skipped cause at) is = is
@@ -31,11 +32,13 @@ always_dead k (a ∷ later) = here a (always_dead (k + 1) later)
 
 by_own : (q : Question) (a : Answer) (v : dead.Verdict) → IsDead v → is_so q (dead.verdict_by a v) ≡ is_so_of q (Some a)
 by_own Open (used proof steps shown) v is = refl
+by_own Open (maybe proof steps shown broken) v is = refl
 by_own Open used_unshown v is = refl
 by_own Open unused v is = is.closed
 by_own Open (skipped cause at) v is = refl
 by_own Open spent v is = refl
 by_own Dead (used proof steps shown) v is = refl
+by_own Dead (maybe proof steps shown broken) v is = refl
 by_own Dead used_unshown v is = refl
 by_own Dead unused v is = is.is
 by_own Dead (skipped cause at) v is = refl

@@ -5,13 +5,13 @@ use Rattle.tp_io.specs.Sinks.{Adds, AddsPrefix, Rose}
 use Rattle.tp_io.proofs.SinkLemmas.{adds_more}
 use Rattle.limits.specs.declared.budgets.Limits.{Limits}
 use Rattle.command_words.specs.declared.words.Mode.{Mode}
-use Rattle.command_words.specs.declared.words.Mode.TheVariants.{Report, Dead, Runs, Site}
+use Rattle.command_words.specs.declared.words.Mode.TheVariants.{Report, Prune, Dead, Runs, Site, SitePrune}
 use Rattle.usage_report.specs.declared.faults.ReportFault.{ReportFault}
 use Rattle.usage_report.specs.declared.faults.ReportFault.TheVariants.{Write, Memory}
 use Rattle.treeped_app.specs.Inputs.{IsSaidOf, Written}
 use Rattle.treeped_app.specs.Modes.{Texts, Said, report_on, text_on}
-use Rattle.treeped_app.specs.Runs.{put_of}
-use Rattle.treeped_app.specs.Stops.{stop_of}
+use Rattle.run_ends.specs.Tells.{put_of}
+use Rattle.run_ends.specs.Stops.{stop_of}
 
 pub ok_after : {T E : Type 0} (r : Result T E) (old mid new : Option (List ℕ)) (xs ys : List ℕ) → Adds old mid xs → OnOk r (Adds mid new ys) → OnOk r (Adds old new (xs ++ ys))
 ok_after (Ok x) old mid new xs ys first second = adds_more old mid new xs ys first second
@@ -27,8 +27,10 @@ cut_short m limits x text held held' faults faults' said Write same is front ros
 cut_short m limits x text held held' faults faults' said Memory same is front rose = inr (said, same, is, front)
 
 -- a mode that writes the report alone
-pub report_alone : (m : Mode) (s : Said) → (m ≡ Dead → ⊥) → (m ≡ Runs → ⊥) → text_on m s ≡ report_on s
-report_alone Report s not_dead not_runs = refl
-report_alone Dead s not_dead not_runs = absurd (not_dead refl)
-report_alone Runs s not_dead not_runs = absurd (not_runs refl)
-report_alone Site s not_dead not_runs = refl
+pub report_alone : (m : Mode) (s : Said) → (m ≡ Prune → ⊥) → (m ≡ Dead → ⊥) → (m ≡ Runs → ⊥) → text_on m s ≡ report_on s
+report_alone Report s not_prune not_dead not_runs = refl
+report_alone Prune s not_prune not_dead not_runs = absurd (not_prune refl)
+report_alone Dead s not_prune not_dead not_runs = absurd (not_dead refl)
+report_alone Runs s not_prune not_dead not_runs = absurd (not_runs refl)
+report_alone Site s not_prune not_dead not_runs = refl
+report_alone SitePrune s not_prune not_dead not_runs = refl

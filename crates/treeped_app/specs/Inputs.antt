@@ -12,16 +12,20 @@ use Rattle.tp_io.specs.Sinks.{Adds, AddsPrefix, Rose}
 use Rattle.tp_base.specs.declared.places.TheConstants.{MOST_BYTES}
 use Rattle.limits.specs.declared.budgets.Limits.{Limits}
 use Rattle.command_words.specs.declared.words.Mode.{Mode}
+use Rattle.judge.specs.declared.faults.JudgeFault.{JudgeFault}
+use Rattle.judge.specs.declared.faults.JudgeFault.TheVariants as judge
 use Rattle.judge.specs.Outcomes.{AreGiven}
-use Rattle.treeped_app.specs.declared.refusals.Part.{Part}
-use Rattle.treeped_app.specs.declared.status.Status.{Status}
-use Rattle.treeped_app.specs.declared.stops.Stop.{Stop}
-use Rattle.treeped_app.specs.declared.stops.Stop.TheVariants.{TooLarge, ReadFault, Unread, Judging, WriteFault, NoMemory}
+use Rattle.run_ends.specs.declared.refusals.JudgeRefusal.TheVariants as refused
+use Rattle.run_ends.specs.declared.refusals.Part.{Part}
+use Rattle.run_ends.specs.declared.status.Status.{Status}
+use Rattle.run_ends.specs.declared.stops.Stop.{Stop}
+use Rattle.run_ends.specs.declared.stops.Stop.TheVariants.{TooLarge, ReadFault, Unread, Judging, WriteFault, NoMemory}
 use Rattle.treeped_app.specs.declared.reading.Inputs.{Inputs}
 use Rattle.treeped_app.specs.declared.saying.Said.{Said}
 use Rattle.treeped_app.specs.Modes as modes
 use Rattle.treeped_app.specs.Tasks.{Wanted, succeeded, failed, loads_of}
-use Rattle.treeped_app.specs.Runs.{Put, Told, Holds, Fits, Exceeds, IsRefusedBy, read_inputs}
+use Rattle.run_ends.specs.Tells.{Put}
+use Rattle.treeped_app.specs.Runs.{Told, Holds, Fits, Exceeds, IsRefusedBy, read_inputs}
 use Rattle.treeped_app.specs.Views.{inputs_of, said_of}
 
 -- ---- loading
@@ -98,6 +102,12 @@ IsRead read (Err e) = ⊥
 abbrev pub AreInputs : modes.Inputs → Type 0
 AreInputs i = AreGiven i.stmts i.sheet.items [] (length i.names) i.tree
 
+-- why a run stops where there are no answers
+abbrev pub judging_stop : JudgeFault → Stop
+judging_stop judge.TooManyAtoms = Judging refused.TooManyAtoms
+judging_stop judge.TooManyVisible = Judging refused.TooManyVisible
+judging_stop judge.Memory = NoMemory
+
 -- why there are no answers; memory may want at any time
 abbrev pub IsUnanswered : Mode → modes.Inputs → Stop → Type 0
 IsUnanswered m i (Judging f) = IsRefusedBy m i f
@@ -120,9 +130,9 @@ IsSaying m limits page x (Err e) = ⊥
 
 -- ---- writing
 
--- what is said can be written: it is right, within some limits
+-- what is said can be written: it was read, and is right, within some limits
 abbrev pub IsWritable : Mode → modes.Said → Type 0
-IsWritable m s = (limits : Limits) × modes.AreAnswersOf m limits s.inputs s.items s.others × modes.HasTraces m s
+IsWritable m s = (limits : Limits) × (page : Option ℕ) × IsSaidOf m limits page s
 
 -- What reading, judging and writing come to, where this text is written of what is said.
 abbrev pub Written : Mode → Limits → modes.Texts → (modes.Said → List ℕ) → Put → Result Status Stop → Type 0

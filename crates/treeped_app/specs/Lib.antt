@@ -1,11 +1,13 @@
+pub use Rattle.run_ends.specs.Refusals
+pub use Rattle.run_ends.specs.Stops
+pub use Rattle.run_ends.specs.Tells
 pub mod Answers
 pub mod Commands
 pub mod Inputs
+pub mod Laws
 pub mod Modes
-pub mod Refusals
 pub mod Runs
 pub mod Sites
-pub mod Stops
 pub mod Summary
 pub mod Tasks
 pub mod Verdicts

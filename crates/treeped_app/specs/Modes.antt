@@ -5,15 +5,16 @@
 --     HasTraces m s        where the mode asks for whole runs, each answer that shows steps has the trace of their runs
 --     text_of t said       what is written
 --     status_of t said     the status: 7 where a line is open, else 1 where a line is unused or dead, else 0
-use Rattle.std.specs.Prelude.{◌≡◌, ℕ, Bool, true, false, ◌||◌, List, [], ◌∷◌, ◌++◌, length, map, Option}
+use Rattle.std.specs.Prelude.{◌≡◌, ℕ, Bool, true, false, ◌||◌, if◌then◌else◌, List, [], ◌∷◌, ◌++◌, length, map, Option}
 use Rattle.std.specs.List.{list_any}
 use Rattle.tp_base.specs.Names.{Named}
 use Rattle.tp_base.specs.declared.places.Place.{Place}
 use Rattle.tree_sem.specs.Trees.{LabelTree}
+use Rattle.css_read.specs.Pruned.{pruned}
 use Rattle.css_read.specs.Sheets.{Sheet}
 use Rattle.jq_sem.specs.Statements.{Statement}
 use Rattle.guard_sem.specs.Guards.{Guard}
-use Rattle.usage_report.specs.Answers.{Answer, used_unshown, unused, spent}
+use Rattle.usage_report.specs.Answers.{Answer, maybe, used_unshown, unused, spent}
 use Rattle.usage_report.specs.Report.{report, report_with}
 use Rattle.usage_report.specs.RunTraces.{RunTrace}
 use Rattle.run_trace.specs.Traces.{AreTracesOf}
@@ -22,13 +23,14 @@ use Rattle.judge.specs.Goals.{Goal, matching, selecting}
 use Rattle.judge.specs.Outcomes as judge
 use Rattle.limits.specs.declared.budgets.Limits.{Limits}
 use Rattle.command_words.specs.declared.words.Mode.{Mode}
-use Rattle.command_words.specs.declared.words.Mode.TheVariants.{Dead, Runs, Site}
+use Rattle.command_words.specs.declared.words.Mode.TheVariants.{Prune, Dead, Runs, SitePrune}
+use Rattle.command_words.specs.Orders.{takes_pages}
 use Rattle.dead_script.specs.Probes.{all_probes, probe_guards}
 use Rattle.dead_script.specs.Verdicts as dead
 use Rattle.site_judge.specs.Sites as sites
 use Rattle.site_judge.specs.SiteReport.{site_report}
-use Rattle.treeped_app.specs.declared.status.Status.{Status}
-use Rattle.treeped_app.specs.declared.status.Status.TheVariants as status
+use Rattle.run_ends.specs.declared.status.Status.{Status}
+use Rattle.run_ends.specs.declared.status.Status.TheVariants as status
 use Rattle.treeped_app.specs.Answers.{AreRight, AreRightFor, IsPastBudget}
 use Rattle.treeped_app.specs.Summary.{summary}
 use Rattle.treeped_app.specs.Tasks.{Source, ring, Task}
@@ -99,6 +101,7 @@ is_unused _ = false
 
 -- something is left open: the steps, or whether there are any
 abbrev pub is_open : Answer → Bool
+is_open (maybe proof steps shown broken) = true
 is_open used_unshown = true
 is_open spent = true
 is_open _ = false
@@ -106,8 +109,13 @@ is_open _ = false
 abbrev pub report_on : Said → List ℕ
 report_on s = report s.texts.sheet s.inputs.names (places_of s.inputs) s.inputs.sheet s.items
 
--- of one page: the report; the report, and then the statements; or the report with runs in the place of steps
+-- the sheet without the selectors whose answers are unused
+abbrev pub pruned_by : Said → List Answer → List ℕ
+pruned_by s answers = pruned s.texts.sheet s.inputs.sheet (map is_unused answers)
+
+-- of one page: the report; the sheet that is left; the report, and then the statements; or the report with runs in the place of steps
 abbrev pub text_on : Mode → Said → List ℕ
+text_on Prune s = pruned_by s s.items
 text_on Dead s = report_on s ++ dead.dead_text s.inputs.stmts s.others
 text_on Runs s = report_with s.texts.sheet s.inputs.names (places_of s.inputs) s.inputs.sheet s.items s.traces
 text_on _ s = report_on s
@@ -119,9 +127,10 @@ site_on said = sites.site_of (map (λ (s : Said). s.items) said)
 abbrev pub best_in : List Said → List Answer
 best_in said = map (λ (b : sites.Best). b.answer) (site_on said).items
 
--- by the sheet and the names of the last page
-abbrev pub site_by : List Said → Said → List ℕ
-site_by said s = site_report s.texts.sheet s.inputs.names (map (λ (x : Said). places_of x.inputs) said) s.inputs.sheet (site_on said)
+-- of several: the sheet that is left; or the report, by the sheet and the names of this page
+abbrev pub site_by : Mode → List Said → Said → List ℕ
+site_by SitePrune said s = pruned_by s (best_in said)
+site_by _ said s = site_report s.texts.sheet s.inputs.names (map (λ (x : Said). places_of x.inputs) said) s.inputs.sheet (site_on said)
 
 -- of the last page, if there is one
 abbrev pub of_last : (Said → List ℕ) → List Said → List ℕ
@@ -130,8 +139,7 @@ of_last f (s ∷ []) = f s
 of_last f (s ∷ x ∷ said) = of_last f (x ∷ said)
 
 abbrev pub text_by : Mode → List Said → List ℕ
-text_by Site said = of_last (site_by said) said
-text_by m said = of_last (text_on m) said
+text_by m said = of_last (if takes_pages m then site_by m said else text_on m) said
 
 -- on a ring there is one line that counts the answers
 abbrev pub text_from : Source → Mode → List Said → List ℕ
@@ -143,11 +151,13 @@ text_of t said = text_from t.source t.mode said
 
 -- ---- the status
 
+abbrev pub lines_on : List Said → List Answer
+lines_on [] = []
+lines_on (s ∷ said) = s.items
+
 -- the answers for the items: those of a page, or the best of several
 abbrev pub lines_in : Mode → List Said → List Answer
-lines_in Site said = best_in said
-lines_in _ [] = []
-lines_in _ (s ∷ said) = s.items
+lines_in m said = if takes_pages m then best_in said else lines_on said
 
 abbrev pub verdicts_in : Mode → List Said → List dead.Verdict
 verdicts_in Dead (s ∷ said) = dead.verdicts s.inputs.stmts s.others

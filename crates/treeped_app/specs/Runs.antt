@@ -9,13 +9,14 @@ use Rattle.tp_base.specs.Names.{Named}
 use Rattle.tp_io.specs.Files.{Load}
 use Rattle.tp_io.specs.Sinks.{Adds, AddsPrefix, Rose}
 use Rattle.tp_base.specs.declared.places.TheConstants.{MOST_BYTES}
-use Rattle.treeped_app.specs.declared.status.Status.{Status}
-use Rattle.treeped_app.specs.declared.refusals.JudgeRefusal.{JudgeRefusal}
-use Rattle.treeped_app.specs.declared.refusals.JudgeRefusal.TheVariants as refused
-use Rattle.treeped_app.specs.declared.stops.Stop.{Stop}
-use Rattle.treeped_app.specs.declared.stops.Stop.TheVariants.{Words, TooLarge, ReadFault, Unread, Judging, WriteFault, NoMemory}
+use Rattle.run_ends.specs.declared.status.Status.{Status}
+use Rattle.run_ends.specs.declared.refusals.JudgeRefusal.{JudgeRefusal}
+use Rattle.run_ends.specs.declared.refusals.JudgeRefusal.TheVariants as refused
+use Rattle.run_ends.specs.declared.stops.Stop.{Stop}
+use Rattle.run_ends.specs.declared.stops.Stop.TheVariants.{Words, TooLarge, ReadFault, Unread, Judging, WriteFault, NoMemory}
 use Rattle.html_subset.specs.Reading.{read_page}
 use Rattle.css_read.specs.Reading.{read_sheet}
+use Rattle.css_read.specs.Sheets.{Sheet}
 use Rattle.jq_sem.specs.Statements.{Statement}
 use Rattle.jq_words.specs.Words.{Outcome}
 use Rattle.jq_read.specs.Script.{script}
@@ -25,7 +26,8 @@ use Rattle.judge.specs.Outcomes.{IsFault, IsWithin}
 use Rattle.command_words.specs.declared.words.Mode.{Mode}
 use Rattle.triple_gen.specs.Ring as rings
 use Rattle.treeped_app.specs.Modes.{Texts, Inputs, Said, extra_in, AreAnswersOf, HasTraces, text_of, status_of}
-use Rattle.treeped_app.specs.Refusals.{page_stop, sheet_stop, script_stop}
+use Rattle.run_ends.specs.Refusals.{page_stop, sheet_stop, script_stop}
+use Rattle.run_ends.specs.Tells.{Put}
 use Rattle.treeped_app.specs.Tasks.{Names, Wanted, Origin, named, generated, Visit, visits, succeeded, failed, loads_of, all_loads, Task, command}
 
 -- ---- reading
@@ -51,6 +53,10 @@ read_inputs page x = do
   s ← read_as (sheet_stop x.sheet) (read_sheet x.sheet p.1)
   j ← read_script_as page x.script (script x.script s.1)
   Ok (record { tree = p.0; sheet = s.0; stmts = j.0; names = j.1 })
+
+-- the sheet was read of this text, whatever names were there before
+abbrev pub IsSheetOf : List ℕ → Sheet → Type 0
+IsSheetOf text sheet = (names : List Named) × (later : List Named) × (read_sheet text names ≡ (later, Ok sheet))
 
 -- ---- loading
 
@@ -121,16 +127,6 @@ AreSaid told t (v ∷ vs) [] = ⊥
 AreSaid told t (v ∷ vs) (s ∷ said) = IsSaid told t v s × AreSaid told t vs said
 
 -- ---- what a run comes to
-
--- what a sink held, and the count of its faults, before and after
-pub record Put : Type 0 where
-  pub held : Option (List ℕ)
-  pub held' : Option (List ℕ)
-  pub faults : ℕ
-  pub faults' : ℕ
-
-abbrev pub put_of : Option (List ℕ) → Option (List ℕ) → ℕ → ℕ → Put
-put_of held held' faults faults' = record { held = held; held' = held'; faults = faults; faults' = faults' }
 
 -- What is seen of a run: the bytes that are told of the names' files, the words, the loads before and after, and the sink of
 -- the report.

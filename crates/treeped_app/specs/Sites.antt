@@ -7,25 +7,28 @@ use Rattle.std.specs.Prelude.{◌≡◌, ◌⊎◌, ℕ, ◌+◌, List, [], ◌�
 use Rattle.std.specs.declared.alloc.Global.{Global}
 use Rattle.std.specs.List.{list_any}
 use Rattle.tp_base.specs.declared.places.Place.{Place}
+use Rattle.css_read.specs.Pruned.{pruned}
 use Rattle.tp_io.specs.Files.{Load}
 use Rattle.tp_io.specs.Sinks.{Adds, AddsPrefix, Rose}
 use Rattle.limits.specs.declared.budgets.Limits.{Limits}
-use Rattle.command_words.specs.declared.words.Mode.TheVariants.{Site}
+use Rattle.command_words.specs.declared.words.Mode.{Mode}
+use Rattle.command_words.specs.declared.words.Mode.TheVariants.{SitePrune}
 use Rattle.usage_report.specs.Answers.{Answer}
 use Rattle.usage_report.specs.Views.{answer_of}
 use Rattle.usage_report.specs.declared.faults.ReportFault.{ReportFault}
 use Rattle.usage_report.specs.declared.faults.ReportFault.TheVariants as report_fault
 use Rattle.site_judge.specs.Sites as sites
 use Rattle.site_judge.specs.SiteReport.{AreReportable, site_report}
-use Rattle.treeped_app.specs.declared.refusals.Part.TheVariants.{Page, Script}
+use Rattle.run_ends.specs.declared.refusals.Part.TheVariants.{Page, Script}
 use Rattle.treeped_app.specs.declared.saying.Said as code
 use Rattle.treeped_app.specs.declared.sites.Seen.{Seen}
-use Rattle.treeped_app.specs.declared.status.Status.{Status}
-use Rattle.treeped_app.specs.declared.stops.Stop.{Stop}
+use Rattle.run_ends.specs.declared.status.Status.{Status}
+use Rattle.run_ends.specs.declared.stops.Stop.{Stop}
 use Rattle.treeped_app.specs.Inputs.{AllLoaded, IsSaidOf, IsSaying}
 use Rattle.treeped_app.specs.Modes.{Texts, Said, places_of, is_open, is_unused, status_by}
-use Rattle.treeped_app.specs.Runs.{Told, Put, read_inputs}
-use Rattle.treeped_app.specs.Stops.{stop_of}
+use Rattle.run_ends.specs.Tells.{Put}
+use Rattle.treeped_app.specs.Runs.{Told, read_inputs}
+use Rattle.run_ends.specs.Stops.{stop_of}
 use Rattle.treeped_app.specs.Tasks.{Wanted, wanted_as}
 use Rattle.treeped_app.specs.Views.{inputs_of}
 
@@ -38,9 +41,9 @@ pub record HasFirst (s : Said) (seen : Seen) : Type 0 where
   pub places : all_places seen ≡ places_of s.inputs ∷ []
   pub last : inputs_of seen.last ≡ s.inputs
 
-abbrev pub IsBegun : Limits → Texts → Result Seen Stop → Type 0
-IsBegun limits x (Ok seen) = (s : Said) × (s.texts ≡ x) × IsSaidOf Site limits (Some 1) s × HasFirst s seen
-IsBegun limits x (Err e) = IsSaying Site limits (Some 1) x (Err e)
+abbrev pub IsBegun : Mode → Limits → Texts → Result Seen Stop → Type 0
+IsBegun m limits x (Ok seen) = (s : Said) × (s.texts ≡ x) × IsSaidOf m limits (Some 1) s × HasFirst s seen
+IsBegun m limits x (Err e) = IsSaying m limits (Some 1) x (Err e)
 
 -- what was read last was read of this sheet, there is an answer for each of its items, and they can be reported on it
 pub record IsKept (sheet : List ℕ) (seen : Seen) : Type 0 where
@@ -68,22 +71,22 @@ abbrev pub page_wanted : ℕ → List ℕ × List ℕ → List Wanted
 page_wanted k pair = wanted_as (Page (Some k)) pair.0 ∷ wanted_as (Script (Some k)) pair.1 ∷ []
 
 -- What one page more comes to, of this number and with these names.
-abbrev pub PageAdded : {U : Type 0} → Told → Limits → List ℕ → ℕ → List ℕ × List ℕ → List Load → List Load → Seen → Seen → Result U Stop → Type 0
-PageAdded told limits sheet k pair start end old new (Ok u) =
-    (s : Said) × (s.texts.sheet ≡ sheet) × AllLoaded told (page_wanted k pair) start end (Ok (s.texts.page ∷ s.texts.script ∷ [])) × IsSaidOf Site limits (Some k) s × HasNext s old new
-PageAdded told limits sheet k pair start end old new (Err e) =
+abbrev pub PageAdded : {U : Type 0} → Told → Mode → Limits → List ℕ → ℕ → List ℕ × List ℕ → List Load → List Load → Seen → Seen → Result U Stop → Type 0
+PageAdded told m limits sheet k pair start end old new (Ok u) =
+    (s : Said) × (s.texts.sheet ≡ sheet) × AllLoaded told (page_wanted k pair) start end (Ok (s.texts.page ∷ s.texts.script ∷ [])) × IsSaidOf m limits (Some k) s × HasNext s old new
+PageAdded told m limits sheet k pair start end old new (Err e) =
     AllLoaded told (page_wanted k pair) start end (Err e)
-    ⊎ ((x : Texts) × (x.sheet ≡ sheet) × AllLoaded told (page_wanted k pair) start end (Ok (x.page ∷ x.script ∷ [])) × IsSaying Site limits (Some k) x (Err e))
+    ⊎ ((x : Texts) × (x.sheet ≡ sheet) × AllLoaded told (page_wanted k pair) start end (Ok (x.page ∷ x.script ∷ [])) × IsSaying m limits (Some k) x (Err e))
 
 -- What the pages of these names come to, from this number on, up to the first that is refused.
-abbrev pub MorePages : {U : Type 0} → Told → Limits → List ℕ → ℕ → List (List ℕ × List ℕ) → List Load → List Load → Seen → Seen → Result U Stop → Type 0
-MorePages told limits sheet k [] start end old new (Ok u) = (end ≡ start) × (new ≡ old)
-MorePages told limits sheet k [] start end old new (Err e) = ⊥
-MorePages told limits sheet k (pair ∷ pairs) start end old new (Ok u) =
-    (mid : List Load) × (m : Seen) × PageAdded told limits sheet k pair start mid old m (Ok u) × MorePages told limits sheet (k + 1) pairs mid end m new (Ok u)
-MorePages {U = U} told limits sheet k (pair ∷ pairs) start end old new (Err e) =
-    PageAdded {U = U} told limits sheet k pair start end old new (Err e)
-    ⊎ ((mid : List Load) × (m : Seen) × (u : U) × PageAdded told limits sheet k pair start mid old m (Ok u) × MorePages {U = U} told limits sheet (k + 1) pairs mid end m new (Err e))
+abbrev pub MorePages : {U : Type 0} → Told → Mode → Limits → List ℕ → ℕ → List (List ℕ × List ℕ) → List Load → List Load → Seen → Seen → Result U Stop → Type 0
+MorePages told m limits sheet k [] start end old new (Ok u) = (end ≡ start) × (new ≡ old)
+MorePages told m limits sheet k [] start end old new (Err e) = ⊥
+MorePages told m limits sheet k (pair ∷ pairs) start end old new (Ok u) =
+    (mid : List Load) × (seen : Seen) × PageAdded told m limits sheet k pair start mid old seen (Ok u) × MorePages told m limits sheet (k + 1) pairs mid end seen new (Ok u)
+MorePages {U = U} told m limits sheet k (pair ∷ pairs) start end old new (Err e) =
+    PageAdded {U = U} told m limits sheet k pair start end old new (Err e)
+    ⊎ ((mid : List Load) × (seen : Seen) × (u : U) × PageAdded told m limits sheet k pair start mid old seen (Ok u) × MorePages {U = U} told m limits sheet (k + 1) pairs mid end seen new (Err e))
 
 abbrev pub best_answers : sites.Site → List Answer
 best_answers site = map (λ (b : sites.Best). b.answer) site.items
@@ -91,10 +94,11 @@ best_answers site = map (λ (b : sites.Best). b.answer) site.items
 abbrev pub site_status : sites.Site → Status
 site_status site = status_by (list_any is_open (best_answers site)) (list_any is_unused (best_answers site))
 
-abbrev pub text_of_site : List ℕ → Seen → List ℕ
-text_of_site sheet seen = site_report sheet (inputs_of seen.last).names (all_places seen) (inputs_of seen.last).sheet seen.site
+abbrev pub text_of_site : Mode → List ℕ → Seen → List ℕ
+text_of_site SitePrune sheet seen = pruned sheet (inputs_of seen.last).sheet (map is_unused (best_answers seen.site))
+text_of_site _ sheet seen = site_report sheet (inputs_of seen.last).names (all_places seen) (inputs_of seen.last).sheet seen.site
 
--- What writing the report on all pages comes to.
-abbrev pub Finished : List ℕ → Seen → Put → Result Status Stop → Type 0
-Finished sheet seen out (Ok s) = Adds out.held out.held' (text_of_site sheet seen) × (s ≡ site_status seen.site)
-Finished sheet seen out (Err e) = (f : ReportFault) × (e ≡ stop_of f) × AddsPrefix out.held out.held' (text_of_site sheet seen) × (f ≡ report_fault.Write → Rose out.faults out.faults')
+-- What writing what the mode says of all pages comes to.
+abbrev pub Finished : Mode → List ℕ → Seen → Put → Result Status Stop → Type 0
+Finished m sheet seen out (Ok s) = Adds out.held out.held' (text_of_site m sheet seen) × (s ≡ site_status seen.site)
+Finished m sheet seen out (Err e) = (f : ReportFault) × (e ≡ stop_of f) × AddsPrefix out.held out.held' (text_of_site m sheet seen) × (f ≡ report_fault.Write → Rose out.faults out.faults')

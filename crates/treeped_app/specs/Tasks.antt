@@ -9,12 +9,11 @@ use Rattle.tp_io.specs.Files.{Load}
 use Rattle.limits.specs.declared.budgets.Limits.{Limits}
 use Rattle.triple_gen.specs.declared.triple.TheConstants.{MOST_BOXES}
 use Rattle.command_words.specs.declared.words.Mode.{Mode}
-use Rattle.command_words.specs.declared.words.TheConstants.{MOST_PAGES}
-use Rattle.command_words.specs.declared.words.Mode.TheVariants.{Site}
+use Rattle.limits.specs.declared.pages.TheConstants.{MOST_PAGES}
 use Rattle.command_words.specs.declared.words.Order.{Order}
-use Rattle.command_words.specs.Orders.{is_report, order_of}
-use Rattle.treeped_app.specs.declared.refusals.Part.{Part}
-use Rattle.treeped_app.specs.declared.refusals.Part.TheVariants.{Page, Sheet, Script}
+use Rattle.command_words.specs.Orders.{is_report, takes_pages, order_of}
+use Rattle.run_ends.specs.declared.refusals.Part.{Part}
+use Rattle.run_ends.specs.declared.refusals.Part.TheVariants.{Page, Sheet, Script}
 
 -- ---- where texts come from
 
@@ -105,8 +104,7 @@ page_of _ = None
 
 -- the names of a mode
 abbrev pub files_of : Mode → List (List ℕ) → Option Source
-files_of Site names = site_of names
-files_of _ names = page_of names
+files_of m names = if takes_pages m then site_of names else page_of names
 
 -- an order has either names or a size, which the report alone takes
 abbrev pub source_by : Mode → List (List ℕ) → Option ℕ → Option Source
@@ -130,5 +128,5 @@ IsFew (ring k) = k ≤ MOST_BOXES
 
 -- several pages are those of a site; else there is one
 abbrev pub IsOfMode : Mode → Source → Type 0
-IsOfMode m (several sheet pairs) = m ≡ Site
-IsOfMode m _ = ¬ (m ≡ Site)
+IsOfMode m (several sheet pairs) = takes_pages m ≡ true
+IsOfMode m _ = takes_pages m ≡ false

@@ -18,7 +18,7 @@ names_of n = record { page = n.page.now; sheet = n.sheet.now; script = n.script.
 
 abbrev pub source_of : Source → tasks.Source
 source_of (One n) = tasks.one (names_of n)
-source_of (Several n later) = tasks.several n.sheet.now ((n.page.now, n.script.now) ∷ tasks.paired later.now)
+source_of (Several p) = tasks.several p.first.sheet.now ((p.first.page.now, p.first.script.now) ∷ tasks.paired p.later.now)
 source_of (Ring k) = tasks.ring k
 
 abbrev pub wanted_of : Wanted → tasks.Wanted

@@ -1,14 +1,17 @@
 //! The status of the best answers of a site.
-ghost use Rattle.std.specs.Prelude.{◌≡◌, ◌<◌, length, Some, slice_get};
+ghost use Rattle.std.specs.Prelude.{◌≡◌, ◌<◌, length, map, Some, slice_get, IfOk};
 ghost use Rattle.std.specs.List.{list_any};
 ghost use Rattle.usage_report.specs.Views.{answer_of};
 ghost use Rattle.site_judge.specs.Sites as sites;
+ghost use Rattle.treeped_app.specs.Modes as modes;
 ghost use Rattle.treeped_app.specs.Sites as spec;
 ghost use Rattle.treeped_app.specs.Verdicts.{is_answer_so};
 
-use crate::status::Status;
 use crate::statuses::{Question, is_open, is_unused, status_by};
+use run_ends::Status;
 use site_judge::Site;
+use std::alloc::Global;
+use tp_base::NoMemory;
 use usage_report::Answer;
 
 /// The status of a site, whose sheet has so many items. Linear in them.
@@ -32,6 +35,22 @@ fn any_best(question: Question, site: &Site, count: usize) -> bool
         }
     }
     false
+}
+
+/// For each best answer whether it is unused. Linear in them.
+pub(crate) fn unused_on_site(
+    alloc: Global,
+    site: &Site,
+    count: usize,
+) -> Result<Vec<bool>, NoMemory>
+    requires many { count ≡ length site.now.items }
+    ensures { IfOk result (λ v. v.items ≡ map modes.is_unused (spec.best_answers site.now)) }
+{
+    let mut flags = Vec::new(alloc);
+    'items: for item in 0..count {
+        flags.push(is_so_at(Question::Dead, site, item))?;
+    }
+    Ok(flags)
 }
 
 /// Whether it is so of the best answer for an item.

@@ -2,21 +2,19 @@
 #![tactic(auto)]
 
 mod best;
+mod laws;
 mod loading;
 mod pages;
+mod pruning;
 mod reading;
-mod refusals;
 mod runs;
 mod saying;
 mod sites;
-mod status;
 mod statuses;
-mod stops;
 mod summaries;
 mod tasks;
 mod writing;
 
-pub use refusals::{Fault, JudgeRefusal, Part, Refusal};
+pub use laws::{dead_is_right, prune_is_right, site_is_right};
+pub use run_ends::{Fault, JudgeRefusal, Part, Refusal, Status, Stop};
 pub use runs::treeped;
-pub use status::Status;
-pub use stops::Stop;

@@ -3,8 +3,7 @@ ghost use Rattle.std.specs.Prelude.{◌≡◌, [], ◌∷◌};
 ghost use Rattle.treeped_app.specs.Inputs.{OneLoaded, AllLoaded, loaded_text, loaded_two, loaded_three};
 ghost use Rattle.treeped_app.specs.Views.{wanted_of};
 
-use crate::refusals::Part;
-use crate::stops::Stop;
+use run_ends::{Part, Stop};
 use std::alloc::Global;
 use tp_io::{Files, LoadFault};
 

@@ -1,27 +1,27 @@
 //! A run on one page, or on a ring.
-ghost use Rattle.std.specs.Prelude.{◌≡◌, ◌≤◌, List, ℕ, Some, length};
+ghost use Rattle.std.specs.Prelude.{◌≡◌, ◌≤◌, List, ℕ, Some, false, length};
+ghost use Rattle.command_words.specs.Orders.{takes_pages};
 ghost use Rattle.triple_gen.specs.declared.triple.TheConstants.{MOST_BOXES};
 ghost use Rattle.tp_io.specs.Files.{Load};
 ghost use Rattle.limits.specs.Budgets.{IsInRange};
 ghost use Rattle.treeped_app.specs.Inputs.{Written};
 ghost use Rattle.treeped_app.specs.Modes as modes;
-ghost use Rattle.treeped_app.specs.Runs.{Told, Ends, Fit, put_of, run_of};
+ghost use Rattle.run_ends.specs.Tells.{put_of};
+ghost use Rattle.treeped_app.specs.Runs.{Told, Ends, Fit, run_of};
 ghost use Rattle.treeped_app.specs.Summary.{summary};
 ghost use Rattle.treeped_app.specs.Tasks as task;
 ghost use Rattle.treeped_app.specs.Views.{names_of, texts_of};
 
 use crate::loading::{Wanted, load_three};
 use crate::reading::Texts;
-use crate::refusals::Part;
 use crate::saying::say;
-use crate::status::Status;
 use crate::statuses::status_of;
-use crate::stops::Stop;
 use crate::summaries::write_summary;
 use crate::tasks::Names;
 use crate::writing::write_one;
 use command_words::Mode;
 use limits::Limits;
+use run_ends::{Part, Status, Stop};
 use std::alloc::Global;
 use tp_io::{Files, Sink};
 use triple_gen::generate;
@@ -36,7 +36,7 @@ pub(crate) fn run_page<F: Files, O: Sink>(
     out: &mut O,
 ) -> Result<Status, Stop>
     requires limits { IsInRange limits.now }
-    requires one { ¬ (mode ≡ Mode.Site) }
+    requires one { takes_pages mode ≡ false }
     ensures { (words : List (List ℕ)) → task.command words ≡ Some (task.task_by (task.one (names_of names.now)) mode limits.now) → Ends (run_of (F.told files.old) words (F.loads files.old) (F.loads files.new)
         (put_of (O.written out.old) (O.written out.new) (O.faults out.old) (O.faults out.new))) result }
 {
@@ -88,7 +88,7 @@ pub(crate) fn run_ring<O: Sink>(
 ) -> Result<Status, Stop>
     requires limits { IsInRange limits.now }
     requires few { n ≤ MOST_BOXES }
-    requires one { ¬ (mode ≡ Mode.Site) }
+    requires one { takes_pages mode ≡ false }
     ensures { (told : Told) (words : List (List ℕ)) (loads : List Load) → task.command words ≡ Some (task.task_by (task.ring n) mode limits.now) → Ends (run_of told words loads loads
         (put_of (O.written out.old) (O.written out.new) (O.faults out.old) (O.faults out.new))) result }
 {

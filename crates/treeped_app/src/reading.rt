@@ -14,14 +14,14 @@ ghost use Rattle.jq_sem.specs.Views.{statements_of};
 ghost use Rattle.jq_read.specs.Limits.{AreWithin};
 ghost use Rattle.jq_read.specs.Script.{script};
 ghost use Rattle.treeped_app.specs.Inputs.{AreInputs, IsOpened, IsRead};
-ghost use Rattle.treeped_app.specs.Refusals.{page_stop, sheet_stop};
+ghost use Rattle.run_ends.specs.Refusals.{page_stop, sheet_stop};
 ghost use Rattle.treeped_app.specs.Views.{inputs_of, texts_of};
 
-use crate::stops::{Stop, page_stop, script_stop, sheet_stop};
 use css_read::{Sheet, read_sheet};
 use html_subset::read_page;
 use jq_read::read_script;
 use jq_sem::Stmt;
+use run_ends::{Stop, page_stop, script_stop, sheet_stop};
 use std::alloc::Global;
 use tp_base::AtomTable;
 use tree_sem::Tree;

@@ -3,23 +3,24 @@ ghost use Rattle.std.specs.Prelude.{◌≡◌, ℕ, List, Some, map, string_byte
 ghost use Rattle.limits.specs.Budgets.{IsInRange};
 ghost use Rattle.treeped_app.specs.Tasks.{IsFew, IsOfMode, task_by, command};
 ghost use Rattle.treeped_app.specs.Views as view;
-ghost use Rattle.treeped_app.specs.Runs.{Ends, put_of, run_of};
-ghost use Rattle.treeped_app.specs.Commands.{Headline, IsEnded, SaysWhy, Causes};
+ghost use Rattle.treeped_app.specs.Runs.{Ends, run_of};
+ghost use Rattle.run_ends.specs.Tells.{SaysWhy, put_of};
+ghost use Rattle.treeped_app.specs.Commands.{Headline, IsEnded, Causes};
 
 use crate::pages::{run_page, run_ring};
 use crate::sites::run_site;
-use crate::status::Status;
-use crate::stops::{Stop, tell};
 use crate::tasks::{Source, source_of};
 use command_words::{Mode, read_words};
 use limits::Limits;
+use run_ends::{Status, Stop, tell};
 use std::alloc::Global;
 use tp_io::{Files, Sink};
 
 /// Runs the command with the words after the program's name. It loads and reads the page, the sheet and the script that they
 /// name, or a sheet and then each page with its script, judges the sheet's selectors within the limits that they ask for, and
-/// writes to `out` what they ask for: the report, what of the script is dead besides, or the report with whole runs. With a size it judges a ring of boxes, loads nothing and writes one line that counts the answers. Where
-/// nothing is written, or not the whole, it says why on `err`.
+/// writes to `out` what they ask for: the report, what of the script is dead besides, the report with whole runs, or the sheet
+/// without its unused selectors. With a size it judges a ring of boxes, loads nothing and writes one line that counts the
+/// answers. Where nothing is written, or not the whole, it says why on `err`.
 pub fn treeped<F: Files, O: Sink, E: Sink>(
     alloc: Global,
     words: &[String],
@@ -82,7 +83,7 @@ fn run_task<F: Files, O: Sink>(
 {
     match source {
         Source::One(names) => run_page(alloc, names, mode, limits, files, out),
-        Source::Several(first, later) => run_site(alloc, first, later, limits, files, out),
+        Source::Several(pages) => run_site(alloc, pages, mode, limits, files, out),
         Source::Ring(n) => run_ring(alloc, *n, mode, limits, out),
     }
 }

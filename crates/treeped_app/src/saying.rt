@@ -4,18 +4,19 @@ ghost use Rattle.limits.specs.Budgets.{IsInRange};
 ghost use Rattle.css_read.specs.Places.{ArePlaced};
 ghost use Rattle.usage_report.specs.Views.{answer_of, trace_of};
 ghost use Rattle.run_trace.specs.Traces.{AreTracked};
+ghost use Rattle.treeped_app.specs.Inputs as spec;
 ghost use Rattle.treeped_app.specs.Inputs.{AreInputs, IsUnanswered, IsSaying};
 ghost use Rattle.treeped_app.specs.Modes.{AreAnswersOf, AreTracesIn, extra_in};
 ghost use Rattle.treeped_app.specs.Runs.{Fit};
 ghost use Rattle.treeped_app.specs.Views.{inputs_of, texts_of};
 
 use crate::reading::{Inputs, Texts, read_all};
-use crate::stops::Stop;
 use command_words::Mode;
 use dead_script::probe_guards;
 use guard_sem::Guard;
-use judge::{Both, judge_more};
+use judge::{Both, JudgeFault, judge_more};
 use limits::Limits;
+use run_ends::{JudgeRefusal, Stop};
 use run_trace::trace_answers;
 use std::alloc::Global;
 use tp_base::NoMemory;
@@ -41,6 +42,17 @@ fn extra_guards(alloc: Global, mode: Mode, inputs: &Inputs) -> Result<Vec<Guard>
     }
 }
 
+/// Why a run stops where there are no answers.
+fn judging_stop(fault: JudgeFault) -> Stop
+    ensures { result ≡ spec.judging_stop fault }
+{
+    match fault {
+        JudgeFault::TooManyAtoms => Stop::Judging(JudgeRefusal::TooManyAtoms),
+        JudgeFault::TooManyVisible => Stop::Judging(JudgeRefusal::TooManyVisible),
+        JudgeFault::Memory => Stop::NoMemory,
+    }
+}
+
 /// The answers, of what the script makes of the page. It costs what `judge_more` costs.
 fn answers_of(alloc: Global, mode: Mode, inputs: &Inputs, limits: &Limits) -> Result<Both, Stop>
     requires given { AreInputs (inputs_of inputs.now) }
@@ -49,7 +61,7 @@ fn answers_of(alloc: Global, mode: Mode, inputs: &Inputs, limits: &Limits) -> Re
     ensures stop { IfErr result (λ e. IsUnanswered mode (inputs_of inputs.now) e) }
 {
     let extra = extra_guards(alloc, mode, inputs)?;
-    let both = judge_more(
+    match judge_more(
         alloc,
         &inputs.page,
         &inputs.sheet,
@@ -57,8 +69,10 @@ fn answers_of(alloc: Global, mode: Mode, inputs: &Inputs, limits: &Limits) -> Re
         extra,
         &inputs.atoms,
         limits,
-    )?;
-    Ok(both)
+    ) {
+        Ok(both) => Ok(both),
+        Err(fault) => Err(judging_stop(fault)),
+    }
 }
 
 /// The traces of whole runs, where a mode asks for them.

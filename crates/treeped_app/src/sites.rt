@@ -1,30 +1,33 @@
 //! A run on several pages that use one sheet.
-ghost use Rattle.std.specs.Prelude.{◌≡◌, ◌<◌, ◌≤◌, ◌+◌, ◌∷◌, List, ℕ, Some, length, map, OnOk, IfOk};
+ghost use Rattle.std.specs.Prelude.{◌≡◌, ◌<◌, ◌≤◌, ◌+◌, ◌∷◌, List, ℕ, Some, true, length, map, OnOk, OnErr, IfOk};
 ghost use Rattle.tp_base.specs.declared.places.TheConstants.{MOST_BYTES};
+ghost use Rattle.tp_io.specs.Sinks.{Adds, AddsPrefix, Rose};
 ghost use Rattle.limits.specs.Budgets.{IsInRange};
+ghost use Rattle.command_words.specs.Orders.{takes_pages};
 ghost use Rattle.css_read.specs.Places.{ArePlaced};
-ghost use Rattle.site_judge.specs.declared.sites.TheConstants.{MOST_PAGES};
+ghost use Rattle.limits.specs.declared.pages.TheConstants.{MOST_PAGES};
 ghost use Rattle.site_judge.specs.SiteReport.{AreReportable};
-ghost use Rattle.treeped_app.specs.Sites.{IsBegun, IsFirst, IsAdded, PageAdded, MorePages, Finished, IsKept};
-ghost use Rattle.treeped_app.specs.Runs.{Ends, Fit, put_of, run_of};
+ghost use Rattle.treeped_app.specs.Sites.{IsBegun, IsFirst, IsAdded, PageAdded, MorePages, Finished, IsKept, text_of_site};
+ghost use Rattle.run_ends.specs.Tells.{put_of};
+ghost use Rattle.treeped_app.specs.Runs.{Ends, Fit, IsSheetOf, run_of};
 ghost use Rattle.treeped_app.specs.Tasks.{command, paired, several, task_by};
 ghost use Rattle.treeped_app.specs.Views.{inputs_of, texts_of};
 
-use crate::best::status_of_site;
+use crate::best::{status_of_site, unused_on_site};
 use crate::loading::{Wanted, load_three, load_two};
+use crate::pruning::write_pruned;
 use crate::reading::{Inputs, Texts};
-use crate::refusals::Part;
 use crate::saying::{Said, say};
-use crate::status::Status;
-use crate::stops::Stop;
-use crate::tasks::Names;
+use crate::tasks::Pages;
 use crate::writing::places_of;
 use command_words::{Mode, Word};
 use limits::Limits;
+use run_ends::{Part, Status, Stop};
 use site_judge::{Site, write_site};
 use std::alloc::Global;
 use tp_base::{NoMemory, Place};
 use tp_io::{Files, Sink};
+use usage_report::ReportFault;
 
 /// What is known of a site behind some of its pages: their best answers, the places of each one's statements, and what was read of
 /// the last one.
@@ -39,6 +42,7 @@ pub(crate) struct Seen {
 #[derive(Clone, Copy)]
 pub(crate) struct Shared<'a> {
     pub(crate) sheet: &'a [u8],
+    pub(crate) mode: Mode,
     pub(crate) limits: &'a Limits,
 }
 
@@ -50,31 +54,32 @@ pub(crate) struct Page<'a> {
     pub(crate) script: &'a str,
 }
 
-/// Loads the sheet, and then loads, reads and judges each page with its script, and writes the report on all of them.
+/// Loads the sheet, and then loads, reads and judges each page with its script, and writes what the mode says of all of them.
 pub(crate) fn run_site<F: Files, O: Sink>(
     alloc: Global,
-    first: &Names<'_>,
-    later: &[Word],
+    pages: &Pages<'_>,
+    mode: Mode,
     limits: &Limits,
     files: &mut F,
     out: &mut O,
 ) -> Result<Status, Stop>
     requires limits { IsInRange limits.now }
-    requires few { length (paired later.now) + 1 ≤ MOST_PAGES }
-    ensures { (words : List (List ℕ)) → command words ≡ Some (task_by (several first.now.sheet.now ((first.now.page.now, first.now.script.now) ∷ paired later.now)) Mode.Site limits.now) → Ends (run_of (F.told files.old) words (F.loads files.old) (F.loads files.new)
+    requires on_pages { takes_pages mode ≡ true }
+    requires few { length (paired pages.now.later.now) + 1 ≤ MOST_PAGES }
+    ensures { (words : List (List ℕ)) → command words ≡ Some (task_by (several pages.now.first.sheet.now ((pages.now.first.page.now, pages.now.first.script.now) ∷ paired pages.now.later.now)) mode limits.now) → Ends (run_of (F.told files.old) words (F.loads files.old) (F.loads files.new)
         (put_of (O.written out.old) (O.written out.new) (O.faults out.old) (O.faults out.new))) result }
 {
     let sheet = Wanted {
         part: Part::Sheet,
-        name: first.sheet,
+        name: pages.first.sheet,
     };
     let page = Wanted {
         part: Part::Page(Some(1)),
-        name: first.page,
+        name: pages.first.page,
     };
     let script = Wanted {
         part: Part::Script(Some(1)),
-        name: first.script,
+        name: pages.first.script,
     };
     let loaded = load_three(alloc, &sheet, &page, &script, files)?;
     let texts = Texts {
@@ -82,24 +87,25 @@ pub(crate) fn run_site<F: Files, O: Sink>(
         sheet: &loaded.0,
         script: &loaded.2,
     };
-    let mut seen = begun(alloc, limits, &texts)?;
+    let mut seen = begun(alloc, mode, limits, &texts)?;
     let shared = Shared {
         sheet: &loaded.0,
+        mode,
         limits,
     };
-    more_pages(alloc, 2, later, &shared, files, &mut seen)?;
-    finished(alloc, &loaded.0, &seen, out)
+    more_pages(alloc, 2, pages.later, &shared, files, &mut seen)?;
+    finished(alloc, mode, &loaded.0, &seen, out)
 }
 
 /// What is known of a site behind its first page.
-fn begun(alloc: Global, limits: &Limits, texts: &Texts<'_>) -> Result<Seen, Stop>
+fn begun(alloc: Global, mode: Mode, limits: &Limits, texts: &Texts<'_>) -> Result<Seen, Stop>
     requires limits { IsInRange limits.now }
     requires fit { Fit (texts_of texts.now) }
-    ensures begun { IsBegun limits.now (texts_of texts.now) result }
+    ensures begun { IsBegun mode limits.now (texts_of texts.now) result }
     ensures kept { IfOk result (λ s. IsKept (texts_of texts.now).sheet s) }
     ensures placed { IfOk result (λ s. ArePlaced (length (texts_of texts.now).sheet) s.last.sheet.items) }
 {
-    let said = say(alloc, Mode::Site, limits, Some(1), texts)?;
+    let said = say(alloc, mode, limits, Some(1), texts)?;
     let seen = seen_first(alloc, said)?;
     Ok(seen)
 }
@@ -135,7 +141,7 @@ fn more_pages<F: Files>(
     requires here { number ≡ seen.old.site.pages + 1 }
     requires few { seen.old.site.pages + length (paired later.now) ≤ MOST_PAGES }
     ensures same_files { F.told files.new ≡ F.told files.old }
-    ensures more { MorePages (F.told files.old) shared.now.limits.now shared.now.sheet.now number (paired later.now) (F.loads files.old) (F.loads files.new) seen.old seen.new result }
+    ensures more { MorePages (F.told files.old) shared.now.mode shared.now.limits.now shared.now.sheet.now number (paired later.now) (F.loads files.old) (F.loads files.new) seen.old seen.new result }
     ensures kept { OnOk result (IsKept shared.now.sheet.now seen.new) }
     ensures placed { OnOk result (ArePlaced (length shared.now.sheet.now) seen.old.last.sheet.items → ArePlaced (length shared.now.sheet.now) seen.new.last.sheet.items) }
 {
@@ -166,7 +172,7 @@ fn next_page<F: Files>(
     requires kept { IsKept shared.now.sheet.now seen.old }
     requires room { seen.old.site.pages < MOST_PAGES }
     ensures same_files { F.told files.new ≡ F.told files.old }
-    ensures added { PageAdded (F.told files.old) shared.now.limits.now shared.now.sheet.now next.now.number (next.now.page.now, next.now.script.now) (F.loads files.old) (F.loads files.new) seen.old seen.new result }
+    ensures added { PageAdded (F.told files.old) shared.now.mode shared.now.limits.now shared.now.sheet.now next.now.number (next.now.page.now, next.now.script.now) (F.loads files.old) (F.loads files.new) seen.old seen.new result }
     ensures kept { OnOk result (IsKept shared.now.sheet.now seen.new) }
     ensures placed { OnOk result (ArePlaced (length shared.now.sheet.now) seen.new.last.sheet.items) }
 {
@@ -184,7 +190,7 @@ fn next_page<F: Files>(
         sheet: shared.sheet,
         script: &loaded.1,
     };
-    let said = say(alloc, Mode::Site, shared.limits, Some(next.number), &texts)?;
+    let said = say(alloc, shared.mode, shared.limits, Some(next.number), &texts)?;
     add(alloc, said, seen)?;
     Ok(())
 }
@@ -203,21 +209,54 @@ fn add(alloc: Global, said: Said, seen: &mut Seen) -> Result<(), NoMemory>
     Ok(())
 }
 
-/// Writes the report on all pages.
-fn finished<O: Sink>(alloc: Global, sheet: &[u8], seen: &Seen, out: &mut O) -> Result<Status, Stop>
+/// Writes what the mode says of all pages.
+fn finished<O: Sink>(
+    alloc: Global,
+    mode: Mode,
+    sheet: &[u8],
+    seen: &Seen,
+    out: &mut O,
+) -> Result<Status, Stop>
     requires in_limit { length sheet.now ≤ MOST_BYTES }
+    requires read { IsSheetOf sheet.now (inputs_of seen.now.last).sheet }
     requires placed { ArePlaced (length sheet.now) seen.now.last.sheet.items }
     requires reportable { AreReportable (map (λ ps. ps.items) seen.now.places.items) (inputs_of seen.now.last).sheet.items seen.now.site.items }
-    ensures { Finished sheet.now seen.now (put_of (O.written out.old) (O.written out.new) (O.faults out.old) (O.faults out.new)) result }
+    ensures { Finished mode sheet.now seen.now (put_of (O.written out.old) (O.written out.new) (O.faults out.old) (O.faults out.new)) result }
 {
-    write_site(
-        alloc,
-        &seen.last.sheet,
-        sheet,
-        &seen.last.atoms,
-        &seen.places,
-        &seen.site,
-        out,
-    )?;
+    write_all(alloc, mode, sheet, seen, out)?;
     Ok(status_of_site(&seen.site, seen.last.sheet.items.items().len()))
+}
+
+/// The same without a status.
+fn write_all<O: Sink>(
+    alloc: Global,
+    mode: Mode,
+    sheet: &[u8],
+    seen: &Seen,
+    out: &mut O,
+) -> Result<(), ReportFault>
+    requires in_limit { length sheet.now ≤ MOST_BYTES }
+    requires read { IsSheetOf sheet.now (inputs_of seen.now.last).sheet }
+    requires placed { ArePlaced (length sheet.now) seen.now.last.sheet.items }
+    requires reportable { AreReportable (map (λ ps. ps.items) seen.now.places.items) (inputs_of seen.now.last).sheet.items seen.now.site.items }
+    ensures ok { OnOk result (Adds (O.written out.old) (O.written out.new) (text_of_site mode sheet.now seen.now)) }
+    ensures err { OnErr result (AddsPrefix (O.written out.old) (O.written out.new) (text_of_site mode sheet.now seen.now)) }
+    ensures write { result ≡ Err ReportFault.Write → Rose (O.faults out.old) (O.faults out.new) }
+{
+    match mode {
+        Mode::SitePrune => {
+            let last = &seen.last.sheet;
+            let unused = unused_on_site(alloc, &seen.site, last.items.items().len())?;
+            write_pruned(alloc, last, sheet, &unused, out)
+        }
+        _ => write_site(
+            alloc,
+            &seen.last.sheet,
+            sheet,
+            &seen.last.atoms,
+            &seen.places,
+            &seen.site,
+            out,
+        ),
+    }
 }

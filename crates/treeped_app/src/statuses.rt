@@ -9,9 +9,9 @@ ghost use Rattle.treeped_app.specs.Verdicts as verdict;
 ghost use Rattle.treeped_app.specs.Views.{said_of};
 
 use crate::saying::Said;
-use crate::status::Status;
 use command_words::Mode;
 use jq_sem::Stmt;
+use run_ends::Status;
 use usage_report::Answer;
 
 /// What is asked of a statement's verdict.
@@ -54,7 +54,10 @@ pub(crate) fn any_open(answers: &[Answer]) -> bool
 pub(crate) fn is_open(answer: &Answer) -> bool
     ensures { result ≡ spec.is_open (answer_of answer.now) }
 {
-    matches!(answer, Answer::UsedUnshown | Answer::Spent)
+    matches!(
+        answer,
+        Answer::Maybe { .. } | Answer::UsedUnshown | Answer::Spent
+    )
 }
 
 pub(crate) fn any_unused(answers: &[Answer]) -> bool

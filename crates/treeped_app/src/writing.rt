@@ -10,6 +10,7 @@ ghost use Rattle.treeped_app.specs.Views.{inputs_of, said_of, texts_of};
 ghost use Rattle.usage_report.specs.Reportable.{AreReportable};
 ghost use Rattle.usage_report.specs.Views.{answer_of};
 
+use crate::pruning::{unused_in, write_pruned};
 use crate::reading::Texts;
 use crate::saying::Said;
 use command_words::Mode;
@@ -46,9 +47,29 @@ pub(crate) fn write_one<O: Sink>(
     ensures err { OnErr result (AddsPrefix (O.written out.old) (O.written out.new) (spec.text_on mode (said_of (texts_of texts.now) said.now))) }
     ensures write { result ≡ Err ReportFault.Write → Rose (O.faults out.old) (O.faults out.new) }
 {
+    let inputs = &said.inputs;
     match mode {
-        Mode::Dead => write_dead_too(alloc, texts, said, out),
-        Mode::Runs => write_runs(alloc, texts, said, out),
+        Mode::Prune => {
+            let unused = unused_in(alloc, &said.items)?;
+            write_pruned(alloc, &inputs.sheet, texts.sheet, &unused, out)
+        }
+        Mode::Dead => {
+            write_page(alloc, texts, said, out)?;
+            write_dead(alloc, &inputs.stmts, &said.others, out)
+        }
+        Mode::Runs => {
+            let places = places_of(alloc, &inputs.stmts)?;
+            write_traces(
+                alloc,
+                &inputs.sheet,
+                texts.sheet,
+                &inputs.atoms,
+                &places,
+                &said.items,
+                &said.traces,
+                out,
+            )
+        }
         _ => write_page(alloc, texts, said, out),
     }
 }
@@ -77,52 +98,6 @@ fn write_page<O: Sink>(
         &inputs.atoms,
         &places,
         &said.items,
-        out,
-    )
-}
-
-/// Writes the report, and then what is said of each statement.
-fn write_dead_too<O: Sink>(
-    alloc: Global,
-    texts: &Texts<'_>,
-    said: &Said,
-    out: &mut O,
-) -> Result<(), ReportFault>
-    requires in_limit { length (texts_of texts.now).sheet ≤ MOST_BYTES }
-    requires placed { ArePlaced (length (texts_of texts.now).sheet) said.now.inputs.sheet.items }
-    requires writable { IsWritable Mode.Dead (said_of (texts_of texts.now) said.now) }
-    ensures ok { OnOk result (Adds (O.written out.old) (O.written out.new) (spec.text_on Mode.Dead (said_of (texts_of texts.now) said.now))) }
-    ensures err { OnErr result (AddsPrefix (O.written out.old) (O.written out.new) (spec.text_on Mode.Dead (said_of (texts_of texts.now) said.now))) }
-    ensures write { result ≡ Err ReportFault.Write → Rose (O.faults out.old) (O.faults out.new) }
-{
-    write_page(alloc, texts, said, out)?;
-    write_dead(alloc, &said.inputs.stmts, &said.others, out)
-}
-
-/// Writes the report with whole runs in the place of steps.
-fn write_runs<O: Sink>(
-    alloc: Global,
-    texts: &Texts<'_>,
-    said: &Said,
-    out: &mut O,
-) -> Result<(), ReportFault>
-    requires in_limit { length (texts_of texts.now).sheet ≤ MOST_BYTES }
-    requires placed { ArePlaced (length (texts_of texts.now).sheet) said.now.inputs.sheet.items }
-    requires writable { IsWritable Mode.Runs (said_of (texts_of texts.now) said.now) }
-    ensures ok { OnOk result (Adds (O.written out.old) (O.written out.new) (spec.text_on Mode.Runs (said_of (texts_of texts.now) said.now))) }
-    ensures err { OnErr result (AddsPrefix (O.written out.old) (O.written out.new) (spec.text_on Mode.Runs (said_of (texts_of texts.now) said.now))) }
-    ensures write { result ≡ Err ReportFault.Write → Rose (O.faults out.old) (O.faults out.new) }
-{
-    let inputs = &said.inputs;
-    let places = places_of(alloc, &inputs.stmts)?;
-    write_traces(
-        alloc,
-        &inputs.sheet,
-        texts.sheet,
-        &inputs.atoms,
-        &places,
-        &said.items,
-        &said.traces,
         out,
     )
 }

@@ -1,5 +1,5 @@
-use Rattle.treeped_app.proofs.StopLemmas.{either_way}
-use Rattle.treeped_app.proofs.stops.say_last.Goals as goal
+use Rattle.run_ends.proofs.StopLemmas.{either_way}
+use Rattle.run_ends.proofs.telling.say_last.Goals as goal
 
 pub returns-clause-line : goal.returns-clause-line
 returns-clause-line g c = rw (c.fixed_line.ensures c.requires) at (either_way c.put_all.result _ _ _ c.put_all.ensures.ok c.put_all.ensures.err)

@@ -1,6 +1,6 @@
 //! How a run ends.
 ghost use Rattle.std.specs.Prelude.{◌≡◌};
-ghost use Rattle.treeped_app.specs.Stops as spec;
+ghost use Rattle.run_ends.specs.Stops as spec;
 
 /// How a run ended.
 #[derive(Clone, Copy, Debug, PartialEq, Eq)]

@@ -1,0 +1,2 @@
+pub mod StopLemmas
+mod Rows

@@ -1,0 +1,15 @@
+//! How a run ends: its status, why there is no report, and what is said then.
+#![tactic(auto)]
+
+mod faults;
+mod lines;
+mod refusals;
+mod status;
+mod stops;
+mod telling;
+
+pub use faults::{page_stop, script_stop, sheet_stop};
+pub use refusals::{Fault, JudgeRefusal, Part, Refusal};
+pub use status::Status;
+pub use stops::Stop;
+pub use telling::tell;

@@ -1,0 +1,12 @@
+use Rattle.jq_sem.specs.Statements.{Statement}
+use Rattle.dead_script.specs.Probes.{all_probes}
+use Rattle.dead_script.proofs.VerdictLemmas.{verdicts_right}
+use Rattle.command_words.specs.declared.words.Mode.TheVariants.{Dead}
+use Rattle.std.proofs.Common.{length}
+use Rattle.treeped_app.specs.Modes.{guards_in}
+use Rattle.treeped_app.proofs.DeadLemmas.{all_told}
+use Rattle.treeped_app.proofs.laws.dead_is_right.Goals as goal
+
+pub returns : goal.returns
+returns c = λ limits i items others are none.
+    verdicts_right i.tree i.stmts i.stmts others (all_told i.tree i.stmts (guards_in Dead i) (length i.names) limits (all_probes i.stmts) others are.others_right none)

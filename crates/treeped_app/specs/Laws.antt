@@ -1,0 +1,57 @@
+-- What right answers come to, of statements and of sites.
+--     DeadIsRight        what `--dead` writes of each statement is so, where nothing is spent
+--     SiteIsRight        an item is unused on a site exactly where it is on every page
+--     PruneIsRight       what is left of a sheet does at each node of a page what the sheet does, and so on each page of a site
+use Rattle.std.specs.Prelude.{◌≡◌, ◌↔◌, ℕ, Bool, List, [], ◌∷◌, Contains, Some, slice_get, Ok}
+use Rattle.tp_base.specs.Names.{Named}
+use Rattle.tree_sem.specs.declared.actions.Event.{Event}
+use Rattle.sel_core.specs.Selectors.{Selector}
+use Rattle.css_read.specs.Effects.{effect}
+use Rattle.css_read.specs.Reading.{read_sheet}
+use Rattle.css_read.specs.Sheets.{Item, Sheet, judged}
+use Rattle.css_prune.specs.NodeEffects.{Tells}
+use Rattle.jq_sem.specs.Events.{AreLegalEvents, end_of_events, ReachesWithLosses}
+use Rattle.limits.specs.declared.budgets.Limits.{Limits}
+use Rattle.command_words.specs.declared.words.Mode.TheVariants.{Prune, Dead, SitePrune}
+use Rattle.usage_report.specs.Answers.{Answer, unused, spent}
+use Rattle.dead_script.specs.Laws.{AreRightVerdicts}
+use Rattle.dead_script.specs.Verdicts.{verdicts}
+use Rattle.site_judge.specs.Sites.{Best}
+use Rattle.treeped_app.specs.Modes.{Inputs, Said, AreAnswersOf, site_on, text_on, text_by}
+use Rattle.treeped_app.specs.Runs.{Run, IsWhole}
+use Rattle.treeped_app.specs.Tasks.{Task}
+
+-- Of answers that are right, none of them spent: a statement is dead exactly where no legal steps from the page end in a tree in which it
+-- selects a node, and the handler that is named is the first that never has an element.
+abbrev pub DeadIsRight : Type 0
+DeadIsRight = (limits : Limits) (i : Inputs) (items others : List Answer) → AreAnswersOf Dead limits i items others → ¬ Contains others spent → AreRightVerdicts i.tree i.stmts i.stmts (verdicts i.stmts others)
+
+-- the k-th item is a selector, which no legal steps and losses from the page reach
+abbrev pub IsNeverReached : Said → ℕ → Type 0
+IsNeverReached s k = (item : Item) × (u : Selector) × (slice_get s.inputs.sheet.items k ≡ Some item) × (item.outcome ≡ judged u) × (¬ ReachesWithLosses s.inputs.tree s.inputs.stmts u)
+
+-- what the best answer for the k-th item says of each page, by its own script
+pub record IsOfEachPage (said : List Said) (k : ℕ) (b : Best) : Type 0 where
+  pub unused_on_each : (b.answer ≡ unused) ↔ ((s : Said) → Contains said s → slice_get s.items k ≡ Some unused)
+  pub never_reached : b.answer ≡ unused → (s : Said) → Contains said s → IsNeverReached s k
+
+-- of the pages of a whole run
+abbrev pub SiteIsRight : Type 0
+SiteIsRight = (r : Run) (t : Task) (said : List Said) → IsWhole r t said → (k : ℕ) (b : Best) → slice_get (site_on said).items k ≡ Some b → IsOfEachPage said k b
+
+-- What is left of the sheet is read again with the names that were known when the sheet was read for this page; and it does at each node
+-- of each tree that comes of the page, by legal steps and losses, what the sheet does there: the same selectors match, in the same order,
+-- each with its block and the at-rules round it.
+pub record DoesTheSame (s : Said) (left : List ℕ) : Type 0 where
+  pub reads : (names later : List Named) → read_sheet s.texts.sheet names ≡ (later, Ok s.inputs.sheet) → (again : Sheet) × (read_sheet left later ≡ (later, Ok again))
+  pub effects : (names later : List Named) (again : Sheet) → read_sheet s.texts.sheet names ≡ (later, Ok s.inputs.sheet) → read_sheet left later ≡ (later, Ok again)
+      → (events : List Event) → AreLegalEvents s.inputs.tree s.inputs.stmts events → (v : List ℕ) (test : Selector → Bool) → Tells (end_of_events s.inputs.tree s.inputs.stmts events) v test
+      → effect test left again ≡ effect test s.texts.sheet s.inputs.sheet
+
+-- of a whole run on one page
+abbrev pub PruneIsRight : Type 0
+PruneIsRight = (r : Run) (t : Task) (s : Said) → IsWhole r t (s ∷ []) → DoesTheSame s (text_on Prune s)
+
+-- and on each page of a site
+abbrev pub SitePruneIsRight : Type 0
+SitePruneIsRight = (r : Run) (t : Task) (said : List Said) → IsWhole r t said → (s : Said) → Contains said s → DoesTheSame s (text_by SitePrune said)

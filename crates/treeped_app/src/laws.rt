@@ -1,0 +1,21 @@
+//! What the command's answers say of statements and of sites, and what a pruned sheet does.
+ghost use Rattle.treeped_app.specs.Laws.{DeadIsRight, PruneIsRight, SiteIsRight, SitePruneIsRight};
+
+/// Where no answer is spent, what `--dead` writes of a statement is so: it is dead exactly where it selects no node of any tree that
+/// legal steps reach, the handler that is named is the first that never runs, and the steps of a live one lead to a node that it selects.
+pub fn dead_is_right()
+    ensures { DeadIsRight }
+{}
+
+/// An item of a site is unused exactly where it is on every page; then no legal steps and losses from any of the pages, by its own
+/// script, reach its selector.
+pub fn site_is_right()
+    ensures { SiteIsRight }
+{}
+
+/// What `--prune` leaves of a sheet does at each node what the sheet does, in each tree that comes of the page by legal steps and
+/// losses; and with `--site` on each page, by its own script.
+pub fn prune_is_right()
+    ensures page { PruneIsRight }
+    ensures site { SitePruneIsRight }
+{}
