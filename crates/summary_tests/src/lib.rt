@@ -1,11 +1,22 @@
-//! Tests of summaries in a table of pairs and in diagrams, of both against one another, and of closed pages.
+//! Tests of composed diagrams and of the cells of a system, round by round; of summaries in a table of pairs and in diagrams, of
+//! both against one another, and of closed pages.
 #![tactic(auto)]
 
 #[cfg(test)]
 mod answers;
 #[cfg(test)]
+mod building;
+#[cfg(test)]
+mod composing;
+#[cfg(test)]
+mod deep;
+#[cfg(test)]
 mod diagrams;
 #[cfg(test)]
+mod examples;
+#[cfg(test)]
 mod pages;
+#[cfg(test)]
+mod rounds;
 #[cfg(test)]
 mod tables;

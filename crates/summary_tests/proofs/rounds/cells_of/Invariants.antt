@@ -1,5 +1,5 @@
 use Rattle.pushdown_sym.specs.Adding.{AreIn}
-use Rattle.diagram_tests.proofs.rounds.cells_of.Given as goal
+use Rattle.summary_tests.proofs.rounds.cells_of.Given as goal
 
 abbrev pub invariant-loop-kind : goal.invariant-loop-kind
 invariant-loop-kind l = AreIn l.d.branches l.all

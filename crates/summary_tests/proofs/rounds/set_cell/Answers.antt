@@ -1,7 +1,7 @@
 use Rattle.std.proofs.Common.{◌==◌, ◌&&◌}
 use Rattle.pushdown_sym.specs.CellMap.{place_in}
-use Rattle.diagram_tests.proofs.Cells.{either_inside}
-use Rattle.diagram_tests.proofs.rounds.set_cell.Goals as goal
+use Rattle.summary_tests.proofs.Cells.{either_inside}
+use Rattle.summary_tests.proofs.rounds.set_cell.Goals as goal
 
 pub returns : goal.returns
 returns c = λ j a.

@@ -1,4 +1,4 @@
-use Rattle.diagram_tests.proofs.deep.every_second.Goals as goal
+use Rattle.summary_tests.proofs.deep.every_second.Goals as goal
 
 pub atoms-init : goal.atoms-init
 atoms-init c = (c.leaf-sofar.ensures.inside c.args.d.now.branches, λ p there. there)
