@@ -1,5 +1,7 @@
 mod BesideLemmas
-mod NumberLemmas
+pub mod NumberLemmas
 mod PassLemmas
+mod RankLemmas
+pub mod RankSets
 mod SetLemmas
 mod WalkLemmas

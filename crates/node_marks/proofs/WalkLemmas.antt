@@ -1,13 +1,12 @@
 -- A walk that numbers the nodes: what it has of the nodes so far is right, also with the next one.
-use Rattle.std.proofs.Common.{◌≡◌, ℕ, zero, suc, ◌+◌, ◌-◌, ◌<◌, ◌≤◌, List, [], ◌∷◌, ◌++◌, length, get_or, take, map, Option, Some, None, IsSome, IfSome, option_map, unwrap_or, refl, sym, ap, ◌∙◌, subst, inl, inr, arith, append_assoc, length-append}
+use Rattle.std.proofs.Common.{◌≡◌, ℕ, zero, suc, ◌-◌, ◌<◌, ◌≤◌, List, [], ◌∷◌, ◌++◌, length, get_or, take, map, Option, Some, None, option_map, unwrap_or, refl, sym, ap, ◌∙◌, subst, inl, inr, arith, append_assoc, length-append}
 use Rattle.std.proofs.lemmas.Bool.{cases_lt}
 use Rattle.std.proofs.lemmas.List.{get_or_append_left, get_or-take, length-take-le, take-append-le, take_all}
 use Rattle.std.proofs.Math.Seq.{get_or-append_seam}
-use Rattle.tree_sem.specs.Trees.{Row, no_nodes, node, LabelTree, tree_of, count_of, node_at, label_at}
+use Rattle.tree_sem.specs.Trees.{Row, no_nodes, node, LabelTree, tree_of, count_of, label_at}
 use Rattle.tree_sem.specs.Order.{paths_from, trees_after, rest_of}
 use Rattle.tree_sem.proofs.NodeLemmas.{length-paths_of}
 use Rattle.tree_sem.proofs.PathLemmas.{take_take}
-use Rattle.tree_sem.proofs.RowLemmas.{there}
 use Rattle.node_marks.specs.Marks.{path_at}
 use Rattle.node_marks.specs.Numbering.{parent_number, AreNumbered, IsNumbering, IsWalkedTo, number_above, last_step}
 use Rattle.node_marks.proofs.NumberLemmas.{one_number}
@@ -42,7 +41,6 @@ pub not_walked : (t : LabelTree) (line : List ℕ) → IsWalkedTo t [] [] [] lin
 not_walked t line = record {
   done = [];
   cut = refl;
-  node = refl;
   numbered = record {
     parents_count = refl;
     steps_count = refl;
@@ -144,12 +142,11 @@ module _ (t : LabelTree) (parents steps : List ℕ) (labels : List (List ℕ)) (
         ];
       }
 
-  pub walked_on : (w : List ℕ) → rest_of v t ≡ w ∷ rest_of w t → IsSome (node_at w t)
+  pub walked_on : (w : List ℕ) → rest_of v t ≡ w ∷ rest_of w t
       → IsWalkedTo t (parents ++ number_above (take (length v) line) v ∷ []) (steps ++ last_step v ∷ []) (labels ++ l ∷ []) (take (length v) line ++ length parents ∷ []) w
-  walked_on w next is = record {
+  walked_on w next = record {
     done = walked.done ++ v ∷ [];
     cut = walked.cut ∙ ap (λ z. walked.done ++ v ∷ z) next ∙ sym (append_assoc walked.done (v ∷ []) (w ∷ rest_of w t));
-    node = is;
     numbered = subst (λ k. AreNumbered t (parents ++ number_above (take (length v) line) v ∷ []) (steps ++ last_step v ∷ []) (labels ++ l ∷ []) k) (sym (length_pushed walked.done v (length walked.done) refl)) entered;
     way = λ m lt. way m lt (next_to v t w (rest_of w t) next);
   }
@@ -188,21 +185,10 @@ module _ (t : LabelTree) (parents steps : List ℕ) (labels : List (List ℕ)) (
       subst (λ k. AreNumbered t (parents ++ number_above (take (length v) line) v ∷ []) (steps ++ last_step v ∷ []) (labels ++ l ∷ []) k) all entered
 
 -- the same, where the new lists are known by equations
-module _ (t : LabelTree) (parents steps : List ℕ) (labels : List (List ℕ)) (line v : List ℕ) (walked : IsWalkedTo t parents steps labels line v) where
-  label_there : (l : List ℕ) × (label_at v t ≡ Some l)
-  label_there = let s = there (node_at v t) walked.node in (s.0.label, ap (option_map (λ (n : LabelTree). n.label)) s.1)
+module _ (t : LabelTree) (parents steps : List ℕ) (labels : List (List ℕ)) (line v l : List ℕ) (walked : IsWalkedTo t parents steps labels line v) (here : label_at v t ≡ Some l) (parents' steps' : List ℕ) (labels' : List (List ℕ)) where
+  pub walked_next : (line' : List ℕ) → parents' ≡ parents ++ number_above (take (length v) line) v ∷ [] → steps' ≡ steps ++ last_step v ∷ [] → labels' ≡ labels ++ l ∷ [] → line' ≡ take (length v) line ++ length parents ∷ []
+      → (w : List ℕ) → rest_of v t ≡ w ∷ rest_of w t → IsWalkedTo t parents' steps' labels' line' w
+  walked_next line' is_parents is_steps is_labels is_line w next = rw (is_parents, is_steps, is_labels, is_line) (walked_on t parents steps labels line v l walked here w next)
 
-  pub walked_next : (parents' steps' : List ℕ) (labels' : List (List ℕ)) (line' : List ℕ) → parents' ≡ parents ++ number_above (take (length v) line) v ∷ [] → steps' ≡ steps ++ last_step v ∷ []
-      → IfSome (label_at v t) (λ l. labels' ≡ labels ++ l ∷ []) → line' ≡ take (length v) line ++ length parents ∷ []
-      → (w : List ℕ) → rest_of v t ≡ w ∷ rest_of w t → IsSome (node_at w t) → IsWalkedTo t parents' steps' labels' line' w
-  walked_next parents' steps' labels' line' is_parents is_steps some_label is_line w next is =
-      let l = label_there in
-      let is_labels = rw l.1 at some_label in
-      rw (is_parents, is_steps, is_labels, is_line) (walked_on t parents steps labels line v l.0 walked l.1 w next is)
-
-  pub walked_whole : (parents' steps' : List ℕ) (labels' : List (List ℕ)) → parents' ≡ parents ++ number_above (take (length v) line) v ∷ [] → steps' ≡ steps ++ last_step v ∷ []
-      → IfSome (label_at v t) (λ l. labels' ≡ labels ++ l ∷ []) → rest_of v t ≡ [] → IsNumbering t parents' steps' labels'
-  walked_whole parents' steps' labels' is_parents is_steps some_label none =
-      let l = label_there in
-      let is_labels = rw l.1 at some_label in
-      rw (is_parents, is_steps, is_labels) (walked_all t parents steps labels line v l.0 walked l.1 none)
+  pub walked_whole : parents' ≡ parents ++ number_above (take (length v) line) v ∷ [] → steps' ≡ steps ++ last_step v ∷ [] → labels' ≡ labels ++ l ∷ [] → rest_of v t ≡ [] → IsNumbering t parents' steps' labels'
+  walked_whole is_parents is_steps is_labels none = rw (is_parents, is_steps, is_labels) (walked_all t parents steps labels line v l walked here none)

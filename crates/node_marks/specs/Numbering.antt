@@ -4,7 +4,6 @@
 --     IsWalkedTo       of the nodes before the one at v, with the numbers of those on the way to v
 use Rattle.std.specs.Prelude.{◌≡◌, ℕ, ◌-◌, ◌<◌, List, [], ◌∷◌, ◌++◌, length, take, get_or, Some}
 use Rattle.tree_sem.specs.Trees.{LabelTree, count_of, label_at}
-use Rattle.tree_sem.specs.Nodes.{IsNode}
 use Rattle.tree_sem.specs.Order.{paths_of, rest_of}
 use Rattle.node_marks.specs.Marks.{path_at}
 
@@ -30,7 +29,6 @@ IsNumbering t parents steps labels = AreNumbered t parents steps labels (count_o
 pub record IsWalkedTo (t : LabelTree) (parents steps : List ℕ) (labels : List (List ℕ)) (line v : List ℕ) : Type 0 where
   pub done : List (List ℕ)
   pub cut : paths_of t ≡ done ++ v ∷ rest_of v t
-  pub node : IsNode t v
   pub numbered : AreNumbered t parents steps labels (length done)
   pub way : (m : ℕ) → m < length v → (m < length line) × (get_or line m 0 < length done) × (path_at t (get_or line m 0) ≡ take m v)
 

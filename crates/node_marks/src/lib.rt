@@ -4,7 +4,11 @@
 mod marks;
 mod numbered_tree;
 mod passes;
+mod rank_passes;
+mod ranked_sets;
+mod ranks;
 mod walk;
 
 pub use marks::Marks;
 pub use numbered_tree::NumberedTree;
+pub use ranks::Ranks;

@@ -1,12 +1,10 @@
 //! The columns of a numbered tree, filled by one walk.
-ghost use Rattle.std.specs.Prelude.{◌≡◌, ◌<◌, [], ◌∷◌, ◌++◌, length, take, map, get_or, Some, IsSome, OnOk, IfSome};
-ghost use Rattle.tree_sem.specs.Trees.{node_at, label_at};
+ghost use Rattle.std.specs.Prelude.{◌≡◌, ◌<◌, [], ◌∷◌, ◌++◌, length, take, map, get_or, OnOk};
 ghost use Rattle.node_marks.specs.Numbering.{number_above, last_step};
 
 use crate::passes::number_at;
 use std::alloc::Global;
 use tp_base::{ClassSet, NoMemory, Path};
-use tree_sem::Tree;
 
 /// What is known of the nodes that a walk has come to, by their numbers, and the numbers of the nodes on the way to
 /// the last of them and of itself.
@@ -32,17 +30,13 @@ impl<'a> Walk<'a> {
         }
     }
 
-    /// Puts in the node at the path.
-    pub fn enter(&mut self, tree: &'a Tree, at: &Path) -> Result<(), NoMemory>
-        requires { IsSome (node_at at.now tree.now) }
+    /// Puts in the node at the path, which has this label.
+    pub fn enter(&mut self, at: &Path, label: &'a ClassSet) -> Result<(), NoMemory>
         ensures parents { OnOk result (self.new.parents.items ≡ self.old.parents.items ++ number_above (take (length at.now) self.old.line.items) at.now ∷ []) }
         ensures steps { OnOk result (self.new.steps.items ≡ self.old.steps.items ++ last_step at.now ∷ []) }
-        ensures labels { OnOk result (IfSome (label_at at.now tree.now) (λ l. map (λ b. b.now) self.new.labels.items ≡ map (λ b. b.now) self.old.labels.items ++ l ∷ [])) }
+        ensures labels { OnOk result (map (λ b. b.now) self.new.labels.items ≡ map (λ b. b.now) self.old.labels.items ++ label.now ∷ []) }
         ensures line { OnOk result (self.new.line.items ≡ take (length at.now) self.old.line.items ++ length self.old.parents.items ∷ []) }
     {
-        let Some(label) = tree.label(at) else {
-            unreachable!()
-        };
         let number = self.parents.len();
         self.line.truncate(at.len());
         self.parents.push(above(&self.line, at))?;

@@ -1,5 +1,5 @@
 -- The current node of a tree that grows: its children, and its parent.
-use Rattle.std.proofs.Common.{◌≡◌, ℕ, ◌-◌, List, [], ◌∷◌, ◌++◌, length, take, Some, None, option_and_then, slice_get, refl, sym, ap, ◌∙◌, length-append, arith}
+use Rattle.std.proofs.Common.{◌≡◌, ℕ, ◌-◌, List, [], ◌∷◌, ◌++◌, length, take, Some, None, option_and_then, slice_get, refl, sym, ap, ◌∙◌, length-append, length-take-le, arith}
 use Rattle.slab.specs.Slab.{Slab}
 use Rattle.tree_sem.specs.declared.slots.Slot.{Slot}
 use Rattle.tree_sem.specs.Arena.{place_from}
@@ -53,3 +53,11 @@ module _ (slots : Slab Slot) (v : List ℕ) (place : ℕ) (grows : IsGrowing slo
             let never : Some above.0 ≡ None = sym (grows.table.forest.arena.up above.0 last.0 place above.2) ∙ none in
             cc
       ] refl
+
+  -- so that it is the root
+  pub at_root : parent_in slots place ≡ None → v ≡ []
+  at_root none = not_longer v (ap length (no_parent none))
+    where
+      not_longer : (w : List ℕ) → length w ≡ length (take (length w - 1) w) → w ≡ []
+      not_longer [] same = refl
+      not_longer (k ∷ w) same = absurd (omega (arith, same, length-take-le (length (k ∷ w) - 1) (k ∷ w) (omega arith)))

@@ -1,4 +1,4 @@
--- A tree that grows at one of its nodes.
+-- A tree that grows at one of its nodes, or over which a walk goes.
 --     GrowingTree     the tree, and the path of its current node
 --     IsGrowing       a table that is such a tree, and the place of the current node in it
 use Rattle.std.specs.Prelude.{◌≡◌, ℕ, List, Some, refl}

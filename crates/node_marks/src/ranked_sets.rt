@@ -1,0 +1,69 @@
+//! The least numbers of nodes above or below each node of a tree.
+ghost use Rattle.std.specs.Prelude.{◌<◌, ℕ, IfOk};
+ghost use Rattle.tree_sem.specs.Nodes.{IsNode};
+ghost use Rattle.node_marks.specs.Marks.{IsMarked, IsSetOf, HasParentIn, HasAncestorIn, HasChildIn, HasDescendantIn};
+ghost use Rattle.node_marks.specs.Ranks.{IsUnder, AreRanked, HasNearestIn, IsEarly, IsReached};
+
+use crate::marks::Marks;
+use crate::numbered_tree::NumberedTree;
+use crate::rank_passes as passes;
+use crate::ranks::Ranks;
+use tp_base::NoMemory;
+
+impl<'a> NumberedTree<'a> {
+    /// Each node's own number.
+    pub fn own_ranks(&self) -> Result<Ranks, NoMemory>
+        ensures { IfOk result (λ m. AreRanked self.now m (IsEarly self.now)) }
+    {
+        Ok(Ranks::new(passes::own(self.alloc(), self.count())?))
+    }
+
+    /// The numbers of the nodes of the set alone.
+    pub fn ranks_in(&self, set: &Marks, ranks: &Ranks) -> Result<Ranks, NoMemory>
+        ensures { IfOk result (λ m. AreRanked self.now m (λ k v. IsMarked self.now set.now v × IsUnder self.now k ranks.now v)) }
+    {
+        Ok(Ranks::new(passes::chosen(self.alloc(), self.count(), set.items(), ranks.items())?))
+    }
+
+    /// That of the parent.
+    pub fn ranks_below(&self, ranks: &Ranks) -> Result<Ranks, NoMemory>
+        ensures { IfOk result (λ m. AreRanked self.now m (λ k v. IsNode self.now v × HasParentIn (IsUnder self.now k ranks.now) v)) }
+    {
+        Ok(Ranks::new(passes::below(self.alloc(), self.parents(), ranks.items())?))
+    }
+
+    /// The least one of the nodes above.
+    pub fn ranks_far_below(&self, ranks: &Ranks) -> Result<Ranks, NoMemory>
+        ensures { IfOk result (λ m. AreRanked self.now m (λ k v. IsNode self.now v × HasAncestorIn (IsUnder self.now k ranks.now) v)) }
+    {
+        Ok(Ranks::new(passes::far_below(self.alloc(), self.parents(), ranks.items())?))
+    }
+
+    /// The least one of the children.
+    pub fn ranks_over(&self, ranks: &Ranks) -> Result<Ranks, NoMemory>
+        ensures { IfOk result (λ m. AreRanked self.now m (λ k. HasChildIn (IsUnder self.now k ranks.now))) }
+    {
+        Ok(Ranks::new(passes::over(self.alloc(), self.parents(), ranks.items())?))
+    }
+
+    /// The least one of the nodes below.
+    pub fn ranks_far_over(&self, ranks: &Ranks) -> Result<Ranks, NoMemory>
+        ensures { IfOk result (λ m. AreRanked self.now m (λ k. HasDescendantIn (IsUnder self.now k ranks.now))) }
+    {
+        Ok(Ranks::new(passes::far_over(self.alloc(), self.parents(), ranks.items())?))
+    }
+
+    /// That of the first node from each one upward, itself first, that is in the set.
+    pub fn nearest_ranks(&self, ranks: &Ranks, set: &Marks) -> Result<Ranks, NoMemory>
+        ensures { IfOk result (λ m. AreRanked self.now m (λ k v. IsNode self.now v × HasNearestIn (IsMarked self.now set.now) (IsUnder self.now k ranks.now) v)) }
+    {
+        Ok(Ranks::new(passes::nearest(self.alloc(), self.parents(), ranks.items(), set.items())?))
+    }
+
+    /// The nodes whose numbers those of the set have.
+    pub fn reached(&self, set: &Marks, ranks: &Ranks) -> Result<Marks, NoMemory>
+        ensures { IfOk result (λ m. IsSetOf self.now m (IsReached self.now ranks.now (IsMarked self.now set.now))) }
+    {
+        Ok(Marks::new(passes::reached(self.alloc(), self.count(), set.items(), ranks.items())?))
+    }
+}
