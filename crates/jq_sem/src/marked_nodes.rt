@@ -9,7 +9,7 @@ use crate::actions::act_at;
 use node_marks::Marks;
 use std::alloc::Global;
 use tp_base::{NoMemory, Path};
-use tree_sem::{Action, MOST_NODES, Tree, TreeFault, go_on, has_room};
+use tree_sem::{Action, MOST_NODES, Tour, Tree, TreeFault, has_room};
 
 /// How many nodes have a mark, from the one of a number on, where there are so many in all.
 pub fn marked_count(marks: &Marks, from: u32, nodes: u32) -> u32
@@ -48,7 +48,8 @@ pub fn stays_within(action: &Action, tree: &Tree, marks: &Marks, most: u32) -> b
 }
 
 /// What the action makes of the tree at all its marked nodes, one after another. It costs a copy of the tree, a walk over it,
-/// and what is added. Children stand behind those that were there, so that each node keeps its path.
+/// a look-up of each marked node by its path, and what is added. Children stand behind those that were there, so that each
+/// node keeps its path.
 pub fn act_at_all(
     alloc: Global,
     action: &Action,
@@ -75,12 +76,12 @@ fn act_on_copy(
     requires room { count_of (run_at action.now (marked_from marks.now 0 (paths_of tree.now)) tree.now) ≤ MOST_NODES }
     ensures { OnOk result (made.new ≡ run_at action.now (marked_from marks.now 0 (paths_of tree.now)) tree.now) }
 {
-    let mut at = Path::root(alloc);
+    let mut tour = Tour::new(alloc, tree);
     let nodes = tree.count() as usize;
     'nodes: for number in 0..nodes {
         let marked = marks.at(number);
-        act_if(marked, action, made, &at)?;
-        let more = go_on(tree, &mut at)?;
+        act_if(marked, action, made, tour.path())?;
+        let more = tour.go_on()?;
         if !more {
             return Ok(());
         }

@@ -11,7 +11,7 @@ use tp_base::NoMemory;
 /// Whether an `end` takes back more than there is, so that nothing is left of the root, and the calls that stand,
 /// from the first one on. Linear in the calls.
 pub fn standing<'a>(alloc: Global, calls: &'a [Call]) -> Result<(bool, Vec<&'a Call>), NoMemory>
-    ensures { IfOk result (λ s. (root : spec.Root) → spec.standing root [] (map call_of calls.now) ≡ (after s.0 root, last_first s.1.items [])) }
+    ensures { IfOk result (λ s. (root : spec.Root) → spec.stands root (map call_of calls.now) ≡ (after s.0 root, last_first s.1.items [])) }
 {
     let mut emptied = false;
     let mut stack = Vec::new(alloc);
