@@ -11,4 +11,5 @@ pub mod CellLemmas
 pub mod Steps
 pub mod ReachRounds
 mod GiverLemmas
+mod PartLemmas
 mod Examples

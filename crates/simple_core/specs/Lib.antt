@@ -1,5 +1,6 @@
 pub mod Systems
 pub mod Labels
+pub mod Partly
 pub mod Rounds
 pub mod Pages
 pub mod Pairs
@@ -8,3 +9,4 @@ pub mod SimpleSteps
 pub mod Growth
 pub mod Reached
 pub mod Givers
+pub mod Forests

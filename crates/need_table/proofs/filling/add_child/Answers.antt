@@ -16,4 +16,4 @@ returns-in_ok-label-in-Some c =
     on_ok_more (c.add_by_links.new.into ≡ union_of c.args.next.now (given_by_links c.items.result.now c.in_ok-label-in-Some.label))
     (c.add_by_links.new.into ≡ union_of c.args.next.now (given_by_links c.args.system.now.down (grown c.args.system.now c.args.k c.args.kind c.args.seen.now))) c.add_by_links.result
     (λ is. is ∙ ap (λ (l : List Link). union_of c.args.next.now (given_by_links l c.in_ok-label-in-Some.label)) c.items.ensures ∙ ap (λ (z : List ℕ). union_of c.args.next.now (given_by_links c.args.system.now.down z)) label)
-    c.add_by_links.ensures
+    c.add_by_links.ensures.ok
