@@ -1,4 +1,5 @@
 -- What only older atoms give is there.
+use Rattle.std.proofs.lemmas.List.Sums.{fold-append}
 use Rattle.std.proofs.Common.{◌≡◌, ◌⊎◌, ◌==◌, ℕ, zero, suc, ◌+◌, ◌<◌, ◌≤◌, not, List, [], ◌∷◌, ◌++◌, length, get_or, take, slice_get, Option, Some, None, option_map, unwrap_or, IsSome, IsTrue, All, Contains, refl, sym, ap, ◌∙◌, inl, inr, arith, subst}
 use Rattle.std.specs.List.{flat_map, range_with_len}
 use Rattle.std.proofs.lemmas.List.{get_or_past, get_or_default}
@@ -18,9 +19,9 @@ use Rattle.simple_core.proofs.Members.{flat_map-Contains, Contains-flat_map, Con
 use Rattle.simple_core.proofs.LabelLemmas.{given_by_links-is, is-given_by_links}
 use Rattle.simple_core.proofs.PageRest.{counted_child}
 use Rattle.class_adding.specs.Filling.{label_in, above_in, real_in, within_page, label_next, IsNews}
-use Rattle.class_adding.specs.Labelled.{IsAbove, AreKids, given_at}
-use Rattle.class_adding.specs.Fresh.{IsMore, AreNewIn, IsAddedIfNew, AreFollowed, set_at, IsSettled}
-use Rattle.class_adding.proofs.LabelledLemmas.{child_number}
+use Rattle.closed_page.specs.Labelled.{IsAbove, AreKids}
+use Rattle.class_adding.specs.Fresh.{IsMore, AreNewIn, IsAddedIfNew, AreFollowed, set_at, IsSettled, given_at}
+use Rattle.closed_page.proofs.LabelledLemmas.{child_number}
 use Rattle.class_adding.proofs.IndexLemmas.{take_next}
 use Rattle.class_adding.proofs.PageLookLemmas.{given_none, label_next-parts}
 
@@ -256,3 +257,20 @@ none_new (a ∷ news) n is none = absurd (omega arith)
 pub was_some : (n : ℕ) → IsTrue (not (n == 0)) → n ≡ 0 → ⊥
 was_some zero h e = cc
 was_some (suc n) h e = omega (arith, e)
+
+-- ---- what is given by the labels with some numbers
+
+pub each_next : (s : System) (own : List (List ℕ)) (next next' rest : List ℕ) (c : ℕ) (others : List ℕ) → rest ≡ c ∷ others → next' ≡ union_of next (given_by_links s.down (get_or own c []))
+    → union_of next' (given_at s own others) ≡ union_of next (given_at s own rest)
+each_next s own next next' rest c others split given =
+    ap (λ z. union_of z (given_at s own others)) given
+    ∙ sym (fold-append (λ (xs : List ℕ) (y : ℕ). with_class y xs) next (given_by_links s.down (get_or own c [])) (given_at s own others))
+    ∙ ap (λ z. union_of next (given_at s own z)) (sym split)
+
+pub each_end : (s : System) (own : List (List ℕ)) (next start rest row : List ℕ) → length rest ≡ 0 → union_of next (given_at s own rest) ≡ union_of start (given_at s own row) → next ≡ union_of start (given_at s own row)
+each_end s own next start [] row none same = same
+each_end s own next start (c ∷ rest) row none same = absurd (omega arith)
+
+-- a number that is past all labels gives nothing
+pub nothing_past : (s : System) (own : List (List ℕ)) (c : ℕ) (next : List ℕ) → length own ≤ c → next ≡ union_of next (given_by_links s.down (get_or own c []))
+nothing_past s own c next past = sym (ap (λ (z : List ℕ). union_of next z) (ap (given_by_links s.down) (get_or_past own c [] past) ∙ given_none s.down))

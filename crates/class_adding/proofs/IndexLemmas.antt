@@ -1,7 +1,9 @@
 -- Rules found by the atoms that they look at.
-use Rattle.std.proofs.Common.{◌≡◌, ◌≢◌, ◌⊎◌, Bool, true, false, ℕ, zero, suc, ◌+◌, ◌<◌, List, [], ◌∷◌, ◌++◌, take, length, get_or, slice_get, Option, Some, None, option_map, unwrap_or, Contains, refl, sym, ap, ◌∙◌, inl, inr, arith, subst}
+use Rattle.closed_page.specs.Rows.{row_of, IsNoted}
+use Rattle.closed_page.proofs.RowLemmas.{last_at, noted_kept, noted_cases}
+use Rattle.std.proofs.Common.{◌≡◌, ◌≢◌, ◌⊎◌, Bool, true, false, ℕ, ◌+◌, ◌<◌, List, [], ◌∷◌, ◌++◌, take, length, get_or, slice_get, Option, Some, None, option_map, unwrap_or, Contains, refl, sym, ap, ◌∙◌, inl, inr, arith, subst}
 use Rattle.std.specs.List.Sorted.{IsStrictlyIncreasing}
-use Rattle.std.proofs.lemmas.Bool.{cases_order, and_from}
+use Rattle.std.proofs.lemmas.Bool.{and_from}
 use Rattle.std.proofs.lemmas.List.{take_more, length-take-le, append_assoc}
 use Rattle.std.proofs.lemmas.Grind.{flat_map-append}
 use Rattle.std.proofs.lemmas.List.Folds.{list_all_at, list_all_more}
@@ -20,7 +22,7 @@ use Rattle.simple_core.specs.Labels.{given_by_rules, given_by_links}
 use Rattle.simple_core.proofs.Members.{flat_map-Contains, Contains-flat_map}
 use Rattle.simple_core.proofs.LabelLemmas.{IsByRule, given_by_rules-is, is-given_by_rules, given_by_links-is, is-given_by_links, kinds_at-is, is-kinds_at}
 use Rattle.class_adding.specs.Fresh.{IsMore, AreMet}
-use Rattle.class_adding.specs.Indexes.{row_of, IsNoted, IsIndex, AreNeedsNoted, IsRuleNoted, AreLocalsAt, AreLinksAt, AreSpawnsAt, at_place, at_row, by_label, given_in, to_of, kind_of, AreKinds}
+use Rattle.class_adding.specs.Indexes.{IsIndex, AreNeedsNoted, IsRuleNoted, AreLocalsAt, AreLinksAt, AreSpawnsAt, at_place, at_row, by_label, given_in, to_of, kind_of, AreKinds}
 
 -- unions with the same members are one
 pub union_of-same : (start xs ys : List ℕ) → IsStrictlyIncreasing start → ((y : ℕ) → Contains xs y → Contains ys y) → ((y : ℕ) → Contains ys y → Contains xs y) → union_of start xs ≡ union_of start ys
@@ -31,34 +33,11 @@ union_of-same start xs ys up there back =
 
 -- ---- making an index
 
-pub last_at : {X : Type 0} (xs : List X) (x : X) (j : ℕ) (y : X) → slice_get (xs ++ x ∷ []) j ≡ Some y → (slice_get xs j ≡ Some y) ⊎ ((j ≡ length xs) × (y ≡ x))
-last_at [] x zero y at = let same : y ≡ x = cc in inr (refl, same)
-last_at [] x (suc j) y at = cc
-last_at (z ∷ xs) x zero y at = inl at
-last_at (z ∷ xs) x (suc j) y at = elim (last_at xs x j y at) [ inl old ↦ inl old | inr last ↦ inr (ap suc last.0, last.1) ]
-
 pub index_none : {X : Type 0} (key : X → ℕ) (rows : List (List ℕ)) → rows ≡ [] → IsIndex key [] rows
 index_none {X} key rows none = record {
   whole = λ i x at. let never : None ≡ Some x = at in cc;
   only = λ k i there. absurd (Contains-none i (subst (λ (z : List (List ℕ)). Contains (row_of z k) i) none there));
 }
-
-pub noted_kept : (old new : List (List ℕ)) (key place : ℕ) → IsNoted old new key place → (k j : ℕ) → Contains (row_of old k) j → Contains (row_of new k) j
-noted_kept old new key place noted k j there = elim (cases_order k key) [
-  | inl same ↦ subst (λ z. Contains (row_of new z) j) (sym same) (subst (λ (z : List ℕ). Contains z j) (sym noted.here) (Contains-append_left (row_of old key) (place ∷ []) j (subst (λ z. Contains (row_of old z) j) same there)))
-  | inr (inl less) ↦ subst (λ (z : List ℕ). Contains z j) (sym (noted.others k (λ e. omega arith))) there
-  | inr (inr more) ↦ subst (λ (z : List ℕ). Contains z j) (sym (noted.others k (λ e. omega arith))) there
-]
-
-pub noted_cases : (old new : List (List ℕ)) (key place : ℕ) → IsNoted old new key place → (k j : ℕ) → Contains (row_of new k) j → Contains (row_of old k) j ⊎ ((k ≡ key) × (j ≡ place))
-noted_cases old new key place noted k j there = elim (cases_order k key) [
-  | inl same ↦ elim (Contains-append_cases (row_of old key) (place ∷ []) j (subst (λ (z : List ℕ). Contains z j) noted.here (subst (λ z. Contains (row_of new z) j) same there))) [
-    | inl before ↦ inl (subst (λ z. Contains (row_of old z) j) (sym same) before)
-    | inr now ↦ elim ((Contains-cons j place []).0 now) [ inl here ↦ inr (same, here) | inr none ↦ absurd (Contains-none j none) ]
-  ]
-  | inr (inl less) ↦ inl (subst (λ (z : List ℕ). Contains z j) (noted.others k (λ e. omega arith)) there)
-  | inr (inr more) ↦ inl (subst (λ (z : List ℕ). Contains z j) (noted.others k (λ e. omega arith)) there)
-]
 
 pub index_more : {X : Type 0} (key : X → ℕ) (rules : List X) (i : ℕ) (x : X) (old new : List (List ℕ)) → i < length rules → x ≡ get_or rules i x → IsIndex key (take i rules) old → IsNoted old new (key x) i
     → IsIndex key (take (i + 1) rules) new
@@ -80,14 +59,6 @@ index_more {X} key rules i x old new less at before noted =
         | inr last ↦ (x, ap (slice_get (take i rules ++ x ∷ [])) (last.1 ∙ sym long) ∙ slice_get-push (take i rules) x, sym last.0)
       ];
     })
-
--- the row at a key gets one place more
-pub noted_at : (old reached new : List (List ℕ)) (key place : ℕ) (row : List ℕ) → ((k : ℕ) → row_of reached k ≡ row_of old k) → ((k : ℕ) → k ≢ key → row_of new k ≡ row_of reached k) → row_of new key ≡ row
-    → row ≡ row_of reached key ++ place ∷ [] → IsNoted old new key place
-noted_at old reached new key place row same others here more = record {
-  here = here ∙ more ∙ ap (λ (z : List ℕ). z ++ place ∷ []) (same key);
-  others = λ k other. others k other ∙ same k;
-}
 
 -- ---- what is found
 

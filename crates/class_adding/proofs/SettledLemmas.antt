@@ -22,9 +22,9 @@ use Rattle.simple_core.proofs.LabelLemmas.{is-given_by_rules, is-given_by_links,
 use Rattle.simple_core.proofs.PageLemmas.{page-rises}
 use Rattle.class_adding.specs.declared.gains.Gain.{Gain}
 use Rattle.class_adding.specs.Filling.{label_in, above_in, real_in, within_page, label_next, IsAfter, AreFresh, IsBefore, AreLooked, wake_at, wakes_in}
-use Rattle.class_adding.specs.Labelled.{AreAllLabels}
+use Rattle.closed_page.specs.Labelled.{AreAllLabels}
 use Rattle.class_adding.specs.Fresh.{AreSettled, IsResting, AreResting}
-use Rattle.class_adding.proofs.LabelledLemmas.{child_number}
+use Rattle.closed_page.proofs.LabelledLemmas.{child_number}
 use Rattle.class_adding.proofs.PageLookLemmas.{label_next-round}
 use Rattle.class_adding.proofs.WorkLemmas.{sleeps_past, past_next}
 use Rattle.class_adding.proofs.FreshLemmas.{is-next}

@@ -8,7 +8,7 @@ use Rattle.tree_sem.specs.Nodes.{IsNode}
 use Rattle.tree_sem.specs.Order.{paths_of}
 use Rattle.node_marks.specs.Marks.{IsMarked}
 use Rattle.class_adding.specs.Filling.{label_in, starts, with_gains, news, AreNext}
-use Rattle.class_adding.specs.Labelled.{AreAllLabels}
+use Rattle.closed_page.specs.Labelled.{AreAllLabels}
 use Rattle.class_adding.specs.declared.filling.Filling.{Filling}
 use Rattle.class_adding.specs.declared.rounds.Round.{Round}
 

@@ -47,6 +47,10 @@ abbrev pub set_at : List (List ℕ) → Option ℕ → List ℕ
 set_at sets None = []
 set_at sets (Some j) = get_or sets j []
 
+-- what the sets with these numbers give to the parent
+abbrev pub given_at : System → List (List ℕ) → List ℕ → List ℕ
+given_at s own row = flat_map (λ c. given_by_links s.down (get_or own c [])) row
+
 pub record IsSettled (s : System) (u : LabelTree) (nodes fresh : List (List ℕ)) (i : ℕ) : Type 0 where
   pub right : (j : ℕ) → j < length nodes → (a : ℕ) → Contains (get_or fresh j []) a → Contains (label_in u (get_or nodes j [])) a
   pub here : AreMet s.local (label_in u (get_or nodes i [])) (get_or fresh i [])

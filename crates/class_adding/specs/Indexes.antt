@@ -1,23 +1,15 @@
 -- Rules found by the atoms that they look at.
---     row_of rows key          the places that stand at a key
---     IsNoted old new key i    the place i was noted at the key, and nothing else
 --     IsIndex key rules rows   each rule's place stands at the rule's key, and nothing else stands anywhere
 --     by_label f rules rows at label   what the rules give that are found at the keys of the label's atoms
 --     AreKinds s own kinds     the kinds that the label adds, in any order
-use Rattle.std.specs.Prelude.{◌≡◌, ◌≢◌, ◌↔◌, ℕ, ◌+◌, List, [], ◌∷◌, ◌++◌, get_or, slice_get, Option, Some, None, option_map, unwrap_or, Contains}
+use Rattle.std.specs.Prelude.{◌≡◌, ◌↔◌, ℕ, ◌+◌, List, [], ◌∷◌, slice_get, Some, option_map, unwrap_or, Contains}
 use Rattle.std.specs.List.{flat_map}
 use Rattle.simple_core.specs.declared.system.System.{System}
 use Rattle.simple_core.specs.declared.rules.Local.{Local}
 use Rattle.simple_core.specs.declared.rules.Link.{Link}
 use Rattle.simple_core.specs.declared.rules.Spawn.{Spawn}
 use Rattle.simple_core.specs.Labels.{given_by_rules, kinds_at}
-
-abbrev pub row_of : List (List ℕ) → ℕ → List ℕ
-row_of rows key = get_or rows key []
-
-pub record IsNoted (old new : List (List ℕ)) (key place : ℕ) : Type 0 where
-  pub here : row_of new key ≡ row_of old key ++ place ∷ []
-  pub others : (k : ℕ) → k ≢ key → row_of new k ≡ row_of old k
+use Rattle.closed_page.specs.Rows.{row_of}
 
 pub record IsIndex {X : Type 0} (key : X → ℕ) (rules : List X) (rows : List (List ℕ)) : Type 0 where
   pub whole : (i : ℕ) (x : X) → slice_get rules i ≡ Some x → Contains (row_of rows (key x)) i
@@ -71,13 +63,3 @@ kind_of c = c.kind ∷ []
 
 abbrev pub AreKinds : System → List ℕ → List ℕ → Type 0
 AreKinds s own kinds = (j : ℕ) → Contains kinds j ↔ Contains (kinds_at s own) j
-
--- the place i was noted at its number, if it has one
-abbrev pub IsNotedIf : List (List ℕ) → List (List ℕ) → Option ℕ → ℕ → Type 0
-IsNotedIf old new None i = new ≡ old
-IsNotedIf old new (Some j) i = IsNoted old new j i
-
--- each place in a list of numbers stands at its number
-pub record AreByNumber (numbers : List (Option ℕ)) (rows : List (List ℕ)) : Type 0 where
-  pub whole : (i j : ℕ) → slice_get numbers i ≡ Some (Some j) → Contains (row_of rows j) i
-  pub only : (j i : ℕ) → Contains (row_of rows j) i → slice_get numbers i ≡ Some (Some j)

@@ -3,17 +3,17 @@ ghost use Rattle.std.specs.Prelude.{◌≡◌, ◌↔◌, None, All, Contains, I
 ghost use Rattle.simple_core.specs.Systems.{IsSound};
 ghost use Rattle.simple_core.specs.Pairs.{Pair, Asked};
 ghost use Rattle.simple_core.specs.Knowledge.{KeepsAsking, IsToldBy, TellsAfter, TellsWithin};
-ghost use Rattle.class_adding.specs.ClosedPages.{IsClosedPage};
+ghost use Rattle.closed_page.specs.ClosedPages.{IsClosedPage};
 ghost use Rattle.class_adding.specs.Fillings.{IsBegun, IsTaken};
-ghost use Rattle.class_adding.specs.Firsts.{AreOfNodes};
-ghost use Rattle.class_adding.specs.Views.{firsts_of};
+ghost use Rattle.closed_page.specs.Firsts.{AreOfNodes};
+ghost use Rattle.closed_page.specs.Views.{firsts_of};
 
-use crate::gains::{PageFirst, apply_all, start};
+use crate::gains::{apply_all, start};
 use crate::gift_table::GiftTable;
 use crate::indexed_system::IndexedSystem;
-use crate::page_labels::{PageLabels, all_labels};
 use crate::plans::{Plan, first_plan, next_plan};
 use crate::rounds::{Round, look_at_all};
+use closed_page::{PageFirst, PageLabels, all_labels};
 use node_marks::NumberedTree;
 use simple_core::{GainFault, Summaries};
 use std::alloc::Global;

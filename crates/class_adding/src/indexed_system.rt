@@ -4,9 +4,10 @@ ghost use Rattle.tp_base.specs.Classes.{all_among, union_of};
 ghost use Rattle.simple_core.specs.Labels.{given_by_rules, given_by_links};
 ghost use Rattle.simple_core.specs.declared.rules.Spawn.{Spawn};
 ghost use Rattle.class_adding.specs.Fresh.{IsMore, AreMet, AsksAnew};
-ghost use Rattle.class_adding.specs.Indexes.{row_of, at_place, at_row, by_label, given_in, to_of, kind_of, AreKinds, AreLocalsAt, AreLinksAt, AreSpawnsAt};
+ghost use Rattle.class_adding.specs.Indexes.{at_place, at_row, by_label, given_in, to_of, kind_of, AreKinds, AreLocalsAt, AreLinksAt, AreSpawnsAt};
 
-use crate::places::Index;
+use crate::places::{links_at, locals_at, spawns_at};
+use closed_page::Index;
 use gathered::Gathered;
 use simple_core::{Link, Local, Spawn, System};
 use std::alloc::Global;
@@ -40,10 +41,10 @@ impl<'a> IndexedSystem<'a> {
     pub(crate) fn new(alloc: Global, system: &'a System) -> Result<IndexedSystem<'a>, NoMemory>
         ensures { IfOk result (λ s. s ≡ system.now) }
     {
-        let local = Index::of_locals(alloc, system.local.items())?;
-        let up = Index::of_links(alloc, system.up.items())?;
-        let down = Index::of_links(alloc, system.down.items())?;
-        let child = Index::of_spawns(alloc, system.child.items())?;
+        let local = locals_at(alloc, system.local.items())?;
+        let up = links_at(alloc, system.up.items())?;
+        let down = links_at(alloc, system.down.items())?;
+        let child = spawns_at(alloc, system.child.items())?;
         Ok(IndexedSystem {
             system,
             local,

@@ -18,31 +18,34 @@ use Rattle.proof_check.specs.declared.proofs.Proof.{Proof}
 use Rattle.proof_check.specs.Unfolding.{entry_count}
 use Rattle.proof_check.specs.Validity.{MOST_STEPS}
 use Rattle.proof_check.proofs.ItemLemmas.{slice_get-Contains}
-use Rattle.proof_maker.specs.declared.choices.Choice.{Choice}
-use Rattle.proof_maker.specs.declared.choices.Choice.TheVariants.{Start, Local, Up, Real, Spawn}
-use Rattle.proof_maker.specs.declared.spots.Spot.{Spot}
-use Rattle.proof_maker.specs.declared.spots.Spot.TheVariants.{Page, Added}
-use Rattle.proof_maker.specs.declared.spots.Want.{Want}
-use Rattle.proof_maker.specs.declared.needs.Tie.{Tie}
-use Rattle.proof_maker.specs.declared.needs.Draft.{Draft}
-use Rattle.proof_maker.specs.declared.needs.Needs.{Needs}
-use Rattle.proof_maker.specs.declared.orders.Order.{Order}
-use Rattle.proof_maker.specs.Choices.{chosen}
-use Rattle.proof_maker.specs.Needs.{Triple, page_node, added, setting_at, path_at, labels_at, triple_by, Needed, named_by, entry_names, Walks, IsReason, IsItem, Comes, IsEntryOf, IsCanonical}
-use Rattle.proof_maker.specs.Needs.{Spot as Where}
-use Rattle.proof_maker.specs.Dealing.{IsDealt, IsOnPage, PageTie, AtomTie, node_of, reason_with}
-use Rattle.proof_maker.specs.Dealing.{path_at as path_in}
+use Rattle.proof_needs.specs.declared.needs.Choice.{Choice}
+use Rattle.proof_needs.specs.declared.needs.Choice.TheVariants.{Start, Local, Up, Real, Spawn}
+use Rattle.proof_needs.specs.declared.spots.Spot.{Spot}
+use Rattle.proof_needs.specs.declared.spots.Spot.TheVariants.{Page, Added}
+use Rattle.proof_needs.specs.declared.spots.Want.{Want}
+use Rattle.proof_needs.specs.declared.needs.Tie.{Tie}
+use Rattle.proof_needs.specs.declared.needs.Draft.{Draft}
+use Rattle.proof_needs.specs.declared.needs.Needs.{Needs}
+use Rattle.proof_needs.specs.declared.orders.Order.{Order}
+use Rattle.proof_needs.specs.Choices.{chosen}
+use Rattle.proof_maker.specs.Needs.{setting_at, path_at, labels_at, triple_by, Needed, named_by, entry_names, Walks, IsReason, IsItem, Comes, IsEntryOf, IsCanonical}
+use Rattle.proof_needs.specs.Triples.{Triple, page_node, added}
+use Rattle.proof_needs.specs.Triples.{Spot as Where}
+use Rattle.proof_maker.specs.Items.{reason_with}
+use Rattle.proof_needs.specs.Dealing.{IsDealt, IsOnPage, PageTie, AtomTie, node_of}
+use Rattle.proof_needs.specs.Dealing.{path_at as path_in}
 use Rattle.proof_maker.specs.Making.{IsListed, IsNumbered, IsMade, IsProofOf, item_of, page_item_of}
-use Rattle.proof_maker.specs.Names.{named_at, named_all, names_in, wants_of}
-use Rattle.proof_maker.specs.Numbers.{number_in}
+use Rattle.proof_needs.specs.Names.{named_at, named_all, names_in, wants_of}
+use Rattle.proof_needs.specs.Numbers.{number_in}
 use Rattle.proof_maker.specs.Reasons.{reason_of}
-use Rattle.proof_maker.specs.Spots.{no_triple, paths_in, triple_of, triples_in, spot_in}
-use Rattle.proof_maker.specs.Worklist.{want_of, AreOwn, IsTripleOf, IsWorklist}
+use Rattle.proof_needs.specs.Spots.{no_triple, paths_in, triple_of, triples_in, spot_in}
+use Rattle.proof_maker.specs.Worklist.{AreOwn, IsTripleOf, IsWorklist}
+use Rattle.proof_needs.specs.Wants.{want_of}
 use Rattle.proof_maker.proofs.ChoiceLemmas.{Contains-slice_get}
 use Rattle.proof_maker.proofs.CompleteLemmas.{on_page, on_added, parent_is}
 use Rattle.proof_maker.proofs.EntryCounts.{steps_right}
 use Rattle.proof_maker.proofs.PostLemmas.{number_is}
-use Rattle.proof_maker.proofs.SortLemmas.{there_at}
+use Rattle.proof_needs.proofs.PlaceLemmas.{there_at}
 use Rattle.proof_maker.proofs.ValidLemmas.{walked_lower}
 
 map_at : {X Y : Type 0} (f : X → Y) (xs : List X) (k : ℕ) (y : Y) → slice_get (map f xs) k ≡ Some y → (x : X) × (slice_get xs k ≡ Some x) × (f x ≡ y)

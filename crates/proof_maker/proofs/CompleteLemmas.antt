@@ -5,20 +5,22 @@ use Rattle.tree_sem.specs.Trees.{LabelTree}
 use Rattle.simple_core.specs.declared.system.System.{System}
 use Rattle.simple_core.specs.Pairs.{Pair}
 use Rattle.proof_check.proofs.ItemLemmas.{slice_get-Contains}
-use Rattle.proof_maker.specs.declared.choices.Choice.{Choice}
-use Rattle.proof_maker.specs.declared.choices.Choice.TheVariants.{Start, Local, Up, Real, Spawn}
-use Rattle.proof_maker.specs.declared.spots.Spot.{Spot}
-use Rattle.proof_maker.specs.declared.spots.Spot.TheVariants.{Page, Added}
-use Rattle.proof_maker.specs.declared.spots.Want.{Want}
-use Rattle.proof_maker.specs.declared.needs.Tie.{Tie}
-use Rattle.proof_maker.specs.declared.needs.Draft.{Draft}
-use Rattle.proof_maker.specs.Choices.{by_local, by_up, by_real, by_spawn, from_up, from_down, chosen}
-use Rattle.proof_maker.specs.Choices.{Choice as Reason}
-use Rattle.proof_maker.specs.Needs.{Triple, page_node, added, setting_at, path_at, labels_at, IsChosen, triple_by, Needed, goal, top, by_rule, by_parent, by_child, by_spawner, by_entry, IsNeededAbove}
-use Rattle.proof_maker.specs.Needs.{Spot as Where}
+use Rattle.proof_needs.specs.declared.needs.Choice.{Choice}
+use Rattle.proof_needs.specs.declared.needs.Choice.TheVariants.{Start, Local, Up, Real, Spawn}
+use Rattle.proof_needs.specs.declared.spots.Spot.{Spot}
+use Rattle.proof_needs.specs.declared.spots.Spot.TheVariants.{Page, Added}
+use Rattle.proof_needs.specs.declared.spots.Want.{Want}
+use Rattle.proof_needs.specs.declared.needs.Tie.{Tie}
+use Rattle.proof_needs.specs.declared.needs.Draft.{Draft}
+use Rattle.proof_needs.specs.Choices.{by_local, by_up, by_real, by_spawn, from_up, from_down, chosen}
+use Rattle.proof_needs.specs.Choices.{Choice as Reason}
+use Rattle.proof_maker.specs.Needs.{setting_at, path_at, labels_at, IsChosen, triple_by, Needed, goal, top, by_rule, by_parent, by_child, by_spawner, by_entry, IsNeededAbove}
+use Rattle.proof_needs.specs.Triples.{Triple, page_node, added}
+use Rattle.proof_needs.specs.Triples.{Spot as Where}
 use Rattle.proof_maker.specs.Reasons.{reason_of}
-use Rattle.proof_maker.specs.Spots.{spot_in, IsSpot}
-use Rattle.proof_maker.specs.Worklist.{want_of, AreOwn, IsUserAt, IsFollowed, IsTripleOf, IsWorklist}
+use Rattle.proof_needs.specs.Spots.{spot_in, IsSpot}
+use Rattle.proof_maker.specs.Worklist.{AreOwn, IsUserAt, IsFollowed, IsTripleOf, IsWorklist}
+use Rattle.proof_needs.specs.Wants.{want_of}
 use Rattle.proof_maker.proofs.ChoiceLemmas.{Contains-slice_get}
 use Rattle.proof_maker.proofs.ListLemmas.{there_at}
 use Rattle.proof_maker.proofs.ValidLemmas.{first_one}

@@ -6,24 +6,26 @@ use Rattle.tree_sem.specs.Nodes.{HasAtom}
 use Rattle.simple_core.specs.declared.system.System.{System}
 use Rattle.simple_core.specs.Pairs.{Pair}
 use Rattle.simple_core.proofs.PageLemmas.{closed_is}
-use Rattle.class_adding.specs.ClosedPages.{ClosedPage, IsClosedPage}
+use Rattle.closed_page.specs.ClosedPages.{ClosedPage, IsClosedPage}
 use Rattle.proof_check.specs.declared.proofs.ProofItem.{ProofItem}
 use Rattle.proof_check.proofs.ItemLemmas.{slice_get-Contains}
-use Rattle.proof_maker.specs.declared.choices.Choice.{Choice}
-use Rattle.proof_maker.specs.declared.choices.Choice.TheVariants.{Start, Local, Up, Real, Spawn}
-use Rattle.proof_maker.specs.declared.spots.Spot.TheVariants.{Page}
-use Rattle.proof_maker.specs.declared.spots.Want.{Want}
-use Rattle.proof_maker.specs.declared.needs.Tie.{Tie}
-use Rattle.proof_maker.specs.declared.needs.Draft.{Draft}
-use Rattle.proof_maker.specs.declared.needs.Needs.{Needs}
-use Rattle.proof_maker.specs.Dealing.{reason_with, item_at}
-use Rattle.proof_maker.specs.Needs.{Triple, page_node, triple_by, Needed, goal, IsReason, IsItem, UsesMore}
-use Rattle.proof_maker.specs.Needs.{Spot as Where}
+use Rattle.proof_needs.specs.declared.needs.Choice.{Choice}
+use Rattle.proof_needs.specs.declared.needs.Choice.TheVariants.{Start, Local, Up, Real, Spawn}
+use Rattle.proof_needs.specs.declared.spots.Spot.TheVariants.{Page}
+use Rattle.proof_needs.specs.declared.spots.Want.{Want}
+use Rattle.proof_needs.specs.declared.needs.Tie.{Tie}
+use Rattle.proof_needs.specs.declared.needs.Draft.{Draft}
+use Rattle.proof_needs.specs.declared.needs.Needs.{Needs}
+use Rattle.proof_maker.specs.Items.{reason_with, item_at}
+use Rattle.proof_maker.specs.Needs.{triple_by, Needed, goal, IsReason, IsItem, UsesMore}
+use Rattle.proof_needs.specs.Triples.{Triple, page_node}
+use Rattle.proof_needs.specs.Triples.{Spot as Where}
 use Rattle.proof_maker.specs.Reasons.{reason_of}
-use Rattle.proof_maker.specs.Sets.{IsWith}
-use Rattle.proof_maker.specs.Spots.{paths_in, triples_in, spot_in}
+use Rattle.proof_needs.specs.Sets.{IsWith}
+use Rattle.proof_needs.specs.Spots.{paths_in, triples_in, spot_in}
 use Rattle.proof_maker.specs.Working.{IsWorking, IsStart}
-use Rattle.proof_maker.specs.Worklist.{want_of, AreOwn, IsTripleOf, IsComing, IsWanted, IsWorklist}
+use Rattle.proof_maker.specs.Worklist.{AreOwn, IsTripleOf, IsComing, IsWanted, IsWorklist}
+use Rattle.proof_needs.specs.Wants.{want_of}
 use Rattle.proof_maker.proofs.ChoiceLemmas.{Contains-none}
 
 -- with more triples than the limit more are used

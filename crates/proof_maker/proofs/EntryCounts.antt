@@ -15,7 +15,7 @@ use Rattle.proof_check.specs.Kept.{kept_steps}
 use Rattle.proof_check.specs.Unfolding.{spawned, spawn_count, reason_count, items_count, entry_count}
 use Rattle.proof_check.specs.Validity.{MOST_STEPS}
 use Rattle.proof_maker.specs.Needs.{named_by}
-use Rattle.proof_maker.proofs.SortLemmas.{there_at}
+use Rattle.proof_needs.proofs.PlaceLemmas.{there_at}
 use Rattle.proof_maker.proofs.ValidLemmas.{slice_get-take}
 
 abbrev names_of : List ProofItem → List ℕ

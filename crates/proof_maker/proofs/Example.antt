@@ -12,8 +12,9 @@ use Rattle.proof_check.specs.declared.proofs.Proof.{Proof}
 use Rattle.proof_check.specs.Unfolding.{entry_count}
 use Rattle.proof_check.specs.Validity.{MOST_STEPS}
 use Rattle.tree_sem.specs.Order.{Before}
-use Rattle.proof_maker.specs.Choices.{at_start, by_up, by_real, by_spawn, spawn_needs}
-use Rattle.proof_maker.specs.Needs.{Triple, Spot, page_node, added, setting_at, path_at, labels_at, IsChosen, triple_by, Needed, goal, top, by_rule, by_parent, by_child, by_spawner, by_entry, done, new, Comes, IsItem, IsEntryOf, IsCanonical}
+use Rattle.proof_needs.specs.Choices.{at_start, by_up, by_real, by_spawn, spawn_needs}
+use Rattle.proof_maker.specs.Needs.{setting_at, path_at, labels_at, IsChosen, triple_by, Needed, goal, top, by_rule, by_parent, by_child, by_spawner, by_entry, done, new, Comes, IsItem, IsEntryOf, IsCanonical}
+use Rattle.proof_needs.specs.Triples.{Triple, Spot, page_node, added}
 use Rattle.proof_maker.proofs.ChoiceLemmas.{Contains-none, IsWay}
 use Rattle.proof_maker.proofs.ValidLemmas.{chosen_stands}
 

@@ -7,28 +7,30 @@ use Rattle.simple_core.specs.declared.system.System.{System}
 use Rattle.simple_core.specs.Pairs.{Pair}
 use Rattle.simple_core.specs.Rounds.{IsFirst}
 use Rattle.proof_check.proofs.ItemLemmas.{slice_get-Contains}
-use Rattle.proof_maker.specs.declared.choices.Choice.{Choice}
-use Rattle.proof_maker.specs.declared.choices.Choice.TheVariants.{Start, Local, Up, Real, Spawn}
-use Rattle.proof_maker.specs.declared.spots.Spot.{Spot}
-use Rattle.proof_maker.specs.declared.spots.Spot.TheVariants.{Page, Added}
-use Rattle.proof_maker.specs.declared.spots.Want.{Want}
-use Rattle.proof_maker.specs.declared.needs.Tie.{Tie}
-use Rattle.proof_maker.specs.declared.needs.Draft.{Draft}
-use Rattle.proof_maker.specs.declared.needs.Needs.{Needs}
-use Rattle.proof_maker.specs.declared.orders.Order.{Order}
-use Rattle.proof_maker.specs.declared.orders.Orders.{Orders}
-use Rattle.proof_maker.specs.Choices.{by_spawn}
-use Rattle.proof_maker.specs.Needs.{Triple, added, labels_at, IsChosen, triple_by, Needed}
+use Rattle.proof_needs.specs.declared.needs.Choice.{Choice}
+use Rattle.proof_needs.specs.declared.needs.Choice.TheVariants.{Start, Local, Up, Real, Spawn}
+use Rattle.proof_needs.specs.declared.spots.Spot.{Spot}
+use Rattle.proof_needs.specs.declared.spots.Spot.TheVariants.{Page, Added}
+use Rattle.proof_needs.specs.declared.spots.Want.{Want}
+use Rattle.proof_needs.specs.declared.needs.Tie.{Tie}
+use Rattle.proof_needs.specs.declared.needs.Draft.{Draft}
+use Rattle.proof_needs.specs.declared.needs.Needs.{Needs}
+use Rattle.proof_needs.specs.declared.orders.Order.{Order}
+use Rattle.proof_needs.specs.declared.orders.Orders.{Orders}
+use Rattle.proof_needs.specs.Choices.{by_spawn}
+use Rattle.proof_maker.specs.Needs.{labels_at, IsChosen, triple_by, Needed}
+use Rattle.proof_needs.specs.Triples.{Triple, added}
 use Rattle.proof_maker.specs.Reasons.{reason_of}
-use Rattle.proof_maker.specs.Sets.{AreDistinct}
-use Rattle.proof_maker.specs.Spots.{paths_in, triples_in, triple_of, spot_in, no_triple}
-use Rattle.proof_maker.specs.Dealing.{IsDealt, IsOnPage, PageTie, AtomTie}
-use Rattle.proof_maker.specs.Worklist.{want_of, AreOwn, IsTripleOf, IsDraft, IsWorklist}
+use Rattle.proof_needs.specs.Sets.{AreDistinct}
+use Rattle.proof_needs.specs.Spots.{paths_in, triples_in, triple_of, spot_in, no_triple}
+use Rattle.proof_needs.specs.Dealing.{IsDealt, IsOnPage, PageTie, AtomTie}
+use Rattle.proof_maker.specs.Worklist.{AreOwn, IsTripleOf, IsDraft, IsWorklist}
+use Rattle.proof_needs.specs.Wants.{want_of}
 use Rattle.proof_maker.specs.Working.{IsDone}
 use Rattle.proof_maker.specs.Numbering.{Post}
-use Rattle.proof_maker.specs.Numbers.{Tours}
-use Rattle.proof_maker.specs.Names.{named_at, named_all, wants_of, names_in}
-use Rattle.proof_maker.specs.Orders.{AreDealt}
+use Rattle.proof_needs.specs.Numbers.{Tours}
+use Rattle.proof_needs.specs.Names.{named_at, named_all, wants_of, names_in}
+use Rattle.proof_needs.specs.Orders.{AreDealt}
 use Rattle.proof_maker.specs.Making.{IsListed, IsNumbered}
 use Rattle.proof_maker.proofs.ChoiceLemmas.{Contains-none, Contains-slice_get, Contains-flat_map, flat_map-Contains}
 use Rattle.proof_maker.proofs.PostLemmas.{first_there, cons_cases, post_distinct, post_each, post_closed, walks}

@@ -14,7 +14,7 @@ use Rattle.simple_core.specs.Pairs.{Pair}
 use Rattle.proof_check.proofs.EntryLemmas.{drop_at, drop_end}
 use Rattle.proof_maker.specs.declared.worlds.Place.{Place}
 use Rattle.proof_maker.specs.declared.worlds.World.{World}
-use Rattle.proof_maker.specs.Choices.{Choice, by_local, by_up, by_real, by_spawn, from_down, ways_down, ways}
+use Rattle.proof_needs.specs.Choices.{Choice, by_local, by_up, by_real, by_spawn, from_down, ways_down, ways}
 use Rattle.simple_core.specs.Givers.{places_from}
 use Rattle.simple_core.specs.Givers.{places_in}
 use Rattle.proof_maker.specs.Worlds.{setting_of, path_of, IsReady, stands_at, real_has, spawn_has}

@@ -8,16 +8,18 @@ use Rattle.tp_base.proofs.ClassLemmas.{with_class-keeps, Contains-with_class, Is
 use Rattle.tree_sem.specs.Trees.{LabelTree, node_at}
 use Rattle.simple_core.specs.declared.system.System.{System}
 use Rattle.simple_core.specs.Pairs.{Pair}
-use Rattle.proof_maker.specs.declared.spots.Spot.{Spot}
-use Rattle.proof_maker.specs.declared.spots.Spot.TheVariants.{Page, Added}
-use Rattle.proof_maker.specs.declared.spots.Want.{Want}
-use Rattle.proof_maker.specs.declared.needs.Tie.{Tie}
-use Rattle.proof_maker.specs.declared.needs.Draft.{Draft}
-use Rattle.proof_maker.specs.Needs.{Triple, page_node, added, Needed, top, IsNeededAbove, Used}
-use Rattle.proof_maker.specs.Following.{IsAtNode, IsAbove, IsUsed, IsEntered}
-use Rattle.proof_maker.specs.Sets.{AreDistinct, IsMore, IsWith}
-use Rattle.proof_maker.specs.Spots.{spot_in, IsSpot}
-use Rattle.proof_maker.specs.Worklist.{want_of, IsUserOf, IsComing, IsTie, IsWanted, IsWorklist}
+use Rattle.proof_needs.specs.declared.spots.Spot.{Spot}
+use Rattle.proof_needs.specs.declared.spots.Spot.TheVariants.{Page, Added}
+use Rattle.proof_needs.specs.declared.spots.Want.{Want}
+use Rattle.proof_needs.specs.declared.needs.Tie.{Tie}
+use Rattle.proof_needs.specs.declared.needs.Draft.{Draft}
+use Rattle.proof_maker.specs.Needs.{Needed, top, IsNeededAbove, Used}
+use Rattle.proof_needs.specs.Triples.{Triple, page_node, added}
+use Rattle.proof_needs.specs.Following.{IsAtNode, IsAbove, IsUsed, IsEntered}
+use Rattle.proof_needs.specs.Sets.{AreDistinct, IsMore, IsWith}
+use Rattle.proof_needs.specs.Spots.{spot_in, IsSpot}
+use Rattle.proof_maker.specs.Worklist.{IsUserOf, IsComing, IsTie, IsWanted, IsWorklist}
+use Rattle.proof_needs.specs.Wants.{want_of}
 use Rattle.proof_maker.proofs.ChoiceLemmas.{Contains-none}
 use Rattle.proof_maker.proofs.ListLemmas.{there_at, more_of, same_more, written, not_written, written_long, long_push, push_more, push_cases, AreTiesMore, same_ties, tie_more, grown}
 use Rattle.proof_maker.proofs.StepLemmas.{owed}

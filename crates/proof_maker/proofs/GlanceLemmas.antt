@@ -2,23 +2,23 @@
 --     chosen_found, chosen_none     the chosen reason, by the way that is found
 --     first_some                    an atom that comes has a first round
 --     page_glance, added_glance     a look at a place, as one at its spot
-use Rattle.std.proofs.Common.{◌≡◌, ℕ, suc, ◌<◌, List, length, Contains, find, get_or, slice_get, Option, Some, None, option_map, unwrap_or, refl, sym, ap, ◌∙◌, subst}
+use Rattle.std.proofs.Common.{◌≡◌, ℕ, suc, ◌<◌, List, length, Contains, find, get_or, slice_get, Option, Some, None, option_map, unwrap_or, sym, ap, ◌∙◌, subst}
 use denote.Bor.{Bor}
 use Rattle.std.proofs.lemmas.Option.{slice_get-get_or}
 use Rattle.tree_sem.specs.Trees.{LabelTree}
 use Rattle.simple_core.specs.declared.system.System.{System}
 use Rattle.simple_core.specs.Rounds.{IsFirst}
 use Rattle.proof_maker.specs.declared.choices.Found.{Found}
-use Rattle.proof_maker.specs.declared.choices.Choice.TheVariants.{Start}
+use Rattle.proof_needs.specs.declared.needs.Choice.TheVariants.{Start}
 use Rattle.proof_maker.specs.declared.glances.Glance.{Glance}
-use Rattle.proof_maker.specs.declared.spots.TripleKey.{TripleKey}
+use Rattle.proof_needs.specs.declared.spots.TripleKey.{TripleKey}
 use Rattle.proof_maker.specs.declared.worlds.Place.TheVariants.{Node, Added}
-use Rattle.proof_maker.specs.Choices.{Setting, at_start, stands, ways, chosen}
+use Rattle.proof_needs.specs.Choices.{Setting, at_start, stands, ways, chosen}
 use Rattle.proof_maker.specs.Glances.{IsGlanceAt, IsGlance}
-use Rattle.proof_maker.specs.Needs.{Triple, page_node, added}
+use Rattle.proof_needs.specs.Triples.{Triple, page_node, added}
 use Rattle.proof_maker.specs.Reasons.{reason_of, found_reason}
-use Rattle.proof_maker.specs.Spots.{triple_of, triples_in}
-use Rattle.proof_maker.proofs.SetLemmas.{slice_get_map}
+use Rattle.proof_needs.specs.Spots.{triple_of, triples_in}
+use Rattle.proof_needs.proofs.SetLemmas.{slice_get_map}
 
 module _ (s : System) (set : Setting) (v : List ℕ) (a round before : ℕ) (later : round ≡ suc before) (o : Option Found) (is : option_map found_reason o ≡ find (stands s set before v) (ways s set v a)) where
   pub chosen_found : (f : Found) → o ≡ Some f → found_reason f ≡ chosen s set v a round

@@ -2,14 +2,9 @@ pub mod ChoiceLemmas
 pub mod ValidLemmas
 pub mod UsedLemmas
 pub mod OneLemmas
-pub mod SetLemmas
-pub mod KeyLemmas
-pub mod RisingLemmas
 pub mod FindLemmas
 pub mod WorldLemmas
 pub mod GlanceLemmas
-pub mod SortLemmas
-pub mod OrderLemmas
 pub mod EntryCounts
 pub mod CanonLemmas
 pub mod MakeLemmas
@@ -21,11 +16,8 @@ pub mod CompleteLemmas
 pub mod EndLemmas
 pub mod SpotLemmas
 pub mod PostLemmas
-pub mod NumberLemmas
 pub mod TourLemmas
-pub mod NameLemmas
 pub mod RankLemmas
 pub mod FallLemmas
-pub mod TieLemmas
 pub mod WorkLemmas
 mod Example

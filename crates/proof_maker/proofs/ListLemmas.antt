@@ -5,20 +5,22 @@ use Rattle.tree_sem.specs.Trees.{LabelTree, node_at}
 use Rattle.simple_core.specs.declared.system.System.{System}
 use Rattle.simple_core.specs.Pairs.{Pair}
 use Rattle.proof_check.proofs.ItemLemmas.{slice_get-Contains}
-use Rattle.proof_maker.specs.declared.choices.Choice.{Choice}
-use Rattle.proof_maker.specs.declared.choices.Choice.TheVariants.{Start, Local, Up, Real, Spawn}
-use Rattle.proof_maker.specs.declared.spots.Spot.{Spot}
-use Rattle.proof_maker.specs.declared.spots.Spot.TheVariants.{Page, Added}
-use Rattle.proof_maker.specs.declared.spots.Want.{Want}
-use Rattle.proof_maker.specs.declared.needs.Tie.{Tie}
-use Rattle.proof_maker.specs.declared.needs.Draft.{Draft}
-use Rattle.proof_maker.specs.Choices.{from_up, from_down, spawn_needs}
-use Rattle.proof_maker.specs.Needs.{Triple, IsChosen, triple_by, Needed, Used}
-use Rattle.proof_maker.specs.Needs.{Spot as Where}
+use Rattle.proof_needs.specs.declared.needs.Choice.{Choice}
+use Rattle.proof_needs.specs.declared.needs.Choice.TheVariants.{Start, Local, Up, Real, Spawn}
+use Rattle.proof_needs.specs.declared.spots.Spot.{Spot}
+use Rattle.proof_needs.specs.declared.spots.Spot.TheVariants.{Page, Added}
+use Rattle.proof_needs.specs.declared.spots.Want.{Want}
+use Rattle.proof_needs.specs.declared.needs.Tie.{Tie}
+use Rattle.proof_needs.specs.declared.needs.Draft.{Draft}
+use Rattle.proof_needs.specs.Choices.{from_up, from_down, spawn_needs}
+use Rattle.proof_maker.specs.Needs.{IsChosen, triple_by, Needed, Used}
+use Rattle.proof_needs.specs.Triples.{Triple}
+use Rattle.proof_needs.specs.Triples.{Spot as Where}
 use Rattle.proof_maker.specs.Reasons.{reason_of}
-use Rattle.proof_maker.specs.Sets.{AreDistinct, IsMore}
-use Rattle.proof_maker.specs.Spots.{spot_in, IsSpot}
-use Rattle.proof_maker.specs.Worklist.{want_of, IsFollowedUp, IsFollowedDown, IsFollowed, IsTripleOf, IsDraft, IsUserOf, IsComing, IsTie, IsWanted, IsWorklist}
+use Rattle.proof_needs.specs.Sets.{AreDistinct, IsMore}
+use Rattle.proof_needs.specs.Spots.{spot_in, IsSpot}
+use Rattle.proof_maker.specs.Worklist.{IsFollowedUp, IsFollowedDown, IsFollowed, IsTripleOf, IsDraft, IsUserOf, IsComing, IsTie, IsWanted, IsWorklist}
+use Rattle.proof_needs.specs.Wants.{want_of}
 use Rattle.proof_maker.proofs.ChoiceLemmas.{Contains-slice_get}
 
 pub there_at : {X : Type 0} (xs : List X) (i : ℕ) → i < length xs → (x : X) × (slice_get xs i ≡ Some x)

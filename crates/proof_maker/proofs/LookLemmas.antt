@@ -10,23 +10,24 @@ use Rattle.simple_core.specs.declared.system.System.{System}
 use Rattle.simple_core.specs.Pairs.{Pair, Asked}
 use Rattle.simple_core.specs.Labels.{visible_in}
 use Rattle.proof_check.proofs.ItemLemmas.{slice_get-Contains}
-use Rattle.proof_maker.specs.declared.choices.Choice.{Choice}
-use Rattle.proof_maker.specs.declared.choices.Choice.TheVariants.{Start, Local, Up, Real, Spawn}
-use Rattle.proof_maker.specs.declared.spots.Spot.{Spot}
-use Rattle.proof_maker.specs.declared.spots.Spot.TheVariants.{Page, Added}
-use Rattle.proof_maker.specs.declared.spots.Want.{Want}
-use Rattle.proof_maker.specs.declared.needs.Tie.{Tie}
-use Rattle.proof_maker.specs.declared.needs.Draft.{Draft}
-use Rattle.proof_maker.specs.Choices.{by_local, by_up, by_real, by_spawn, from_up, from_down, needs_of, spawn_needs, spawn_kind}
-use Rattle.proof_maker.specs.Following.{IsAtNode, IsUsed, Follows, IsEntered, Enters}
+use Rattle.proof_needs.specs.declared.needs.Choice.{Choice}
+use Rattle.proof_needs.specs.declared.needs.Choice.TheVariants.{Start, Local, Up, Real, Spawn}
+use Rattle.proof_needs.specs.declared.spots.Spot.{Spot}
+use Rattle.proof_needs.specs.declared.spots.Spot.TheVariants.{Page, Added}
+use Rattle.proof_needs.specs.declared.spots.Want.{Want}
+use Rattle.proof_needs.specs.declared.needs.Tie.{Tie}
+use Rattle.proof_needs.specs.declared.needs.Draft.{Draft}
+use Rattle.proof_needs.specs.Choices.{by_local, by_up, by_real, by_spawn, from_up, from_down, needs_of, spawn_needs, spawn_kind}
+use Rattle.proof_needs.specs.Following.{IsAtNode, IsUsed, Follows, IsEntered, Enters}
 use Rattle.proof_maker.specs.Glances.{is_spawn, AsksAt}
-use Rattle.proof_maker.specs.Needs.{Triple, page_node, added, labels_at, IsChosen, triple_by, Needed, by_rule, by_parent, by_child, by_spawner, Used, by_page, by_triple}
-use Rattle.proof_maker.specs.Needs.{Spot as Where}
+use Rattle.proof_maker.specs.Needs.{labels_at, IsChosen, triple_by, Needed, by_rule, by_parent, by_child, by_spawner, Used, by_page, by_triple}
+use Rattle.proof_needs.specs.Triples.{Triple, page_node, added}
+use Rattle.proof_needs.specs.Triples.{Spot as Where}
 use Rattle.proof_maker.specs.Reasons.{reason_of}
-use Rattle.proof_maker.specs.Sets.{IsMore}
-use Rattle.proof_maker.specs.Spots.{spot_in, IsSpot}
-use Rattle.proof_maker.specs.Wants.{IsOfEach}
-use Rattle.proof_maker.specs.Worklist.{want_of, AreOwn, IsFollowed, IsTripleOf, IsDraft, IsWanted, IsWorklist}
+use Rattle.proof_needs.specs.Sets.{IsMore}
+use Rattle.proof_needs.specs.Spots.{spot_in, IsSpot}
+use Rattle.proof_needs.specs.Wants.{IsOfEach, want_of}
+use Rattle.proof_maker.specs.Worklist.{AreOwn, IsFollowed, IsTripleOf, IsDraft, IsWanted, IsWorklist}
 use Rattle.proof_maker.proofs.ChoiceLemmas.{Contains-slice_get}
 use Rattle.proof_maker.proofs.ListLemmas.{there_at, more_of, same_more, written, same_spot, draft_more, pushed}
 use Rattle.proof_maker.proofs.StepLemmas.{IsLive, rule_comes, parent_comes, child_comes, child_there, no_real, spawn_comes, below_known}

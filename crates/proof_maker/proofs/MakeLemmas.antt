@@ -14,23 +14,23 @@ use Rattle.proof_check.specs.declared.proofs.Proof.{Proof}
 use Rattle.proof_check.specs.Kept.{kept_steps}
 use Rattle.proof_check.specs.Unfolding.{items_count}
 use Rattle.proof_check.specs.Validity.{MOST_STEPS}
-use Rattle.proof_maker.specs.declared.spots.Spot.{Spot}
-use Rattle.proof_maker.specs.declared.spots.Spot.TheVariants.{Page, Added}
-use Rattle.proof_maker.specs.declared.needs.Needs.{Needs}
-use Rattle.proof_maker.specs.declared.orders.Order.{Order}
-use Rattle.proof_maker.specs.declared.orders.Orders.{Orders}
-use Rattle.proof_maker.specs.Dealing.{IsOnPage, node_of}
+use Rattle.proof_needs.specs.declared.spots.Spot.{Spot}
+use Rattle.proof_needs.specs.declared.spots.Spot.TheVariants.{Page, Added}
+use Rattle.proof_needs.specs.declared.needs.Needs.{Needs}
+use Rattle.proof_needs.specs.declared.orders.Order.{Order}
+use Rattle.proof_needs.specs.declared.orders.Orders.{Orders}
+use Rattle.proof_needs.specs.Dealing.{IsOnPage, node_of}
 use Rattle.proof_maker.specs.Making.{IsNumbered, AreToured, IsMakeable, IsNodeWant, IsMade, AreEntries, IsProofOf}
-use Rattle.proof_maker.specs.Names.{wants_of}
+use Rattle.proof_needs.specs.Names.{wants_of}
 use Rattle.proof_maker.specs.Needs.{IsCanonical}
-use Rattle.proof_maker.specs.Orders.{AreDealt}
-use Rattle.proof_maker.specs.Spots.{paths_in, triple_of, triples_in, IsSpot}
+use Rattle.proof_needs.specs.Orders.{AreDealt}
+use Rattle.proof_needs.specs.Spots.{paths_in, triple_of, triples_in, IsSpot}
 use Rattle.proof_maker.specs.Working.{IsDone}
 use Rattle.proof_maker.proofs.CanonLemmas.{canonical}
 use Rattle.proof_maker.proofs.ChoiceLemmas.{Contains-slice_get}
 use Rattle.proof_maker.proofs.FallLemmas.{named_below, numbered}
-use Rattle.proof_maker.proofs.OrderLemmas.{all_at}
-use Rattle.proof_maker.proofs.SortLemmas.{at_Contains, push_at, there_at}
+use Rattle.proof_needs.proofs.OrderLemmas.{all_at}
+use Rattle.proof_needs.proofs.PlaceLemmas.{at_Contains, push_at, there_at}
 use Rattle.proof_maker.proofs.UsedLemmas.{no_longer}
 
 -- one entry more

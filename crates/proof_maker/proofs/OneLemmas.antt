@@ -19,8 +19,9 @@ use Rattle.proof_check.specs.declared.proofs.Proof.{Proof}
 use Rattle.proof_check.specs.Unfolding.{items_count, entry_count}
 use Rattle.proof_check.specs.Validity.{MOST_STEPS, atoms_of}
 use Rattle.proof_check.proofs.ItemLemmas.{slice_get-Contains}
-use Rattle.proof_maker.specs.Choices.{Choice, at_start, by_local, by_up, by_real, by_spawn, chosen}
-use Rattle.proof_maker.specs.Needs.{Triple, Spot, page_node, added, setting_at, path_at, labels_at, triple_by, Needed, Walks, done, seen, new, named_by, entry_names, IsReason, IsItem, Comes, IsEntryOf, IsCanonical}
+use Rattle.proof_needs.specs.Choices.{Choice, at_start, by_local, by_up, by_real, by_spawn, chosen}
+use Rattle.proof_maker.specs.Needs.{setting_at, path_at, labels_at, triple_by, Needed, Walks, done, seen, new, named_by, entry_names, IsReason, IsItem, Comes, IsEntryOf, IsCanonical}
+use Rattle.proof_needs.specs.Triples.{Triple, Spot, page_node, added}
 use Rattle.proof_maker.proofs.ChoiceLemmas.{Contains-none, Contains-slice_get}
 use Rattle.proof_maker.proofs.ValidLemmas.{first_one, walked_lower, slice_get-take}
 

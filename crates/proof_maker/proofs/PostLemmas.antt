@@ -9,8 +9,8 @@ use Rattle.std.proofs.lemmas.Option.{slice_get_within, slice_get-get_or, get_or_
 use Rattle.proof_maker.specs.Needs.{Walks, done, seen, new}
 use Rattle.proof_maker.specs.Numbering.{Post}
 use Rattle.proof_maker.specs.Numbering as post
-use Rattle.proof_maker.specs.Numbers.{number_in}
-use Rattle.proof_maker.specs.Sets.{AreDistinct, IsMore}
+use Rattle.proof_needs.specs.Numbers.{number_in}
+use Rattle.proof_needs.specs.Sets.{AreDistinct, IsMore}
 
 none_there : {X : Type 0} (x : X) → Contains [] x → ⊥
 none_there x (k, within, at) = omega arith

@@ -8,8 +8,9 @@ use Rattle.tree_sem.specs.Trees.{LabelTree}
 use Rattle.simple_core.specs.declared.system.System.{System}
 use Rattle.simple_core.specs.Labels.{visible_in}
 use Rattle.simple_core.specs.Rounds.{grown, IsFirst}
-use Rattle.proof_maker.specs.Choices.{Choice, at_start, by_local, by_up, by_spawn, from_up, from_down, needs_of, spawn_needs, spawn_kind, stands}
-use Rattle.proof_maker.specs.Needs.{Triple, Spot, page_node, added, setting_at, path_at, labels_at, IsChosen, triple_by, Needed, goal, top, by_rule, by_parent, by_child, by_spawner, by_entry}
+use Rattle.proof_needs.specs.Choices.{Choice, at_start, by_local, by_up, by_spawn, from_up, from_down, needs_of, spawn_needs, spawn_kind, stands}
+use Rattle.proof_maker.specs.Needs.{setting_at, path_at, labels_at, IsChosen, triple_by, Needed, goal, top, by_rule, by_parent, by_child, by_spawner, by_entry}
+use Rattle.proof_needs.specs.Triples.{Triple, Spot, page_node, added}
 use Rattle.proof_maker.proofs.ValidLemmas.{first_one, first_by, chosen_stands}
 
 module _ (s : System) (page : LabelTree) where

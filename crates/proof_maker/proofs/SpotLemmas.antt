@@ -11,15 +11,17 @@ use Rattle.simple_core.proofs.RoundLemmas.{grown-rises}
 use Rattle.simple_core.proofs.PageLemmas.{page-rises}
 use Rattle.proof_check.proofs.ItemLemmas.{slice_get-Contains}
 use Rattle.proof_maker.specs.declared.glances.Glance.{Glance}
-use Rattle.proof_maker.specs.declared.spots.Spot.{Spot}
-use Rattle.proof_maker.specs.declared.spots.Spot.TheVariants.{Page, Added}
-use Rattle.proof_maker.specs.declared.spots.Want.{Want}
-use Rattle.proof_maker.specs.declared.needs.Tie.{Tie}
-use Rattle.proof_maker.specs.declared.needs.Draft.{Draft}
+use Rattle.proof_needs.specs.declared.spots.Spot.{Spot}
+use Rattle.proof_needs.specs.declared.spots.Spot.TheVariants.{Page, Added}
+use Rattle.proof_needs.specs.declared.spots.Want.{Want}
+use Rattle.proof_needs.specs.declared.needs.Tie.{Tie}
+use Rattle.proof_needs.specs.declared.needs.Draft.{Draft}
 use Rattle.proof_maker.specs.Glances.{IsGlance, IsNodeAt, IsTripleAt}
-use Rattle.proof_maker.specs.Needs.{Triple, page_node, added, Used, by_page, by_triple}
-use Rattle.proof_maker.specs.Spots.{spot_in}
-use Rattle.proof_maker.specs.Worklist.{want_of, IsComing, IsWorklist}
+use Rattle.proof_maker.specs.Needs.{Used, by_page, by_triple}
+use Rattle.proof_needs.specs.Triples.{Triple, page_node, added}
+use Rattle.proof_needs.specs.Spots.{spot_in}
+use Rattle.proof_maker.specs.Worklist.{IsComing, IsWorklist}
+use Rattle.proof_needs.specs.Wants.{want_of}
 use Rattle.proof_maker.proofs.ListLemmas.{there_at}
 
 -- the visible label of a triple that is used rises

@@ -15,9 +15,10 @@ use Rattle.simple_core.specs.Labels.{kinds_at, visible_in}
 use Rattle.simple_core.specs.Rounds.{grown}
 use Rattle.simple_core.specs.Pages.{page_round}
 use Rattle.simple_core.proofs.LabelLemmas.{is-kinds_at}
-use Rattle.proof_maker.specs.Choices.{Choice, at_start, by_local, by_up, by_real, by_spawn, from_up, from_down, needs_of, spawn_needs, spawn_kind, stands}
+use Rattle.proof_needs.specs.Choices.{Choice, at_start, by_local, by_up, by_real, by_spawn, from_up, from_down, needs_of, spawn_needs, spawn_kind, stands}
 use Rattle.proof_maker.specs.Glances.{AsksAt}
-use Rattle.proof_maker.specs.Needs.{Triple, Spot, page_node, added, setting_at, path_at, labels_at, IsChosen, triple_by, Needed, by_entry, IsNeededAbove}
+use Rattle.proof_maker.specs.Needs.{setting_at, path_at, labels_at, IsChosen, triple_by, Needed, by_entry, IsNeededAbove}
+use Rattle.proof_needs.specs.Triples.{Triple, Spot, page_node, added}
 use Rattle.proof_maker.specs.Worklist.{IsUserOf, IsComing}
 use Rattle.proof_maker.proofs.ChoiceLemmas.{Contains-none, IsWay}
 use Rattle.proof_maker.proofs.ValidLemmas.{chosen_stands}

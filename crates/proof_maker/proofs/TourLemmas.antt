@@ -3,8 +3,8 @@ use Rattle.std.proofs.Common.{◌≡◌, ◌⊎◌, ℕ, ◌<◌, List, [], ◌�
 use Rattle.std.proofs.lemmas.List.Elements.{Contains-append_left, Contains-push, Contains-push_cases}
 use Rattle.proof_maker.specs.Numbering.{Post}
 use Rattle.proof_maker.specs.Numbering as post
-use Rattle.proof_maker.specs.Numbers.{Walk, entering, numbering, Tour, done, known, new, nothing_entered, Tours}
-use Rattle.proof_maker.proofs.NumberLemmas.{not_any}
+use Rattle.proof_needs.specs.Numbers.{Walk, entering, numbering, Tour, done, known, new, nothing_entered, Tours}
+use Rattle.proof_needs.proofs.NumberLemmas.{not_any}
 use Rattle.proof_maker.proofs.PostLemmas.{first_there, next_there}
 
 module _ (names : ℕ → List ℕ) (rank : ℕ → ℕ) (falls : (k f : ℕ) → Contains (names k) f → rank f < rank k) where

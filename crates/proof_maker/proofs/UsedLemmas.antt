@@ -10,8 +10,9 @@ use Rattle.proof_check.specs.declared.proofs.ProofItem.{ProofItem}
 use Rattle.proof_check.specs.declared.proofs.PageItem.{PageItem}
 use Rattle.proof_check.specs.declared.proofs.Proof.{Proof}
 use Rattle.proof_check.proofs.ItemLemmas.{slice_get-Contains}
-use Rattle.proof_maker.specs.Choices.{Choice, at_start, by_local, by_up, by_real, by_spawn, chosen}
-use Rattle.proof_maker.specs.Needs.{Triple, Spot, page_node, added, setting_at, path_at, labels_at, IsChosen, triple_by, Walks, done, seen, new, named_by, entry_names, IsReason, IsItem, IsCanonical, Used, by_page, by_triple, UsesMore}
+use Rattle.proof_needs.specs.Choices.{Choice, at_start, by_local, by_up, by_real, by_spawn, chosen}
+use Rattle.proof_maker.specs.Needs.{setting_at, path_at, labels_at, IsChosen, triple_by, Walks, done, seen, new, named_by, entry_names, IsReason, IsItem, IsCanonical, Used, by_page, by_triple, UsesMore}
+use Rattle.proof_needs.specs.Triples.{Triple, Spot, page_node, added}
 use Rattle.proof_maker.proofs.ChoiceLemmas.{Contains-none, Contains-slice_get, flat_map-Contains}
 use Rattle.proof_maker.proofs.ValidLemmas.{first_one}
 

@@ -37,9 +37,10 @@ use Rattle.proof_check.specs.declared.proofs.Entry.{Entry}
 use Rattle.proof_check.specs.declared.proofs.PageItem.{PageItem}
 use Rattle.proof_check.specs.declared.proofs.Proof.{Proof}
 use Rattle.proof_check.specs.Validity.{atoms_of, items_at, IsDown, Place, IsSound, AreSound, in_entry, at_page, ArePlaced, IsValid}
-use Rattle.proof_maker.specs.Choices.{on_page, on_added, Choice, at_start, by_local, by_up, by_real, by_spawn, from_up, from_down, needs_of, spawn_needs, spawn_kind, stands, chosen}
+use Rattle.proof_needs.specs.Choices.{on_page, on_added, Choice, at_start, by_local, by_up, by_real, by_spawn, from_up, from_down, needs_of, spawn_needs, spawn_kind, stands, chosen}
 use Rattle.proof_maker.specs.Forests.{KeepsForests}
-use Rattle.proof_maker.specs.Needs.{Triple, Spot, page_node, added, setting_at, path_at, labels_at, IsChosen, triple_by, Needed, goal, top, by_rule, by_parent, by_child, by_spawner, by_entry, Walks, done, seen, new, named_by, entry_names, IsReason, IsItem, IsNeededAbove, IsEntryOf, IsCanonical}
+use Rattle.proof_maker.specs.Needs.{setting_at, path_at, labels_at, IsChosen, triple_by, Needed, goal, top, by_rule, by_parent, by_child, by_spawner, by_entry, Walks, done, seen, new, named_by, entry_names, IsReason, IsItem, IsNeededAbove, IsEntryOf, IsCanonical}
+use Rattle.proof_needs.specs.Triples.{Triple, Spot, page_node, added}
 use Rattle.proof_maker.proofs.ChoiceLemmas.{find_there, Contains-flat_map, Contains-none, Contains-slice_get, IsWay, chosen_is, below_of}
 
 -- first rounds

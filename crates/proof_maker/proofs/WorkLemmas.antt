@@ -5,21 +5,21 @@ use Rattle.std.proofs.lemmas.Option.{slice_get-get_or, slice_get_within}
 use Rattle.tree_sem.specs.Trees.{LabelTree}
 use Rattle.simple_core.specs.declared.system.System.{System}
 use Rattle.simple_core.specs.Pairs.{Pair, Asked}
-use Rattle.proof_maker.specs.declared.choices.Choice.{Choice}
-use Rattle.proof_maker.specs.declared.choices.Choice.TheVariants.{Start, Local, Up, Real, Spawn}
-use Rattle.proof_maker.specs.declared.spots.Spot.{Spot}
-use Rattle.proof_maker.specs.declared.spots.Spot.TheVariants.{Page, Added}
-use Rattle.proof_maker.specs.declared.needs.Tie.{Tie}
-use Rattle.proof_maker.specs.Choices.{from_down, spawn_kind}
-use Rattle.proof_maker.specs.Ties.{TieAt, IsTieIndex}
+use Rattle.proof_needs.specs.declared.needs.Choice.{Choice}
+use Rattle.proof_needs.specs.declared.needs.Choice.TheVariants.{Start, Local, Up, Real, Spawn}
+use Rattle.proof_needs.specs.declared.spots.Spot.{Spot}
+use Rattle.proof_needs.specs.declared.spots.Spot.TheVariants.{Page, Added}
+use Rattle.proof_needs.specs.declared.needs.Tie.{Tie}
+use Rattle.proof_needs.specs.Choices.{from_down, spawn_kind}
+use Rattle.proof_needs.specs.Ties.{TieAt, IsTieIndex}
 use Rattle.proof_maker.specs.declared.glances.Glance.{Glance}
-use Rattle.proof_maker.specs.declared.spots.Want.{Want}
-use Rattle.proof_maker.specs.declared.needs.Draft.{Draft}
-use Rattle.proof_maker.specs.declared.needs.Needs.{Needs}
-use Rattle.proof_maker.specs.Following.{Follows, Enters}
+use Rattle.proof_needs.specs.declared.spots.Want.{Want}
+use Rattle.proof_needs.specs.declared.needs.Draft.{Draft}
+use Rattle.proof_needs.specs.declared.needs.Needs.{Needs}
+use Rattle.proof_needs.specs.Following.{Follows, Enters}
 use Rattle.proof_maker.specs.Glances.{IsGlance, AsksAt}
-use Rattle.proof_maker.specs.Needs.{Triple}
-use Rattle.proof_maker.specs.Spots.{paths_in, triples_in, spot_in, IsSpot}
+use Rattle.proof_needs.specs.Triples.{Triple}
+use Rattle.proof_needs.specs.Spots.{paths_in, triples_in, spot_in, IsSpot}
 use Rattle.proof_maker.specs.Working.{IsWorking}
 use Rattle.proof_maker.specs.Worklist.{AreOwn, IsWorklist}
 use Rattle.proof_maker.proofs.ListLemmas.{long_push}

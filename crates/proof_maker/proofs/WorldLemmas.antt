@@ -28,12 +28,12 @@ use Rattle.simple_core.proofs.Members.{Among}
 use Rattle.simple_core.proofs.RestLemmas.{first_is}
 use Rattle.simple_core.proofs.RoundLemmas.{grown-rises, grown-one_more}
 use Rattle.simple_core.proofs.PageLemmas.{page-rises, page-one_more}
-use Rattle.class_adding.specs.ClosedPages.{ClosedPage, IsClosedPage, round_of}
+use Rattle.closed_page.specs.ClosedPages.{ClosedPage, IsClosedPage, round_of}
 use Rattle.proof_check.proofs.EntryLemmas.{drop_at, drop_end, take_at}
 use Rattle.proof_maker.specs.declared.worlds.Place.{Place}
 use Rattle.proof_maker.specs.declared.worlds.Place.TheVariants.{Node, Added}
 use Rattle.proof_maker.specs.declared.worlds.World.{World}
-use Rattle.proof_maker.specs.Choices.{spawn_needs, spawn_kind}
+use Rattle.proof_needs.specs.Choices.{spawn_needs, spawn_kind}
 use Rattle.proof_maker.specs.Worlds.{labels_of, above_on, IsPlace, IsAsking, IsReady, spawn_has}
 
 module _ (f : ℕ → List ℕ) (one : (k : ℕ) → Among (f k) (f (suc k))) (a : ℕ) where

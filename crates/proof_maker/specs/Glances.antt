@@ -7,16 +7,17 @@ use Rattle.simple_core.specs.declared.system.System.{System}
 use Rattle.simple_core.specs.Labels.{visible_in}
 use Rattle.simple_core.specs.Pairs.{Pair}
 use Rattle.simple_core.specs.Knowledge.{KeepsAsking}
-use Rattle.proof_maker.specs.declared.choices.Choice.{Choice}
-use Rattle.proof_maker.specs.declared.choices.Choice.TheVariants.{Start, Local, Up, Real, Spawn}
+use Rattle.proof_needs.specs.declared.needs.Choice.{Choice}
+use Rattle.proof_needs.specs.declared.needs.Choice.TheVariants.{Start, Local, Up, Real, Spawn}
 use Rattle.proof_maker.specs.declared.choices.Found.{Found}
 use Rattle.proof_maker.specs.declared.worlds.Place.{Place}
 use Rattle.proof_maker.specs.declared.worlds.World.{World}
-use Rattle.proof_maker.specs.Choices.{chosen}
+use Rattle.proof_needs.specs.Choices.{chosen}
 use Rattle.proof_maker.specs.Worlds.{setting_of, path_of, labels_of}
 use Rattle.simple_core.specs.Rounds.{IsFirst}
 use Rattle.proof_maker.specs.declared.glances.Glance.{Glance}
-use Rattle.proof_maker.specs.Needs.{Triple, Spot, page_node, added, labels_at, IsChosen}
+use Rattle.proof_maker.specs.Needs.{labels_at, IsChosen}
+use Rattle.proof_needs.specs.Triples.{Triple, Spot, page_node, added}
 use Rattle.proof_maker.specs.Reasons.{reason_of}
 
 abbrev pub is_spawn : Choice → Bool

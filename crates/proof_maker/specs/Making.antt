@@ -12,21 +12,23 @@ use Rattle.proof_check.specs.declared.proofs.Proof.{Proof}
 use Rattle.proof_check.specs.Kept.{kept_steps}
 use Rattle.proof_check.specs.Unfolding.{items_count}
 use Rattle.proof_check.specs.Validity.{MOST_STEPS}
-use Rattle.proof_maker.specs.declared.spots.Spot.{Spot}
-use Rattle.proof_maker.specs.declared.spots.Spot.TheVariants.{Page, Added}
-use Rattle.proof_maker.specs.declared.spots.Want.{Want}
-use Rattle.proof_maker.specs.declared.needs.Tie.{Tie}
-use Rattle.proof_maker.specs.declared.needs.Draft.{Draft}
-use Rattle.proof_maker.specs.declared.needs.Needs.{Needs}
-use Rattle.proof_maker.specs.declared.orders.Order.{Order}
-use Rattle.proof_maker.specs.declared.orders.Orders.{Orders}
-use Rattle.proof_maker.specs.Needs.{Triple, Walks}
-use Rattle.proof_maker.specs.Names.{named_all, names_in, wants_of}
-use Rattle.proof_maker.specs.Numbers.{Tours, number_in}
-use Rattle.proof_maker.specs.Orders.{IsSortable, AreDealt}
-use Rattle.proof_maker.specs.Sets.{AreDistinct}
-use Rattle.proof_maker.specs.Spots.{paths_in, triples_in}
-use Rattle.proof_maker.specs.Dealing.{node_of, path_at, item_at}
+use Rattle.proof_needs.specs.declared.spots.Spot.{Spot}
+use Rattle.proof_needs.specs.declared.spots.Spot.TheVariants.{Page, Added}
+use Rattle.proof_needs.specs.declared.spots.Want.{Want}
+use Rattle.proof_needs.specs.declared.needs.Tie.{Tie}
+use Rattle.proof_needs.specs.declared.needs.Draft.{Draft}
+use Rattle.proof_needs.specs.declared.needs.Needs.{Needs}
+use Rattle.proof_needs.specs.declared.orders.Order.{Order}
+use Rattle.proof_needs.specs.declared.orders.Orders.{Orders}
+use Rattle.proof_maker.specs.Needs.{Walks}
+use Rattle.proof_needs.specs.Triples.{Triple}
+use Rattle.proof_needs.specs.Names.{named_all, names_in, wants_of}
+use Rattle.proof_needs.specs.Numbers.{Tours, number_in}
+use Rattle.proof_needs.specs.Orders.{IsSortable, AreDealt}
+use Rattle.proof_needs.specs.Sets.{AreDistinct}
+use Rattle.proof_needs.specs.Spots.{paths_in, triples_in}
+use Rattle.proof_maker.specs.Items.{item_at}
+use Rattle.proof_needs.specs.Dealing.{node_of, path_at}
 
 -- a node of the page, or of a triple that has a number
 abbrev pub IsListed : List ℕ → Spot → Type 0

@@ -1,6 +1,4 @@
 -- The proof of an atom at the root of a page: what it needs, and nothing else.
---     Triple                      an atom of an added node, which has an entry of its own
---     Spot                        a node of the page, or the added node of a triple
 --     Needed s page target spot a the proof of the target needs the atom a at the spot
 --     Used s page target t        it uses the triple
 --     IsCanonical                 the proof has exactly what is needed, in its order, and one entry for each triple that is named
@@ -22,17 +20,8 @@ use Rattle.proof_check.specs.declared.proofs.PageItem.{PageItem}
 use Rattle.proof_check.specs.declared.proofs.Proof.{Proof}
 use Rattle.proof_check.specs.Unfolding.{entry_count}
 use Rattle.proof_check.specs.Validity.{MOST_STEPS}
-use Rattle.proof_maker.specs.Choices.{Setting, on_page, on_added, Choice, at_start, by_local, by_up, by_real, by_spawn, from_up, from_down, needs_of, spawn_needs, spawn_kind, chosen}
-
--- an added node's kind, the visible label of its parent, and an atom that it gets
-pub record Triple : Type 0 where
-  pub kind : ℕ
-  pub parent : List ℕ
-  pub atom : ℕ
-
-pub data Spot : Type 0 where
-  page_node : List ℕ → Spot
-  added : Triple → Spot
+use Rattle.proof_needs.specs.Triples.{Triple, Spot, page_node, added}
+use Rattle.proof_needs.specs.Choices.{Setting, on_page, on_added, Choice, at_start, by_local, by_up, by_real, by_spawn, from_up, from_down, needs_of, spawn_needs, spawn_kind, chosen}
 
 module _ (s : System) (page : LabelTree) where
   abbrev pub setting_at : Spot → Setting

@@ -1,9 +1,9 @@
 -- The reason that the code has chosen.
-use Rattle.proof_maker.specs.declared.choices.Choice.{Choice}
+use Rattle.proof_needs.specs.declared.needs.Choice.{Choice}
 use Rattle.proof_maker.specs.declared.choices.Found.{Found}
-use Rattle.proof_maker.specs.declared.choices.Choice.TheVariants.{Start, Local, Up, Real, Spawn}
-use Rattle.proof_maker.specs.Choices.{at_start, by_local, by_up, by_real, by_spawn}
-use Rattle.proof_maker.specs.Choices.{Choice as Reason}
+use Rattle.proof_needs.specs.declared.needs.Choice.TheVariants.{Start, Local, Up, Real, Spawn}
+use Rattle.proof_needs.specs.Choices.{at_start, by_local, by_up, by_real, by_spawn}
+use Rattle.proof_needs.specs.Choices.{Choice as Reason}
 
 abbrev pub reason_of : Choice → Reason
 reason_of Start = at_start

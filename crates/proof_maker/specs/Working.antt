@@ -5,11 +5,12 @@ use Rattle.std.specs.Prelude.{◌≡◌, ℕ, ◌≤◌, [], length, Some, slice
 use Rattle.tree_sem.specs.Trees.{LabelTree}
 use Rattle.simple_core.specs.declared.system.System.{System}
 use Rattle.simple_core.specs.Pairs.{Pair}
-use Rattle.proof_maker.specs.declared.spots.Spot.TheVariants.{Page}
-use Rattle.proof_maker.specs.declared.needs.Needs.{Needs}
-use Rattle.proof_maker.specs.Sets.{IsWith}
-use Rattle.proof_maker.specs.Spots.{paths_in, triples_in}
-use Rattle.proof_maker.specs.Worklist.{want_of, AreOwn, IsWorklist}
+use Rattle.proof_needs.specs.declared.spots.Spot.TheVariants.{Page}
+use Rattle.proof_needs.specs.declared.needs.Needs.{Needs}
+use Rattle.proof_needs.specs.Sets.{IsWith}
+use Rattle.proof_needs.specs.Spots.{paths_in, triples_in}
+use Rattle.proof_maker.specs.Worklist.{AreOwn, IsWorklist}
+use Rattle.proof_needs.specs.Wants.{want_of}
 
 pub record IsWorking (s : System) (page : LabelTree) (known : Pair → Type 0) (n : Needs) : Type 0 where
   pub list : IsWorklist s page n.target known (paths_in n.nodes.keys) (triples_in n.triples.keys) n.ties.items n.wants.keys n.drafts.items

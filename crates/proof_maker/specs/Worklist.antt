@@ -9,22 +9,21 @@ use Rattle.tree_sem.specs.Trees.{LabelTree, node_at}
 use Rattle.tree_sem.specs.Paths.{parent_of}
 use Rattle.simple_core.specs.declared.system.System.{System}
 use Rattle.simple_core.specs.Pairs.{Pair}
-use Rattle.proof_maker.specs.declared.choices.Choice.{Choice}
-use Rattle.proof_maker.specs.declared.choices.Choice.TheVariants.{Start, Local, Up, Real, Spawn}
-use Rattle.proof_maker.specs.declared.spots.Spot.{Spot}
-use Rattle.proof_maker.specs.declared.spots.Spot.TheVariants.{Page, Added}
-use Rattle.proof_maker.specs.declared.spots.Want.{Want}
-use Rattle.proof_maker.specs.declared.needs.Tie.{Tie}
-use Rattle.proof_maker.specs.declared.needs.Draft.{Draft}
-use Rattle.proof_maker.specs.Choices.{by_spawn, from_up, from_down, needs_of, spawn_needs}
-use Rattle.proof_maker.specs.Needs.{Triple, added, labels_at, IsChosen, triple_by, Needed, IsNeededAbove, Used}
-use Rattle.proof_maker.specs.Needs.{Spot as Where}
+use Rattle.proof_needs.specs.declared.needs.Choice.{Choice}
+use Rattle.proof_needs.specs.declared.needs.Choice.TheVariants.{Start, Local, Up, Real, Spawn}
+use Rattle.proof_needs.specs.declared.spots.Spot.{Spot}
+use Rattle.proof_needs.specs.declared.spots.Spot.TheVariants.{Page, Added}
+use Rattle.proof_needs.specs.declared.spots.Want.{Want}
+use Rattle.proof_needs.specs.declared.needs.Tie.{Tie}
+use Rattle.proof_needs.specs.declared.needs.Draft.{Draft}
+use Rattle.proof_needs.specs.Choices.{by_spawn, from_up, from_down, needs_of, spawn_needs}
+use Rattle.proof_maker.specs.Needs.{labels_at, IsChosen, triple_by, Needed, IsNeededAbove, Used}
+use Rattle.proof_needs.specs.Triples.{Triple, added}
+use Rattle.proof_needs.specs.Triples.{Spot as Where}
 use Rattle.proof_maker.specs.Reasons.{reason_of}
-use Rattle.proof_maker.specs.Sets.{AreDistinct}
-use Rattle.proof_maker.specs.Spots.{spot_in, IsSpot}
-
-abbrev pub want_of : Spot → ℕ → Want
-want_of spot a = record { spot = spot; atom = a }
+use Rattle.proof_needs.specs.Sets.{AreDistinct}
+use Rattle.proof_needs.specs.Spots.{spot_in, IsSpot}
+use Rattle.proof_needs.specs.Wants.{want_of}
 
 -- each triple's own atom is wanted at its node
 abbrev pub AreOwn : List Triple → List Want → Type 0

@@ -15,12 +15,12 @@ use Rattle.simple_core.specs.Labels.{visible_in}
 use Rattle.simple_core.specs.Rounds.{grown}
 use Rattle.simple_core.specs.Pages.{page_round}
 use Rattle.simple_core.specs.Knowledge.{KeepsAsking}
-use Rattle.class_adding.specs.ClosedPages.{IsClosedPage}
+use Rattle.closed_page.specs.ClosedPages.{IsClosedPage}
 use Rattle.proof_maker.specs.declared.worlds.Place.{Place}
 use Rattle.proof_maker.specs.declared.worlds.Place.TheVariants.{Node, Added}
 use Rattle.proof_maker.specs.declared.worlds.World.{World}
-use Rattle.proof_maker.specs.Choices.{Setting, on_page, on_added, spawn_needs, spawn_kind, stands}
-use Rattle.proof_maker.specs.Choices.{Choice as Reason}
+use Rattle.proof_needs.specs.Choices.{Setting, on_page, on_added, spawn_needs, spawn_kind, stands}
+use Rattle.proof_needs.specs.Choices.{Choice as Reason}
 use Rattle.simple_core.specs.Givers.{AreGivers}
 
 abbrev pub setting_of : System → LabelTree → Place → Setting

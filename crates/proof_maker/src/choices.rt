@@ -6,26 +6,17 @@ ghost use Rattle.tree_sem.specs.Trees.{node_at, children_at};
 ghost use Rattle.simple_core.specs.Labels.{visible_in};
 ghost use Rattle.simple_core.specs.Rounds.{grown};
 ghost use Rattle.simple_core.specs.Pages.{page_round};
-ghost use Rattle.class_adding.specs.ClosedPages.{IsClosedPage};
-ghost use Rattle.proof_maker.specs.Choices.{by_local, by_up, ways_down, ways, chosen};
+ghost use Rattle.closed_page.specs.ClosedPages.{IsClosedPage};
+ghost use Rattle.proof_needs.specs.Choices.{by_local, by_up, ways_down, ways, chosen};
 ghost use Rattle.proof_maker.specs.Worlds.{setting_of, path_of, labels_of, IsPlace, IsNodeOf, IsReady, stands_at, real_has, spawn_has};
 ghost use Rattle.proof_maker.specs.Glances.{HasBelow};
 ghost use Rattle.proof_maker.specs.Reasons.{found_reason};
 
 use crate::worlds::{Place, World, added_has, has, has_all, is_above, node_has, visible_at};
-use simple_core::{Link, Spawn, Summaries};
+use proof_needs::{Choice, from_of};
+use simple_core::{Spawn, Summaries};
 use std::alloc::Global;
 use tp_base::{Atom, ClassSet, NoMemory, Path};
-
-/// Why a place has an atom: from the start, or by rules of these numbers.
-#[derive(Clone, Copy, Debug, PartialEq, Eq)]
-pub(crate) enum Choice {
-    Start,
-    Local(u64),
-    Up(u64),
-    Real(u64, u32),
-    Spawn(u64, u64),
-}
 
 /// A reason, and for a spawn the visible label in the round before: with it the reason was found.
 #[derive(Drop)]
@@ -151,16 +142,6 @@ fn up_way(
         }
     }
     Ok(None)
-}
-
-/// The left side of a link.
-pub(crate) fn from_of(links: &[Link], link: usize) -> Atom
-    ensures { result ≡ unwrap_or (option_map (λ l. l.from) (slice_get links.now link)) 0 }
-{
-    match links.get(link) {
-        Some(link) => link.from,
-        None => Atom(0),
-    }
 }
 
 fn down_way<S: Summaries>(

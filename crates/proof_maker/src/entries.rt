@@ -3,19 +3,16 @@ ghost use Rattle.std.specs.Prelude.{◌≡◌, ◌<◌, ◌^◌, min, length, ma
 ghost use Rattle.proof_check.specs.Kept.{kept_steps};
 ghost use Rattle.proof_check.specs.Unfolding.{items_count};
 ghost use Rattle.proof_check.specs.Validity.{MOST_STEPS};
-ghost use Rattle.proof_maker.specs.Dealing.{node_of, reason_with};
-ghost use Rattle.proof_maker.specs.Numbers.{number_in};
+ghost use Rattle.proof_maker.specs.Items.{reason_with};
+ghost use Rattle.proof_needs.specs.Dealing.{node_of};
+ghost use Rattle.proof_needs.specs.Numbers.{number_in};
 ghost use Rattle.proof_maker.specs.Making.{AreEntries, IsMade, IsNodeWant, item_of, page_item_of};
 
-use crate::choices::Choice;
-use crate::needs::{Draft, Needs};
-use crate::numbers::number_of;
-use crate::orders::Order;
-use crate::spots::{Spot, Want, path_of};
 use indexmap::IndexSet;
 use proof_check::{
     Below, Entries, Entry, PageItem, PageItems, ProofItem, ProofItems, Reason, items_steps,
 };
+use proof_needs::{Choice, Draft, Needs, Order, Spot, Want, number_of, path_of};
 use simple_core::System;
 use std::alloc::Global;
 use tp_base::{Atom, NoMemory};

@@ -1,15 +1,15 @@
 //! What is looked up of one atom.
 ghost use Rattle.std.specs.Prelude.{◌≡◌, ◌<◌, ℕ, List, length, slice_get, Some, Contains, IfOk, OnOk};
 ghost use Rattle.simple_core.specs.Knowledge.{KeepsAsking};
-ghost use Rattle.proof_maker.specs.Needs.{Triple, page_node, added};
+ghost use Rattle.proof_needs.specs.Triples.{Triple, page_node, added};
 ghost use Rattle.proof_maker.specs.Worlds.{labels_of, IsPlace, IsAsking, IsReady};
-ghost use Rattle.proof_maker.specs.Spots.{paths_in, triples_in};
+ghost use Rattle.proof_needs.specs.Spots.{paths_in, triples_in};
 ghost use Rattle.proof_maker.specs.Glances.{IsGlance, IsGlanceAt, IsNodeAt, IsTripleAt};
 
-use crate::choices::{Choice, chosen};
-use crate::spots::{TripleKey, path_of, set_of};
+use crate::choices::chosen;
 use crate::worlds::{Place, World, first};
 use indexmap::IndexSet;
+use proof_needs::{Choice, TripleKey, path_of, set_of};
 use simple_core::Summaries;
 use std::alloc::Global;
 use tp_base::{Atom, ClassSet, NoMemory};

@@ -7,13 +7,7 @@ mod glances;
 mod laws;
 mod looking;
 mod making;
-mod names;
-mod needs;
-mod numbers;
-mod orders;
 mod rules;
-mod spots;
-mod wants;
 mod worlds;
 
 pub use laws::{canonical_is_one, canonical_is_valid, canonical_length};

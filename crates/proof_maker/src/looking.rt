@@ -3,18 +3,18 @@ ghost use Rattle.std.specs.Prelude.{◌≡◌, ◌<◌, [], suc, length, slice_g
 ghost use Rattle.tree_sem.specs.Nodes.{HasAtom};
 ghost use Rattle.proof_maker.specs.Needs.{UsesMore};
 ghost use Rattle.proof_maker.specs.Worlds.{IsReady};
-ghost use Rattle.proof_maker.specs.Spots.{paths_in, triples_in, spot_in};
-ghost use Rattle.proof_maker.specs.Following.{Enters, IsEntered};
+ghost use Rattle.proof_needs.specs.Spots.{paths_in, triples_in, spot_in};
+ghost use Rattle.proof_needs.specs.Following.{Enters, IsEntered};
 ghost use Rattle.proof_maker.specs.Glances.{IsGlance, AsksAt};
 ghost use Rattle.proof_maker.specs.Working.{IsWorking, IsStart, IsDone};
 
-use crate::choices::{Choice, from_of};
 use crate::glances::{Glance, glance_added, glance_node};
-use crate::needs::{Draft, Needs, Tie, follow};
-use crate::spots::{Spot, TripleKey, Want, node_number, triple_number};
-use crate::wants::want;
 use crate::worlds::World;
 use indexmap::IndexSet;
+use proof_needs::{
+    Choice, Draft, Needs, Spot, Tie, TripleKey, Want, follow, from_of, node_number, triple_number,
+    want,
+};
 use simple_core::{Spawn, Summaries, System};
 use std::alloc::Global;
 use tp_base::{Atom, ClassSet, NoMemory, Path};

@@ -3,7 +3,7 @@ ghost use Rattle.std.specs.Prelude.{◌≡◌, ◌≤◌, [], length, IfOk, IsEr
 ghost use Rattle.tree_sem.specs.Nodes.{HasAtom};
 ghost use Rattle.simple_core.specs.Systems.{IsSound};
 ghost use Rattle.simple_core.specs.Pairs.{Pair, Asked};
-ghost use Rattle.class_adding.specs.ClosedPages.{IsClosedPage};
+ghost use Rattle.closed_page.specs.ClosedPages.{IsClosedPage};
 ghost use Rattle.proof_check.specs.Validity.{IsValid};
 ghost use Rattle.proof_maker.specs.Forests.{KeepsForests};
 ghost use Rattle.proof_maker.specs.Needs.{IsCanonical, UsesMore};
@@ -12,13 +12,11 @@ ghost use Rattle.proof_maker.specs.Making.{IsMakeable, IsProofOf};
 
 use crate::entries::{entries_of, page_items};
 use crate::looking::needs_of;
-use crate::names::numbers_of;
-use crate::needs::Needs;
-use crate::orders::orders_of;
 use crate::rules::Rules;
 use crate::worlds::World;
-use class_adding::Closed;
+use closed_page::Closed;
 use proof_check::Proof;
+use proof_needs::{Needs, numbers_of, orders_of};
 use simple_core::{Summaries, System};
 use std::alloc::Global;
 use thiserror::Error;

@@ -6,10 +6,10 @@ ghost use Rattle.simple_core.specs.Labels.{visible_in};
 ghost use Rattle.simple_core.specs.Rounds.{grown, IsFirst};
 ghost use Rattle.simple_core.specs.Pages.{page_round};
 ghost use Rattle.simple_core.specs.Knowledge.{KeepsAsking};
-ghost use Rattle.class_adding.specs.ClosedPages.{IsClosedPage};
+ghost use Rattle.closed_page.specs.ClosedPages.{IsClosedPage};
 ghost use Rattle.proof_maker.specs.Worlds.{setting_of, path_of, labels_of, IsPlace, above_on, IsNodeOf, IsAsking};
 
-use class_adding::Closed;
+use closed_page::Closed;
 use simple_core::{Givers, Summaries, System};
 use std::alloc::Global;
 use tp_base::{Atom, ClassSet, NoMemory, Path};

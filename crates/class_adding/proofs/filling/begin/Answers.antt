@@ -4,8 +4,8 @@ use Rattle.tree_sem.specs.Trees.{LabelTree}
 use Rattle.tree_sem.specs.Nodes.{IsNode}
 use Rattle.node_marks.specs.Marks.{IsMarked}
 use Rattle.class_adding.specs.Filling.{label_in, starts}
-use Rattle.class_adding.specs.Labelled.{AreAllLabels}
-use Rattle.class_adding.proofs.ThereLemmas.{paths_there}
+use Rattle.closed_page.specs.Labelled.{AreAllLabels}
+use Rattle.closed_page.proofs.LabelledLemmas.{paths_there}
 use Rattle.class_adding.proofs.filling.begin.Goals as goal
 
 pub returns : goal.returns

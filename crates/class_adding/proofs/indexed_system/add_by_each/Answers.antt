@@ -1,5 +1,6 @@
 use Rattle.std.proofs.Common.{◌+◌, ◌∙◌, ap}
-use Rattle.class_adding.specs.Indexes.{row_of, given_in}
+use Rattle.class_adding.specs.Indexes.{given_in}
+use Rattle.closed_page.specs.Rows.{row_of}
 use Rattle.class_adding.proofs.IndexLemmas.{label_more}
 use Rattle.class_adding.proofs.indexed_system.add_by_each.Goals as goal
 

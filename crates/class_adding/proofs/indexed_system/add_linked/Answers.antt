@@ -1,7 +1,8 @@
 use Rattle.std.proofs.Common.{◌∙◌, ap, arith}
 use Rattle.std.proofs.lemmas.List.{take_all}
 use Rattle.tp_base.specs.Classes.{union_of}
-use Rattle.class_adding.specs.Indexes.{row_of, by_label, to_of}
+use Rattle.class_adding.specs.Indexes.{by_label, to_of}
+use Rattle.closed_page.specs.Rows.{row_of}
 use Rattle.class_adding.proofs.IndexLemmas.{label_more, linked}
 use Rattle.class_adding.proofs.indexed_system.add_linked.Goals as goal
 

@@ -1,5 +1,6 @@
 use Rattle.std.proofs.Common.{◌∙◌, ap}
-use Rattle.class_adding.specs.Indexes.{row_of, kind_of}
+use Rattle.class_adding.specs.Indexes.{kind_of}
+use Rattle.closed_page.specs.Rows.{row_of}
 use Rattle.class_adding.proofs.IndexLemmas.{kinds_more}
 use Rattle.class_adding.proofs.indexed_system.add_spawned.Goals as goal
 

@@ -1,6 +1,6 @@
 use Rattle.simple_core.specs.Pairs.{Asks}
 use Rattle.class_adding.specs.Filling.{label_in}
-use Rattle.class_adding.specs.Labelled.{node_of}
+use Rattle.closed_page.specs.Labelled.{node_of}
 use Rattle.class_adding.proofs.WentLemmas.{went_start}
 use Rattle.class_adding.proofs.RoundLemmas.{looked_now, looked_rest, news_rest, gain_now}
 use Rattle.std.proofs.Common.{ℕ, Option, sym, subst}

@@ -1,5 +1,5 @@
 use Rattle.std.proofs.Common.{sym, ◌∙◌}
-use Rattle.proof_maker.specs.Choices.{ways_down}
+use Rattle.proof_needs.specs.Choices.{ways_down}
 use Rattle.proof_maker.specs.Reasons.{found_reason}
 use Rattle.proof_maker.specs.Worlds.{setting_of, path_of, stands_at}
 use Rattle.proof_maker.proofs.FindLemmas.{each_here, each_next}

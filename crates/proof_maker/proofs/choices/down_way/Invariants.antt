@@ -1,6 +1,6 @@
 use Rattle.std.proofs.Common.{◌≡◌, drop, find}
 use Rattle.std.specs.List.{flat_map}
-use Rattle.proof_maker.specs.Choices.{ways_down}
+use Rattle.proof_needs.specs.Choices.{ways_down}
 use Rattle.proof_maker.specs.Worlds.{setting_of, path_of, stands_at}
 use Rattle.proof_maker.proofs.choices.down_way.Given as goal
 

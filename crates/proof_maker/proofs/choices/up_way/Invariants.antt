@@ -1,5 +1,5 @@
 use Rattle.std.proofs.Common.{◌≡◌, drop, find}
-use Rattle.proof_maker.specs.Choices.{by_up}
+use Rattle.proof_needs.specs.Choices.{by_up}
 use Rattle.proof_maker.specs.Worlds.{stands_at}
 use Rattle.proof_maker.proofs.choices.up_way.Given as goal
 

@@ -1,7 +1,7 @@
 use Rattle.std.proofs.Common.{◌≡◌, Option, Some, find, option_map, sym, ap, ◌∙◌}
 use Rattle.std.specs.List.{flat_map}
 use Rattle.proof_maker.specs.declared.choices.Found as code
-use Rattle.proof_maker.specs.Choices.{ways_down, ways}
+use Rattle.proof_needs.specs.Choices.{ways_down, ways}
 use Rattle.proof_maker.specs.Reasons.{reason_of, found_reason}
 use Rattle.proof_maker.specs.Worlds.{setting_of, path_of, stands_at}
 use Rattle.proof_maker.proofs.FindLemmas.{local_found, up_found, down_left, ok_further}

@@ -1,6 +1,6 @@
 use Rattle.std.proofs.Common.{List, ℕ, sym, ap, subst, ◌∙◌}
 use Rattle.std.specs.List.Sorted.{IsStrictlyIncreasing}
-use Rattle.proof_maker.specs.Needs.{Triple}
+use Rattle.proof_needs.specs.Triples.{Triple}
 use Rattle.proof_maker.proofs.FindLemmas.{ok_further}
 use Rattle.proof_maker.proofs.GlanceLemmas.{key_triple, added_glance}
 use Rattle.proof_maker.proofs.glances.glance_added.Goals as goal

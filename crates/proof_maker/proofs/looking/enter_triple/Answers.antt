@@ -1,6 +1,6 @@
 use Rattle.std.proofs.Common.{◌≡◌, suc, length, if◌then◌else◌, inr, sym, ap, ◌∙◌}
 use Rattle.std.proofs.lemmas.List.{length-map}
-use Rattle.proof_maker.specs.Spots.{triple_of}
+use Rattle.proof_needs.specs.Spots.{triple_of}
 use Rattle.proof_maker.proofs.looking.enter_triple.Goals as goal
 
 pub returns-in_ok-push : goal.returns-in_ok-push

@@ -1,7 +1,7 @@
 use Rattle.std.proofs.Common.{◌<◌, Contains, subst}
 use Rattle.std.proofs.lemmas.List.{length-map}
-use Rattle.proof_maker.specs.Spots.{paths_in, triples_in, triple_of}
-use Rattle.proof_maker.specs.Worklist.{want_of}
+use Rattle.proof_needs.specs.Spots.{paths_in, triples_in, triple_of}
+use Rattle.proof_needs.specs.Wants.{want_of}
 use Rattle.proof_maker.proofs.SpotLemmas.{node_looked, triple_looked, triple_bound, node_glanced, triple_glanced}
 use Rattle.proof_maker.proofs.WorkLemmas.{if_ok}
 use Rattle.proof_maker.proofs.looking.glance_at.Goals as goal

@@ -1,6 +1,6 @@
 use Rattle.std.proofs.Common.{◌≡◌, length, Some, slice_get, arith}
 use Rattle.proof_check.proofs.ItemLemmas.{slice_get-Contains}
-use Rattle.proof_maker.specs.Spots.{paths_in, triples_in}
+use Rattle.proof_needs.specs.Spots.{paths_in, triples_in}
 use Rattle.proof_maker.proofs.WorkLemmas.{next_is, tie_index, next_working}
 use Rattle.proof_maker.proofs.looking.look.Goals as goal
 

@@ -1,7 +1,7 @@
 use Rattle.std.proofs.Common.{◌<◌, length, sym, ap, ◌∙◌, subst, arith}
 use Rattle.std.proofs.lemmas.List.{length-map}
 use Rattle.proof_maker.specs.Needs.{UsesMore}
-use Rattle.proof_maker.specs.Spots.{paths_in, triples_in, triple_of}
+use Rattle.proof_needs.specs.Spots.{paths_in, triples_in, triple_of}
 use Rattle.proof_maker.proofs.EndLemmas.{target_comes, start_right, uses_more}
 use Rattle.proof_maker.proofs.looking.needs_of.Goals as goal
 

@@ -1,8 +1,8 @@
 use Rattle.std.proofs.Common.{◌≡◌, [], Some, slice_get, refl, ap, subst}
-use Rattle.proof_maker.specs.Sets.{IsWith}
-use Rattle.proof_maker.specs.Spots.{paths_in, triples_in}
-use Rattle.proof_maker.specs.Worklist.{want_of}
-use Rattle.proof_maker.specs.declared.spots.Spot.TheVariants.{Page}
+use Rattle.proof_needs.specs.Sets.{IsWith}
+use Rattle.proof_needs.specs.Spots.{paths_in, triples_in}
+use Rattle.proof_needs.specs.Wants.{want_of}
+use Rattle.proof_needs.specs.declared.spots.Spot.TheVariants.{Page}
 use Rattle.proof_maker.proofs.looking.start.Goals as goal
 
 pub returns : goal.returns

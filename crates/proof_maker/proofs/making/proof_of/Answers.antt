@@ -1,7 +1,7 @@
 use Rattle.std.proofs.Common.{◌<◌, length, map, All, sym, ap, ◌∙◌, subst}
 use Rattle.proof_maker.specs.Making.{IsNodeWant, AreEntries, page_item_of}
-use Rattle.proof_maker.specs.Names.{named_all, names_in}
-use Rattle.proof_maker.specs.Numbers.{Tours}
+use Rattle.proof_needs.specs.Names.{named_all, names_in}
+use Rattle.proof_needs.specs.Numbers.{Tours}
 use Rattle.proof_maker.proofs.MakeLemmas.{page_nodes, orders_within, triples_within, ties_within, few}
 use Rattle.proof_maker.proofs.making.proof_of.Goals as goal
 

@@ -1,5 +1,0 @@
-use Rattle.class_adding.specs.Firsts.{AreNumbers}
-use Rattle.class_adding.proofs.first_rounds.numbers_of.Given as goal
-
-abbrev pub invariant-loop-i : goal.invariant-loop-i
-invariant-loop-i l = AreNumbers l.nodes l.firsts l.numbers.items l.i

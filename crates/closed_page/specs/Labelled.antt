@@ -1,0 +1,47 @@
+-- The labels of a page, by the numbers of its nodes.
+--     Labelled               a tree with the labels, and the paths of its nodes
+--     node_of l i            the path of the node with this number
+--     IsAbove nodes v o      o is the number of the parent of the node at v, if the parent is there
+--     AreKids nodes i row    the row has the numbers of the children of the i-th node
+--     AreRelated ..          what is kept of each node belongs to the tree
+use Rattle.std.specs.Prelude.{◌≡◌, ℕ, ◌<◌, List, [], ◌∷◌, ◌++◌, Option, Some, None, length, get_or, Contains, IsSome, refl}
+use Rattle.std.specs.Coded.{Coded, code_by, coded×, coded_ℕ, coded_list}
+use Rattle.tree_sem.specs.Trees.{LabelTree, node_at, label_at}
+use Rattle.tree_sem.specs.TreeCode.{tree_code}
+use Rattle.closed_page.specs.Rows.{AreByNumber}
+
+pub record Labelled : Type 0 where
+  pub labels : LabelTree
+  pub nodes : List (List ℕ)
+
+abbrev pub labelled_code : Coded Labelled
+labelled_code = code_by (LabelTree × List (List ℕ)) (coded× tree_code (coded_list (coded_list coded_ℕ))) (λ l. (l.labels, l.nodes)) (λ p. record { labels = p.0; nodes = p.1 }) (λ l. refl)
+
+-- the path of the node with this number
+abbrev pub node_of : Labelled → ℕ → List ℕ
+node_of l i = get_or l.nodes i []
+
+abbrev pub IsAbove : List (List ℕ) → List ℕ → Option ℕ → Type 0
+IsAbove nodes v None = (p : List ℕ) (n : ℕ) → v ≡ p ++ n ∷ [] → Contains nodes p → ⊥
+IsAbove nodes v (Some j) = (j < length nodes) × (n : ℕ) × (v ≡ get_or nodes j [] ++ n ∷ [])
+
+-- the row has the numbers of the children of the i-th node
+pub record AreKids (nodes : List (List ℕ)) (i : ℕ) (row : List ℕ) : Type 0 where
+  pub only : (c : ℕ) → Contains row c → (c < length nodes) × (n : ℕ) × (get_or nodes c [] ≡ get_or nodes i [] ++ n ∷ [])
+  pub whole : (c n : ℕ) → c < length nodes → get_or nodes c [] ≡ get_or nodes i [] ++ n ∷ [] → Contains row c
+
+-- the first n nodes
+pub record AreAllAbove (nodes : List (List ℕ)) (parents : List (Option ℕ)) (n : ℕ) : Type 0 where
+  pub count : length parents ≡ n
+  pub each : (i : ℕ) → i < n → IsAbove nodes (get_or nodes i []) (get_or parents i None)
+
+pub record AreAllLabels (u : LabelTree) (nodes own : List (List ℕ)) (n : ℕ) : Type 0 where
+  pub count : length own ≡ n
+  pub each : (i : ℕ) → i < n → label_at (get_or nodes i []) u ≡ Some (get_or own i [])
+
+pub record AreRelated (u : LabelTree) (nodes : List (List ℕ)) (parents : List (Option ℕ)) (kids own : List (List ℕ)) : Type 0 where
+  pub whole : (v : List ℕ) → IsSome (node_at v u) → Contains nodes v
+  pub once : (i j : ℕ) → i < length nodes → j < length nodes → get_or nodes i [] ≡ get_or nodes j [] → i ≡ j
+  pub above : AreAllAbove nodes parents (length nodes)
+  pub below : AreByNumber parents kids
+  pub labels : AreAllLabels u nodes own (length nodes)

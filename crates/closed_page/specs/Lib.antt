@@ -1,0 +1,5 @@
+pub mod ClosedPages
+pub mod Firsts
+pub mod Labelled
+pub mod Rows
+pub mod Views

@@ -1,0 +1,62 @@
+//! A closed page.
+ghost use Rattle.std.specs.Prelude.{◌≡◌, IfOk, option_copied};
+ghost use Rattle.tree_sem.specs.Trees.{label_at};
+ghost use Rattle.closed_page.specs.ClosedPages.{HasNoOthers, round_of};
+ghost use Rattle.closed_page.specs.Firsts.{AreOfNodes};
+ghost use Rattle.closed_page.specs.Views.{firsts_of};
+
+use crate::first_rounds::{FirstRounds, PageFirst};
+use crate::page_labels::PageLabels;
+use std::alloc::Global;
+use std::marker::Model;
+use tp_base::{Atom, ClassSet, NoMemory, Path};
+use tree_sem::Tree;
+
+/// The page with its closed labels, and for each node and atom the round in which it came.
+#[derive(Drop)]
+pub struct Closed {
+    labels: Tree,
+    firsts: FirstRounds,
+}
+
+impl Model for Closed {
+    ghost use Rattle.closed_page.specs.ClosedPages.{ClosedPage, closed_code, HasNoOthers};
+
+    ghost Value = { ClosedPage };
+
+    ghost coded = { closed_code };
+
+    ghost view = { λ c. record { labels = c.labels; firsts = c.firsts } };
+
+    ghost invariant = { λ c. HasNoOthers c.labels c.firsts };
+}
+
+impl Closed {
+    /// A page whose labels are closed. Linear in the lengths of the paths of firsts, on average.
+    pub fn new(alloc: Global, page: PageLabels, firsts: Vec<PageFirst>) -> Result<Closed, NoMemory>
+        requires nodes { AreOfNodes page.nodes firsts.items }
+        requires others { HasNoOthers page.labels (firsts_of firsts.items) }
+        ensures { IfOk result (λ c. c ≡ record { labels = page.labels; firsts = firsts_of firsts.items }) }
+    {
+        let (labels, nodes) = page.into_parts();
+        let firsts = FirstRounds::new(alloc, nodes, firsts)?;
+        Ok(Closed { labels, firsts })
+    }
+
+    /// The closed label of a node. Linear in the path's length.
+    pub fn label(&self, at: &Path) -> Option<&ClassSet>
+        ensures { option_copied result ≡ label_at at.now self.now.labels }
+    {
+        self.labels.label(at)
+    }
+
+    /// The first round in which a node has the atom. Linear in the path's length, on average, and in the node's atoms.
+    pub fn first_round(&self, at: &Path, atom: Atom) -> Option<u64>
+        ensures { result ≡ round_of self.now.firsts at.now atom }
+    {
+        match self.labels.label(at) {
+            Some(_) => self.firsts.round(at, atom),
+            None => None,
+        }
+    }
+}

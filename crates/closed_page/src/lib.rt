@@ -1,0 +1,14 @@
+//! A closed page: its nodes by number, their labels, and the first round of each atom.
+#![tactic(auto)]
+
+mod closed;
+mod first_rounds;
+mod index;
+mod nodes;
+mod page_labels;
+mod paths;
+
+pub use closed::Closed;
+pub use first_rounds::PageFirst;
+pub use index::Index;
+pub use page_labels::{PageLabels, all_labels};

@@ -1,0 +1,191 @@
+//! The labels of a page, by the numbers of its nodes in the order of the document.
+ghost use Rattle.std.specs.Prelude.{◌≡◌, ◌<◌, ℕ, [], Some, None, length, get_or, unwrap_or, option_copied, IfOk, OnOk, OnErr, IfSome, IsSome, IsNone, List, Contains, All};
+ghost use Rattle.tree_sem.specs.Trees.{node_at, label_at, edit_at};
+ghost use Rattle.tree_sem.specs.Nodes.{IsNode};
+ghost use Rattle.tree_sem.specs.Order.{paths_of};
+ghost use Rattle.tree_sem.specs.Actions.{add_classes};
+ghost use Rattle.closed_page.specs.Labelled.{node_of, IsAbove, AreKids, AreAllAbove, AreAllLabels};
+
+use crate::index::Index;
+use crate::nodes::PageNodes;
+use crate::paths::all_paths;
+use std::alloc::Global;
+use std::marker::Model;
+use tp_base::{ClassSet, NoMemory, Path};
+use tree_sem::{Tree, TreeFault};
+
+/// A page, and for each node its label, the number of its parent, and those of its children. A contract sees the tree
+/// and the paths of the nodes.
+#[derive(Drop)]
+pub struct PageLabels {
+    tree: Tree,
+    nodes: PageNodes,
+    parents: Vec<Option<usize>>,
+    kids: Index,
+    own: Vec<ClassSet>,
+}
+
+impl Model for PageLabels {
+    ghost use Rattle.closed_page.specs.Labelled.{Labelled, labelled_code, AreRelated};
+
+    ghost Value = { Labelled };
+
+    ghost coded = { labelled_code };
+
+    ghost view = { λ l. record { labels = l.tree; nodes = l.nodes } };
+
+    ghost invariant = { λ l. AreRelated l.tree l.nodes l.parents.items l.kids l.own.items };
+}
+
+impl PageLabels {
+    /// Numbers the nodes of a page. Linear in the lengths of their paths, on average.
+    pub fn new(alloc: Global, page: &Tree) -> Result<PageLabels, NoMemory>
+        ensures labels { IfOk result (λ l. l.labels ≡ page.now) }
+        ensures nodes { IfOk result (λ l. l.nodes ≡ paths_of page.now) }
+    {
+        let tree = page.copy()?;
+        let paths = all_paths(alloc, page)?;
+        let nodes = PageNodes::new(alloc, paths)?;
+        let parents = all_above(alloc, &nodes)?;
+        let kids = Index::of_numbers(alloc, &parents)?;
+        let own = all_labels(alloc, page, nodes.paths())?;
+        Ok(PageLabels {
+            tree,
+            nodes,
+            parents,
+            kids,
+            own,
+        })
+    }
+
+    /// The paths of the nodes.
+    pub fn paths(&self) -> &[Path]
+        ensures { result.now ≡ self.now.nodes }
+    {
+        self.nodes.paths()
+    }
+
+    /// The path of a node.
+    pub fn path(&self, number: usize) -> &Path
+        requires { number < length self.now.nodes }
+        ensures { result.now ≡ node_of self.now number }
+    {
+        let paths = self.nodes.paths();
+        &paths[number]
+    }
+
+    /// The number of a node. Linear in its path's length, on average, where the node is there.
+    pub fn number_of(&self, at: &Path) -> Option<usize>
+        ensures some { IfSome result (λ i. (i < length self.now.nodes) × (node_of self.now i ≡ at.now)) }
+        ensures none { IsNone result → ¬ Contains self.now.nodes at.now }
+    {
+        self.nodes.number_of(at)
+    }
+
+    /// The label of a node.
+    pub fn own(&self, number: usize) -> &ClassSet
+        requires { number < length self.now.nodes }
+        ensures { label_at (node_of self.now number) self.now.labels ≡ Some result.now }
+    {
+        &self.own[number]
+    }
+
+    /// The number of a node's parent.
+    pub fn parent(&self, number: usize) -> Option<usize>
+        requires { number < length self.now.nodes }
+        ensures { IsAbove self.now.nodes (node_of self.now number) result }
+    {
+        self.parents[number]
+    }
+
+    /// The numbers of a node's children.
+    pub fn kids(&self, number: usize) -> &[usize]
+        requires { number < length self.now.nodes }
+        ensures kids { AreKids self.now.nodes number result.now }
+        ensures whole { (v : List ℕ) → IsSome (node_at v self.now.labels) → Contains self.now.nodes v }
+    {
+        self.kids.of(number)
+    }
+
+    /// Adds atoms to the label of a node. It costs the node's depth, too.
+    pub fn add(&mut self, number: usize, label: &ClassSet) -> Result<(), NoMemory>
+        requires { number < length self.old.nodes }
+        ensures labels { OnOk result (self.new.labels ≡ edit_at (node_of self.old number) (add_classes label.now) self.old.labels) }
+        ensures nodes { OnOk result (self.new.nodes ≡ self.old.nodes) }
+    {
+        let mut longer = self.own[number].copy()?;
+        longer.union(label)?;
+        widen(&mut self.tree, &self.nodes.paths()[number], label)?;
+        self.own[number] = longer;
+        Ok(())
+    }
+
+    /// The tree with the labels, and the nodes.
+    pub(crate) fn into_parts(self) -> (Tree, PageNodes)
+        ensures tree { result.0 ≡ self.labels }
+        ensures nodes { result.1 ≡ self.nodes }
+    {
+        (self.tree, self.nodes)
+    }
+}
+
+// Adds atoms to the label of a node of the tree.
+fn widen(tree: &mut Tree, at: &Path, label: &ClassSet) -> Result<(), NoMemory>
+    requires { IsNode tree.old at.now }
+    ensures ok { OnOk result (tree.new ≡ edit_at at.now (add_classes label.now) tree.old) }
+    ensures err { OnErr result (tree.new ≡ tree.old) }
+{
+    match tree.add_classes(at, label) {
+        Ok(_) => Ok(()),
+        Err(TreeFault::Memory) => Err(NoMemory),
+        Err(_) => unreachable!(),
+    }
+}
+
+// The number of the node above.
+fn number_above(nodes: &PageNodes, number: usize) -> Result<Option<usize>, NoMemory>
+    requires { number < length nodes.now }
+    ensures { IfOk result (λ o. IsAbove nodes.now (get_or nodes.now number []) o) }
+{
+    let paths = nodes.paths();
+    let mut at = paths[number].copy()?;
+    match at.pop() {
+        Some(_) => Ok(nodes.number_of(&at)),
+        None => Ok(None),
+    }
+}
+
+fn all_above(alloc: Global, nodes: &PageNodes) -> Result<Vec<Option<usize>>, NoMemory>
+    ensures { IfOk result (λ v. AreAllAbove nodes.now v.items (length nodes.now)) }
+{
+    let mut parents = Vec::new(alloc);
+    for i in 0..nodes.paths().len() {
+        let parent = number_above(nodes, i)?;
+        parents.push(parent)?;
+    }
+    Ok(parents)
+}
+
+// The label of a node, once more.
+fn label_of(page: &Tree, at: &Path) -> Result<ClassSet, NoMemory>
+    requires { IsNode page.now at.now }
+    ensures { IfOk result (λ l. label_at at.now page.now ≡ Some l) }
+{
+    match page.label(at) {
+        Some(label) => label.copy(),
+        None => unreachable!(),
+    }
+}
+
+/// The label of each of these nodes, once more.
+pub fn all_labels(alloc: Global, page: &Tree, paths: &[Path]) -> Result<Vec<ClassSet>, NoMemory>
+    requires { All (IsNode page.now) paths.now }
+    ensures { IfOk result (λ v. AreAllLabels page.now paths.now v.items (length paths.now)) }
+{
+    let mut labels = Vec::new(alloc);
+    for i in 0..paths.len() {
+        let label = label_of(page, &paths[i])?;
+        labels.push(label)?;
+    }
+    Ok(labels)
+}

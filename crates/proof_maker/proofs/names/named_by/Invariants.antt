@@ -1,6 +1,0 @@
-use Rattle.std.proofs.Common.{◌≡◌, ◌++◌, drop}
-use Rattle.proof_maker.specs.Names.{named_all}
-use Rattle.proof_maker.proofs.names.named_by.Given as goal
-
-abbrev pub invariant-loop-want : goal.invariant-loop-want
-invariant-loop-want l = l.named.items ++ named_all l.drafts (drop l.want-index l.wants) ≡ named_all l.drafts l.wants

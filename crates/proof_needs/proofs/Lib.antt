@@ -1,0 +1,9 @@
+pub mod PlaceLemmas
+pub mod SetLemmas
+pub mod KeyLemmas
+pub mod RisingLemmas
+pub mod SortLemmas
+pub mod OrderLemmas
+pub mod NumberLemmas
+pub mod NameLemmas
+pub mod TieLemmas

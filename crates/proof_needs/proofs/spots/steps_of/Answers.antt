@@ -1,0 +1,12 @@
+use Rattle.std.proofs.Common.{◌≡◌, take, suc, ◌++◌, ◌∷◌, [], sym, ap, subst, ◌∙◌, arith}
+use Rattle.proof_needs.proofs.PlaceLemmas.{take_at}
+use Rattle.proof_needs.proofs.spots.steps_of.Goals as goal
+
+pub loop-i-preserved : goal.loop-i-preserved
+loop-i-preserved c =
+    let v = c.args.at.now in
+    let i = c.loop-i.i in
+    record {
+      so_far = subst (λ m. c.push.new.self.items ≡ take m v) {x = suc i} (omega arith)
+          (c.in_ok-push.ensures.items ∙ ap (λ xs. xs ++ c.at.result ∷ []) c.loop-i.invariant.so_far ∙ sym (take_at v i c.at.result c.at.ensures));
+    }

@@ -1,0 +1,17 @@
+use Rattle.std.proofs.Common.{arith}
+use Rattle.proof_needs.specs.declared.spots.Spot.{Spot}
+use Rattle.proof_needs.proofs.SetLemmas.{each_start, each_more, each_whole}
+use Rattle.proof_needs.proofs.wants.want_at_each.Goals as goal
+
+pub loop-spot-init : goal.loop-spot-init
+loop-spot-init c = each_start (λ (p : Spot). record { spot = p; atom = c.args.atom }) c.args.spots.now c.args.wants.now.keys
+
+pub loop-spot-preserved : goal.loop-spot-preserved
+loop-spot-preserved c =
+    each_more (λ (p : Spot). record { spot = p; atom = c.args.atom }) c.args.spots.now c.args.wants.now.keys c.loop-spot.spot-index _ c.loop-spot.wants.keys c.want.new.wants.keys
+    (omega (arith, c.loop-spot-test.true)) c.loop-spot.invariant c.in_ok-want.ensures
+
+pub returns : goal.returns
+returns c =
+    each_whole (λ (p : Spot). record { spot = p; atom = c.args.atom }) c.args.spots.now c.args.wants.now.keys c.loop-spot.spot-index c.loop-spot.wants.keys
+    (omega (arith, c.loop-spot-test.false)) c.loop-spot.invariant

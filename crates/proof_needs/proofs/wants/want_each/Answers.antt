@@ -1,0 +1,16 @@
+use Rattle.std.proofs.Common.{ℕ, arith}
+use Rattle.proof_needs.proofs.SetLemmas.{each_start, each_next, each_whole}
+use Rattle.proof_needs.proofs.wants.want_each.Goals as goal
+
+pub loop-i-init : goal.loop-i-init
+loop-i-init c = each_start (λ (a : ℕ). record { spot = c.args.spot; atom = a }) c.args.atoms.now c.args.wants.now.keys
+
+pub loop-i-preserved : goal.loop-i-preserved
+loop-i-preserved c =
+    each_next (λ (a : ℕ). record { spot = c.args.spot; atom = a }) c.args.atoms.now c.args.wants.now.keys c.loop-i.i c.at.result c.loop-i.wants.keys c.want.new.wants.keys
+    c.at.ensures c.loop-i.invariant c.in_ok-want.ensures
+
+pub returns : goal.returns
+returns c =
+    each_whole (λ (a : ℕ). record { spot = c.args.spot; atom = a }) c.args.atoms.now c.args.wants.now.keys c.loop-i.i c.loop-i.wants.keys
+    (omega (arith, c.loop-i-test.false)) c.loop-i.invariant

@@ -1,0 +1,70 @@
+-- What is wanted, and noted, for the premises of a reason.
+--     IsAtNode               the node has a number, and the atom is wanted there
+--     Follows                the premises of a reason at a spot are wanted
+use Rattle.std.specs.Prelude.{◌≡◌, ◌⊎◌, ℕ, List, [], ◌∷◌, ◌++◌, suc, length, Option, Some, None, IsSomeAnd, slice_get, slice_set}
+use Rattle.tree_sem.specs.Paths.{parent_of}
+use Rattle.tp_base.specs.Classes.{with_class}
+use Rattle.simple_core.specs.declared.system.System.{System}
+use Rattle.proof_needs.specs.declared.needs.Choice.{Choice}
+use Rattle.proof_needs.specs.declared.needs.Choice.TheVariants.{Start, Local, Up, Real, Spawn}
+use Rattle.proof_needs.specs.declared.spots.Spot.{Spot}
+use Rattle.proof_needs.specs.declared.spots.Spot.TheVariants.{Page, Added}
+use Rattle.proof_needs.specs.declared.spots.Want.{Want}
+use Rattle.proof_needs.specs.declared.needs.Tie.{Tie}
+use Rattle.proof_needs.specs.Choices.{from_up, from_down, needs_of, spawn_needs, spawn_kind}
+use Rattle.proof_needs.specs.Triples.{Triple}
+use Rattle.proof_needs.specs.Sets.{IsWith}
+use Rattle.proof_needs.specs.Wants.{want_of, IsOfEach, IsAtEach}
+
+pub record IsAtNode (v : List ℕ) (from : ℕ) (nodes nodes' : List (List ℕ)) (wants wants' : List Want) : Type 0 where
+  pub number : ℕ
+  pub at : slice_get nodes' number ≡ Some v
+  pub of_nodes : IsWith nodes (λ u. u ≡ v) nodes'
+  pub of_wants : IsWith wants (λ w. w ≡ want_of (Page number) from) wants'
+
+-- the added node n needs one atom more of its parent
+pub record IsAbove (n from : ℕ) (tie : Tie) (ties ties' : List Tie) (wants wants' : List Want) : Type 0 where
+  pub now : Tie
+  pub ties_is : ties' ≡ slice_set ties n now
+  pub users : now.users.items ≡ tie.users.items
+  pub above : now.above ≡ with_class from tie.above
+  pub of_wants : IsWith wants (IsAtEach tie.users.items from) wants'
+
+-- the spot has the added node n as a child
+pub record IsUsed (n from needs : ℕ) (spot : Spot) (tie : Tie) (ties ties' : List Tie) (wants wants' : List Want) : Type 0 where
+  pub now : Tie
+  pub ties_is : ties' ≡ slice_set ties n now
+  pub users : now.users.items ≡ tie.users.items ++ spot ∷ []
+  pub above : now.above ≡ tie.above
+  pub of_wants : IsWith wants (λ w. (w ≡ want_of spot needs) ⊎ ((w ≡ want_of (Added n) from) ⊎ IsOfEach spot tie.above w)) wants'
+
+module _ (nodes nodes' : List (List ℕ)) (ties ties' : List Tie) (wants wants' : List Want) where
+  abbrev pub FollowsUp : Spot → ℕ → Type 0
+  FollowsUp (Page n) from = (ties' ≡ ties) × ((v p : List ℕ) → slice_get nodes n ≡ Some v → parent_of v ≡ Some p → IsAtNode p from nodes nodes' wants wants')
+  FollowsUp (Added n) from = (nodes' ≡ nodes) × ((tie : Tie) → slice_get ties n ≡ Some tie → IsAbove n from tie ties ties' wants wants')
+
+  abbrev pub FollowsDown : Spot → ℕ → ℕ → Type 0
+  FollowsDown (Page n) k from = (ties' ≡ ties) × ((v : List ℕ) → slice_get nodes n ≡ Some v → IsAtNode (v ++ k ∷ []) from nodes nodes' wants wants')
+  FollowsDown (Added n) k from = Unit {0}
+
+  abbrev pub Follows : System → Spot → Choice → Option ℕ → Type 0
+  Follows s spot Start named = (nodes' ≡ nodes) × (ties' ≡ ties) × (wants' ≡ wants)
+  Follows s spot (Local l) named = (nodes' ≡ nodes) × (ties' ≡ ties) × IsWith wants (IsOfEach spot (needs_of s l)) wants'
+  Follows s spot (Up l) named = FollowsUp spot (from_up s l)
+  Follows s spot (Real l n) named = FollowsDown spot n (from_down s l)
+  Follows s spot (Spawn l c) named = (nodes' ≡ nodes) × ((n : ℕ) (tie : Tie) → named ≡ Some n → slice_get ties n ≡ Some tie → IsUsed n (from_down s l) (spawn_needs s c) spot tie ties ties' wants wants')
+
+-- the triple has a number, with a tie of its own
+pub record IsEntered (t : Triple) (triples triples' : List Triple) (ties ties' : List Tie) (number : ℕ) : Type 0 where
+  pub at : slice_get triples' number ≡ Some t
+  pub of_triples : IsWith triples (λ u. u ≡ t) triples'
+  pub tie_cases : ((ties' ≡ ties) × (length triples' ≡ length triples)) ⊎ ((e : Tie) × (ties' ≡ ties ++ e ∷ []) × (e.above ≡ []) × (e.users.items ≡ []) × (length triples' ≡ suc (length triples)))
+
+-- for a spawn, the triple of the child below a spot with this visible label is entered
+abbrev pub Enters : System → List ℕ → List Triple → List Triple → List Tie → List Tie → Choice → Option ℕ → Type 0
+Enters s below triples triples' ties ties' Start named = (named ≡ None) × (triples' ≡ triples) × (ties' ≡ ties)
+Enters s below triples triples' ties ties' (Local l) named = (named ≡ None) × (triples' ≡ triples) × (ties' ≡ ties)
+Enters s below triples triples' ties ties' (Up l) named = (named ≡ None) × (triples' ≡ triples) × (ties' ≡ ties)
+Enters s below triples triples' ties ties' (Real l n) named = (named ≡ None) × (triples' ≡ triples) × (ties' ≡ ties)
+Enters s below triples triples' ties ties' (Spawn l c) named =
+    IsSomeAnd named (IsEntered (record { kind = spawn_kind s c; parent = below; atom = from_down s l }) triples triples' ties ties')

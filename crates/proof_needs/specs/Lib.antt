@@ -1,0 +1,11 @@
+pub mod Choices
+pub mod Triples
+pub mod Sets
+pub mod Spots
+pub mod Wants
+pub mod Ties
+pub mod Following
+pub mod Names
+pub mod Numbers
+pub mod Dealing
+pub mod Orders

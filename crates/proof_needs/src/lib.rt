@@ -1,0 +1,16 @@
+//! What the proof of an atom needs: each atom at each place once, in the order of a proof, with a number for each entry.
+#![tactic(auto)]
+
+mod names;
+mod needs;
+mod numbers;
+mod orders;
+mod spots;
+mod wants;
+
+pub use names::numbers_of;
+pub use needs::{Choice, Draft, Needs, Tie, follow, from_of};
+pub use numbers::number_of;
+pub use orders::{Order, Orders, orders_of};
+pub use spots::{Spot, TripleKey, Want, node_number, path_of, set_of, triple_number};
+pub use wants::want;

@@ -1,0 +1,261 @@
+//! What the proof of an atom needs, and how the premises of a reason are followed.
+ghost use Rattle.std.specs.Prelude.{◌≡◌, ◌<◌, ◌++◌, ◌∷◌, [], ℕ, List, Option, Some, length, slice_get, unwrap_or, option_map, IfSome, OnOk};
+ghost use Rattle.tree_sem.specs.Paths.{parent_of};
+ghost use Rattle.proof_needs.specs.Choices.{needs_of, spawn_needs};
+ghost use Rattle.proof_needs.specs.Sets.{IsWith};
+ghost use Rattle.proof_needs.specs.Spots.{paths_in};
+ghost use Rattle.proof_needs.specs.Wants.{IsOfEach};
+ghost use Rattle.proof_needs.specs.Ties.{TieAt, IsTieIndex};
+ghost use Rattle.proof_needs.specs.declared.needs.Tie.{Tie};
+ghost use Rattle.proof_needs.specs.Following.{IsAtNode, IsAbove, IsUsed, FollowsUp, FollowsDown, Follows};
+
+use crate::spots::{Spot, TripleKey, Want, node_number, path_of};
+use crate::wants::{want, want_at_each, want_each};
+use indexmap::IndexSet;
+use simple_core::{Link, Spawn, System};
+use std::alloc::Global;
+use tp_base::{Atom, ClassSet, NoMemory, Path};
+
+/// Why a place has an atom: from the start, or by rules of these numbers.
+#[derive(Clone, Copy, Debug, PartialEq, Eq)]
+pub enum Choice {
+    Start,
+    Local(u64),
+    Up(u64),
+    Real(u64, u32),
+    Spawn(u64, u64),
+}
+
+/// What an added node needs of its parent, and the spots that have the node as a child.
+#[derive(Drop)]
+pub struct Tie {
+    pub above: ClassSet,
+    pub users: Vec<Spot>,
+}
+
+/// An atom that was looked at: its first round, the reason that is chosen for it, and the triple of the child that this adds.
+#[derive(Clone, Copy, Debug, PartialEq, Eq)]
+pub struct Draft {
+    pub round: u64,
+    pub choice: Choice,
+    pub triple: Option<usize>,
+}
+
+/// The atoms that are needed, and of the first of them what was looked at.
+#[derive(Drop)]
+pub struct Needs {
+    pub target: Atom,
+    pub nodes: IndexSet<Vec<u32>>,
+    pub triples: IndexSet<TripleKey>,
+    pub ties: Vec<Tie>,
+    pub wants: IndexSet<Want>,
+    pub drafts: Vec<Draft>,
+}
+
+/// Wants the premises of a reason at the spot.
+pub fn follow(
+    alloc: Global,
+    needs: &mut Needs,
+    system: &System,
+    spot: Spot,
+    draft: &Draft,
+) -> Result<(), NoMemory>
+    requires ties { IsTieIndex (length needs.old.ties.items) spot draft.now.triple }
+    ensures follows { OnOk result (Follows (paths_in needs.old.nodes.keys) (paths_in needs.new.nodes.keys) needs.old.ties.items needs.new.ties.items needs.old.wants.keys needs.new.wants.keys
+        system.now spot draft.now.choice draft.now.triple) }
+    ensures triples { needs.new.triples ≡ needs.old.triples }
+    ensures drafts { needs.new.drafts ≡ needs.old.drafts }
+    ensures target { needs.new.target ≡ needs.old.target }
+{
+    match draft.choice {
+        Choice::Start => Ok(()),
+        Choice::Local(l) => want_needs(&mut needs.wants, system, spot, l),
+        Choice::Up(l) => follow_up(alloc, needs, spot, from_of(system.up.items(), l as usize)),
+        Choice::Real(l, n) => follow_down(
+            alloc,
+            needs,
+            spot,
+            n,
+            from_of(system.down.items(), l as usize),
+        ),
+        Choice::Spawn(l, c) => follow_spawn(
+            needs,
+            spot,
+            draft.triple,
+            from_of(system.down.items(), l as usize),
+            needs_at(system.child.items(), c),
+        ),
+    }
+}
+
+/// The left side of a link.
+pub fn from_of(links: &[Link], link: usize) -> Atom
+    ensures { result ≡ unwrap_or (option_map (λ l. l.from) (slice_get links.now link)) 0 }
+{
+    match links.get(link) {
+        Some(link) => link.from,
+        None => Atom(0),
+    }
+}
+
+/// The atom that a spawn rule needs.
+pub(crate) fn needs_at(spawns: &[Spawn], spawn: u64) -> Atom
+    ensures { result ≡ unwrap_or (option_map (λ c. c.needs) (slice_get spawns.now spawn)) 0 }
+{
+    match spawns.get(spawn as usize) {
+        Some(spawn) => spawn.needs,
+        None => Atom(0),
+    }
+}
+
+fn want_needs(
+    wants: &mut IndexSet<Want>,
+    system: &System,
+    spot: Spot,
+    rule: u64,
+) -> Result<(), NoMemory>
+    ensures { OnOk result (IsWith wants.old.keys (IsOfEach spot (needs_of system.now rule)) wants.new.keys) }
+{
+    match system.local.items().get(rule as usize) {
+        Some(rule) => want_each(wants, spot, &rule.needs),
+        None => Ok(()),
+    }
+}
+
+// The atom is needed at the parent: of a page's node there, and of an added node at each spot that has it as a child.
+fn follow_up(alloc: Global, needs: &mut Needs, spot: Spot, from: Atom) -> Result<(), NoMemory>
+    requires tie { TieAt (length needs.old.ties.items) spot }
+    ensures follows { OnOk result (FollowsUp (paths_in needs.old.nodes.keys) (paths_in needs.new.nodes.keys) needs.old.ties.items needs.new.ties.items needs.old.wants.keys needs.new.wants.keys spot from) }
+    ensures triples { needs.new.triples ≡ needs.old.triples }
+    ensures drafts { needs.new.drafts ≡ needs.old.drafts }
+    ensures target { needs.new.target ≡ needs.old.target }
+{
+    match spot {
+        Spot::Page(n) => want_parent(alloc, &mut needs.nodes, &mut needs.wants, n, from),
+        Spot::Added(n) => want_above(&mut needs.ties, &mut needs.wants, n, from),
+    }
+}
+
+fn want_parent(
+    alloc: Global,
+    nodes: &mut IndexSet<Vec<u32>>,
+    wants: &mut IndexSet<Want>,
+    n: usize,
+    from: Atom,
+) -> Result<(), NoMemory>
+    ensures { OnOk result ((v p : List ℕ) → slice_get (paths_in nodes.old.keys) n ≡ Some v → parent_of v ≡ Some p
+        → IsAtNode p from (paths_in nodes.old.keys) (paths_in nodes.new.keys) wants.old.keys wants.new.keys) }
+{
+    let mut above = path_of(alloc, nodes, n)?;
+    if above.pop().is_none() {
+        return Ok(());
+    }
+    want_at(alloc, nodes, wants, &above, from)?;
+    Ok(())
+}
+
+// The atom is needed at the node.
+fn want_at(
+    alloc: Global,
+    nodes: &mut IndexSet<Vec<u32>>,
+    wants: &mut IndexSet<Want>,
+    at: &Path,
+    from: Atom,
+) -> Result<(), NoMemory>
+    ensures { OnOk result (IsAtNode at.now from (paths_in nodes.old.keys) (paths_in nodes.new.keys) wants.old.keys wants.new.keys) }
+{
+    let number = node_number(alloc, nodes, at)?;
+    want(wants, Spot::Page(number), from)?;
+    Ok(())
+}
+
+fn want_above(
+    ties: &mut Vec<Tie>,
+    wants: &mut IndexSet<Want>,
+    n: usize,
+    from: Atom,
+) -> Result<(), NoMemory>
+    requires { n < length ties.old.items }
+    ensures { OnOk result ((tie : Tie) → slice_get ties.old.items n ≡ Some tie → IsAbove n from tie ties.old.items ties.new.items wants.old.keys wants.new.keys) }
+{
+    let tie = &mut ties[n];
+    tie.above.add(from)?;
+    want_at_each(wants, &tie.users, from)?;
+    Ok(())
+}
+
+fn follow_down(
+    alloc: Global,
+    needs: &mut Needs,
+    spot: Spot,
+    child: u32,
+    from: Atom,
+) -> Result<(), NoMemory>
+    ensures follows { OnOk result (FollowsDown (paths_in needs.old.nodes.keys) (paths_in needs.new.nodes.keys) needs.old.ties.items needs.new.ties.items needs.old.wants.keys needs.new.wants.keys spot child from) }
+    ensures triples { needs.new.triples ≡ needs.old.triples }
+    ensures drafts { needs.new.drafts ≡ needs.old.drafts }
+    ensures target { needs.new.target ≡ needs.old.target }
+{
+    match spot {
+        Spot::Page(n) => want_child(alloc, &mut needs.nodes, &mut needs.wants, n, child, from),
+        Spot::Added(_) => Ok(()),
+    }
+}
+
+fn want_child(
+    alloc: Global,
+    nodes: &mut IndexSet<Vec<u32>>,
+    wants: &mut IndexSet<Want>,
+    n: usize,
+    child: u32,
+    from: Atom,
+) -> Result<(), NoMemory>
+    ensures { OnOk result ((v : List ℕ) → slice_get (paths_in nodes.old.keys) n ≡ Some v
+        → IsAtNode (v ++ child ∷ []) from (paths_in nodes.old.keys) (paths_in nodes.new.keys) wants.old.keys wants.new.keys) }
+{
+    let mut at = path_of(alloc, nodes, n)?;
+    at.push(child)?;
+    want_at(alloc, nodes, wants, &at, from)?;
+    Ok(())
+}
+
+// The spot has the node of the triple as a child.
+fn follow_spawn(
+    needs: &mut Needs,
+    spot: Spot,
+    triple: Option<usize>,
+    from: Atom,
+    spawner: Atom,
+) -> Result<(), NoMemory>
+    requires tie { IfSome triple (λ n. n < length needs.old.ties.items) }
+    ensures nodes { needs.new.nodes ≡ needs.old.nodes }
+    ensures follows { OnOk result ((n : ℕ) (tie : Tie) → triple ≡ Some n → slice_get needs.old.ties.items n ≡ Some tie
+        → IsUsed n from spawner spot tie needs.old.ties.items needs.new.ties.items needs.old.wants.keys needs.new.wants.keys) }
+    ensures triples { needs.new.triples ≡ needs.old.triples }
+    ensures drafts { needs.new.drafts ≡ needs.old.drafts }
+    ensures target { needs.new.target ≡ needs.old.target }
+{
+    match triple {
+        Some(n) => want_added(&mut needs.ties, &mut needs.wants, n, spot, from, spawner),
+        None => Ok(()),
+    }
+}
+
+fn want_added(
+    ties: &mut Vec<Tie>,
+    wants: &mut IndexSet<Want>,
+    n: usize,
+    spot: Spot,
+    from: Atom,
+    spawner: Atom,
+) -> Result<(), NoMemory>
+    requires { n < length ties.old.items }
+    ensures { OnOk result ((tie : Tie) → slice_get ties.old.items n ≡ Some tie → IsUsed n from spawner spot tie ties.old.items ties.new.items wants.old.keys wants.new.keys) }
+{
+    let tie = &mut ties[n];
+    tie.users.push(spot)?;
+    want(wants, spot, spawner)?;
+    want(wants, Spot::Added(n), from)?;
+    want_each(wants, spot, &tie.above)?;
+    Ok(())
+}

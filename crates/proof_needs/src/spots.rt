@@ -1,0 +1,117 @@
+//! Where atoms are needed: at nodes of the page and at added nodes, by their numbers.
+ghost use Rattle.std.specs.Prelude.{◌≡◌, ◌++◌, if◌then◌else◌, suc, length, Some, slice_get, IfOk, OnOk};
+ghost use Rattle.std.specs.List.Sorted.{IsStrictlyIncreasing};
+ghost use Rattle.proof_needs.specs.Sets.{IsWith};
+ghost use Rattle.proof_needs.specs.Spots.{paths_in, triples_in};
+
+use indexmap::IndexSet;
+use std::alloc::Global;
+use tp_base::{Atom, ClassSet, NoMemory, Path};
+
+/// A node of the page, or an added node, by its number.
+#[derive(Clone, Copy, Debug, PartialEq, Eq, Hash)]
+pub enum Spot {
+    Page(usize),
+    Added(usize),
+}
+
+/// An atom that is needed at a spot.
+#[derive(Clone, Copy, Debug, PartialEq, Eq, Hash)]
+pub struct Want {
+    pub spot: Spot,
+    pub atom: Atom,
+}
+
+/// An atom of an added node, by the node's kind and the visible label of its parent.
+#[derive(Debug, PartialEq, Eq, Hash, Drop)]
+pub struct TripleKey {
+    pub kind: u32,
+    pub parent: Vec<Atom>,
+    pub atom: Atom,
+}
+
+/// The number of a node, which it gets where it has none. Linear in the path's length, on average.
+pub fn node_number(
+    alloc: Global,
+    nodes: &mut IndexSet<Vec<u32>>,
+    at: &Path,
+) -> Result<usize, NoMemory>
+    ensures number { IfOk result (λ n. slice_get (paths_in nodes.new.keys) n ≡ Some at.now) }
+    ensures nodes { OnOk result (IsWith (paths_in nodes.old.keys) (λ v. v ≡ at.now) (paths_in nodes.new.keys)) }
+{
+    let steps = steps_of(alloc, at)?;
+    let (number, _) = nodes.insert_full(steps)?;
+    Ok(number)
+}
+
+fn steps_of(alloc: Global, at: &Path) -> Result<Vec<u32>, NoMemory>
+    ensures { IfOk result (λ steps. steps.items ≡ at.now) }
+{
+    let mut steps = Vec::new(alloc);
+    for i in 0..at.len() {
+        steps.push(at.at(i))?;
+    }
+    Ok(steps)
+}
+
+/// The path of a node.
+pub fn path_of(alloc: Global, nodes: &IndexSet<Vec<u32>>, number: usize) -> Result<Path, NoMemory>
+    ensures { IfOk result (λ p. (v : _) → slice_get (paths_in nodes.now.keys) number ≡ Some v → p ≡ v) }
+{
+    let mut path = Path::root(alloc);
+    if let Some(steps) = nodes.get_index(number) {
+        add_steps(&mut path, steps)?;
+    }
+    Ok(path)
+}
+
+fn add_steps(path: &mut Path, steps: &[u32]) -> Result<(), NoMemory>
+    ensures { OnOk result (path.new ≡ path.old ++ steps.now) }
+{
+    for step in steps {
+        path.push(*step)?;
+    }
+    Ok(())
+}
+
+/// The number of a triple, which it gets where it has none, and whether it had none. Linear in the label's length, on average.
+pub fn triple_number(
+    alloc: Global,
+    triples: &mut IndexSet<TripleKey>,
+    kind: u32,
+    parent: &ClassSet,
+    atom: Atom,
+) -> Result<(usize, bool), NoMemory>
+    ensures number { IfOk result (λ r. slice_get (triples_in triples.new.keys) r.0 ≡ Some (record { kind = kind; parent = parent.now; atom = atom })) }
+    ensures triples { OnOk result (IsWith (triples_in triples.old.keys) (λ t. t ≡ record { kind = kind; parent = parent.now; atom = atom }) (triples_in triples.new.keys)) }
+    ensures count { IfOk result (λ r. length triples.new.keys ≡ (if r.1 then suc (length triples.old.keys) else length triples.old.keys)) }
+{
+    let key = TripleKey {
+        kind,
+        parent: atoms_of(alloc, parent)?,
+        atom,
+    };
+    let (number, new) = triples.insert_full(key)?;
+    Ok((number, new))
+}
+
+fn atoms_of(alloc: Global, set: &ClassSet) -> Result<Vec<Atom>, NoMemory>
+    ensures { IfOk result (λ v. v.items ≡ set.now) }
+{
+    let mut atoms = Vec::new(alloc);
+    for i in 0..set.len() {
+        atoms.push(set.at(i))?;
+    }
+    Ok(atoms)
+}
+
+/// The atoms as a set. Linear, but for the search of each place.
+pub fn set_of(alloc: Global, atoms: &[Atom]) -> Result<ClassSet, NoMemory>
+    ensures { IfOk result (λ s. IsStrictlyIncreasing atoms.now → s ≡ atoms.now) }
+{
+    let mut set = ClassSet::new(alloc);
+    for atom in atoms {
+        set.add(*atom)?;
+    }
+    Ok(set)
+}

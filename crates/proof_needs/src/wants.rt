@@ -1,0 +1,44 @@
+//! What is needed, each atom at each spot once.
+ghost use Rattle.std.specs.Prelude.{◌≡◌, OnOk};
+ghost use Rattle.proof_needs.specs.Sets.{IsWith};
+ghost use Rattle.proof_needs.specs.Wants.{IsOfEach, IsAtEach};
+
+use crate::spots::{Spot, Want};
+use indexmap::IndexSet;
+use tp_base::{Atom, ClassSet, NoMemory};
+
+/// The atom at the spot.
+pub fn want(wants: &mut IndexSet<Want>, spot: Spot, atom: Atom) -> Result<(), NoMemory>
+    ensures { OnOk result (IsWith wants.old.keys (λ w. w ≡ record { spot = spot; atom = atom }) wants.new.keys) }
+{
+    wants.insert(Want { spot, atom })?;
+    Ok(())
+}
+
+/// Each of the atoms at the spot.
+pub(crate) fn want_each(
+    wants: &mut IndexSet<Want>,
+    spot: Spot,
+    atoms: &ClassSet,
+) -> Result<(), NoMemory>
+    ensures { OnOk result (IsWith wants.old.keys (IsOfEach spot atoms.now) wants.new.keys) }
+{
+    for i in 0..atoms.len() {
+        want(wants, spot, atoms.at(i))?;
+    }
+    Ok(())
+}
+
+/// The atom at each of the spots.
+pub(crate) fn want_at_each(
+    wants: &mut IndexSet<Want>,
+    spots: &[Spot],
+    atom: Atom,
+) -> Result<(), NoMemory>
+    ensures { OnOk result (IsWith wants.old.keys (IsAtEach spots.now atom) wants.new.keys) }
+{
+    for spot in spots {
+        want(wants, *spot, atom)?;
+    }
+    Ok(())
+}
