@@ -64,7 +64,6 @@ impl Equations {
     /// all kinds.
     pub fn next_cell(
         &self,
-        alloc: Global,
         d: &mut Diagrams,
         now: &Cells,
         kind: u32,
@@ -84,7 +83,7 @@ impl Equations {
         ensures arena { IsArena d.new }
     {
         let _ = d.held();
-        self.next_alone(alloc, d, now, kind, atom)
+        self.next_alone(now.allocator(), d, now, kind, atom)
     }
 
     // The cell, where nothing is kept of the children that its links look at.

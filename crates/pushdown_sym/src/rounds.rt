@@ -132,7 +132,6 @@ impl<'e, 'c> Round<'e, 'c> {
     /// composition for each different pair of a child's diagram and the atom that makes the child.
     pub fn next_cell(
         &mut self,
-        alloc: Global,
         d: &mut Diagrams,
         kind: u32,
         atom: Atom,
@@ -153,7 +152,7 @@ impl<'e, 'c> Round<'e, 'c> {
     {
         let _ = d.held();
         next_kept(
-            alloc,
+            self.cells.allocator(),
             self.equations,
             self.cells,
             &mut self.kept,

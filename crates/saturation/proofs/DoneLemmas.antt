@@ -31,7 +31,7 @@ module _ (s : System) (nodes k : ℕ) (old : Arena) (before : Histories) (cells 
   todo_kinds i c less = (done.round.cells i c less).0
 
   pub spent_in : IsFullIn s k old → MayBeSpent s nodes
-  spent_in full = spent s nodes k old full.at before todo full.kind full.atom done.round full.kind_below full.given full.brings full.full
+  spent_in full = spent s nodes k old full.at before todo done.round full.kind full.atom full.kind_below full.given full.brings full.full
 
   pub rounds_bound : k ≤ (nodes + 2) * (MOST_ATOMS * length s.kinds)
   rounds_bound =

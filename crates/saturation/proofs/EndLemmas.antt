@@ -7,8 +7,8 @@ use Rattle.std.specs.List.Sorted.{IsStrictlyIncreasing}
 use Rattle.tp_base.specs.Classes.{has_class}
 use Rattle.tp_base.proofs.ClassLemmas.{has_class-Contains, Contains-has_class}
 use Rattle.tp_base.specs.declared.atoms.TheConstants.{MOST_ATOMS}
-use Rattle.class_diagrams.specs.Trees.{Tree, eval, subs}
-use Rattle.class_diagrams.specs.Arena.{tree_at, Arena, Holds}
+use Rattle.class_diagrams.specs.Trees.{Tree, eval}
+use Rattle.class_diagrams.specs.Arena.{tree_at, Arena, IsArena, Holds}
 use Rattle.class_diagrams.specs.References.{Reference}
 use Rattle.class_diagrams.proofs.ArenaLemmas.{Holds-tree_at, tree_at-further}
 use Rattle.diagram_ops.specs.Steps.{held_with_all, Brings}
@@ -19,16 +19,17 @@ use Rattle.simple_core.specs.Systems.{kind_label, IsSound}
 use Rattle.simple_core.specs.Rounds.{grown, IsRest, IsFirst}
 use Rattle.pushdown_sym.specs.CellMap.{Entries, place_in, trees_in}
 use Rattle.pushdown_sym.specs.Terms.{partial_results}
-use Rattle.pushdown_sym.specs.Rounds.{cell, given_atoms, of_each_cell, cells_of, work, IsAtRest}
+use Rattle.pushdown_sym.specs.Rounds.{cell, given_atoms, of_each_cell, work, IsAtRest, IsReached}
 use Rattle.pushdown_sym.proofs.GrownLemmas.{cell_told}
-use Rattle.saturation.specs.Histories.{Change, start_place, place_after, first_holding, first_in}
+use Rattle.saturation.specs.Histories.{Change, IsHistory, start_place, place_after, first_holding, first_in}
 use Rattle.saturation.specs.Waking.{CellName}
 use Rattle.saturation.specs.Saturation.{Histories, empty, IsRound, IsDone, IsBuilt, AreChanges}
 use Rattle.saturation.specs.Budgets.{MayBeSpent, HasToBeSpent}
+use Rattle.saturation.specs.Held.{HoldsCells}
 use Rattle.saturation.proofs.HistoryLemmas.{first_found, none_found}
 use Rattle.saturation.proofs.RestLemmas.{same_truth, rest_stays, label_at_rest}
 use Rattle.saturation.proofs.FewRounds.{few_rounds}
-use Rattle.saturation.proofs.BudgetLemmas.{not_spent, spent_at, work_later}
+use Rattle.saturation.proofs.BudgetLemmas.{cells_held, not_spent, spent_at, work_later}
 use Rattle.saturation.proofs.LoopLemmas.{settled, place_inside, history_further, at_rest}
 use Rattle.saturation.proofs.GivenLemmas.{never_there, atoms_below}
 
@@ -131,11 +132,9 @@ rest_is s sound d histories cells built j kind parent label rises members =
 -- ### the budget
 
 -- all cells at rest are held
-pub whole : (s : System) (sound : IsSound s) (nodes : ℕ) (d : Arena) (histories : Histories) (todo : List CellName) (k : ℕ) → IsRound s nodes k d histories todo → IsAtRest s k
-    → (m : ℕ) → IsAtRest s m → length (subs (cells_of s m)) ≤ nodes
-whole s sound nodes d histories todo k round rest m at_rest =
-    not_spent s m nodes d round.work.arena round.work.limit (λ j a kind.
-    let told = round.told j a kind in
+all_held : (s : System) (sound : IsSound s) (d : Arena) (histories : Histories) (k : ℕ) → IsArena d → ((j a : ℕ) → j < length s.kinds → IsHistory s d.branches k (histories j a) j a) → IsAtRest s k → HoldsCells s d.branches
+all_held s sound d histories k arena each rest m at_rest = cells_held s m d arena (λ j a kind.
+    let told = each j a kind in
     let same : tree_at d.branches (place_after s j a (histories j a) k) ≡ cell s m j a =
     told.cells k (omega arith) ∙ (elim (cases_lt k m) [
       | inl late ↦ sym (rest_later s sound k m j a kind rest (omega arith))
@@ -143,16 +142,20 @@ whole s sound nodes d histories todo k round rest m at_rest =
     ]) in
     subst (λ t. Holds d.branches t) same (Holds-tree_at d.branches (place_after s j a (histories j a) k) (place_inside d.branches (histories j a) (start_place s j a) k tt told.inside)))
 
--- a cell for which there is no room
-pub spent : (s : System) (nodes k : ℕ) (old d : Arena) (histories : Histories) (todo : List CellName) (j a : ℕ) → IsRound s nodes k old histories todo
-    → j < length s.kinds → Contains (given_atoms s) a → Brings old d (of_each_cell s (partial_results s (cell s k)))
-    → d.limit < length (held_with_all d.branches (partial_results s (cell s k) j a)) → MayBeSpent s nodes
-spent s nodes k old d histories todo j a round kind atom brings full =
-    spent_at s k nodes j a d kind atom
-    (brings_then (empty nodes) old d (of_each_cell s (partial_results s (cell s k))) (work s (suc k))
-    (covered_right (work s k) (of_each_cell s (partial_results s (cell s k)))) (work_later s k nodes old round.work) brings)
-    (λ m less rest. let c = round.changed m (omega arith) in c.differs (rest c.kind c.atom c.kind_below))
-    full
+module _ (s : System) (nodes k : ℕ) (old d : Arena) (histories : Histories) (todo : List CellName) (round : IsRound s nodes k old histories todo) where
+  next_work : Brings old d (of_each_cell s (partial_results s (cell s k))) → Brings (empty nodes) d (work s (suc k))
+  next_work brings =
+      brings_then (empty nodes) old d (of_each_cell s (partial_results s (cell s k))) (work s (suc k))
+      (covered_right (work s k) (of_each_cell s (partial_results s (cell s k)))) (work_later s k nodes old round.work) brings
+
+  -- each round so far changed something
+  next_reached : IsReached s (suc k)
+  next_reached m less rest = let c = round.changed m (omega arith) in c.differs (rest c.kind c.atom c.kind_below)
+
+  -- a cell for which there is no room
+  pub spent : (j a : ℕ) → j < length s.kinds → Contains (given_atoms s) a → Brings old d (of_each_cell s (partial_results s (cell s k)))
+      → d.limit < length (held_with_all d.branches (partial_results s (cell s k) j a)) → MayBeSpent s nodes
+  spent j a kind atom brings full = spent_at s k nodes j a d kind atom (next_work brings) next_reached full
 
 -- ### one round more
 
@@ -169,16 +172,21 @@ module _ (s : System) (sound : IsSound s) (nodes k : ℕ) (old d : Arena) (histo
     rests : IsAtRest s k
     rests = at_rest s sound (atoms_below s sound) nodes k old d histories todo [] changes done.round calculated none
 
+    told_at_rest : (j a : ℕ) → j < length s.kinds → IsHistory s d.branches k (histories j a) j a
+    told_at_rest j a kind = history_further s old.branches d.branches calculated.brings.stays k (histories j a) j a (done.round.told j a kind)
+
     pub built_at_rest : IsBuilt s d histories cells
     built_at_rest = record {
       round = k;
       few = rounds_left;
       rest = rests;
-      told = λ j a kind. history_further s old.branches d.branches calculated.brings.stays k (histories j a) j a (done.round.told j a kind);
+      told = told_at_rest;
       tells = λ j a kind. tree_at-further old.branches d.branches (place_in cells j a) calculated.brings.stays (done.inside j a) ∙ done.tells j a kind;
+      work = (suc k, next_reached s nodes k old d histories todo done.round, (next_work s nodes k old d histories todo done.round calculated.brings).only);
+      whole = all_held s sound d histories k calculated.brings.arena told_at_rest rests;
     }
 
     pub whole_at_rest : ¬ HasToBeSpent s nodes
     whole_at_rest (m, rest, more) =
-        let fits = whole s sound nodes old histories todo k done.round rests m rest in
+        let fits = not_spent s m nodes old done.round.work.arena done.round.work.limit (all_held s sound old histories k done.round.work.arena done.round.told rests m rest) in
         omega arith

@@ -1,6 +1,7 @@
 pub mod Histories
 pub mod HistoryMap
 pub mod Budgets
+pub mod Held
 pub mod Reads
 pub mod Tables
 pub mod Waking

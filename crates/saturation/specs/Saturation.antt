@@ -19,6 +19,7 @@ use Rattle.pushdown_sym.specs.Laws.{Tells}
 use Rattle.pushdown_sym.specs.Adding.{AreIn}
 use Rattle.pushdown_sym.specs.Terms.{CellTrees, partial_results}
 use Rattle.pushdown_sym.specs.Rounds.{cell, given_atoms, of_each_cell, work, IsAtRest}
+use Rattle.saturation.specs.Held.{AreWork, HoldsCells}
 use Rattle.saturation.specs.Histories.{Change, IsHistory}
 use Rattle.saturation.specs.Waking.{CellName, Fits}
 
@@ -88,13 +89,16 @@ abbrev pub Steps : System → Entries → Arena → Arena → CellName → List 
 Steps s cells old new name before after result = (k : ℕ) (first : Arena) (done : List CellName) → IsSound s → Contains (given_atoms s) name.1 → Tells s old.branches cells k
     → AreChanges s k first old done before → IsStep s k first new (done ++ name ∷ []) after result
 
--- what is true at the end: a round at rest, histories that tell all cells up to it, and cells that are those of that round
+-- what is true at the end: a round at rest, histories that tell all cells up to it, cells that are those of that round, and branches that
+-- are work of a round that is reached, with all those of the cells of each round at rest
 pub record IsBuilt (s : System) (d : Arena) (histories : Histories) (cells : Entries) : Type 0 where
   pub round : ℕ
   pub few : round < 4611686018427387904
   pub rest : IsAtRest s round
   pub told : (j a : ℕ) → j < length s.kinds → IsHistory s d.branches round (histories j a) j a
   pub tells : Tells s d.branches cells round
+  pub work : AreWork s d.branches
+  pub whole : HoldsCells s d.branches
 
 -- k rounds are done
 pub record IsDone (s : System) (nodes k : ℕ) (d : Arena) (histories : Histories) (cells : Entries) (todo : List CellName) : Type 0 where

@@ -1,5 +1,6 @@
 -- What is true of summaries in diagrams.
 use Rattle.std.specs.Prelude.{◌≡◌, ℕ, List}
+use Rattle.class_diagrams.specs.Trees.{Tree}
 use Rattle.class_diagrams.specs.Arena.{Arena}
 use Rattle.simple_core.specs.declared.system.System.{System}
 use Rattle.simple_core.specs.Systems.{IsSound}
@@ -10,6 +11,11 @@ use Rattle.saturation.specs.declared.histories.CellKey.{CellKey}
 use Rattle.saturation.specs.Histories.{Change}
 use Rattle.saturation.specs.HistoryMap.{history_in}
 use Rattle.saturation.specs.Saturation.{IsBuilt}
+
+-- what a contract sees of summaries in diagrams: the system, and the branches that are held
+pub record Shared : Type 0 where
+  pub system : System
+  pub branches : List Tree
 
 pub record AreSummaries (s : System) (atoms : List ℕ) (d : Arena) (cells : Entries) (histories : List (CellKey × List Change)) : Type 0 where
   pub sound : IsSound s

@@ -16,7 +16,6 @@ use tp_base::{Atom, NoMemory};
 
 // One cell of the next round, which is noted where it differs.
 fn one_cell(
-    alloc: Global,
     round: &mut Round<'_, '_>,
     d: &mut Diagrams,
     name: (u32, Atom),
@@ -28,7 +27,7 @@ fn one_cell(
     ensures stays { StartsWith d.old.branches d.new.branches }
     ensures step { Steps round.old.0 round.old.1 d.old d.new name changes.old.items changes.new.items result }
 {
-    let next = round.next_cell(alloc, d, name.0, name.1)?;
+    let next = round.next_cell(d, name.0, name.1)?;
     if !d.same(next, round.get(name.0, name.1)) {
         changes.push((name, next))?;
     }
@@ -54,7 +53,7 @@ fn one_round(
     let mut round = Round::new(alloc, equations, now);
     let mut changes = Vec::new(alloc);
     for name in todo {
-        one_cell(alloc, &mut round, d, *name, &mut changes)?;
+        one_cell(&mut round, d, *name, &mut changes)?;
     }
     Ok(changes)
 }

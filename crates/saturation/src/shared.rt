@@ -7,6 +7,7 @@ ghost use Rattle.simple_core.specs.Systems.{kind_label, IsSound};
 ghost use Rattle.pushdown_sym.specs.Adding.{AreIn};
 ghost use Rattle.pushdown_sym.specs.Rounds.{given_atoms};
 ghost use Rattle.saturation.specs.Budgets.{MayBeSpent, HasToBeSpent};
+ghost use Rattle.saturation.specs.Held.{AreWork, HoldsCells};
 ghost use Rattle.saturation.specs.HistoryMap.{history_in};
 ghost use Rattle.saturation.specs.Saturation.{IsBuilt};
 
@@ -60,7 +61,7 @@ fn copy_of(alloc: Global, system: &System) -> Result<Copied, NoMemory>
     Ok(Copied { system, atoms })
 }
 
-/// The summaries of a system, for every visible label of the parent. A contract sees the system.
+/// The summaries of a system, for every visible label of the parent. A contract sees the system and the branches that are held.
 #[derive(Drop)]
 pub struct SharedSummaries {
     system: System,
@@ -71,13 +72,15 @@ pub struct SharedSummaries {
 }
 
 impl Model for SharedSummaries {
-    ghost use Rattle.simple_core.specs.declared.system.System.{System};
+    ghost use Rattle.saturation.specs.Shared.{Shared, AreSummaries};
+    ghost use Rattle.std.specs.Coded.{codes};
+    ghost use Rattle.class_diagrams.specs.TreeCode.{tree_code};
 
-    ghost Value = { System };
+    ghost Value = { Shared };
 
-    ghost use Rattle.saturation.specs.Shared.{AreSummaries};
+    ghost coded = { Prim.hlevel (codes, tree_code) };
 
-    ghost view = { λ s. s.system };
+    ghost view = { λ s. record { system = s.system; branches = s.diagrams.branches } };
 
     ghost invariant = { λ s. AreSummaries s.system s.atoms s.diagrams s.cells s.histories };
 }
@@ -88,7 +91,9 @@ impl SharedSummaries {
     pub fn build(alloc: Global, system: &System, nodes: u32) -> Result<Self, GainFault>
         requires sound { IsSound system.now }
         requires nodes { nodes ≤ MOST_BRANCHES }
-        ensures system { IfOk result (λ s. s ≡ system.now) }
+        ensures system { IfOk result (λ s. s.system ≡ system.now) }
+        ensures work { IfOk result (λ s. AreWork system.now s.branches) }
+        ensures cells { IfOk result (λ s. HoldsCells system.now s.branches) }
         ensures spent { IsErrOf result GainFault.Spent → MayBeSpent system.now nodes }
         ensures whole { IsOk result → ¬ HasToBeSpent system.now nodes }
     {
@@ -106,8 +111,8 @@ impl SharedSummaries {
 
     // What a node of the kind has at the end, below a parent with these visible atoms.
     fn last_label(&self, alloc: Global, kind: u32, parent: &ClassSet) -> Result<ClassSet, NoMemory>
-        requires kind { kind < length self.now.kinds }
-        ensures { IfOk result (λ label. IsRest self.now kind parent.now label) }
+        requires kind { kind < length self.now.system.kinds }
+        ensures { IfOk result (λ label. IsRest self.now.system kind parent.now label) }
     {
         let label = label_of(
             alloc,
@@ -122,8 +127,8 @@ impl SharedSummaries {
 
     // Whether a kind has an atom from the beginning.
     fn starts_with(&self, kind: u32, atom: Atom) -> bool
-        requires { kind < length self.now.kinds }
-        ensures { result ≡ has_class atom (kind_label self.now kind) }
+        requires { kind < length self.now.system.kinds }
+        ensures { result ≡ has_class atom (kind_label self.now.system kind) }
     {
         let kinds = self.system.kinds.items();
         kinds[kind as usize].label.has(atom)
@@ -131,8 +136,8 @@ impl SharedSummaries {
 
     // The first round after which a node of the kind has the atom, below a parent with these visible atoms.
     fn first_told(&self, kind: u32, parent: &ClassSet, atom: Atom) -> Option<u64>
-        requires { kind < length self.now.kinds }
-        ensures first { IsFirst (λ k. grown self.now k kind parent.now) atom result }
+        requires { kind < length self.now.system.kinds }
+        ensures first { IsFirst (λ k. grown self.now.system k kind parent.now) atom result }
         ensures bound { IfSome result (λ k. k < 2 ^ 62) }
     {
         if self.starts_with(kind, atom) {
@@ -146,9 +151,9 @@ impl SharedSummaries {
 impl Summaries for SharedSummaries {
     ghost use Rattle.std.specs.Prelude.{◌<◌, length, None, All, Contains};
 
-    ghost system = { λ s. s };
+    ghost system = { λ s. s.system };
 
-    ghost known = { λ s q. (q.0 < length s.kinds) × All (Contains s.visible) q.1 };
+    ghost known = { λ s q. (q.0 < length s.system.kinds) × All (Contains s.system.visible) q.1 };
 
     ghost told = { λ s. None };
 

@@ -15,3 +15,9 @@ returns-in_err-ended-clause-spent c spent = subst (λ n. MayBeSpent c.args.syste
 
 pub returns-clause-whole : goal.returns-clause-whole
 returns-clause-whole c _ = subst (λ n. ¬ HasToBeSpent c.args.system.now n) c.in_ok-diagrams.ensures.limit (c.in_ok-ended.ensures.whole refl)
+
+pub returns-clause-work : goal.returns-clause-work
+returns-clause-work c = c.in_ok-ended.ensures.built.work
+
+pub returns-clause-cells : goal.returns-clause-cells
+returns-clause-cells c = c.in_ok-ended.ensures.built.whole

@@ -12,7 +12,7 @@ first_round_under-requires-clause-growing c =
     (rw (← c.self.view_is) at c.requires) c.of-history.result.now c.of-history.ensures c.args.parent.now
 
 pub returns-then-starts_with-clause-first : goal.returns-then-starts_with-clause-first
-returns-then-starts_with-clause-first c = first_at_start c.args.self.now c.args.kind c.args.atom c.args.parent.now (sym c.starts_with.ensures ∙ c.if-starts_with.true)
+returns-then-starts_with-clause-first c = first_at_start c.args.self.now.system c.args.kind c.args.atom c.args.parent.now (sym c.starts_with.ensures ∙ c.if-starts_with.true)
 
 pub returns-clause-first : goal.returns-clause-first
 returns-clause-first c = rw (← c.self.view_is)
