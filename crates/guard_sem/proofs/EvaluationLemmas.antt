@@ -6,12 +6,12 @@ use Rattle.tree_sem.specs.Trees.{LabelTree}
 use Rattle.tree_sem.specs.Nodes.{IsNode}
 use Rattle.tree_sem.proofs.NodeLemmas.{HasAtom-node}
 use Rattle.node_marks.specs.Marks.{HasAtoms, IsMarked, IsSetOf, HasParentIn, HasAncestorIn, HasChildIn, HasDescendantIn}
-use Rattle.guard_sem.specs.Guards.{Guard, atom, parent, ancestor, child, descendant, somewhere, guards_of}
+use Rattle.guard_sem.specs.Guards.{Guard, atom, parent, ancestor, child, descendant, somewhere, at_or_below, guards_of}
 use Rattle.guard_sem.specs.Holding.{Holds, HoldAll, HoldsOne}
 use Rattle.guard_sem.proofs.SelectorLemmas.{Fits-none, Fits-more, Fits-first}
 
 -- a set by another test of its nodes
-of_same : (t : LabelTree) (P Q : List ℕ → Type 0) → ((v : List ℕ) → P v ↔ Q v) → (r : Result (List Bool) NoMemory) → IfOk r (λ m. IsSetOf t m P) → IfOk r (λ m. IsSetOf t m Q)
+pub of_same : (t : LabelTree) (P Q : List ℕ → Type 0) → ((v : List ℕ) → P v ↔ Q v) → (r : Result (List Bool) NoMemory) → IfOk r (λ m. IsSetOf t m P) → IfOk r (λ m. IsSetOf t m Q)
 of_same t P Q same (Ok m) is = λ v. (λ on. (same v).0 ((is v).0 on), λ q. (is v).1 ((same v).1 q))
 of_same t P Q same (Err e) is = tt
 
@@ -48,6 +48,17 @@ module _ (t : LabelTree) (h : Guard) (r : Result (List Bool) NoMemory) where
     of_somewhere same is = of_guard (somewhere g) same
         (of_same t (λ v. IsNode t v × (w : List ℕ) × IsMarked t b w) (λ v. Holds t v (somewhere g))
         (λ v. (λ p. (p.0, p.1, (part p.1).0 p.2), λ q. (q.0, q.1, (part q.1).1 q.2))) r is)
+
+    pub of_at_or_below : h ≡ at_or_below g → IfOk r (λ m. IsSetOf t m (λ v. IsMarked t b v ⊎ HasDescendantIn (IsMarked t b) v)) → IfOk r (λ m. IsSetOf t m (λ v. Holds t v h))
+    of_at_or_below same is = of_guard (at_or_below g) same
+        (of_same t (λ v. IsMarked t b v ⊎ HasDescendantIn (IsMarked t b) v) (λ v. Holds t v (at_or_below g))
+        (λ v. (
+          λ p. elim p [ inl at ↦ inl ((part v).0 at) | inr d ↦ inr (inl (d.0, d.1, (part (v ++ d.0 ∷ d.1)).0 d.2)) ],
+          λ q. elim q [
+            | inl at ↦ inl ((part v).1 at)
+            | inr later ↦ elim later [ inl d ↦ inr (d.0, d.1, (part (v ++ d.0 ∷ d.1)).1 d.2) | inr none ↦ absurd none ]
+          ],
+        )) r is)
 
 -- one guard more
 module _ (t : LabelTree) (v : List ℕ) (g : Guard) where

@@ -1,7 +1,7 @@
 //! Where a guard holds, from the inside out: for each part of it the set of all nodes where that part holds.
-ghost use Rattle.std.specs.Prelude.{◌↔◌, IsTrue, IfOk};
+ghost use Rattle.std.specs.Prelude.{◌↔◌, ◌⊎◌, IsTrue, IfOk};
 ghost use Rattle.tree_sem.specs.Nodes.{IsNode};
-ghost use Rattle.node_marks.specs.Marks.{IsSetOf};
+ghost use Rattle.node_marks.specs.Marks.{IsMarked, IsSetOf, HasDescendantIn};
 ghost use Rattle.guard_sem.specs.Guards.{guards_of};
 ghost use Rattle.guard_sem.specs.Holding.{Holds, HoldAll, HoldsOne};
 
@@ -36,7 +36,16 @@ fn marked(nodes: &NumberedTree, g: &Guard) -> Result<Marks, NoMemory>
         GuardNode::Child(g) => nodes.over(&marked(nodes, g)?),
         GuardNode::Descendant(g) => nodes.far_over(&marked(nodes, g)?),
         GuardNode::Somewhere(g) => nodes.if_any(&marked(nodes, g)?),
+        GuardNode::AtOrBelow(g) => at_or_below(nodes, &marked(nodes, g)?),
     }
+}
+
+// The nodes of a set, and those with one of them below.
+fn at_or_below(nodes: &NumberedTree, marks: &Marks) -> Result<Marks, NoMemory>
+    ensures { IfOk result (λ m. IsSetOf nodes.now m (λ v. IsMarked nodes.now marks.now v ⊎ HasDescendantIn (IsMarked nodes.now marks.now) v)) }
+{
+    let over = nodes.far_over(marks)?;
+    nodes.in_either(marks, &over)
 }
 
 // The nodes where all of the guards hold.

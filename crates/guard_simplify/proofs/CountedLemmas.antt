@@ -126,6 +126,7 @@ module _ (rules : List Rule) (guards : List Guard) (n : ℕ) where
         table = subst (λ z. IsTable n z c.formulas.keys) whole after.0;
         of_rules = of_rules' ∙ map_map (λ (r : Rule). r.guard) at rules;
         of_guards = of_guards';
+        known_rules = each_has n fs outer have_rules;
         known = known';
         nodes = nodes' ∙ places_different rules;
         owners = owners' ∙ owners_different rules;

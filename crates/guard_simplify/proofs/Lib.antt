@@ -26,3 +26,4 @@ pub mod PathEnds
 pub mod Pushes
 pub mod Outcomes
 mod Examples
+pub mod AtomNumberLemmas

@@ -31,6 +31,13 @@ module _ {X : Type 0} (same : X → X → Bool) (sound : (x y : X) → same x y 
     | inr no' ↦ Contains-behind x y xs (among-Contains x xs (rw no' at e))
   ]
 
+  pub Contains-among : (x : X) (xs : List X) → Contains xs x → is_among same x xs ≡ true
+  Contains-among x [] is = absurd (Contains-none x is)
+  Contains-among x (y ∷ xs) is = elim ((Contains-cons x y xs).0 is) [
+    | inl here ↦ let test : same x y ≡ true = subst (λ z. same x z ≡ true) here (itself x) in rw test refl
+    | inr behind ↦ elim (cases_Bool (same x y)) [ inl yes' ↦ rw yes' refl | inr no' ↦ rw no' (Contains-among x xs behind) ]
+  ]
+
   -- the same elements
   pub with_new-Contains : (xs : List X) (x y : X) → Contains (with_new same xs x) y → Contains xs y ⊎ (x ≡ y)
   with_new-Contains xs x y is = elim (cases_Bool (is_among same x xs)) [
@@ -61,7 +68,7 @@ module _ {X : Type 0} (same : X → X → Bool) (sound : (x y : X) → same x y 
   Contains-folded [] kept y is = is
   Contains-folded (x ∷ xs) kept y is = Contains-folded xs (with_new same kept x) y (Contains-with_new kept x y is)
 
-  Contains-folded_list : (xs kept : List X) (y : X) → Contains xs y → Contains (fold (with_new same) kept xs) y
+  pub Contains-folded_list : (xs kept : List X) (y : X) → Contains xs y → Contains (fold (with_new same) kept xs) y
   Contains-folded_list [] kept y is = absurd (Contains-none y is)
   Contains-folded_list (x ∷ xs) kept y is = elim ((Contains-cons y x xs).0 is) [
     | inl here ↦ Contains-folded xs (with_new same kept x) y (subst (λ z. Contains (with_new same kept x) z) (sym here) (with_new-there kept x))

@@ -10,7 +10,7 @@ use Rattle.std.proofs.lemmas.List.{map-append}
 use Rattle.std.proofs.lemmas.List.Elements.{Contains-push_cases}
 use Rattle.indexmap.specs.IndexSet.{insert_key}
 use denote.Enum.Bare.{sameb, same_true, true_same}
-use Rattle.guard_sem.specs.Guards.{Guard, always, atom, all, any, parent, ancestor, child, descendant, somewhere, Guards, guards_of, parts, same_guard}
+use Rattle.guard_sem.specs.Guards.{Guard, always, atom, all, any, parent, ancestor, child, descendant, somewhere, at_or_below, Guards, guards_of, parts, same_guard}
 use Rattle.guard_sem.proofs.SameGuards.{same_guard-sound, same_guard-itself}
 use Rattle.guard_simplify.specs.contracts.keys.KeyPartialEq as its
 use Rattle.guard_simplify.specs.declared.keys.Key.{Key}
@@ -20,10 +20,10 @@ use Rattle.guard_simplify.specs.Auxiliaries.{formulas_of, formulas_in}
 use Rattle.guard_simplify.specs.Law.{IsOver, AreOver}
 use Rattle.guard_simplify.specs.Firsts.{is_among, with_new, place_of}
 use Rattle.guard_simplify.specs.Keys.{atom_in, HasNumber, HaveNumbers, PartsHaveNumbers}
-use Rattle.guard_simplify.specs.Numbered.{Kept, stored, shape_of, parts_of, kept_of, IsFormula, IsTable, IsEntered, IsNumbered, AreNumbered, with_all}
-use Rattle.guard_simplify.proofs.Keyed.{one_number, one_list, parts_still, number_still, numbers_still, still_all}
+use Rattle.guard_simplify.specs.Numbered.{Kept, stored, shape_of, parts_of, kept_of, IsFormula, IsTable, IsEntered, IsNumbered, IsNumberedAtOrBelow, AreNumbered, with_all}
+use Rattle.guard_simplify.proofs.Keyed.{one_number, one_list, still, parts_still, number_still, numbers_still, still_all}
 use Rattle.guard_simplify.proofs.Numbering.{place_new}
-use Rattle.guard_simplify.proofs.NumberLemmas.{with_new-there}
+use Rattle.guard_simplify.proofs.NumberLemmas.{with_new-there, Contains-among, Contains-folded_list}
 use Rattle.tp_base.proofs.Rising.{Contains-here, Contains-behind}
 
 -- the derived `==`
@@ -205,6 +205,44 @@ module _ (n : ℕ) (old mid new : List Key) where
         subst (λ z. IsTable n z new × (b ≡ atom_in n z (any gs)) × HasNumber n z (any gs)) (sym (with_all-append fs (formulas_in gs) (any gs ∷ [])))
         (enter (with_all fs (formulas_in gs)) (any gs) inner.0 inner.2 (λ c e. cc) refl inner.1)
 
+-- formulas that are there already
+with_all-there : (fs xs : List Guard) → ((x : Guard) → Contains xs x → Contains fs x) → with_all fs xs ≡ fs
+with_all-there fs [] there = refl
+with_all-there fs (x ∷ xs) there =
+    ap (λ z. with_all z xs) (rw (Contains-among same_guard same_guard-sound same_guard-itself x fs (there x (Contains-here x x xs refl))) refl) ∙ with_all-there fs xs (λ y is. there y (Contains-behind y x xs is))
+
+with_all-again : (fs xs : List Guard) → with_all (with_all fs xs) xs ≡ with_all fs xs
+with_all-again fs xs = with_all-there (with_all fs xs) xs (λ x is. Contains-folded_list same_guard same_guard-sound same_guard-itself xs fs x is)
+
+-- a guard at a node or below it
+module _ (n : ℕ) (old mid new : List Key) where
+  enter_at_or_below : (a b c : ℕ) → IsEntered n old mid Descendant (a ∷ []) b → IsEntered n mid new Any (a ∷ b ∷ []) c → IsNumberedAtOrBelow n old new a c
+  enter_at_or_below a b c first second fs g table has is =
+      let X = with_new same_guard fs (descendant g) in
+      let below = first fs (descendant g) table has (λ d e. cc) refl (ap (λ z. z ∷ []) is) in
+      let more = grown fs (descendant g ∷ []) in
+      let kept : HasNumber n X g = subst (λ z. HasNumber n z g) (sym more.1) (still n fs more.0 g has) in
+      let same : atom_in n X g ≡ atom_in n fs g = ap (λ z. atom_in n z g) more.1 ∙ number_still n fs more.0 g has in
+      let list : a ∷ b ∷ [] ≡ map (atom_in n X) (g ∷ descendant g ∷ []) = ap (λ z. z ∷ b ∷ []) (is ∙ sym same) ∙ ap (λ z. atom_in n X g ∷ z ∷ []) below.1 in
+      second X (at_or_below g) below.0 (kept, (below.2, tt)) (λ d e. cc) refl list
+
+  pub entered_at_or_below : {E : Type 0} (a b : ℕ) (r : Result ℕ E) → IsEntered n old mid Descendant (a ∷ []) b → IfOk r (λ c. IsEntered n mid new Any (a ∷ b ∷ []) c) → IfOk r (λ c. IsNumberedAtOrBelow n old new a c)
+  entered_at_or_below a b (Ok c) first second = enter_at_or_below a b c first second
+  entered_at_or_below a b (Err e) first second = tt
+
+  pub number_at_or_below : (g : Guard) (a b : ℕ) → IsNumbered n old mid g a → IsNumberedAtOrBelow n mid new a b → IsNumbered n old new (at_or_below g) b
+  number_at_or_below g a b part enter fs table over =
+      let X = with_all fs (formulas_of g) in
+      let inner = part fs table over.0 in
+      let order : with_all fs (formulas_of (at_or_below g)) ≡ with_all X (descendant g ∷ at_or_below g ∷ []) =
+      with_all-append fs (formulas_of g ++ ((formulas_of g ++ descendant g ∷ []) ++ [])) (at_or_below g ∷ [])
+      ∙ ap (λ z. with_new same_guard z (at_or_below g))
+      (with_all-append fs (formulas_of g) ((formulas_of g ++ descendant g ∷ []) ++ [])
+      ∙ ap (with_all X) (append-nil (formulas_of g ++ descendant g ∷ []))
+      ∙ with_all-append X (formulas_of g) (descendant g ∷ [])
+      ∙ ap (λ z. with_new same_guard z (descendant g)) (with_all-again fs (formulas_of g))) in
+      subst (λ z. IsTable n z new × (b ≡ atom_in n z (at_or_below g)) × HasNumber n z (at_or_below g)) (sym order) (enter X g inner.0 inner.2 inner.1)
+
 -- lists of guards
 formulas_in-push : (gs : List Guard) (g : Guard) → formulas_in (guards_of (gs ++ g ∷ [])) ≡ formulas_in (guards_of gs) ++ formulas_of g
 formulas_in-push [] g = append-nil (formulas_of g)
@@ -260,6 +298,10 @@ module _ {E : Type 0} (n : ℕ) (old mid new : List Key) (g : Guard) where
   pub ok_somewhere : (h h' : Guard) (a : ℕ) (r : Result ℕ E) → g ≡ somewhere h → h' ≡ h → IsNumbered n old mid h' a → IfOk r (λ b. IsEntered n mid new Somewhere (a ∷ []) b) → IfOk r (λ b. IsNumbered n old new g b)
   ok_somewhere h h' a (Ok b) is same part last = subst (λ z. IsNumbered n old new z b) (sym is) (number_somewhere n old mid new h a b (subst (λ z. IsNumbered n old mid z a) same part) last)
   ok_somewhere h h' a (Err e) is same part last = tt
+
+  pub ok_at_or_below : (h h' : Guard) (a : ℕ) (r : Result ℕ E) → g ≡ at_or_below h → h' ≡ h → IsNumbered n old mid h' a → IfOk r (λ b. IsNumberedAtOrBelow n mid new a b) → IfOk r (λ b. IsNumbered n old new g b)
+  ok_at_or_below h h' a (Ok b) is same part last = subst (λ z. IsNumbered n old new z b) (sym is) (number_at_or_below n old mid new h a b (subst (λ z. IsNumbered n old mid z a) same part) last)
+  ok_at_or_below h h' a (Err e) is same part last = tt
 
   pub ok_all : (gs gs' : List Guard) (numbers : List ℕ) (r : Result ℕ E) → g ≡ all (guards_of gs) → gs' ≡ gs → AreNumbered n old mid (guards_of gs') numbers → IfOk r (λ b. IsEntered n mid new All numbers b) → IfOk r (λ b. IsNumbered n old new g b)
   ok_all gs gs' numbers (Ok b) is same listed last = subst (λ z. IsNumbered n old new z b) (sym is) (number_all n old mid new (guards_of gs) numbers b (subst (λ z. AreNumbered n old mid (guards_of z) numbers) same listed) last)

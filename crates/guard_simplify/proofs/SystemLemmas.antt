@@ -181,7 +181,7 @@ module _ (rules : List Rule) (guards : List Guard) (n : ℕ) where
         let right : length (map (kept_of (atom_in n fs)) fs) ≡ length fs = length-map fs (kept_of (atom_in n fs)) in
         sym left ∙ ap length is.table.are ∙ right
 
-    first_is : c.nodes.first_owner ≡ first
+    pub first_is : c.nodes.first_owner ≡ first
     first_is = is.first_owner ∙ ap (λ k. n + k) count_formulas
 
     count_owners : length c.nodes.owners.keys ≡ length (owners rules)

@@ -32,6 +32,7 @@ pub record IsCounted (rules : List Rule) (guards : List Guard) (n : ℕ) (c : Co
   pub table : IsTable n (formulas rules guards) c.formulas.keys
   pub of_rules : c.rules.items ≡ map (λ r. atom_of rules guards n r.guard) rules
   pub of_guards : c.guards.items ≡ map (atom_of rules guards n) guards
+  pub known_rules : (g : Guard) → Contains (map (λ r. r.guard) rules) g → HasNumber n (formulas rules guards) g
   pub known : (g : Guard) → Contains guards g → HasNumber n (formulas rules guards) g
   pub nodes : nodes_in c.nodes ≡ places rules
   pub owners : owners_in c.nodes ≡ owners rules

@@ -3,10 +3,10 @@ pub mod Auxiliaries
 pub mod Simplified
 pub mod Law
 pub mod Outcome
-pub mod Conditions
 pub mod Keys
 pub mod Numbered
 pub mod KeyRules
 pub mod ForestRules
 pub mod SeenRules
 pub mod Counted
+pub mod AtomNumbers

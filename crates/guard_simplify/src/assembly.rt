@@ -3,6 +3,7 @@ ghost use Rattle.std.specs.Prelude.{◌≡◌, ◌+◌, ◌≤◌, length, IfOk,
 ghost use Rattle.std.specs.Option.{ok_or};
 ghost use Rattle.tp_base.specs.declared.atoms.TheConstants.{MOST_ATOMS};
 ghost use Rattle.simple_core.specs.declared.system.TheConstants.{MOST_KINDS};
+ghost use Rattle.guard_simplify.specs.AtomNumbers.{HasAtoms, HaveFewNodes};
 ghost use Rattle.guard_simplify.specs.Outcome.{Gives};
 ghost use Rattle.guard_simplify.specs.Counted.{AreWithin, first_seen, counted_locals, counted_ups, counted_downs, left_sides_of, counted_system, counted_seen, counted_visibly, counted_outcome};
 ghost use Rattle.guard_simplify.specs.declared.simplified.TheConstants.{MOST_RULES};
@@ -50,6 +51,7 @@ fn all_locals(
     requires within { AreWithin counted.now }
     requires each { length counted.now.rules.items ≡ length rules.now }
     requires formulas { first + length counted.now.formulas.keys ≤ MOST_ATOMS }
+    requires atoms { HasAtoms counted.now }
     ensures { IfOk result (λ v. v.items ≡ counted_locals rules.now first counted.now) }
 {
     let mut locals = locals_of(alloc, first, counted.formulas.as_slice())?;
@@ -67,6 +69,7 @@ fn all_locals(
 fn all_downs(alloc: Global, first: u32, counted: &Counted) -> Result<Vec<Link>, NoMemory>
     requires within { AreWithin counted.now }
     requires formulas { first + length counted.now.formulas.keys ≤ MOST_ATOMS }
+    requires atoms { HasAtoms counted.now }
     ensures { IfOk result (λ v. v.items ≡ counted_downs first counted.now) }
 {
     let mut downs = downs_of(alloc, first, counted.formulas.as_slice())?;
@@ -84,9 +87,11 @@ fn put_together(
     visible: ClassSet,
 ) -> Result<Simplified, NoMemory>
     requires few_rules { length rules.now ≤ MOST_RULES }
+    requires forests { HaveFewNodes rules.now }
     requires within { AreWithin counted.now }
     requires each { length counted.now.rules.items ≡ length rules.now }
     requires formulas { first + length counted.now.formulas.keys ≤ MOST_ATOMS }
+    requires atoms { HasAtoms counted.now }
     requires up { up.items ≡ counted_ups first counted.now }
     requires visible { visible ≡ left_sides_of up.items }
     ensures { IfOk result (λ s. s ≡ record { system = counted_system rules.now first counted.now; seen = counted_seen counted.now }) }
@@ -117,9 +122,11 @@ fn assembled(
     counted: &Counted,
 ) -> Result<Option<Simplified>, NoMemory>
     requires few_rules { length rules.now ≤ MOST_RULES }
+    requires forests { HaveFewNodes rules.now }
     requires within { AreWithin counted.now }
     requires each { length counted.now.rules.items ≡ length rules.now }
     requires formulas { first + length counted.now.formulas.keys ≤ MOST_ATOMS }
+    requires atoms { HasAtoms counted.now }
     ensures { IfOk result (λ o. o ≡ counted_visibly rules.now first counted.now) }
 {
     let up = ups_of(alloc, first, counted.formulas.as_slice())?;
@@ -151,6 +158,8 @@ pub(crate) fn within_limits(
     counted: &Counted,
 ) -> Result<Simplified, SimplifyFault>
     requires few_rules { length rules.now ≤ MOST_RULES }
+    requires forests { HaveFewNodes rules.now }
+    requires atoms { first_seen counted.now + length counted.now.seen.keys ≤ MOST_ATOMS → HasAtoms counted.now }
     requires few_nodes { length counted.now.nodes.nodes.keys ≤ MOST_KINDS }
     requires each { length counted.now.rules.items ≡ length rules.now }
     requires formulas { counted.now.nodes.first_owner ≡ first + length counted.now.formulas.keys }

@@ -1,5 +1,6 @@
 //! The rules of the classes that rules add.
-ghost use Rattle.std.specs.Prelude.{◌≡◌, ◌≤◌, ◌++◌, length, IfOk, OnOk};
+ghost use Rattle.std.specs.Prelude.{◌≡◌, ◌≤◌, ◌++◌, length, IfOk, OnOk, All};
+ghost use Rattle.simple_core.specs.Systems.{IsAtom};
 ghost use Rattle.guard_simplify.specs.Auxiliaries.{by_rule};
 ghost use Rattle.guard_simplify.specs.Simplified.{classes_of};
 ghost use Rattle.guard_simplify.specs.SeenRules.{class_locals, class_rules};
@@ -59,13 +60,14 @@ pub(crate) fn add_all_classes(
 ) -> Result<(), NoMemory>
     requires few_rules { length rules.now ≤ MOST_RULES }
     requires each { length guards.now ≡ length rules.now }
+    requires atoms { All IsAtom guards.now }
     ensures { OnOk result (locals.new.items ≡ locals.old.items ++ by_rule (class_rules guards.now) 0 rules.now) }
 {
     let mut number = 0;
     let mut rest = rules;
     'rules: while let Some((rule, later)) = rest.split_first() {
         let guard = guards[number as usize];
-        let needs = atom_of(guard)?;
+        let needs = atom_of(guard);
         add_action(alloc, number, needs, &rule.action, locals)?;
         number += 1;
         rest = later;

@@ -2,6 +2,7 @@
 ghost use Rattle.std.specs.Prelude.{◌≡◌, ◌+◌, ◌≤◌, ◌↔◌, length, map, All, IsTrue, IfOk};
 ghost use Rattle.tp_base.specs.declared.atoms.TheConstants.{MOST_ATOMS};
 ghost use Rattle.guard_sem.specs.Guards.{guards_of};
+ghost use Rattle.guard_simplify.specs.AtomNumbers.{HaveFewNodes};
 ghost use Rattle.guard_simplify.specs.Auxiliaries.{places};
 ghost use Rattle.guard_simplify.specs.Law.{IsOver, IsRuleOver};
 ghost use Rattle.guard_simplify.specs.Numbered.{AreNumbered};
@@ -69,6 +70,7 @@ pub(crate) fn count_all(
     requires rules_over { All (IsRuleOver first) rules.now }
     requires guards_over { All (IsOver first) guards.now }
     requires few_rules { length rules.now ≤ MOST_RULES }
+    requires forests { HaveFewNodes rules.now }
     ensures counted { IfOk result (λ c. IsCounted rules.now guards.now first c) }
     ensures each { IfOk result (λ c. length c.rules.items ≡ length rules.now) }
     ensures nodes { IfOk result (λ c. length c.nodes.nodes.keys ≡ length (places rules.now)) }

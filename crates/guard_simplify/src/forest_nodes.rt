@@ -1,16 +1,19 @@
 //! The nodes of the forests that rules add.
 ghost use Rattle.std.specs.Prelude.{◌≡◌, ◌≤◌, length, map, fold, filter, nat_lt, IfOk, OnOk};
 ghost use Rattle.tree_sem.specs.Order.{paths_from};
+ghost use Rattle.tree_sem.specs.Trees.{count_of};
+ghost use Rattle.tree_sem.specs.declared.tree_fault.TheConstants.{MOST_NODES};
 ghost use Rattle.guard_simplify.specs.Firsts.{with_new, different};
 ghost use Rattle.guard_simplify.specs.Auxiliaries.{forest_of, nodes_of, children_in, same_place, places, owners};
 ghost use Rattle.guard_simplify.specs.ForestRules.{placed, rooted, child_count};
+ghost use Rattle.guard_simplify.specs.AtomNumbers.{HasFewNodes, HaveFewNodes};
 ghost use Rattle.guard_simplify.specs.declared.simplified.TheConstants.{MOST_RULES};
 
 use guard_sem::Rule;
 use indexmap::IndexSet;
 use std::alloc::Global;
 use tp_base::{ClassSet, NoMemory, Path};
-use tree_sem::{Action, Tree, go_on};
+use tree_sem::{Action, Tour, Tree, TreeFault};
 
 /// A node of the forest of the rule of this number, by its path, which has one number for a top node.
 #[derive(PartialEq, Eq, Hash, Drop)]
@@ -28,18 +31,22 @@ pub(crate) struct RuleForest {
 
 // The trees below a root without atoms.
 fn below_root(alloc: Global, tops: &[Tree]) -> Result<Tree, NoMemory>
+    requires { count_of (rooted tops.now) ≤ MOST_NODES }
     ensures { IfOk result (λ t. t ≡ rooted tops.now) }
 {
     let mut tree = Tree::new(alloc, ClassSet::new(alloc))?;
     let root = Path::root(alloc);
     match tree.add_trees(&root, tops) {
         Ok(()) => Ok(tree),
-        Err(_) => Err(NoMemory),
+        Err(TreeFault::NoSuchNode) => unreachable!(),
+        Err(TreeFault::TooManyNodes) => unreachable!(),
+        Err(TreeFault::Memory) => Err(NoMemory),
     }
 }
 
 // The forest that the rule adds, below a root. It has no nodes where the rule adds classes.
 fn forest_tree(alloc: Global, rule: &Rule) -> Result<Tree, NoMemory>
+    requires { HasFewNodes rule.now }
     ensures { IfOk result (λ t. t ≡ forest_of rule.now) }
 {
     match &rule.action {
@@ -54,17 +61,18 @@ fn paths_below(alloc: Global, tree: &Tree) -> Result<Vec<Path>, NoMemory>
     ensures { IfOk result (λ v. v.items ≡ paths_from 0 tree.now.below) }
 {
     let mut paths = Vec::new(alloc);
-    let mut at = Path::root(alloc);
+    let mut tour = Tour::new(alloc, tree);
     'nodes: loop {
-        if !go_on(tree, &mut at)? {
+        if !tour.go_on()? {
             return Ok(paths);
         }
-        paths.push(at.copy()?)?;
+        paths.push(tour.path().copy()?)?;
     }
 }
 
 /// The forest of a rule. Linear in its nodes, their labels and paths.
 pub(crate) fn rule_forest(alloc: Global, rule: &Rule) -> Result<RuleForest, NoMemory>
+    requires { HasFewNodes rule.now }
     ensures tree { IfOk result (λ f. f.tree ≡ forest_of rule.now) }
     ensures paths { IfOk result (λ f. f.paths.items ≡ nodes_of rule.now) }
 {
@@ -127,6 +135,7 @@ fn add_owners(
     rule: &Rule,
     owners: &mut IndexSet<ForestNode>,
 ) -> Result<(), NoMemory>
+    requires { HasFewNodes rule.now }
     ensures { OnOk result (map placed owners.new.keys ≡ fold (with_new same_place) (map placed owners.old.keys) (map (λ q. (number, q)) (filter (λ q. nat_lt 0 (children_in rule.now q)) (nodes_of rule.now)))) }
 {
     let forest = rule_forest(alloc, rule)?;
@@ -136,7 +145,8 @@ fn add_owners(
 
 /// The nodes of all forests, each once, in the order of the rules and of the documents. Linear in the forests.
 pub(crate) fn all_nodes(alloc: Global, rules: &[Rule]) -> Result<IndexSet<ForestNode>, NoMemory>
-    requires { length rules.now ≤ MOST_RULES }
+    requires few_rules { length rules.now ≤ MOST_RULES }
+    requires forests { HaveFewNodes rules.now }
     ensures { IfOk result (λ s. map placed s.keys ≡ different same_place (places rules.now)) }
 {
     let mut nodes = IndexSet::new(alloc);
@@ -153,7 +163,8 @@ pub(crate) fn all_nodes(alloc: Global, rules: &[Rule]) -> Result<IndexSet<Forest
 
 /// Those of the nodes of all forests that have children. Linear in the forests.
 pub(crate) fn all_owners(alloc: Global, rules: &[Rule]) -> Result<IndexSet<ForestNode>, NoMemory>
-    requires { length rules.now ≤ MOST_RULES }
+    requires few_rules { length rules.now ≤ MOST_RULES }
+    requires forests { HaveFewNodes rules.now }
     ensures { IfOk result (λ s. map placed s.keys ≡ different same_place (owners rules.now)) }
 {
     let mut owners = IndexSet::new(alloc);

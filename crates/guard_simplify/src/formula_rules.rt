@@ -1,7 +1,9 @@
 //! The rules that give the atoms of formulas.
-ghost use Rattle.std.specs.Prelude.{◌≡◌, ◌+◌, ◌≤◌, [], ◌∷◌, ◌++◌, length, map, IfOk, OnOk};
+ghost use Rattle.std.specs.Prelude.{◌≡◌, ◌+◌, ◌≤◌, [], ◌∷◌, ◌++◌, length, map, IfOk, OnOk, All};
 ghost use Rattle.tp_base.specs.declared.atoms.TheConstants.{MOST_ATOMS};
 ghost use Rattle.simple_core.specs.Labels.{set_of};
+ghost use Rattle.simple_core.specs.Systems.{IsAtom};
+ghost use Rattle.guard_simplify.specs.AtomNumbers.{HasAtomParts, HaveAtomParts};
 ghost use Rattle.guard_simplify.specs.Numbered.{stored};
 ghost use Rattle.guard_simplify.specs.KeyRules.{by_number, onward, needing_each, key_locals, from_each, key_ups, key_downs};
 
@@ -10,23 +12,22 @@ use simple_core::{Link, Local};
 use std::alloc::Global;
 use tp_base::{Atom, ClassSet, NoMemory};
 
-// The atom of a number. The numbers of atoms that a system has are small; they were counted before.
-pub(crate) fn atom_of(number: usize) -> Result<Atom, NoMemory>
-    ensures { IfOk result (λ a. a ≡ number) }
+// The atom of a number.
+pub(crate) fn atom_of(number: usize) -> Atom
+    requires { IsAtom number }
+    ensures { result ≡ number }
 {
-    match u32::try_from(number) {
-        Ok(n) => Ok(Atom(n)),
-        Err(_) => Err(NoMemory),
-    }
+    Atom(number as u32)
 }
 
 // The set of the atoms of these numbers.
 fn set_of_parts(alloc: Global, parts: &[usize]) -> Result<ClassSet, NoMemory>
+    requires { All IsAtom parts.now }
     ensures { IfOk result (λ s. s ≡ set_of parts.now) }
 {
     let mut set = ClassSet::new(alloc);
     'parts: for p in parts {
-        set.add(atom_of(*p)?)?;
+        set.add(atom_of(*p))?;
     }
     Ok(set)
 }
@@ -47,10 +48,11 @@ fn give_each(
     parts: &[usize],
     gives: Atom,
 ) -> Result<(), NoMemory>
+    requires { All IsAtom parts.now }
     ensures { OnOk result (locals.new.items ≡ locals.old.items ++ needing_each gives parts.now) }
 {
     'parts: for p in parts {
-        let needs = set_of_one(alloc, atom_of(*p)?)?;
+        let needs = set_of_one(alloc, atom_of(*p))?;
         locals.push(Local {
             needs,
             gives,
@@ -67,6 +69,7 @@ fn give_locally(
     gives: Atom,
     key: &Key,
 ) -> Result<(), NoMemory>
+    requires { HasAtomParts key.now }
     ensures { OnOk result (locals.new.items ≡ locals.old.items ++ key_locals gives (stored key.now)) }
 {
     match key.shape {
@@ -99,10 +102,11 @@ fn give_locally(
 
 // A node gives the atom to the one next to it, for each part.
 fn link_each(links: &mut Vec<Link>, parts: &[usize], to: Atom) -> Result<(), NoMemory>
+    requires { All IsAtom parts.now }
     ensures { OnOk result (links.new.items ≡ links.old.items ++ from_each to parts.now) }
 {
     'parts: for p in parts {
-        let from = atom_of(*p)?;
+        let from = atom_of(*p);
         links.push(Link { from, to })?;
     }
     Ok(())
@@ -121,6 +125,7 @@ fn hand_on(links: &mut Vec<Link>, atom: Atom) -> Result<(), NoMemory>
 
 // What a node's parent gives it of a formula.
 fn give_up(links: &mut Vec<Link>, to: Atom, key: &Key) -> Result<(), NoMemory>
+    requires { HasAtomParts key.now }
     ensures { OnOk result (links.new.items ≡ links.old.items ++ key_ups to (stored key.now)) }
 {
     match key.shape {
@@ -140,6 +145,7 @@ fn give_up(links: &mut Vec<Link>, to: Atom, key: &Key) -> Result<(), NoMemory>
 
 // What a node's child gives it of a formula.
 fn give_down(links: &mut Vec<Link>, gives: Atom, key: &Key) -> Result<(), NoMemory>
+    requires { HasAtomParts key.now }
     ensures { OnOk result (links.new.items ≡ links.old.items ++ key_downs gives (stored key.now)) }
 {
     match key.shape {
@@ -160,7 +166,8 @@ fn give_down(links: &mut Vec<Link>, gives: Atom, key: &Key) -> Result<(), NoMemo
 /// The rules at one node that give the atoms of the formulas, whose numbers begin with `first`. Linear in
 /// the keys, but for the sets.
 pub fn locals_of(alloc: Global, first: u32, keys: &[Key]) -> Result<Vec<Local>, NoMemory>
-    requires { first + length keys.now ≤ MOST_ATOMS }
+    requires few { first + length keys.now ≤ MOST_ATOMS }
+    requires parts { HaveAtomParts keys.now }
     ensures { IfOk result (λ v. v.items ≡ by_number key_locals first (map stored keys.now)) }
 {
     let mut locals = Vec::new(alloc);
@@ -176,7 +183,8 @@ pub fn locals_of(alloc: Global, first: u32, keys: &[Key]) -> Result<Vec<Local>, 
 
 /// The rules that give the atoms of the formulas to the children. Linear in the keys.
 pub fn ups_of(alloc: Global, first: u32, keys: &[Key]) -> Result<Vec<Link>, NoMemory>
-    requires { first + length keys.now ≤ MOST_ATOMS }
+    requires few { first + length keys.now ≤ MOST_ATOMS }
+    requires parts { HaveAtomParts keys.now }
     ensures { IfOk result (λ v. v.items ≡ by_number key_ups first (map stored keys.now)) }
 {
     let mut links = Vec::new(alloc);
@@ -192,7 +200,8 @@ pub fn ups_of(alloc: Global, first: u32, keys: &[Key]) -> Result<Vec<Link>, NoMe
 
 /// The rules that give the atoms of the formulas to the parents. Linear in the keys.
 pub fn downs_of(alloc: Global, first: u32, keys: &[Key]) -> Result<Vec<Link>, NoMemory>
-    requires { first + length keys.now ≤ MOST_ATOMS }
+    requires few { first + length keys.now ≤ MOST_ATOMS }
+    requires parts { HaveAtomParts keys.now }
     ensures { IfOk result (λ v. v.items ≡ by_number key_downs first (map stored keys.now)) }
 {
     let mut links = Vec::new(alloc);

@@ -1,6 +1,7 @@
 //! The kinds of the nodes of forests.
 ghost use Rattle.std.specs.Prelude.{◌≡◌, ◌≤◌, ◌++◌, length, map, option_map, unwrap_or, IfOk, OnOk};
 ghost use Rattle.tree_sem.specs.Paths.{parent_of, last_number};
+ghost use Rattle.guard_simplify.specs.AtomNumbers.{HaveFewNodes};
 ghost use Rattle.guard_simplify.specs.Auxiliaries.{by_rule};
 ghost use Rattle.guard_simplify.specs.Simplified.{is_beside};
 ghost use Rattle.guard_simplify.specs.ForestRules.{child_count, above_among, made_label, made_kind, rule_kinds, AreFew, nodes_in, owners_in};
@@ -137,6 +138,7 @@ pub(crate) fn all_kinds(
 ) -> Result<Vec<Kind>, NoMemory>
     requires few_rules { length rules.now ≤ MOST_RULES }
     requires few_nodes { AreFew numbers.now }
+    requires forests { HaveFewNodes rules.now }
     ensures { IfOk result (λ v. v.items ≡ by_rule (rule_kinds (nodes_in numbers.now) (owners_in numbers.now) numbers.now.first_owner) 0 rules.now) }
 {
     let mut kinds = Vec::new(alloc);

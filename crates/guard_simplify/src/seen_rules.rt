@@ -1,6 +1,7 @@
 //! The rules of what is seen of the guards that are handed in.
 ghost use Rattle.std.specs.Prelude.{◌≡◌, ◌+◌, ◌≤◌, ◌==◌, ◌++◌, length, IfOk, OnOk};
 ghost use Rattle.tp_base.specs.declared.atoms.TheConstants.{MOST_ATOMS};
+ghost use Rattle.guard_simplify.specs.AtomNumbers.{AreAtoms};
 ghost use Rattle.guard_simplify.specs.Firsts.{different, place_of};
 ghost use Rattle.guard_simplify.specs.SeenRules.{seen_rules, seen_links, seen_of};
 
@@ -31,14 +32,15 @@ pub(crate) fn add_seen(
     guards: &[usize],
     locals: &mut Vec<Local>,
 ) -> Result<(), NoMemory>
-    requires { first + length guards.now ≤ MOST_ATOMS }
+    requires few { first + length guards.now ≤ MOST_ATOMS }
+    requires atoms { AreAtoms guards.now }
     ensures { OnOk result (locals.new.items ≡ locals.old.items ++ seen_rules first guards.now) }
 {
     let mut number = first;
     let mut rest = guards;
     'guards: while let Some((guard, later)) = rest.split_first() {
         locals.push(Local {
-            needs: set_of_one(alloc, atom_of(*guard)?)?,
+            needs: set_of_one(alloc, atom_of(*guard))?,
             gives: Atom(number),
             stmt: None,
         })?;

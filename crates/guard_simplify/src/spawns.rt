@@ -1,6 +1,8 @@
 //! What spawns the nodes of forests.
-ghost use Rattle.std.specs.Prelude.{◌≡◌, ◌≤◌, ◌++◌, length, IfOk, OnOk};
+ghost use Rattle.std.specs.Prelude.{◌≡◌, ◌≤◌, ◌++◌, length, IfOk, OnOk, All};
 ghost use Rattle.std.specs.List.{flat_map};
+ghost use Rattle.simple_core.specs.Systems.{IsAtom};
+ghost use Rattle.guard_simplify.specs.AtomNumbers.{HasFewNodes, HaveFewNodes};
 ghost use Rattle.guard_simplify.specs.Auxiliaries.{by_rule, forest_of};
 ghost use Rattle.guard_simplify.specs.ForestRules.{children_spawned, node_spawns, made_spawns, rule_spawns, AreFew, nodes_in, owners_in};
 ghost use Rattle.guard_simplify.specs.declared.simplified.TheConstants.{MOST_RULES};
@@ -90,7 +92,8 @@ fn spawn_forest(
     numbers: &NodeNumbers,
     spawns: &mut Vec<Spawn>,
 ) -> Result<(), NoMemory>
-    requires { AreFew numbers.now }
+    requires few { AreFew numbers.now }
+    requires nodes { HasFewNodes rule.now }
     ensures { OnOk result (spawns.new.items ≡ spawns.old.items ++ made_spawns (nodes_in numbers.now) (owners_in numbers.now) numbers.now.first_owner number (forest_of rule.now) needs) }
 {
     let forest = rule_forest(alloc, rule)?;
@@ -111,6 +114,8 @@ pub(crate) fn all_spawns(
     requires few_rules { length rules.now ≤ MOST_RULES }
     requires few_nodes { AreFew numbers.now }
     requires each { length guards.now ≡ length rules.now }
+    requires atoms { All IsAtom guards.now }
+    requires forests { HaveFewNodes rules.now }
     ensures { IfOk result (λ v. v.items ≡ by_rule (rule_spawns (nodes_in numbers.now) (owners_in numbers.now) numbers.now.first_owner guards.now) 0 rules.now) }
 {
     let mut spawns = Vec::new(alloc);
@@ -118,7 +123,7 @@ pub(crate) fn all_spawns(
     let mut rest = rules;
     'rules: while let Some((rule, later)) = rest.split_first() {
         let guard = guards[number as usize];
-        let needs = atom_of(guard)?;
+        let needs = atom_of(guard);
         spawn_forest(alloc, number, rule, needs, numbers, &mut spawns)?;
         number += 1;
         rest = later;

@@ -3,7 +3,7 @@ use Rattle.std.specs.Prelude.{◌≡◌, ◌≤◌}
 use Rattle.simple_core.specs.declared.system.System.{System}
 use Rattle.simple_core.specs.Systems.{IsSound}
 use Rattle.simple_core.specs.Pairs.{Pair, Asked}
-use Rattle.class_adding.specs.ClosedPages.{IsClosedPage}
+use Rattle.closed_page.specs.ClosedPages.{IsClosedPage}
 use Rattle.proof_maker.specs.Forests.{KeepsForests}
 use Rattle.proof_maker.specs.Rules.{AreRulesOf}
 use Rattle.proof_core.specs.declared.unfolded.TheConstants.{MOST_LISTED}

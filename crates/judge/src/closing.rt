@@ -2,7 +2,7 @@
 ghost use Rattle.std.specs.Prelude.{◌≡◌, ◌<◌, [], None, All, length, Contains, IfOk, OnOk, IsErrOf};
 ghost use Rattle.simple_core.specs.Systems.{IsSound};
 ghost use Rattle.simple_core.specs.Pairs.{Pair, Asked, Needed, HasMore};
-ghost use Rattle.class_adding.specs.ClosedPages.{IsClosedPage};
+ghost use Rattle.closed_page.specs.ClosedPages.{IsClosedPage};
 
 use class_adding::{Closed, close_page};
 use need_table::PlainSummaries;
@@ -44,10 +44,10 @@ pub(crate) fn close_shared(
     sums: &mut SharedSummaries,
 ) -> Result<Closed, NoMemory>
     requires sound { IsSound system.now }
-    requires made { sums.old ≡ system.now }
+    requires made { sums.old.system ≡ system.now }
     ensures closed { IfOk result (λ c. IsClosedPage system.now page.now c) }
-    ensures made { sums.new ≡ system.now }
-    ensures known { OnOk result ((q : Pair) → Asked system.now page.now q → (q.0 < length sums.new.kinds) × All (Contains sums.new.visible) q.1) }
+    ensures made { sums.new.system ≡ system.now }
+    ensures known { OnOk result ((q : Pair) → Asked system.now page.now q → (q.0 < length sums.new.system.kinds) × All (Contains sums.new.system.visible) q.1) }
 {
     match close_page(alloc, page, system, sums) {
         Ok(closed) => Ok(closed),

@@ -4,7 +4,7 @@ ghost use Rattle.usage_report.specs.Views.{answer_of};
 ghost use Rattle.limits.specs.declared.budgets.TheConstants.{MOST_BRANCHES};
 ghost use Rattle.simple_core.specs.Systems.{IsSound};
 ghost use Rattle.simple_core.specs.Pairs.{Pair, Asked};
-ghost use Rattle.class_adding.specs.ClosedPages.{IsClosedPage};
+ghost use Rattle.closed_page.specs.ClosedPages.{IsClosedPage};
 ghost use Rattle.proof_maker.specs.Forests.{KeepsForests};
 ghost use Rattle.saturation.specs.Budgets.{HasToBeSpent};
 ghost use Rattle.proof_core.specs.declared.unfolded.TheConstants.{MOST_LISTED};
@@ -113,7 +113,7 @@ fn shared_within(
     requires sound { IsSound made.now.system }
     requires forests { KeepsForests made.now.system page.now }
     requires list { limits.now.list ≤ MOST_LISTED }
-    requires made { sums.old ≡ made.now.system }
+    requires made { sums.old.system ≡ made.now.system }
     requires room { ¬ HasToBeSpent made.now.system limits.now.nodes }
     ensures answers { IfOk result (λ v. AreBySeen false made.now.system made.now.seen page.now limits.now (map answer_of v.items)) }
     ensures only_memory { IfErr result (λ e. e ≡ JudgeFault.Memory) }

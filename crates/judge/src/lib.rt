@@ -17,6 +17,8 @@ mod simplifying;
 pub use both::{Answers, Both};
 pub use faults::JudgeFault;
 pub use judging::{judge, judge_more};
-pub use laws::{engines_agree, one_answer, one_guard, proof_shows, reached_at_root};
+pub use laws::{
+    engines_agree, forests_are_kept, one_answer, one_guard, proof_shows, reached_at_root,
+};
 pub use limits::Limits;
 pub use proof_core::MOST_LISTED;

@@ -11,7 +11,7 @@ use tp_base::NoMemory;
 use tree_sem::Action;
 
 /// The rule of a statement. Linear in the statement, except that a chain which begins with `this` and has an `add`
-/// takes the guard of the handler round it twice, and that each `Around` takes the guard of the calls before it twice.
+/// takes the guard of the handler round it twice.
 pub fn translate(alloc: Global, s: &Stmt) -> Result<Rule, NoMemory>
     ensures { IfOk result (λ r. r ≡ spec.rule_of (statement_of s.now)) }
 {

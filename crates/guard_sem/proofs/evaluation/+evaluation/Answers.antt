@@ -6,7 +6,7 @@ use Rattle.guard_sem.specs.Guards.{guards_of}
 use Rattle.guard_sem.specs.Sizes.{size_of, sizes_of}
 use Rattle.guard_sem.proofs.Sizes.{item_le}
 use Rattle.guard_sem.specs.Nodes.{term_of}
-use Rattle.guard_sem.proofs.EvaluationLemmas.{of_atom, of_parent, of_ancestor, of_child, of_descendant, of_somewhere, all_more, any_more}
+use Rattle.guard_sem.proofs.EvaluationLemmas.{of_atom, of_parent, of_ancestor, of_child, of_descendant, of_somewhere, of_at_or_below, all_more, any_more}
 use Rattle.guard_sem.proofs.evaluation.+evaluation.Goals as goal
 
 pub marked-returns-in-Atom : goal.marked-returns-in-Atom
@@ -36,6 +36,11 @@ pub marked-returns-in_ok-marked-in-Somewhere : goal.marked-returns-in_ok-marked-
 marked-returns-in_ok-marked-in-Somewhere t c =
     of_somewhere c.args.nodes.now c.args.g.now c.if_any-in-Somewhere.result c.in-Somewhere.g.value c.in_ok-marked-in-Somewhere.field-0
     (subst (λ g. IsSetOf c.args.nodes.now c.in_ok-marked-in-Somewhere.field-0 (λ v. Holds c.args.nodes.now v g)) c.deref-in-Somewhere.ensures c.in_ok-marked-in-Somewhere.ensures) (sym c.g.view_is ∙ ap term_of c.in-Somewhere.is) c.if_any-in-Somewhere.ensures
+
+pub marked-returns-in_ok-marked-in-AtOrBelow : goal.marked-returns-in_ok-marked-in-AtOrBelow
+marked-returns-in_ok-marked-in-AtOrBelow t c =
+    of_at_or_below c.args.nodes.now c.args.g.now c.at_or_below-in-AtOrBelow.result c.in-AtOrBelow.g.value c.in_ok-marked-in-AtOrBelow.field-0
+    (subst (λ g. IsSetOf c.args.nodes.now c.in_ok-marked-in-AtOrBelow.field-0 (λ v. Holds c.args.nodes.now v g)) c.deref-in-AtOrBelow.ensures c.in_ok-marked-in-AtOrBelow.ensures) (sym c.g.view_is ∙ ap term_of c.in-AtOrBelow.is) c.at_or_below-in-AtOrBelow.ensures
 
 pub marked_by_all-marked-requires : goal.marked_by_all-marked-requires
 marked_by_all-marked-requires t c =

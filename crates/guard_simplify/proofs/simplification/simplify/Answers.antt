@@ -2,7 +2,17 @@ use Rattle.std.proofs.Common.{sym, subst, All}
 use Rattle.guard_simplify.specs.Law.{IsOver, IsRuleOver}
 use Rattle.guard_simplify.specs.Outcome.{simplified, Gives}
 use Rattle.guard_simplify.proofs.SystemLemmas.{outcome_same, sound_outcome}
+use Rattle.guard_simplify.proofs.AtomNumberLemmas.{has_atoms, have_few_nodes}
 use Rattle.guard_simplify.proofs.simplification.simplify.Goals as goal
+
+pub count_all-requires-clause-forests : goal.count_all-requires-clause-forests
+count_all-requires-clause-forests c = have_few_nodes c.args.rules.now c.requires.few_nodes
+
+pub within_limits-requires-clause-forests : goal.within_limits-requires-clause-forests
+within_limits-requires-clause-forests c = have_few_nodes c.args.rules.now c.requires.few_nodes
+
+pub within_limits-requires-clause-atoms : goal.within_limits-requires-clause-atoms
+within_limits-requires-clause-atoms c = λ within. has_atoms c.args.rules.now c.args.guards.now c.count-first.result c.in_ok-counted.counted c.in_ok-counted.ensures.counted within
 
 pub returns-clause-system : goal.returns-clause-system
 returns-clause-system c =
