@@ -1,4 +1,7 @@
+mod BackLemmas
 mod CallLemmas
+mod EndLemmas
+mod FirstLemmas
 mod NumberLemmas
 mod OrderedLemmas
 mod PlainLemmas

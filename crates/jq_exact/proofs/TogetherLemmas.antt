@@ -15,17 +15,17 @@ use Rattle.jq_sem.proofs.SetLemmas.{on_ok}
 use Rattle.jq_sem.proofs.TogetherLemmas.{made_larger, made_union}
 use Rattle.jq_exact.specs.declared.evaluation.Named.{Named}
 use Rattle.jq_exact.specs.declared.evaluation.Named.TheVariants.{Nothing, Nodes}
-use Rattle.jq_exact.specs.Exact.{IsMadeExactly, MadeExactly, standing, InExactly, UnderExactly, SelectedExactly}
+use Rattle.jq_exact.specs.Exact.{IsMadeExactly, MadeExactly, stands, InExactly, UnderExactly, SelectedExactly}
 use Rattle.jq_exact.specs.Together.{NamedBy, InOne, is_first, asks_first, IsRootSet, FromThis, FromNodes}
 
 -- of sets with the same nodes calls make sets with the same nodes
-is_made_same : (t : LabelTree) (S L : List ℕ → Type 0) → ((v : List ℕ) → S v ↔ L v) → (c : ExactCall) (v : List ℕ) → IsMadeExactly t S c v → IsMadeExactly t L c v
+pub is_made_same : (t : LabelTree) (S L : List ℕ → Type 0) → ((v : List ℕ) → S v ↔ L v) → (c : ExactCall) (v : List ℕ) → IsMadeExactly t S c v → IsMadeExactly t L c v
 is_made_same t S L same (plain c) v m = made_larger t S L (λ w. (same w).0) c v m
 is_made_same t S L same (closest cs) v m = (m.0, m.1, (same (v ++ m.1)).0 m.2, m.3)
 is_made_same t S L same (siblings cs) v m = let o = m.1 in (m.0, (o.0, o.1, o.2, o.3, o.4, (same (o.1 ++ o.3 ∷ [])).0 o.5))
 is_made_same t S L same first v m = ((same v).0 m.0, λ w is before. m.1 w ((same w).1 is) before)
 
-both_ways : {A B : Type 0} → A ↔ B → B ↔ A
+pub both_ways : {A B : Type 0} → A ↔ B → B ↔ A
 both_ways same = (same.1, same.0)
 
 pub made_same : (t : LabelTree) (S L : List ℕ → Type 0) → ((v : List ℕ) → S v ↔ L v) → (calls : List ExactCall) (v : List ℕ) → MadeExactly t S calls v ↔ MadeExactly t L calls v
@@ -36,7 +36,7 @@ made_same t S L same (c ∷ earlier) v =
       λ m. is_made_same t (MadeExactly t L earlier) (MadeExactly t S earlier) (λ w. both_ways (before w)) c v m,
     )
 
-neither : (a b : Bool) → (a || b) ≡ false → (a ≡ false) × (b ≡ false)
+pub neither : (a b : Bool) → (a || b) ≡ false → (a ≡ false) × (b ≡ false)
 neither true b e = cc
 neither false b e = (refl, e)
 
@@ -152,7 +152,7 @@ module _ (t : LabelTree) (calls : List ExactCall) where
 
 -- ---- chains
 
-module _ (t : LabelTree) (named : Named) (chain : ExactChain) (root : Root) (calls : List ExactCall) (is : standing chain.root [] chain.calls ≡ (root, calls)) where
+module _ (t : LabelTree) (named : Named) (chain : ExactChain) (root : Root) (calls : List ExactCall) (is : stands chain.root chain.calls ≡ (root, calls)) where
   made_by : (u : Option (List ℕ)) (v : List ℕ) → InExactly t u chain v ↔ MadeExactly t (InRoot t u root) calls v
   made_by u v = subst (λ (s : Root × List ExactCall). InExactly t u chain v ↔ MadeExactly t (InRoot t u s.0) s.1 v) is (λ m. m, λ m. m)
 

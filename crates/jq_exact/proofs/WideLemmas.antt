@@ -1,5 +1,6 @@
 -- What is selected exactly is selected by the statement that is judged in its place.
-use Rattle.std.proofs.Common.{◌≡◌, ◌⊎◌, ℕ, zero, suc, List, [], ◌∷◌, ◌++◌, map, Option, Some, None, IsSomeAnd, slice_get, Contains, refl, sym, subst, inl, inr, append-nil}
+use Rattle.std.proofs.Common.{◌≡◌, ◌⊎◌, ℕ, zero, suc, List, [], ◌∷◌, ◌++◌, map, reverse, Option, Some, None, IsSomeAnd, slice_get, Contains, refl, sym, ap, ◌∙◌, subst, inl, inr, append-nil}
+use mathlib.Core.List.{reverse_aux}
 use Rattle.std.proofs.lemmas.List.Elements.{All-nil}
 use Rattle.tree_sem.specs.Nodes.{IsNode}
 use Rattle.tree_sem.specs.Trees.{LabelTree, node_at}
@@ -14,7 +15,7 @@ use Rattle.jq_sem.specs.Reachability.{after_step}
 use Rattle.jq_sem.specs.Sharp.{ExactCall, plain, closest, siblings, first, ExactChain, ExactStatement, wide_call, wide_chain, wides}
 use Rattle.jq_sem.proofs.SelectionLemmas.{InCalls-node}
 use Rattle.jq_sem.proofs.TogetherLemmas.{made_larger}
-use Rattle.jq_exact.specs.Exact.{IsMadeExactly, MadeExactly, standing, InExactly, UnderExactly, SelectedExactly}
+use Rattle.jq_exact.specs.Exact.{IsMadeExactly, MadeExactly, set_before, stands, InExactly, UnderExactly, SelectedExactly}
 use Rattle.jq_exact.specs.Events.{IsLegalExactEvent, AreLegalExactEvents}
 use Rattle.jq_exact.specs.Laws.{IsNarrower, AreNarrower, ReachesLess}
 
@@ -40,16 +41,24 @@ calls_wide t u root (c ∷ earlier) v m =
     made_wide t (MadeExactly t (InRoot t u root) earlier) (InCalls t u root (map wide_call earlier)) (InCalls-node t u root (map wide_call earlier)) (calls_wide t u root earlier) c v m
 
 -- the calls that stand are the same
-pub standing_wide : (root : Root) (stack calls : List ExactCall) → let s = standing root stack calls in script.standing root (map wide_call stack) (map wide_call calls) ≡ (s.0, map wide_call s.1)
-standing_wide root stack [] = refl
-standing_wide root [] (plain back ∷ others) = standing_wide (matched []) [] others
-standing_wide root (d ∷ stack) (plain back ∷ others) = standing_wide root stack others
-standing_wide root stack (c ∷ others) = standing_wide root (c ∷ stack) others
+before_wide : (n : ℕ) (root : Root) (calls : List ExactCall) → let s = set_before n root calls in script.set_before n root (map wide_call calls) ≡ (s.0, map wide_call s.1)
+before_wide n root (plain back ∷ earlier) = before_wide (suc n) root earlier
+before_wide (suc n) root (c ∷ earlier) = before_wide n root earlier
+before_wide (suc n) root [] = refl
+before_wide zero root (c ∷ earlier) = ap (λ (s : Root × List Call). (s.0, wide_call c ∷ s.1)) (before_wide zero root earlier)
+before_wide zero root [] = refl
+
+reversed_wide : (calls others : List ExactCall) → reverse_aux (map wide_call calls) (map wide_call others) ≡ map wide_call (reverse_aux calls others)
+reversed_wide [] others = refl
+reversed_wide (c ∷ calls) others = reversed_wide calls (c ∷ others)
+
+pub stands_wide : (root : Root) (calls : List ExactCall) → let s = stands root calls in script.stands root (map wide_call calls) ≡ (s.0, map wide_call s.1)
+stands_wide root calls = ap (script.set_before zero root) (reversed_wide calls []) ∙ before_wide zero root (reverse calls)
 
 in_wide : (t : LabelTree) (u : Option (List ℕ)) (chain : ExactChain) (v : List ℕ) → InExactly t u chain v → script.In t u (wide_chain chain) v
 in_wide t u chain v m =
-    let s = standing chain.root [] chain.calls in
-    subst (λ (z : Root × List Call). InCalls t u z.0 z.1 v) (sym (standing_wide chain.root [] chain.calls)) (calls_wide t u s.0 s.1 v m)
+    let s = stands chain.root chain.calls in
+    subst (λ (z : Root × List Call). InCalls t u z.0 z.1 v) (sym (stands_wide chain.root chain.calls)) (calls_wide t u s.0 s.1 v m)
 
 under_wide : (t : LabelTree) (handlers : List ExactChain) (chain : ExactChain) (u : Option (List ℕ)) (v : List ℕ) → UnderExactly t u handlers chain v → SelectedUnder t u (map wide_chain handlers) (wide_chain chain) v
 under_wide t [] chain u v m = in_wide t u chain v m

@@ -4,7 +4,7 @@
 --     SelectedExactly t s v      the statement selects v
 --     IsLegalExactly t stmts s   the step's statement selects its node
 --     AreLegalExactly            each step is legal in the tree before it
-use Rattle.std.specs.Prelude.{ℕ, List, [], ◌∷◌, ◌++◌, Option, Some, None, IsSomeAnd, slice_get}
+use Rattle.std.specs.Prelude.{ℕ, zero, suc, List, [], ◌∷◌, ◌++◌, reverse, Option, Some, None, IsSomeAnd, slice_get}
 use Rattle.tree_sem.specs.Series.{AreLegalBy}
 use Rattle.tree_sem.specs.Trees.{LabelTree}
 use Rattle.tree_sem.specs.declared.actions.Step.{Step}
@@ -26,15 +26,19 @@ abbrev pub MadeExactly : LabelTree → (List ℕ → Type 0) → List ExactCall 
 MadeExactly t S [] v = S v
 MadeExactly t S (c ∷ earlier) v = IsMadeExactly t (MadeExactly t S earlier) c v
 
--- the calls that stand, last first: a `back` takes back the last one, and where there is none, nothing is left of the set
-abbrev pub standing : Root → List ExactCall → List ExactCall → Root × List ExactCall
-standing root calls [] = (root, calls)
-standing root [] (plain back ∷ others) = standing (matched []) [] others
-standing root (c ∷ calls) (plain back ∷ others) = standing root calls others
-standing root calls (c ∷ others) = standing root (c ∷ calls) others
+-- what makes the set n sets before that of the calls, which stand last first: a `back` goes back to the set before the calls that it follows, and where no set is before, nothing is in it
+abbrev pub set_before : ℕ → Root → List ExactCall → Root × List ExactCall
+set_before n root (plain back ∷ earlier) = set_before (suc n) root earlier
+set_before (suc n) root (c ∷ earlier) = set_before n root earlier
+set_before (suc n) root [] = (matched [], [])
+set_before zero root (c ∷ earlier) = let s = set_before zero root earlier in (s.0, c ∷ s.1)
+set_before zero root [] = (root, [])
+
+abbrev pub stands : Root → List ExactCall → Root × List ExactCall
+stands root calls = set_before zero root (reverse calls)
 
 abbrev pub InExactly : LabelTree → Option (List ℕ) → ExactChain → List ℕ → Type 0
-InExactly t u chain v = let s = standing chain.root [] chain.calls in MadeExactly t (InRoot t u s.0) s.1 v
+InExactly t u chain v = let s = stands chain.root chain.calls in MadeExactly t (InRoot t u s.0) s.1 v
 
 -- each handler has a node, which the next one and at last the chain name by `this`
 abbrev pub UnderExactly : LabelTree → Option (List ℕ) → List ExactChain → ExactChain → List ℕ → Type 0

@@ -1,5 +1,6 @@
 pub mod Events
 pub mod Exact
+pub mod Firsts
 pub mod Laws
 pub mod Ordered
 pub mod Replays

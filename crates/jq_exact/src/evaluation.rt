@@ -1,14 +1,16 @@
 //! The sets of chains and statements: for all nodes at once that `this` may name, which go on as one set.
-ghost use Rattle.std.specs.Prelude.{◌≡◌, ◌↔◌, ◌⊎◌, ◌<◌, ℕ, List, Option, true, false, IfOk, IsTrue};
+ghost use Rattle.std.specs.Prelude.{◌≡◌, ◌↔◌, ◌⊎◌, ◌+◌, ◌<◌, ℕ, length, take, drop, List, Option, Some, true, false, IfOk, IsTrue};
 ghost use Rattle.node_marks.specs.Marks.{IsMarked, path_at};
 ghost use Rattle.tree_sem.specs.Trees.{count_of};
 ghost use Rattle.jq_sem.specs.Views.{chain_of, root_of};
 ghost use Rattle.jq_sem.specs.SharpViews.{with_kind, exact_chain, exact_of};
+ghost use Rattle.jq_sem.specs.declared.sharp.SharpKind.TheVariants as sharp;
 ghost use Rattle.jq_exact.specs.Exact.{IsMadeExactly, MadeExactly, SelectedExactly};
 ghost use Rattle.jq_exact.specs.Standing.{after};
 ghost use Rattle.jq_exact.specs.Together as spec;
 ghost use Rattle.jq_exact.specs.Together.{NamedBy, InOne};
 
+use crate::firsts::{first_ask, lead_back, least_made};
 use crate::sets::of_exact_call;
 use crate::standing_calls::standing;
 use jq_sem::{Call, Chain, ExactStmt, Root, Sharp, SharpKind, kind_at, matching};
@@ -27,11 +29,11 @@ pub enum Named {
 
 /// The calls of one of a statement's chains, with the marks of the statement.
 #[derive(Clone, Copy)]
-struct MarkedCalls<'a> {
-    calls: &'a [Call],
-    sharp: &'a [Sharp],
+pub struct MarkedCalls<'a> {
+    pub calls: &'a [Call],
+    pub sharp: &'a [Sharp],
     /// The handler whose chain it is, counted from the outermost; none for the statement's own chain.
-    handler: Option<usize>,
+    pub handler: Option<usize>,
 }
 
 /// The nodes that the statement selects exactly.
@@ -149,12 +151,51 @@ fn of_this(
         }
         Named::Nodes(marks) => {
             if asks_first(calls, numbers) {
-                return of_each(tree, marks, calls, numbers);
+                return with_firsts(tree, marks, calls, numbers);
             }
             let copy = marks.copy()?;
             of_calls(tree, copy, calls, numbers)
         }
     }
+}
+
+// The same, where a first node is asked for: each time for all nodes at once, by a number for each, and behind the last as one
+// set. Where a call doesn't lead back, it is by each node.
+fn with_firsts(
+    tree: &NumberedTree,
+    named: &Marks,
+    calls: &MarkedCalls,
+    numbers: &[usize],
+) -> Result<Marks, NoMemory>
+    ensures { IfOk result (λ m. (v : List ℕ) → IsMarked tree.now m v ↔ spec.FromNodes tree.now named.now (spec.stood calls.now.sharp.now calls.now.handler calls.now.calls.now numbers.now) (count_of tree.now) v) }
+{
+    if !lead_back(calls, numbers) {
+        return of_each(tree, named, calls, numbers);
+    }
+    let mut marks = named.copy()?;
+    let mut rest = numbers;
+    'firsts: while let Some(place) = first_ask(calls, rest) {
+        let block = up_to(rest, place);
+        let least = least_made(tree, calls, block)?;
+        marks = tree.reached(&marks, &least)?;
+        rest = behind(rest, place);
+    }
+    of_calls(tree, marks, calls, rest)
+}
+
+// The numbers before a place, and those behind it.
+fn up_to(numbers: &[usize], place: usize) -> &[usize]
+    requires { place < length numbers.now }
+    ensures { result.now ≡ take place numbers.now }
+{
+    numbers.split_at(place).0
+}
+
+fn behind(numbers: &[usize], place: usize) -> &[usize]
+    requires { place < length numbers.now }
+    ensures { result.now ≡ drop (place + 1) numbers.now }
+{
+    numbers.split_at(place + 1).1
 }
 
 // Whether one of the calls asks for the first node of a set.
@@ -170,8 +211,9 @@ fn asks_first(calls: &MarkedCalls, numbers: &[usize]) -> bool
     false
 }
 
-fn is_first(kind: Option<SharpKind>) -> bool
-    ensures { (result ≡ false) → (c : _) → spec.is_first (with_kind c kind) ≡ false }
+pub fn is_first(kind: Option<SharpKind>) -> bool
+    ensures yes { IsTrue result → kind ≡ Some sharp.First }
+    ensures no { (result ≡ false) → (c : _) → spec.is_first (with_kind c kind) ≡ false }
 {
     matches!(kind, Some(SharpKind::First))
 }

@@ -2,6 +2,7 @@
 #![tactic(auto)]
 
 mod evaluation;
+mod firsts;
 mod laws;
 mod replays;
 mod selection;

@@ -5,7 +5,7 @@ use Rattle.jq_exact.proofs.evaluation.of_this.Goals as goal
 
 pub returns-then-asks_first : goal.returns-then-asks_first
 returns-then-asks_first c =
-    rw c.in-Nodes.is (on_ok c.of_each.result _ _ (λ m made. from_each c.args.tree.now (stood c.args.calls.now.sharp.now c.args.calls.now.handler c.args.calls.now.calls.now c.args.numbers.now) c.in-Nodes.marks m made) c.of_each.ensures)
+    rw c.in-Nodes.is (on_ok c.with_firsts.result _ _ (λ m made. from_each c.args.tree.now (stood c.args.calls.now.sharp.now c.args.calls.now.handler c.args.calls.now.calls.now c.args.numbers.now) c.in-Nodes.marks m made) c.with_firsts.ensures)
 
 pub returns-in_ok-none-in-Nothing : goal.returns-in_ok-none-in-Nothing
 returns-in_ok-none-in-Nothing c =

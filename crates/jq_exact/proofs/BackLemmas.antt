@@ -1,0 +1,218 @@
+-- From which nodes a call leads to a node, by numbers.
+use Rattle.std.proofs.Common.{◌≡◌, ◌↔◌, ℕ, zero, suc, ◌<◌, ◌≤◌, List, [], ◌∷◌, ◌++◌, length, take, true, Option, Some, None, Result, Ok, Err, IfOk, refl, sym, ap, ◌∙◌, subst, arith, length-append}
+use Rattle.tp_base.specs.declared.no_memory.NoMemory.{NoMemory}
+use Rattle.tree_sem.specs.Trees.{LabelTree}
+use Rattle.tree_sem.specs.Nodes.{IsNode}
+use Rattle.tree_sem.proofs.NodeLemmas.{IsNode-front}
+use Rattle.node_marks.specs.Marks.{IsFree, HasParentIn, HasAncestorIn, HasChildIn, HasDescendantIn}
+use Rattle.node_marks.specs.Ranks.{under, IsUnder, AreRanked, HasNearestIn}
+use Rattle.sel_core.specs.declared.selectors.Compound.{Compound}
+use Rattle.sel_core.specs.declared.selectors.Selector.{Selector}
+use Rattle.jq_sem.specs.declared.chains.Call as code
+use Rattle.jq_sem.specs.declared.chains.Call.TheVariants.{Find, Children, Parent, Parents, Filter, Has, Around, Near, Add, End}
+use Rattle.jq_sem.specs.declared.sharp.SharpKind.{SharpKind}
+use Rattle.jq_sem.specs.declared.sharp.SharpKind.TheVariants as sharp
+use Rattle.jq_sem.specs.SharpViews.{with_kind}
+use Rattle.jq_sem.specs.Views.{atoms_of, call_of}
+use Rattle.jq_sem.specs.Statements.{find, children, parent, parents, filter, has, around, FitsOne, MayFit}
+use Rattle.jq_sem.specs.Sharp.{plain, closest}
+use Rattle.jq_sem.proofs.MarkLemmas.{IsMarked-node}
+use Rattle.jq_exact.specs.Firsts.{leads_back, from_some, IsBefore}
+
+-- a list, cut before an element
+cut : (x : List ℕ) (m : ℕ) → m < length x → (j : ℕ) × (q : List ℕ) × (x ≡ take m x ++ j ∷ q)
+cut [] m lt = absurd (omega (arith, lt))
+cut (y ∷ x) zero lt = (y, x, refl)
+cut (y ∷ x) (suc m) lt = let rest = cut x m (omega (arith, lt)) in (rest.0, rest.1, ap (λ z. y ∷ z) rest.2)
+
+take_front : (w rest : List ℕ) → take (length w) (w ++ rest) ≡ w
+take_front [] rest = refl
+take_front (y ∷ w) rest = ap (λ z. y ∷ z) (take_front w rest)
+
+shorter : (w : List ℕ) (j : ℕ) (q : List ℕ) → length w < length (w ++ j ∷ q)
+shorter w j q = let long = length-append w (j ∷ q) in omega (arith, long)
+
+module _ (t : LabelTree) (ranks made : List ℕ) (cs : List (List ℕ)) where
+  pub before_find : (chosen : List ℕ) → AreRanked t chosen (λ k v. FitsOne t cs v × IsUnder t k ranks v) → AreRanked t made (λ k. HasDescendantIn (IsUnder t k chosen)) → IsBefore t (plain (find cs)) ranks made
+  before_find chosen fit over k low w = (
+    λ on.
+        let h = (over k low w).0 on in
+        let x = w ++ h.0 ∷ h.1 in
+        let both = (fit k low x).0 h.2 in
+        (IsNode-front t w (h.0 ∷ h.1) (IsMarked-node t (under k chosen) x h.2), x, (both.0, length w, shorter w h.0 h.1, take_front w (h.0 ∷ h.1)), both.1),
+    λ h.
+        let x = h.1 in
+        let rest = cut x h.2.1 h.2.2 in
+        let whole : x ≡ w ++ rest.0 ∷ rest.1 = rest.2 ∙ ap (λ z. z ++ rest.0 ∷ rest.1) h.2.3 in
+        (over k low w).1 (rest.0, rest.1, subst (IsUnder t k chosen) whole ((fit k low x).1 (h.2.0, h.3))),
+  )
+
+  pub before_children : (chosen : List ℕ) → AreRanked t chosen (λ k v. MayFit t cs v × IsUnder t k ranks v) → AreRanked t made (λ k. HasChildIn (IsUnder t k chosen)) → IsBefore t (plain (children cs)) ranks made
+  before_children chosen fit over k low w = (
+    λ on.
+        let h = (over k low w).0 on in
+        let x = w ++ h.0 ∷ [] in
+        let both = (fit k low x).0 h.1 in
+        (IsNode-front t w (h.0 ∷ []) (IsMarked-node t (under k chosen) x h.1), x, (both.0, h.0, w, refl, refl), both.1),
+    λ h.
+        let x = h.1 in
+        let whole : x ≡ w ++ h.2.1 ∷ [] = h.2.3 ∙ ap (λ z. z ++ h.2.1 ∷ []) h.2.4 in
+        (over k low w).1 (h.2.1, subst (IsUnder t k chosen) whole ((fit k low x).1 (h.2.0, h.3))),
+  )
+
+  pub before_parent : (chosen : List ℕ) → AreRanked t chosen (λ k v. MayFit t cs v × IsUnder t k ranks v) → AreRanked t made (λ k v. IsNode t v × HasParentIn (IsUnder t k chosen) v) → IsBefore t (plain (parent cs)) ranks made
+  before_parent chosen fit below k low w = (
+    λ on. let h = (below k low w).0 on in let both = (fit k low h.1.1).0 h.1.3 in (h.0, h.1.1, (both.0, h.1.0, sym h.1.2), both.1),
+    λ h. (below k low w).1 (h.0, (h.2.1, h.1, sym h.2.2, (fit k low h.1).1 (h.2.0, h.3))),
+  )
+
+  pub before_parents : (chosen : List ℕ) → AreRanked t chosen (λ k v. MayFit t cs v × IsUnder t k ranks v) → AreRanked t made (λ k v. IsNode t v × HasAncestorIn (IsUnder t k chosen) v) → IsBefore t (plain (parents cs)) ranks made
+  before_parents chosen fit below k low w = (
+    λ on.
+        let h = (below k low w).0 on in
+        let x = take h.1.0 w in
+        let rest = cut w h.1.0 h.1.1 in
+        let both = (fit k low x).0 h.1.2 in
+        (h.0, x, (both.0, rest.0, rest.1, sym rest.2), both.1),
+    λ h.
+        let x = h.1 in
+        let front : take (length x) w ≡ x = ap (take (length x)) (sym h.2.3) ∙ take_front x (h.2.1 ∷ h.2.2) in
+        (below k low w).1 (h.0, (length x, subst (λ z. length x < length z) h.2.3 (shorter x h.2.1 h.2.2), subst (IsUnder t k chosen) (sym front) ((fit k low x).1 (h.2.0, h.3)))),
+  )
+
+  pub before_filter : AreRanked t made (λ k v. FitsOne t cs v × IsUnder t k ranks v) → IsBefore t (plain (filter cs)) ranks made
+  before_filter fit k low w = (
+    λ on. let both = (fit k low w).0 on in (IsMarked-node t (under k ranks) w both.1, w, (both.0, refl), both.1),
+    λ h. (fit k low w).1 (subst (FitsOne t cs) h.2.1 h.2.0, subst (IsUnder t k ranks) h.2.1 h.3),
+  )
+
+  pub before_has : AreRanked t made (λ k v. HasDescendantIn (FitsOne t cs) v × IsUnder t k ranks v) → IsBefore t (plain (has cs)) ranks made
+  before_has over k low w = (
+    λ on. let both = (over k low w).0 on in (IsMarked-node t (under k ranks) w both.1, w, (refl, both.0.0, both.0.1, both.0.2), both.1),
+    λ h. (over k low w).1 (subst (HasDescendantIn (FitsOne t cs)) h.2.0 (h.2.1, h.2.2, h.2.3), subst (IsUnder t k ranks) h.2.0 h.3),
+  )
+
+  pub before_closest : AreRanked t made (λ k v. IsNode t v × HasNearestIn (FitsOne t cs) (IsUnder t k ranks) v) → IsBefore t (closest cs) ranks made
+  before_closest near k low w = (
+    λ on. let h = (near k low w).0 on in (h.0, h.1.0, (h.1.3, h.1.1, sym h.1.2, h.1.4), h.1.5),
+    λ h. (near k low w).1 (h.0, (h.1, h.2.1, sym h.2.2, h.2.0, h.2.3, h.3)),
+  )
+
+-- ---- a set by what says the same of its nodes
+
+module _ (t : LabelTree) (S L : ℕ → List ℕ → Type 0) (same : (k : ℕ) (v : List ℕ) → S k v ↔ L k v) where
+  pub ranked_same : (m : List ℕ) → AreRanked t m S → AreRanked t m L
+  ranked_same m is k low v = (λ on. (same k v).0 ((is k low v).0 on), λ l. (is k low v).1 ((same k v).1 l))
+
+  pub ok_ranked_same : (r : Result (List ℕ) NoMemory) → IfOk r (λ m. AreRanked t m S) → IfOk r (λ m. AreRanked t m L)
+  ok_ranked_same (Ok m) is = ranked_same m is
+  ok_ranked_same (Err e) is = tt
+
+-- nodes of a set are those that fit
+pub both_same : (A B C : List ℕ → Type 0) → ((v : List ℕ) → A v ↔ B v) → (v : List ℕ) → (A v × C v) ↔ (B v × C v)
+both_same A B C same v = (λ h. ((same v).0 h.0, h.1), λ h. ((same v).1 h.0, h.1))
+
+free_same : (A B : List ℕ → Type 0) → ((v : List ℕ) → A v ↔ B v) → (v q : List ℕ) → IsFree A v q → IsFree B v q
+free_same A B same v [] free = tt
+free_same A B same v (k ∷ q) free = (λ b. free.0 ((same (v ++ k ∷ [])).1 b), free_same A B same (v ++ k ∷ []) q free.1)
+
+pub nearest_same : (N A B C : List ℕ → Type 0) → ((v : List ℕ) → A v ↔ B v) → (v : List ℕ) → (N v × HasNearestIn A C v) ↔ (N v × HasNearestIn B C v)
+nearest_same N A B C same v = (
+  λ h. let n = h.1 in (h.0, (n.0, n.1, n.2, (same n.0).0 n.3, free_same A B same n.0 n.1 n.4, n.5)),
+  λ h. let n = h.1 in (h.0, (n.0, n.1, n.2, (same n.0).1 n.3, free_same B A (λ w. ((same w).1, (same w).0)) n.0 n.1 n.4, n.5)),
+)
+
+pub over_same : (A B C D : List ℕ → Type 0) → ((v : List ℕ) → A v ↔ HasDescendantIn B v) → ((v : List ℕ) → B v ↔ D v) → (v : List ℕ) → (A v × C v) ↔ (HasDescendantIn D v × C v)
+over_same A B C D over same v = (
+  λ h. let d = (over v).0 h.0 in ((d.0, d.1, (same (v ++ d.0 ∷ d.1)).0 d.2), h.1),
+  λ h. let d = h.0 in ((over v).1 (d.0, d.1, (same (v ++ d.0 ∷ d.1)).1 d.2), h.1),
+)
+
+-- ---- a call that leads back is what it says, or `closest`
+
+pub plain_back : (c : code.Call) (kind : Option SharpKind) → ((cs : List Compound) → c ≡ Around cs → ⊥) → leads_back (with_kind (call_of c) kind) ≡ true → with_kind (call_of c) kind ≡ plain (call_of c)
+plain_back c None other lead = refl
+plain_back (Around cs) kind other lead = absurd (other cs refl)
+plain_back (Find cs) (Some sharp.Closest) other lead = refl
+plain_back (Children cs) (Some sharp.Closest) other lead = refl
+plain_back (Parent cs) (Some sharp.Closest) other lead = refl
+plain_back (Parents cs) (Some sharp.Closest) other lead = refl
+plain_back (Has cs) (Some sharp.Closest) other lead = refl
+plain_back (Near cs) (Some sharp.Closest) other lead = refl
+plain_back (Add ss) (Some sharp.Closest) other lead = refl
+plain_back End (Some sharp.Closest) other lead = refl
+plain_back (Filter cs) (Some sharp.Closest) other lead = refl
+plain_back (Find cs) (Some sharp.Siblings) other lead = refl
+plain_back (Children cs) (Some sharp.Siblings) other lead = refl
+plain_back (Parent cs) (Some sharp.Siblings) other lead = refl
+plain_back (Parents cs) (Some sharp.Siblings) other lead = refl
+plain_back (Has cs) (Some sharp.Siblings) other lead = refl
+plain_back (Near cs) (Some sharp.Siblings) other lead = cc
+plain_back (Add ss) (Some sharp.Siblings) other lead = refl
+plain_back End (Some sharp.Siblings) other lead = refl
+plain_back (Filter cs) (Some sharp.Siblings) other lead = refl
+plain_back (Find cs) (Some sharp.First) other lead = refl
+plain_back (Children cs) (Some sharp.First) other lead = refl
+plain_back (Parent cs) (Some sharp.First) other lead = refl
+plain_back (Parents cs) (Some sharp.First) other lead = refl
+plain_back (Has cs) (Some sharp.First) other lead = refl
+plain_back (Near cs) (Some sharp.First) other lead = refl
+plain_back (Add ss) (Some sharp.First) other lead = refl
+plain_back End (Some sharp.First) other lead = refl
+plain_back (Filter cs) (Some sharp.First) other lead = by_atoms (atoms_of cs) lead
+  where
+    by_atoms : (all : List (List ℕ)) → leads_back (with_kind (filter all) (Some sharp.First)) ≡ true → with_kind (filter all) (Some sharp.First) ≡ plain (filter all)
+    by_atoms [] lead = refl
+    by_atoms ([] ∷ []) lead = cc
+    by_atoms ([] ∷ b ∷ more) lead = refl
+    by_atoms ((x ∷ a) ∷ more) lead = refl
+
+pub around_back : (t : LabelTree) (c : code.Call) (cs cs' : List Compound) → cs' ≡ cs → c ≡ Around cs → (kind : Option SharpKind) (ranks : List ℕ) (r : Result (List ℕ) NoMemory) → leads_back (with_kind (call_of c) kind) ≡ true
+    → IfOk r (λ m. IsBefore t (closest (atoms_of cs')) ranks m) → IfOk r (λ m. IsBefore t (with_kind (call_of c) kind) ranks m)
+around_back t c cs cs' same is kind ranks r lead made =
+    subst (λ (x : code.Call). IfOk r (λ m. IsBefore t (with_kind (call_of x) kind) ranks m)) (sym is)
+    (by_kind kind (subst (λ (x : code.Call). leads_back (with_kind (call_of x) kind) ≡ true) is lead) (subst (λ z. IfOk r (λ m. IsBefore t (closest (atoms_of z)) ranks m)) same made))
+  where
+    by_kind : (kind : Option SharpKind) → leads_back (with_kind (around (atoms_of cs)) kind) ≡ true → IfOk r (λ m. IsBefore t (closest (atoms_of cs)) ranks m) → IfOk r (λ m. IsBefore t (with_kind (around (atoms_of cs)) kind) ranks m)
+    by_kind None lead made = cc
+    by_kind (Some sharp.Closest) lead made = made
+    by_kind (Some sharp.Siblings) lead made = cc
+    by_kind (Some sharp.First) lead made = cc
+
+-- every other call leads back, or asks for a first node
+pub leads_by : (c : code.Call) (kind : Option SharpKind) → ((cs : List Compound) → c ≡ Around cs → ⊥) → ((cs : List Compound) → c ≡ Near cs → ⊥) → ((ss : List Selector) → c ≡ Add ss → ⊥) → (c ≡ End → ⊥)
+    → from_some (with_kind (call_of c) kind ∷ []) ≡ true
+leads_by (Around cs) kind a n d e = absurd (a cs refl)
+leads_by (Near cs) kind a n d e = absurd (n cs refl)
+leads_by (Add ss) kind a n d e = absurd (d ss refl)
+leads_by End kind a n d e = absurd (e refl)
+leads_by (Find cs) None a n d e = refl
+leads_by (Find cs) (Some sharp.Closest) a n d e = refl
+leads_by (Find cs) (Some sharp.Siblings) a n d e = refl
+leads_by (Find cs) (Some sharp.First) a n d e = refl
+leads_by (Children cs) None a n d e = refl
+leads_by (Children cs) (Some sharp.Closest) a n d e = refl
+leads_by (Children cs) (Some sharp.Siblings) a n d e = refl
+leads_by (Children cs) (Some sharp.First) a n d e = refl
+leads_by (Parent cs) None a n d e = refl
+leads_by (Parent cs) (Some sharp.Closest) a n d e = refl
+leads_by (Parent cs) (Some sharp.Siblings) a n d e = refl
+leads_by (Parent cs) (Some sharp.First) a n d e = refl
+leads_by (Parents cs) None a n d e = refl
+leads_by (Parents cs) (Some sharp.Closest) a n d e = refl
+leads_by (Parents cs) (Some sharp.Siblings) a n d e = refl
+leads_by (Parents cs) (Some sharp.First) a n d e = refl
+leads_by (Has cs) None a n d e = refl
+leads_by (Has cs) (Some sharp.Closest) a n d e = refl
+leads_by (Has cs) (Some sharp.Siblings) a n d e = refl
+leads_by (Has cs) (Some sharp.First) a n d e = refl
+leads_by (Filter cs) None a n d e = refl
+leads_by (Filter cs) (Some sharp.Closest) a n d e = refl
+leads_by (Filter cs) (Some sharp.Siblings) a n d e = refl
+leads_by (Filter cs) (Some sharp.First) a n d e = by_atoms (atoms_of cs)
+  where
+    by_atoms : (all : List (List ℕ)) → from_some (with_kind (filter all) (Some sharp.First) ∷ []) ≡ true
+    by_atoms [] = refl
+    by_atoms ([] ∷ []) = refl
+    by_atoms ([] ∷ b ∷ more) = refl
+    by_atoms ((x ∷ a) ∷ more) = refl

@@ -1,0 +1,7 @@
+use Rattle.jq_sem.specs.Views.{atoms_of}
+use Rattle.jq_sem.proofs.SetLemmas.{on_ok}
+use Rattle.jq_exact.proofs.BackLemmas.{before_closest}
+use Rattle.jq_exact.proofs.firsts.before_closest.Goals as goal
+
+pub returns : goal.returns
+returns c = on_ok c.nearest.result _ _ (λ m made. before_closest c.args.tree.now c.args.ranks.now m (atoms_of c.args.compounds.now) made) c.nearest.ensures

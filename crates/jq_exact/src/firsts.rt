@@ -1,0 +1,279 @@
+//! Calls from each of several nodes that ask for a first node, for all these nodes at once: of each node the least number in the
+//! set that the calls make of it.
+ghost use Rattle.std.specs.Prelude.{◌≡◌, ◌<◌, ℕ, [], ◌∷◌, Some, true, false, length, take, get_or, IsTrue, IsNone, IfSome, IfOk};
+ghost use Rattle.tree_sem.specs.Nodes.{IsNode};
+ghost use Rattle.node_marks.specs.Marks.{HasDescendantIn};
+ghost use Rattle.node_marks.specs.Ranks.{IsUnder, AreRanked, HasNearestIn};
+ghost use Rattle.jq_sem.specs.Statements as call;
+ghost use Rattle.jq_sem.specs.Statements.{FitsOne, MayFit};
+ghost use Rattle.jq_sem.specs.Sharp.{plain, closest, first};
+ghost use Rattle.jq_sem.specs.declared.sharp.SharpKind.TheVariants as sharp;
+ghost use Rattle.jq_sem.specs.SharpViews.{with_kind};
+ghost use Rattle.jq_sem.specs.Views.{atoms_of, call_of};
+ghost use Rattle.jq_exact.specs.Firsts as spec;
+ghost use Rattle.jq_exact.specs.Firsts.{IsBefore, IsLeastMade};
+ghost use Rattle.jq_exact.specs.Together as together;
+ghost use Rattle.jq_exact.specs.Together.{asks_first, numbered, stood};
+
+use crate::evaluation::{MarkedCalls, is_first};
+use crate::sets::takes_all;
+use jq_sem::{Call, SharpKind, fitting, kind_at, may_fit};
+use node_marks::{NumberedTree, Ranks};
+use sel_core::Compound;
+use tp_base::NoMemory;
+
+/// The place of the first of the calls that asks for the first node of a set.
+pub fn first_ask(calls: &MarkedCalls, numbers: &[usize]) -> Option<usize>
+    ensures some { IfSome result (λ p. (p < length numbers.now) × (numbered calls.now.sharp.now calls.now.handler calls.now.calls.now (get_or numbers.now p 0) ≡ first)
+        × (asks_first (stood calls.now.sharp.now calls.now.handler calls.now.calls.now (take p numbers.now)) ≡ false)) }
+    ensures none { IsNone result → asks_first (stood calls.now.sharp.now calls.now.handler calls.now.calls.now numbers.now) ≡ false }
+{
+    'calls: for place in 0..numbers.len() {
+        if asks(calls, numbers[place]) {
+            return Some(place);
+        }
+    }
+    None
+}
+
+// Whether the call of this number does.
+fn asks(calls: &MarkedCalls, number: usize) -> bool
+    ensures yes { IsTrue result → numbered calls.now.sharp.now calls.now.handler calls.now.calls.now number ≡ first }
+    ensures no { (result ≡ false) → together.is_first (numbered calls.now.sharp.now calls.now.handler calls.now.calls.now number) ≡ false }
+{
+    match calls.calls.get(number) {
+        None => false,
+        Some(call) => {
+            let kind = kind_at(calls.sharp, calls.handler, number);
+            asks_by(call, kind)
+        }
+    }
+}
+
+// Whether a call does, of which this is kept.
+fn asks_by(call: &Call, kind: Option<SharpKind>) -> bool
+    ensures yes { IsTrue result → with_kind (call_of call.now) kind ≡ first }
+    ensures no { (result ≡ false) → together.is_first (with_kind (call_of call.now) kind) ≡ false }
+{
+    if !is_first(kind) {
+        return false;
+    }
+    takes_all(call)
+}
+
+/// Whether of each of the calls it is known from which nodes it leads where, or it asks for a first node: not of `add`, which makes
+/// something of nothing, nor of what is judged in the place of `closest` and `siblings`.
+pub fn lead_back(calls: &MarkedCalls, numbers: &[usize]) -> bool
+    ensures { IsTrue result → spec.from_some (stood calls.now.sharp.now calls.now.handler calls.now.calls.now numbers.now) ≡ true }
+{
+    'calls: for number in numbers {
+        if !leads_back(calls, *number) {
+            return false;
+        }
+    }
+    true
+}
+
+fn leads_back(calls: &MarkedCalls, number: usize) -> bool
+    ensures { IsTrue result → spec.from_some (numbered calls.now.sharp.now calls.now.handler calls.now.calls.now number ∷ []) ≡ true }
+{
+    match calls.calls.get(number) {
+        None => false,
+        Some(call) => {
+            let kind = kind_at(calls.sharp, calls.handler, number);
+            leads_back_by(call, kind)
+        }
+    }
+}
+
+fn leads_back_by(call: &Call, kind: Option<SharpKind>) -> bool
+    ensures { IsTrue result → spec.from_some (with_kind (call_of call.now) kind ∷ []) ≡ true }
+{
+    match call {
+        Call::Around(_) => is_closest(kind),
+        Call::Near(_) => false,
+        Call::Add(_) => false,
+        Call::End => false,
+        _ => true,
+    }
+}
+
+fn is_closest(kind: Option<SharpKind>) -> bool
+    ensures { IsTrue result → kind ≡ Some sharp.Closest }
+{
+    matches!(kind, Some(SharpKind::Closest))
+}
+
+/// Of each node the least number in the set that the calls make of it. It costs a few steps for each node and each call.
+pub fn least_made(
+    tree: &NumberedTree,
+    calls: &MarkedCalls,
+    numbers: &[usize],
+) -> Result<Ranks, NoMemory>
+    requires { spec.lead_back (stood calls.now.sharp.now calls.now.handler calls.now.calls.now numbers.now) ≡ true }
+    ensures { IfOk result (λ m. IsLeastMade tree.now (stood calls.now.sharp.now calls.now.handler calls.now.calls.now numbers.now) m) }
+{
+    let mut ranks = tree.own_ranks()?;
+    let mut left = numbers.len();
+    'calls: while left > 0 {
+        left -= 1;
+        ranks = before_number(tree, calls, numbers[left], &ranks)?;
+    }
+    Ok(ranks)
+}
+
+// Of each node the least of the numbers that nodes have in the set that the call of a number makes of it.
+fn before_number(
+    tree: &NumberedTree,
+    calls: &MarkedCalls,
+    number: usize,
+    ranks: &Ranks,
+) -> Result<Ranks, NoMemory>
+    requires { spec.leads_back (numbered calls.now.sharp.now calls.now.handler calls.now.calls.now number) ≡ true }
+    ensures { IfOk result (λ m. IsBefore tree.now (numbered calls.now.sharp.now calls.now.handler calls.now.calls.now number) ranks.now m) }
+{
+    match calls.calls.get(number) {
+        Some(call) => {
+            let kind = kind_at(calls.sharp, calls.handler, number);
+            before_call(tree, call, kind, ranks)
+        }
+        // Nothing leads back from what isn't there.
+        None => unreachable!(),
+    }
+}
+
+// The same of a call, of which this is kept.
+fn before_call(
+    tree: &NumberedTree,
+    call: &Call,
+    kind: Option<SharpKind>,
+    ranks: &Ranks,
+) -> Result<Ranks, NoMemory>
+    requires { spec.leads_back (with_kind (call_of call.now) kind) ≡ true }
+    ensures { IfOk result (λ m. IsBefore tree.now (with_kind (call_of call.now) kind) ranks.now m) }
+{
+    match call {
+        Call::Around(cs) => before_closest(tree, cs.items(), ranks),
+        _ => before_plain(tree, call, ranks),
+    }
+}
+
+// The same of a call that is what it says.
+fn before_plain(tree: &NumberedTree, call: &Call, ranks: &Ranks) -> Result<Ranks, NoMemory>
+    requires { spec.leads_back (plain (call_of call.now)) ≡ true }
+    ensures { IfOk result (λ m. IsBefore tree.now (plain (call_of call.now)) ranks.now m) }
+{
+    match call {
+        Call::Find(cs) => before_find(tree, cs.items(), ranks),
+        Call::Children(cs) => before_children(tree, cs.items(), ranks),
+        Call::Parent(cs) => before_parent(tree, cs.items(), ranks),
+        Call::Parents(cs) => before_parents(tree, cs.items(), ranks),
+        Call::Filter(cs) => before_filter(tree, cs.items(), ranks),
+        Call::Has(cs) => before_has(tree, cs.items(), ranks),
+        // No other call leads back.
+        Call::Around(_) | Call::Near(_) | Call::Add(_) | Call::End => unreachable!(),
+    }
+}
+
+fn before_find(
+    tree: &NumberedTree,
+    compounds: &[Compound],
+    ranks: &Ranks,
+) -> Result<Ranks, NoMemory>
+    ensures { IfOk result (λ m. IsBefore tree.now (plain (call.find (atoms_of compounds.now))) ranks.now m) }
+{
+    let fit = chosen(tree, compounds, ranks)?;
+    tree.ranks_far_over(&fit)
+}
+
+fn before_children(
+    tree: &NumberedTree,
+    compounds: &[Compound],
+    ranks: &Ranks,
+) -> Result<Ranks, NoMemory>
+    ensures { IfOk result (λ m. IsBefore tree.now (plain (call.children (atoms_of compounds.now))) ranks.now m) }
+{
+    let fit = narrowed(tree, compounds, ranks)?;
+    tree.ranks_over(&fit)
+}
+
+fn before_parent(
+    tree: &NumberedTree,
+    compounds: &[Compound],
+    ranks: &Ranks,
+) -> Result<Ranks, NoMemory>
+    ensures { IfOk result (λ m. IsBefore tree.now (plain (call.parent (atoms_of compounds.now))) ranks.now m) }
+{
+    let fit = narrowed(tree, compounds, ranks)?;
+    tree.ranks_below(&fit)
+}
+
+fn before_parents(
+    tree: &NumberedTree,
+    compounds: &[Compound],
+    ranks: &Ranks,
+) -> Result<Ranks, NoMemory>
+    ensures { IfOk result (λ m. IsBefore tree.now (plain (call.parents (atoms_of compounds.now))) ranks.now m) }
+{
+    let fit = narrowed(tree, compounds, ranks)?;
+    tree.ranks_far_below(&fit)
+}
+
+fn before_filter(
+    tree: &NumberedTree,
+    compounds: &[Compound],
+    ranks: &Ranks,
+) -> Result<Ranks, NoMemory>
+    ensures { IfOk result (λ m. IsBefore tree.now (plain (call.filter (atoms_of compounds.now))) ranks.now m) }
+{
+    chosen(tree, compounds, ranks)
+}
+
+fn before_has(tree: &NumberedTree, compounds: &[Compound], ranks: &Ranks) -> Result<Ranks, NoMemory>
+    ensures { IfOk result (λ m. IsBefore tree.now (plain (call.has (atoms_of compounds.now))) ranks.now m) }
+{
+    over_ranks(tree, compounds, ranks)
+}
+
+fn before_closest(
+    tree: &NumberedTree,
+    compounds: &[Compound],
+    ranks: &Ranks,
+) -> Result<Ranks, NoMemory>
+    ensures { IfOk result (λ m. IsBefore tree.now (closest (atoms_of compounds.now)) ranks.now m) }
+{
+    nearest(tree, compounds, ranks)
+}
+
+// The numbers of nodes that one of the compounds fits.
+fn chosen(tree: &NumberedTree, compounds: &[Compound], ranks: &Ranks) -> Result<Ranks, NoMemory>
+    ensures { IfOk result (λ m. AreRanked tree.now m (λ k v. FitsOne tree.now (atoms_of compounds.now) v × IsUnder tree.now k ranks.now v)) }
+{
+    let fit = fitting(tree, compounds)?;
+    tree.ranks_in(&fit, ranks)
+}
+
+// The same, where there are compounds.
+fn narrowed(tree: &NumberedTree, compounds: &[Compound], ranks: &Ranks) -> Result<Ranks, NoMemory>
+    ensures { IfOk result (λ m. AreRanked tree.now m (λ k v. MayFit tree.now (atoms_of compounds.now) v × IsUnder tree.now k ranks.now v)) }
+{
+    let may = may_fit(tree, compounds)?;
+    tree.ranks_in(&may, ranks)
+}
+
+// The numbers of nodes that have one below them that one of the compounds fits.
+fn over_ranks(tree: &NumberedTree, compounds: &[Compound], ranks: &Ranks) -> Result<Ranks, NoMemory>
+    ensures { IfOk result (λ m. AreRanked tree.now m (λ k v. HasDescendantIn (FitsOne tree.now (atoms_of compounds.now)) v × IsUnder tree.now k ranks.now v)) }
+{
+    let fit = fitting(tree, compounds)?;
+    let over = tree.far_over(&fit)?;
+    tree.ranks_in(&over, ranks)
+}
+
+// The number of the first node from each one upward that one of the compounds fits.
+fn nearest(tree: &NumberedTree, compounds: &[Compound], ranks: &Ranks) -> Result<Ranks, NoMemory>
+    ensures { IfOk result (λ m. AreRanked tree.now m (λ k v. IsNode tree.now v × HasNearestIn (FitsOne tree.now (atoms_of compounds.now)) (IsUnder tree.now k ranks.now) v)) }
+{
+    let fit = fitting(tree, compounds)?;
+    tree.nearest_ranks(ranks, &fit)
+}
