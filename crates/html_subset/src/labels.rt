@@ -15,8 +15,8 @@ ghost use Rattle.html_tokens.specs.Attributes.{without_case};
 ghost use Rattle.html_tokens.specs.Views.{attribute_of, bytes_of, start_tag_of};
 
 use crate::faults::PageFault;
-use crate::name_places::lowered;
 use gathered::Gathered;
+use html_table::lowered;
 use html_tokens::{Attribute, StartTag, next_attribute, word_len};
 use indexmap::IndexSet;
 use std::alloc::Global;

@@ -1,9 +1,0 @@
-use Rattle.std.proofs.Common.{ap, ◌∙◌}
-use Rattle.html_subset.specs.declared.nearest.Nearest.{Nearest}
-use Rattle.html_subset.specs.Outward.{nearest}
-use Rattle.html_subset.proofs.OutwardLemmas.{whole}
-use Rattle.html_subset.proofs.open_elements.behind_paragraph.Goals as goal
-
-pub returns : goal.returns
-unfolding nearest
-returns c = ap (λ (n : Nearest). n.paragraph) (c.nearest.ensures ∙ ap nearest (whole c.args.«open».now _ c.len.ensures.gives))

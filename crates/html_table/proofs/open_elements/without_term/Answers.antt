@@ -1,0 +1,17 @@
+use Rattle.std.proofs.Common.{ap}
+use Rattle.html_table.specs.declared.elements.Kind.TheVariants as k
+use Rattle.html_table.specs.declared.scopes.Scope.TheVariants as within
+use Rattle.html_table.specs.declared.nearest.Nearest.{Nearest}
+use Rattle.html_table.specs.Outward.{nearest}
+use Rattle.html_table.proofs.OutwardLemmas.{left_without}
+use Rattle.html_table.proofs.open_elements.without_term.Goals as goal
+
+pub returns-clause-gives : goal.returns-clause-gives
+unfolding nearest
+returns-clause-gives c =
+    rw c.unwrap_or.ensures (left_without k.Term within.Terms c.args.left c.args.«open».now c.nearest.result.term c.requires.within (ap (λ (n : Nearest). n.term) c.nearest.ensures)).gives
+
+pub returns-clause-within : goal.returns-clause-within
+unfolding nearest
+returns-clause-within c =
+    rw c.unwrap_or.ensures (left_without k.Term within.Terms c.args.left c.args.«open».now c.nearest.result.term c.requires.within (ap (λ (n : Nearest). n.term) c.nearest.ensures)).within

@@ -1,0 +1,15 @@
+//! The table of a page's open elements: which of them a tag closes, and where a start tag's element goes.
+#![tactic(auto)]
+
+mod elements;
+mod name_places;
+mod nearest;
+mod open_elements;
+mod scopes;
+mod stack;
+
+pub use elements::{Element, Kind, kind_of};
+pub use name_places::lowered;
+pub use open_elements::{Implied, Place, behind_paragraph, closed_at_end, is_opened, place_for};
+pub use scopes::Scope;
+pub use stack::OpenElements;

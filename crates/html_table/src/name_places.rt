@@ -1,0 +1,97 @@
+//! Names of open elements, and where the innermost of each is.
+ghost use Rattle.std.specs.Prelude.{◌≡◌, ◌<◌, ◌≤◌, ℕ, List, if◌then◌else◌, length, get_or, bytes_eq, IfOk, OnOk};
+ghost use Rattle.html_tokens.specs.Bytes.{lowered};
+ghost use Rattle.html_table.specs.NamePlaces.{place_in, IsNumber, Fits};
+
+use indexmap::IndexSet;
+use std::alloc::Global;
+use tp_base::NoMemory;
+
+/// A name in lower case.
+pub fn lowered(alloc: Global, name: &[u8]) -> Result<Vec<u8>, NoMemory>
+    ensures { IfOk result (λ v. v.items ≡ lowered name.now) }
+{
+    let mut bytes = Vec::from_slice(alloc, name)?;
+    bytes.as_mut_slice().make_ascii_lowercase();
+    Ok(bytes)
+}
+
+/// For each name the place of the innermost open element that has it, counted from the outermost on; 0 where none has it.
+#[derive(Drop)]
+pub(crate) struct NamePlaces {
+    /// Each name has a number, for good.
+    names: IndexSet<Vec<u8>>,
+    /// By the number of the name.
+    places: Vec<usize>,
+}
+
+/// Begins the places up to this number.
+fn begin(places: &mut Vec<usize>, number: usize) -> Result<(), NoMemory>
+    ensures begun { OnOk result (number < length places.new.items) }
+    ensures same { (i : ℕ) → get_or places.new.items i 0 ≡ get_or places.old.items i 0 }
+    ensures longer { length places.old.items ≤ length places.new.items }
+    ensures few { (n : ℕ) → length places.old.items ≤ n → number < n → length places.new.items ≤ n }
+{
+    'places: while places.len() <= number {
+        places.push(0)?;
+    }
+    Ok(())
+}
+
+impl NamePlaces {
+    pub(crate) fn new(alloc: Global) -> Self
+        ensures none { (q : List ℕ) → place_in result q ≡ 0 }
+        ensures fits { Fits result }
+    {
+        NamePlaces {
+            names: IndexSet::new(alloc),
+            places: Vec::new(alloc),
+        }
+    }
+
+    /// The place of a name. Linear in the name, on average.
+    pub(crate) fn get(&self, name: &[u8]) -> usize
+        requires fits { Fits self.now }
+        ensures { result ≡ place_in self.now name.now }
+    {
+        match self.names.get_index_of(name) {
+            Some(number) => match self.places.get(number) {
+                Some(place) => *place,
+                None => 0,
+            },
+            None => 0,
+        }
+    }
+
+    /// The place of the name of a number. Constant.
+    pub(crate) fn at(&self, number: usize) -> usize
+        requires { number < length self.now.places.items }
+        ensures { result ≡ get_or self.now.places.items number 0 }
+    {
+        self.places[number]
+    }
+
+    /// The number of a name, which it has from now on. Linear in the name, on average.
+    pub(crate) fn enter(&mut self, name: Vec<u8>) -> Result<usize, NoMemory>
+        requires fits { Fits self.old }
+        ensures number { IfOk result (λ n. IsNumber self.new n name.items) }
+        ensures same { (q : List ℕ) → place_in self.new q ≡ place_in self.old q }
+        ensures kept { (n : ℕ) (q : List ℕ) → IsNumber self.old n q → IsNumber self.new n q }
+        ensures fits { Fits self.new }
+    {
+        let (number, _) = self.names.insert_full(name)?;
+        begin(&mut self.places, number)?;
+        Ok(number)
+    }
+
+    /// Changes the place of the name of a number. Constant.
+    pub(crate) fn put(&mut self, number: usize, place: usize)
+        requires within { number < length self.old.places.items }
+        requires fits { Fits self.old }
+        ensures put { (n : List ℕ) → IsNumber self.old number n → (q : List ℕ) → place_in self.new q ≡ (if bytes_eq n q then place else place_in self.old q) }
+        ensures kept { (n : ℕ) (q : List ℕ) → IsNumber self.old n q → IsNumber self.new n q }
+        ensures fits { Fits self.new }
+    {
+        self.places[number] = place;
+    }
+}
