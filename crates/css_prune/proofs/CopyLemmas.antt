@@ -1,89 +1,96 @@
--- A text without ranges, byte by byte.
-use Rattle.std.proofs.Common.{◌≡◌, ℕ, zero, suc, ◌+◌, ◌<◌, ◌≤◌, min, max, nat_lt, nat_le, not, if◌then◌else◌, Bool, true, false, ◌||◌, ◌&&◌, List, [], ◌∷◌, ◌++◌, length, take, drop, set, get_or, replicate, refl, sym, ap, ◌∙◌, arith, add-one, append_assoc}
+-- A text without ranges that rise, from one to the next.
+use Rattle.std.proofs.Common.{◌≡◌, ℕ, zero, suc, ◌+◌, ◌-◌, ◌<◌, ◌≤◌, max, nat_le, Bool, true, false, ◌||◌, ◌&&◌, List, [], ◌∷◌, ◌++◌, length, take, drop, get_or, slice_range, refl, sym, ap, ◌∙◌, arith, append_assoc}
 use Rattle.std.specs.List.{list_any}
-use Rattle.std.proofs.lemmas.Bool.{ltb-true, ltb-false, le-leb, lt-leb, le-ltb}
-use Rattle.std.proofs.lemmas.Bool.Decides.{nat_tests}
-use Rattle.std.proofs.lemmas.List.{take-set-le, drop_more, drop_all, append-nil}
+use Rattle.std.specs.List.Sorted.{IsNonDecreasingBy}
+use Rattle.std.proofs.lemmas.Bool.{le-leb, lt-leb, lt-ltb, le-ltb}
+use Rattle.std.proofs.lemmas.List.{drop-drop}
 use Rattle.css_read.specs.declared.sheets.Range.{Range}
 use Rattle.css_read.specs.Pruned.{is_in, without}
-use Rattle.css_prune.specs.Copying.{greatest, AreEnds}
+use Rattle.css_prune.specs.Copying.{RiseFrom}
 
--- ---- the greatest of the first
+-- ---- their order
 
-pub greatest_more : (ns : List ℕ) (i d : ℕ) → i < length ns → greatest (take (suc i) ns) ≡ max (get_or ns i d) (greatest (take i ns))
-greatest_more [] i d less = absurd (omega arith)
-greatest_more (n ∷ ns) zero d less = refl
-greatest_more (n ∷ ns) (suc i) d less = let more = greatest_more ns i d (omega arith) in omega arith
+risen : (from : ℕ) (rs : List Range) → ((d : Range) → 0 < length rs → from ≤ (get_or rs 0 d).from) → IsNonDecreasingBy (λ r. r.from) rs → RiseFrom from rs
+risen from [] low rises = tt
+risen from (r ∷ rs) low rises = (low r (omega arith), risen r.from rs (λ d some. rises 0 1 d (omega arith) (omega arith)) (λ i j d less within. rises (suc i) (suc j) d (omega arith) (omega arith)))
 
-pub none : (n m : ℕ) → greatest (take n (replicate m 0)) ≡ 0
-none zero m = refl
-none (suc n) zero = refl
-none (suc n) (suc m) = let fewer = none n m in omega arith
+pub all_risen : (rs : List Range) → IsNonDecreasingBy (λ r. r.from) rs → RiseFrom 0 rs
+all_risen rs rises = risen 0 rs (λ d some. omega arith) rises
 
-raised : (ns : List ℕ) (i v n : ℕ) → i < length ns → i < n → greatest (take n (set ns i (max (get_or ns i 0) v))) ≡ max (greatest (take n ns)) v
-raised [] i v n within less = absurd (omega arith)
-raised (x ∷ ns) i v zero within less = absurd (omega arith)
-raised (x ∷ ns) zero v (suc n) within less = omega arith
-raised (x ∷ ns) (suc i) v (suc n) within less = let more = raised ns i v n (omega arith) (omega arith) in omega arith
+pub same_without : (rs ss : List Range) → ((at : ℕ) → list_any (is_in at) rs ≡ list_any (is_in at) ss) → (at : ℕ) (bs : List ℕ) → without rs at bs ≡ without ss at bs
+unfolding without
+same_without rs ss same at [] = refl
+same_without rs ss same at (b ∷ bs) = rw (same at, same_without rs ss same (at + 1) bs) refl
 
--- ---- one more range
+-- ---- up to the first one
 
-covered : (at g from to size : ℕ) → at < size → from ≤ at → nat_lt at (max g (min to size)) ≡ (nat_lt at g || (nat_le from at && nat_lt at to))
-covered at g from to size within begun = grind (arith, nat_tests)
+none_in : (from at : ℕ) (rs : List Range) → RiseFrom from rs → at < from → list_any (is_in at) rs ≡ false
+none_in from at [] rise less = refl
+none_in from at (r ∷ rs) rise less = rw (lt-leb r.from at (omega (arith, rise.0)), none_in r.from at rs rise.1 (omega (arith, rise.0))) refl
 
-before : (at g from to : ℕ) → at < from → nat_lt at g ≡ (nat_lt at g || (nat_le from at && nat_lt at to))
-before at g from to less = grind (arith, nat_tests)
+stays : (n at to : ℕ) (rs : List Range) (bs : List ℕ) → to ≡ at + n → RiseFrom to rs → without rs at bs ≡ take n bs ++ without rs to (drop n bs)
+unfolding without
+stays zero at to rs bs end rise = let same : to ≡ at = omega arith in rw same refl
+stays (suc n) at to rs [] end rise = refl
+stays (suc n) at to rs (b ∷ bs) end rise = rw (none_in to at rs rise (omega arith)) (ap (λ x. b ∷ x) (stays n (at + 1) to rs bs (omega arith) rise))
 
-by_order : (at from : ℕ) {P : Type 0} → (from ≤ at → P) → (at < from → P) → P
-by_order at from {P} low high = grind arith
+-- ---- over it
 
-pub entered : (ends new : List ℕ) (r : Range) (at : ℕ) → new ≡ set ends r.from (max (get_or ends r.from 0) (min r.to (length ends))) → r.from < length ends → at < length ends
-    → nat_lt at (greatest (take (at + 1) new)) ≡ (nat_lt at (greatest (take (at + 1) ends)) || is_in at r)
-entered ends new r at is within here =
+goes : (n at to : ℕ) (r : Range) (rs : List Range) (bs : List ℕ) → to ≡ at + n → r.from ≤ at → to ≤ r.to → without (r ∷ rs) at bs ≡ without (r ∷ rs) to (drop n bs)
+unfolding without
+goes zero at to r rs bs end begun within = let same : to ≡ at = omega arith in rw same refl
+goes (suc n) at to r rs [] end begun within = refl
+goes (suc n) at to r rs (b ∷ bs) end begun within = rw (le-leb r.from at begun, lt-ltb at r.to (omega arith)) (goes n (at + 1) to r rs bs (omega arith) (omega arith) within)
+
+and_false : (t u : Bool) → (t && false || u) ≡ u
+and_false true u = refl
+and_false false u = refl
+
+past : (at : ℕ) (r : Range) (rs : List Range) (bs : List ℕ) → r.to ≤ at → without (r ∷ rs) at bs ≡ without rs at bs
+unfolding without
+past at r rs [] behind = refl
+past at r rs (b ∷ bs) behind = rw (le-ltb at r.to behind, and_false (nat_le r.from at) (list_any (is_in at) rs), past (at + 1) r rs bs (omega arith)) refl
+
+by_order : (m n : ℕ) {P : Type 0} → (m ≤ n → P) → (n < m → P) → P
+by_order m n {P} low high = grind arith
+
+over : (at next : ℕ) (r : Range) (rs : List Range) (text : List ℕ) → r.from ≤ at → next ≡ max at r.to → without (r ∷ rs) at (drop at text) ≡ without rs next (drop next text)
+over at next r rs text begun is =
+    by_order r.to at
+    (λ behind. let same : next ≡ at = omega arith in rw same (past at r rs (drop at text) behind))
+    (λ inside.
+    let end : next ≡ r.to = omega arith in
+    let sum : at + (r.to - at) ≡ r.to = omega arith in
+    rw end (goes (r.to - at) at r.to r rs (drop at text) (omega arith) begun (omega arith) ∙ rw (drop-drop (r.to - at) at text, sum) (past r.to r rs (drop r.to text) (omega arith))))
+
+-- ---- one range, and what is behind the last one
+
+one_range : (at next : ℕ) (r : Range) (rs : List Range) (text : List ℕ) → RiseFrom r.from rs → next ≡ max (max at r.from) r.to → without (r ∷ rs) at (drop at text) ≡ slice_range text at r.from ++ without rs next (drop next text)
+one_range at next r rs text rise is =
     by_order at r.from
-    (λ low. rw (is, add-one, raised ends r.from (min r.to (length ends)) (suc at) within (omega arith)) (covered at (greatest (take (suc at) ends)) r.from r.to (length ends) here low))
-    (λ high. rw (is, add-one, take-set-le (suc at) ends r.from (max (get_or ends r.from 0) (min r.to (length ends))) (omega arith)) (before at (greatest (take (suc at) ends)) r.from r.to high))
+    (λ before.
+    let sum : at + (r.from - at) ≡ r.from = omega arith in
+    stays (r.from - at) at r.from (r ∷ rs) (drop at text) (omega arith) (omega arith, rise)
+    ∙ ap (λ x. slice_range text at r.from ++ x) (rw (drop-drop (r.from - at) at text, sum) (over r.from next r rs text (omega arith) (omega arith))))
+    (λ begun. let none : r.from - at ≡ 0 = omega arith in rw none (over at next r rs text (omega arith) (omega arith)))
 
--- a range that begins behind the text
-pub past : (ends : List ℕ) (r : Range) (at : ℕ) → length ends ≤ r.from → at < length ends → nat_lt at (greatest (take (at + 1) ends)) ≡ (nat_lt at (greatest (take (at + 1) ends)) || is_in at r)
-past ends r at behind here = before at (greatest (take (at + 1) ends)) r.from r.to (omega arith)
+pub one_copied : (at next : ℕ) (r : Range) (rest later : List Range) (text old new all : List ℕ) → rest ≡ r ∷ later → RiseFrom 0 rest → next ≡ max (max at r.from) r.to → new ≡ old ++ slice_range text at r.from
+    → old ++ without rest at (drop at text) ≡ all → (new ++ without later next (drop next text) ≡ all) × RiseFrom 0 later
+one_copied at next r rest later text old new all first rise is found before =
+    let risen = rw first at rise in (
+      rw (found, append_assoc old (slice_range text at r.from) (without later next (drop next text)), ← one_range at next r later text risen.1 is, ← first) before,
+      lower later r.from 0 (omega arith) risen.1,
+    )
+  where
+    lower : (rs : List Range) (from to : ℕ) → to ≤ from → RiseFrom from rs → RiseFrom to rs
+    lower [] from to less rise = tt
+    lower (r ∷ rs) from to less rise = (omega (arith, rise.0), rise.1)
 
--- ---- all of them
-
-pub or_assoc : (a b c : Bool) → (a || b || c) ≡ (a || (b || c))
-or_assoc true b c = refl
-or_assoc false b c = refl
-
-pub or_false : (a : Bool) → (a || false) ≡ a
-or_false true = refl
-or_false false = refl
-
-pub begun : (rs : List Range) (ends : List ℕ) (size at : ℕ) → ends ≡ replicate size 0 → (nat_lt at (greatest (take (at + 1) ends)) || list_any (is_in at) rs) ≡ list_any (is_in at) rs
-begun rs ends size at is = rw (is, none (at + 1) size, le-ltb at 0 (omega arith)) refl
-
--- ---- bytes, one after the other
-
-pub end_more : (ends : List ℕ) (at n end new : ℕ) → at < length ends → n ≡ get_or ends at n → end ≡ greatest (take at ends) → new ≡ max n end → new ≡ greatest (take (at + 1) ends)
-end_more ends at n end new within read before is = rw (add-one, greatest_more ends at n within, ← read, ← before) is
-
-out_or_in : (g at : ℕ) (t : Bool) → nat_lt at g ≡ t → nat_le g at ≡ not t
-out_or_in g at true is = lt-leb g at (ltb-true at g is)
-out_or_in g at false is = le-leb g at (ltb-false at g is)
-
-next_byte : (rs : List Range) (at b : ℕ) (bs : List ℕ) (t : Bool) → list_any (is_in at) rs ≡ t → without rs at (b ∷ bs) ≡ (if not t then b ∷ [] else []) ++ without rs (at + 1) bs
+no_ranges : (at : ℕ) (bs : List ℕ) → without [] at bs ≡ bs
 unfolding without
-next_byte rs at b bs true is = rw is refl
-next_byte rs at b bs false is = rw is refl
+no_ranges at [] = refl
+no_ranges at (b ∷ bs) = ap (λ x. b ∷ x) (no_ranges (at + 1) bs)
 
-pub one_kept : (rs : List Range) (text ends : List ℕ) (at b d end : ℕ) (stays : Bool) (old new all : List ℕ) → AreEnds rs ends → length ends ≡ length text → at < length text → b ≡ get_or text at d
-    → end ≡ greatest (take (at + 1) ends) → stays ≡ nat_le end at → new ≡ old ++ (if stays then b ∷ [] else []) → old ++ without rs at (drop at text) ≡ all → new ++ without rs (at + 1) (drop (at + 1) text) ≡ all
-one_kept rs text ends at b d end stays old new all are size within read is test found before =
-    let t = list_any (is_in at) rs in
-    let reached : nat_lt at end ≡ t = rw is (are.covers at (omega arith)) in
-    let left : stays ≡ not t = test ∙ out_or_in end at t reached in
-    let bytes : drop at text ≡ b ∷ drop (at + 1) text = drop_more text at d within ∙ ap (λ x. x ∷ drop (at + 1) text) (sym read) in
-    rw (found, left, append_assoc old (if not t then b ∷ [] else []) (without rs (at + 1) (drop (at + 1) text)), ← next_byte rs at b (drop (at + 1) text) t refl, ← bytes) before
-
-pub all_kept : (rs : List Range) (text : List ℕ) (at : ℕ) (kept all : List ℕ) → length text ≤ at → kept ++ without rs at (drop at text) ≡ all → kept ≡ all
-unfolding without
-all_kept rs text at kept all past before = let end = rw (drop_all at text past, append-nil kept) at before in end
+pub all_copied : (at : ℕ) (rest : List Range) (text old new all : List ℕ) → length rest ≡ 0 → new ≡ old ++ drop at text → old ++ without rest at (drop at text) ≡ all → new ≡ all
+all_copied at (r ∷ rs) text old new all none found before = absurd (omega arith)
+all_copied at [] text old new all none found before = found ∙ ap (λ x. old ++ x) (sym (no_ranges at (drop at text))) ∙ before

@@ -4,4 +4,6 @@ pub mod EffectLemmas
 mod GroupLemmas
 mod HoldingLemmas
 mod ListLemmas
+mod NoneLemmas
+mod PartLemmas
 mod ReadingLemmas

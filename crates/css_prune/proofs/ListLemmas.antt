@@ -1,8 +1,8 @@
 -- What goes of a list, and what of a rule doesn't hang on flags.
-use Rattle.std.proofs.Common.{◌≡◌, ℕ, suc, ◌-◌, ◌<◌, ◌==◌, ◌&&◌, ◌||◌, Bool, true, false, if◌then◌else◌, List, [], ◌∷◌, ◌++◌, length, drop, map, Some, slice_get, refl, sym, ap, ◌∙◌, arith, append_assoc}
+use Rattle.std.proofs.Common.{◌≡◌, ℕ, suc, ◌-◌, ◌<◌, ◌==◌, ◌&&◌, ◌||◌, not, Bool, true, false, if◌then◌else◌, List, [], ◌∷◌, ◌++◌, length, drop, map, Some, slice_get, refl, sym, ap, ◌∙◌, arith, append_assoc}
 use Rattle.std.specs.List.{list_any, list_all}
 use Rattle.std.proofs.lemmas.Bool.{ne_eqb}
-use Rattle.std.proofs.lemmas.List.{length-map}
+use Rattle.std.proofs.lemmas.List.{length-map, append-nil}
 use Rattle.css_read.specs.declared.sheets.Range.{Range}
 use Rattle.css_read.specs.declared.sheets.SheetItem.{SheetItem}
 use Rattle.css_read.specs.Pruned.{Flagged, goes, with_flags, list_cuts, end_of_last, is_fixed}
@@ -99,3 +99,39 @@ list_goes_on items (k ∷ ks) i j flags (h ∷ hs) g first first_flag count next
 -- what is found, with one more piece, finished by what is left
 pub one_found : (old new piece rest whole all : List Range) → new ≡ old ++ piece → whole ≡ piece ++ rest → old ++ whole ≡ all → new ++ rest ≡ all
 one_found old new piece rest whole all found parts before = rw (found, append_assoc old piece rest, ← parts) before
+
+-- ---- where all selectors stay
+
+none_cut : (is : List Item) (gs : List Bool) → list_any (λ g. g) gs ≡ false → list_cuts (with_flags is gs) ≡ []
+none_cut [] gs none = refl
+none_cut (i ∷ is) [] none = refl
+none_cut (i ∷ is) (true ∷ gs) none = cc
+none_cut (i ∷ []) (false ∷ gs) none = refl
+none_cut (i ∷ j ∷ js) (false ∷ []) none = refl
+none_cut (i ∷ j ∷ js) (false ∷ true ∷ gs) none = cc
+none_cut (i ∷ j ∷ js) (false ∷ false ∷ gs) none = none_cut (j ∷ js) (false ∷ gs) none
+
+not_all : (gs : List Bool) → (not (length gs == 0) && not (list_any (λ g. g) gs)) ≡ true → list_all (λ g. g) gs ≡ false
+not_all [] stay = cc
+not_all (false ∷ gs) stay = refl
+not_all (true ∷ gs) stay = absurd (wrong (length gs) stay)
+  where
+    wrong : (n : ℕ) → (not (suc n == 0) && false) ≡ true → ⊥
+    wrong n is = by (not (suc n == 0)) is
+      where
+        by : (t : Bool) → (t && false) ≡ true → ⊥
+        by true same = cc
+        by false same = cc
+
+no_flag : (t u : Bool) → (t && not u) ≡ true → u ≡ false
+no_flag true false is = refl
+no_flag true true is = cc
+no_flag false true is = cc
+no_flag false false is = refl
+
+pub rule_kept : (old new : List Bool) (gs : List Bool) (fixed : Bool) → (not (length gs == 0) && not (list_any (λ g. g) gs)) ≡ true → new ≡ old ++ false ∷ [] → new ≡ old ++ (list_all (λ g. g) gs && not fixed) ∷ []
+rule_kept old new gs fixed stay is = rw (not_all gs stay) is
+
+pub list_kept : (old new : List Range) (is : List Item) (gs : List Bool) (fixed : Bool) → (not (length gs == 0) && not (list_any (λ g. g) gs)) ≡ true → new ≡ old → new ≡ old ++ (if fixed then [] else list_cuts (with_flags is gs))
+list_kept old new is gs true stay same = same ∙ sym (append-nil old)
+list_kept old new is gs false stay same = rw (none_cut is gs (no_flag (not (length gs == 0)) (list_any (λ g. g) gs) stay)) (same ∙ sym (append-nil old))

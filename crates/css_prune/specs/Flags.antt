@@ -1,6 +1,7 @@
 -- The selectors of a sheet with their flags, as the code has them: in two lists of one length.
-use Rattle.std.specs.Prelude.{ℕ, suc, ◌==◌, ◌&&◌, ◌||◌, Bool, if◌then◌else◌, List, [], ◌∷◌, map, drop, slice_range}
-use Rattle.std.specs.List.{list_any}
+use Rattle.std.specs.Prelude.{ℕ, suc, nat_eq, ◌==◌, ◌&&◌, ◌||◌, Bool, if◌then◌else◌, List, [], ◌∷◌, map, length, take, drop, slice_range, codes}
+use Rattle.std.specs.List.{list_any, starts_with}
+use Rattle.sel_core.specs.Grammar.{is_word}
 use Rattle.css_read.specs.declared.sheets.Range.{Range}
 use Rattle.css_read.specs.declared.sheets.SheetItem.{SheetItem}
 use Rattle.css_read.specs.Pruned as spec
@@ -22,6 +23,18 @@ end_of to [] = to
 end_of to (i ∷ is) = end_of i.to is
 
 -- ---- which rules are fixed doesn't hang on flags
+
+abbrev pub begins_word : List ℕ → List ℕ → Bool
+begins_word word text = is_word (take (length word) text) word
+
+abbrev pub begins_early_rule : List ℕ → Bool
+begins_early_rule text = begins_word (codes "@import") text || begins_word (codes "@namespace") text
+
+abbrev pub begins_order_mark : List ℕ → Bool
+begins_order_mark text = starts_with nat_eq text (0xEF ∷ 0xBB ∷ 0xBF ∷ [])
+
+abbrev pub has_early_rule : List ℕ → Bool
+has_early_rule text = spec.has_word (codes "@import") text || spec.has_word (codes "@namespace") text
 
 abbrev pub bytes_at : List ℕ → Item → List ℕ
 bytes_at text i = slice_range text i.from i.to

@@ -5,3 +5,4 @@ pub mod Groups
 pub mod Holding
 pub mod Lists
 pub mod NodeEffects
+pub mod Parts

@@ -7,6 +7,7 @@ mod fixing;
 mod holders;
 mod laws;
 mod lists;
+mod parts;
 mod pruning;
 mod rules;
 

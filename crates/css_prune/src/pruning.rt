@@ -9,7 +9,7 @@ ghost use Rattle.css_read.specs.Views.{sheet_of};
 
 use crate::copying::without;
 use crate::cuts::cuts;
-use css_read::{Sheet, read_holders};
+use css_read::Sheet;
 use std::alloc::Global;
 use tp_base::NoMemory;
 
@@ -28,7 +28,6 @@ pub fn prune(
     requires judged { AreJudged (spec.with_flags (sheet_of sheet.now).items unused.now) }
     ensures { IfOk result (λ v. v.items ≡ spec.pruned text.now (sheet_of sheet.now) unused.now) }
 {
-    let holders = read_holders(alloc, text)?;
-    let ranges = cuts(alloc, text, sheet, unused, &holders)?;
-    without(alloc, text, ranges.as_slice())
+    let ranges = cuts(alloc, text, sheet, unused)?;
+    without(alloc, text, ranges)
 }

@@ -1,6 +1,6 @@
 //! What becomes of each rule.
-ghost use Rattle.std.specs.Prelude.{◌≡◌, ◌≤◌, ◌&&◌, not, if◌then◌else◌, List, [], ◌∷◌, ◌++◌, length, map, IfOk, OnOk};
-ghost use Rattle.std.specs.List.{list_all};
+ghost use Rattle.std.specs.Prelude.{◌≡◌, ◌≤◌, ◌==◌, ◌&&◌, not, false, if◌then◌else◌, List, [], ◌∷◌, ◌++◌, length, map, IfOk, OnOk};
+ghost use Rattle.std.specs.List.{list_all, list_any};
 ghost use Rattle.css_read.specs.Pruned as spec;
 ghost use Rattle.css_read.specs.Views.{item_of};
 ghost use Rattle.css_prune.specs.Flags.{flagged, is_fixed_by};
@@ -36,6 +36,20 @@ fn all_unused(unused: &[bool]) -> bool
     unused.iter().all(|goes| *goes)
 }
 
+/// Whether any goes, of selectors or of rules.
+pub(crate) fn any_goes(flags: &[bool]) -> bool
+    ensures { result ≡ list_any (λ g. g) flags.now }
+{
+    flags.iter().any(|goes| *goes)
+}
+
+/// Whether there are selectors, and each of them stays.
+fn all_stay(unused: &[bool]) -> bool
+    ensures { result ≡ (not (length unused.now == 0) && not (list_any (λ g. g) unused.now)) }
+{
+    !unused.is_empty() && !any_goes(unused)
+}
+
 /// What becomes of the first rules of a sheet.
 #[derive(Drop)]
 pub(crate) struct Fates {
@@ -46,7 +60,16 @@ pub(crate) struct Fates {
 }
 
 impl Fates {
-    /// Adds the next rule, by its range and its selectors.
+    /// Adds a rule of which nothing goes.
+    fn keep_rule(&mut self) -> Result<(), NoMemory>
+        ensures gone { OnOk result (self.new.gone.items ≡ self.old.gone.items ++ false ∷ []) }
+        ensures cuts { OnOk result (self.new.cuts.items ≡ self.old.cuts.items) }
+    {
+        self.gone.push(false)?;
+        Ok(())
+    }
+
+    /// Adds the next rule, by its range and its selectors. Where none of them goes, nothing else is looked at.
     fn add_rule(
         &mut self,
         text: &[u8],
@@ -60,6 +83,10 @@ impl Fates {
         ensures cuts { OnOk result (self.new.cuts.items ≡ self.old.cuts.items
             ++ (if is_fixed_by text.now (length self.old.gone.items) range (map item_of items.now) then [] else spec.list_cuts (flagged items.now unused.now))) }
     {
+        if all_stay(unused) {
+            self.keep_rule()?;
+            return Ok(());
+        }
         let fixed = is_fixed(text, self.gone.len(), range, items);
         self.gone.push(all_unused(unused) && !fixed)?;
         if fixed {
