@@ -4,6 +4,7 @@ pub mod SelectionSteps
 pub mod ClassSteps
 pub mod NameSteps
 pub mod SharedCallSteps
+pub mod MarkSteps
 pub mod PlacesSteps
 pub mod RootSteps
 pub mod TargetSteps

@@ -1,21 +1,31 @@
 -- One statement more, and its place.
-use Rattle.std.proofs.Common.{◌≡◌, ℕ, List, [], ◌∷◌, ◌++◌, map, sym, ◌∙◌}
-use Rattle.std.proofs.lemmas.List.{map-append, append_assoc, append-nil}
-use Rattle.jq_sem.specs.declared.stmts.Stmt.{Stmt}
-use Rattle.jq_sem.specs.Statements.{Statement}
-use Rattle.jq_sem.specs.Views.{statement_of, statements_of}
+use Rattle.std.proofs.Common.{◌≡◌, ℕ, ◌≤◌, List, [], ◌∷◌, ◌++◌, length, map, sym, ◌∙◌, arith}
+use Rattle.std.proofs.lemmas.List.{map-append, append_assoc, append-nil, length-map}
+use Rattle.jq_sem.specs.declared.sharp.ExactStmt.{ExactStmt}
+use Rattle.jq_sem.specs.Sharp.{ExactStatement}
+use Rattle.jq_sem.specs.SharpViews.{exact_of, exacts_of}
 use Rattle.jq_parts.specs.declared.placing.Stated.{Stated}
+use Rattle.jq_words.specs.declared.faults.TheConstants.{MOST_CALLS, MOST_OPEN}
+use Rattle.jq_parts.specs.MarkedCalls.{marked_chain_of}
 use Rattle.jq_parts.specs.ScopeViews.{stated_in}
+use Rattle.jq_parts.specs.Stating.{calls_in, IsCounted}
 
 pub one_stated : (text : List ℕ) (ss : List Stated) (s : Stated) → map (stated_in text) (ss ++ s ∷ []) ≡ map (stated_in text) ss ++ stated_in text s ∷ []
 one_stated text ss s = map-append (stated_in text) ss (s ∷ [])
 
 -- one statement more has its place
-pub placed_more : (text : List ℕ) (found : List Stmt) (s : Stmt) (t : Stated) (rest : List Stated) (all : List Statement) →
-    statement_of s ≡ stated_in text t → statements_of found ++ map (stated_in text) (t ∷ rest) ≡ all → statements_of (found ++ s ∷ []) ++ map (stated_in text) rest ≡ all
+pub placed_more : (text : List ℕ) (found : List ExactStmt) (s : ExactStmt) (t : Stated) (rest : List Stated) (all : List ExactStatement) →
+    exact_of s ≡ stated_in text t → exacts_of found ++ map (stated_in text) (t ∷ rest) ≡ all → exacts_of (found ++ s ∷ []) ++ map (stated_in text) rest ≡ all
 placed_more text found s t rest all is before =
-    rw (map-append statement_of found (s ∷ []), is) (append_assoc (statements_of found) (stated_in text t ∷ []) (map (stated_in text) rest) ∙ before)
+    rw (map-append exact_of found (s ∷ []), is) (append_assoc (exacts_of found) (stated_in text t ∷ []) (map (stated_in text) rest) ∙ before)
 
 -- all of them have
-pub placed_all : (text : List ℕ) (found : List Stmt) (all : List Statement) → statements_of found ++ map (stated_in text) [] ≡ all → statements_of found ≡ all
-placed_all text found all before = sym (append-nil (statements_of found)) ∙ before
+pub placed_all : (text : List ℕ) (found : List ExactStmt) (all : List ExactStatement) → exacts_of found ++ map (stated_in text) [] ≡ all → exacts_of found ≡ all
+placed_all text found all before = sym (append-nil (exacts_of found)) ∙ before
+
+-- what a statement's marks count, as the code has it
+pub few_handlers : (text : List ℕ) (t : Stated) → IsCounted (stated_in text t) → length t.handlers.items ≤ MOST_OPEN
+few_handlers text t counted = omega (arith, length-map t.handlers.items marked_chain_of, counted.few)
+
+pub short_chains : (text : List ℕ) (t : Stated) → IsCounted (stated_in text t) → calls_in (map marked_chain_of (t.chain ∷ t.handlers.items)) ≤ MOST_CALLS
+short_chains text t counted = counted.short

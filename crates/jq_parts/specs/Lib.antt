@@ -7,6 +7,8 @@ pub mod Roots
 pub mod Lists
 pub mod Spans
 pub mod Places
+pub mod MarkedCalls
+pub mod Marks
 pub mod Links
 pub mod SharedCalls
 pub mod SharedChains

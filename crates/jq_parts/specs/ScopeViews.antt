@@ -2,12 +2,12 @@
 use Rattle.std.specs.Prelude.{ℕ, map, List, Option, option_map}
 use Rattle.tp_base.specs.Places.{place_at}
 use Rattle.tree_sem.specs.declared.actions.Action.{Action}
-use Rattle.jq_sem.specs.Views as sem
-use Rattle.jq_sem.specs.Statements.{Statement}
+use Rattle.jq_sem.specs.Sharp.{ExactStatement}
 use Rattle.jq_parts.specs.declared.placing.Stated.{Stated}
 use Rattle.jq_parts.specs.declared.scopes.Handler as code_handler
 use Rattle.jq_parts.specs.declared.scopes.Scope as code_scope
 use Rattle.jq_parts.specs.declared.shared_chains.SharedChain.{SharedChain}
+use Rattle.jq_parts.specs.MarkedCalls.{marked_chain_of}
 use Rattle.jq_parts.specs.SharedChains.{shared_of}
 use Rattle.jq_parts.specs.Views.{declarations_of}
 use Rattle.jq_parts.specs.Scopes.{Handler, Scope}
@@ -26,5 +26,10 @@ abbrev pub effect_of : Option (SharedChain × Action) → Effect
 effect_of e = option_map (λ a. (shared_of a.0, a.1)) e
 
 -- a statement of a text, which has an offset in the place of its place
-abbrev pub stated_in : List ℕ → Stated → Statement
-stated_in text s = record { handlers = map sem.chain_of s.handlers; chain = sem.chain_of s.chain; action = s.action; place = place_at text s.at }
+abbrev pub stated_in : List ℕ → Stated → ExactStatement
+stated_in text s = record {
+  handlers = map marked_chain_of s.handlers.items;
+  chain = marked_chain_of s.chain;
+  action = s.action;
+  place = place_at text s.at;
+}

@@ -1,28 +1,33 @@
 -- The statements of a script, one more at a time.
-use Rattle.std.specs.Prelude.{ℕ, nat_le, nat_lt, if◌then◌else◌, List, [], ◌∷◌, ◌++◌, length, map, sum, Option, Some, None, Ok, Err}
+use Rattle.std.specs.Prelude.{ℕ, ◌≤◌, nat_le, nat_lt, if◌then◌else◌, List, [], ◌∷◌, ◌++◌, length, map, sum, Option, Some, None, Ok, Err}
 use Rattle.tp_base.specs.Places.{place_at}
 use Rattle.tree_sem.specs.declared.actions.Action.{Action}
-use Rattle.jq_sem.specs.Statements.{Chain, Statement}
+use Rattle.jq_sem.specs.Sharp.{ExactChain, ExactStatement}
 use Rattle.jq_words.specs.declared.faults.ScriptFault.TheVariants.{TooLong, TooManyStatements}
-use Rattle.jq_words.specs.declared.faults.TheConstants.{MOST_STATEMENTS, MOST_CALLS}
+use Rattle.jq_words.specs.declared.faults.TheConstants.{MOST_STATEMENTS, MOST_CALLS, MOST_OPEN}
 use Rattle.jq_words.specs.Words.{Outcome}
 use Rattle.jq_parts.specs.Scopes.{Handler}
 
 -- What a call does to the nodes of a chain, if it acts.
 abbrev pub Effect : Type 0
-Effect = Option (Chain × Action)
+Effect = Option (ExactChain × Action)
 
 -- how many calls chains have together
-abbrev pub calls_in : List Chain → ℕ
+abbrev pub calls_in : List ExactChain → ℕ
 calls_in chains = sum (map (λ c. length c.calls) chains)
 
-abbrev pub chains_of : List Handler → List Chain
+abbrev pub chains_of : List Handler → List ExactChain
 chains_of hs = map (λ h. h.chain) hs
 
 -- The statements of a file, one more where a call acts that stands in these handlers, and whose name stands at an offset.
-unfoldable pub stated : List ℕ → List Handler → ℕ → Effect → List Statement → Outcome (List Statement)
+unfoldable pub stated : List ℕ → List Handler → ℕ → Effect → List ExactStatement → Outcome (List ExactStatement)
 stated text hs at None ss = Ok ss
 stated text hs at (Some (chain, action)) ss =
     if nat_le MOST_STATEMENTS (length ss) then Err (TooManyStatements at)
     else if nat_lt MOST_CALLS (calls_in (chain ∷ chains_of hs)) then Err (TooLong at)
     else Ok (ss ++ record { handlers = chains_of hs; chain = chain; action = action; place = place_at text at } ∷ [])
+
+-- A statement that a mark can count: each of its handlers stands in a bracket, and its calls are no more than a statement may have.
+pub record IsCounted (s : ExactStatement) : Type 0 where
+  pub few : length s.handlers ≤ MOST_OPEN
+  pub short : calls_in (s.chain ∷ s.handlers) ≤ MOST_CALLS

@@ -1,11 +1,13 @@
 //! Chains that share their parts.
 ghost use Rattle.std.specs.Prelude.{◌≡◌, [], ◌∷◌, ◌++◌, IfOk};
-ghost use Rattle.jq_sem.specs.Views.{root_of, call_of, chain_of};
+ghost use Rattle.jq_sem.specs.Views.{root_of};
+ghost use Rattle.jq_parts.specs.MarkedCalls.{marked_of, marked_chain_of};
 ghost use Rattle.jq_parts.specs.Scopes.{is_this_root};
 ghost use Rattle.jq_parts.specs.SharedChains.{shared_of};
 
+use crate::marked_calls::{MarkedCall, MarkedChain};
 use crate::shared_calls::SharedCalls;
-use jq_sem::{Call, Calls, Chain, Root};
+use jq_sem::Root;
 use std::alloc::Global;
 use tp_base::NoMemory;
 
@@ -39,8 +41,8 @@ impl SharedChain {
 
     /// One call more. Constant.
     #[tactic(auto, using(crate::proofs::SharedCallSteps::one_more))]
-    pub fn with_call(self, alloc: Global, call: Call) -> Result<Self, NoMemory>
-        ensures { IfOk result (λ c. shared_of c ≡ record { root = (shared_of self).root; calls = (shared_of self).calls ++ call_of call ∷ [] }) }
+    pub fn with_call(self, alloc: Global, call: MarkedCall) -> Result<Self, NoMemory>
+        ensures { IfOk result (λ c. shared_of c ≡ record { root = (shared_of self).root; calls = (shared_of self).calls ++ marked_of call ∷ [] }) }
     {
         Ok(SharedChain {
             root: self.root,
@@ -56,14 +58,11 @@ impl SharedChain {
     }
 
     /// The same chain, whose calls are its own. Linear in the calls.
-    pub fn copy(&self, alloc: Global) -> Result<Chain, NoMemory>
-        ensures { IfOk result (λ c. chain_of c ≡ shared_of self.now) }
+    pub fn copy(&self, alloc: Global) -> Result<MarkedChain, NoMemory>
+        ensures { IfOk result (λ c. marked_chain_of c ≡ shared_of self.now) }
     {
         let root = self.root.copy()?;
         let calls = self.calls.copy(alloc)?;
-        Ok(Chain {
-            root,
-            calls: Calls::new(calls),
-        })
+        Ok(MarkedChain { root, calls })
     }
 }

@@ -1,38 +1,38 @@
 //! The statements of a script, one more at a time.
 ghost use Rattle.std.specs.Prelude.{◌≡◌, ◌≤◌, ℕ, List, length, map, IfOk, IfErr, OnOk};
-ghost use Rattle.jq_sem.specs.Views.{chain_of};
 ghost use Rattle.jq_words.specs.Results.{Leaves};
 ghost use Rattle.jq_words.specs.declared.faults.ScriptFault.TheVariants.{Memory};
 ghost use Rattle.jq_words.specs.declared.faults.TheConstants.{MOST_STATEMENTS};
+ghost use Rattle.jq_parts.specs.MarkedCalls.{marked_chain_of};
 ghost use Rattle.jq_parts.specs.Stating as spec;
 ghost use Rattle.jq_parts.specs.ScopeViews.{handlers_of, effect_of, stated_in};
 
+use crate::marked_calls::MarkedChain;
 use crate::placing::Stated;
 use crate::scopes::Handler;
 use crate::shared_chains::SharedChain;
-use jq_sem::{Chain, Chains};
 use jq_words::{MOST_CALLS, MOST_STATEMENTS, ScriptFault};
 use std::alloc::Global;
 use tp_base::NoMemory;
 use tree_sem::Action;
 
 /// How many calls some chains have together.
-fn calls_in(chains: &[Chain]) -> Result<usize, ScriptFault>
-    ensures count { IfOk result (λ n. n ≡ spec.calls_in (map chain_of chains.now)) }
+fn calls_in(chains: &[MarkedChain]) -> Result<usize, ScriptFault>
+    ensures count { IfOk result (λ n. n ≡ spec.calls_in (map marked_chain_of chains.now)) }
     ensures only_memory { IfErr result (λ e. e ≡ Memory) }
 {
     let mut count: usize = 0;
     for chain in chains {
         count = count
-            .checked_add(chain.calls.items().len())
+            .checked_add(chain.calls.len())
             .ok_or(ScriptFault::Memory)?;
     }
     Ok(count)
 }
 
 /// The chains of handlers, outermost first.
-fn chains_of(alloc: Global, handlers: &[Handler]) -> Result<Vec<Chain>, NoMemory>
-    ensures { IfOk result (λ v. map chain_of v.items ≡ spec.chains_of (handlers_of handlers.now)) }
+fn chains_of(alloc: Global, handlers: &[Handler]) -> Result<Vec<MarkedChain>, NoMemory>
+    ensures { IfOk result (λ v. map marked_chain_of v.items ≡ spec.chains_of (handlers_of handlers.now)) }
 {
     let mut copy = Vec::new(alloc);
     for handler in handlers {
@@ -64,14 +64,14 @@ pub fn stated(
     let chains = chains_of(alloc, handlers)?;
     let count = calls_in(&chains)?;
     let all = count
-        .checked_add(chain.calls.items().len())
+        .checked_add(chain.calls.len())
         .ok_or(ScriptFault::Memory)?;
     if all > MOST_CALLS {
         return Err(ScriptFault::TooLong(at));
     }
     statements.push(Stated {
         at,
-        handlers: Chains::new(chains),
+        handlers: chains,
         chain,
         action,
     })?;

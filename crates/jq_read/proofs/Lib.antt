@@ -6,8 +6,10 @@ pub mod SeveralSteps
 pub mod Tables
 pub mod ReadingLaws
 pub mod LimitLaws
+pub mod HandlerLaws
 pub mod TableStates
 pub mod TableRoots
 pub mod TableArguments
 pub mod TableChains
 pub mod TableStatements
+pub mod WideSteps

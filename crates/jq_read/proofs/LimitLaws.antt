@@ -1,10 +1,11 @@
 -- What the statements of a script stay within, rule by rule. Nodes of markup that was read and is in no statement yet are counted too.
-use Rattle.std.proofs.Common.{◌≡◌, ℕ, zero, suc, ◌+◌, ◌-◌, ◌<◌, ◌≤◌, ◌==◌, Bool, true, false, not, ◌&&◌, ◌||◌, if◌then◌else◌, List, [], ◌∷◌, ◌++◌, length, take, drop, Option, Some, None, refl, ap, codes, arith, length-append}
+use Rattle.std.proofs.Common.{◌≡◌, ℕ, zero, suc, ◌+◌, ◌-◌, ◌<◌, ◌≤◌, ◌==◌, Bool, true, false, not, ◌&&◌, ◌||◌, if◌then◌else◌, List, [], ◌∷◌, ◌++◌, length, map, sum, take, drop, Option, Some, None, refl, sym, ap, ◌∙◌, subst, codes, arith, length-append}
 use Rattle.std.specs.Prelude.{Result, Ok, Err, IfOk, IfSome, nat_le, nat_lt, bytes_eq, option_and_then}
-use Rattle.std.specs.List.{AllByRecursion}
+use Rattle.std.specs.List.{AllByRecursion, sum_by}
 use Rattle.std.proofs.lemmas.Bool.{leb-false, ltb-false}
 use Rattle.std.proofs.lemmas.Result.{IfOk-at_ok}
-use Rattle.std.proofs.lemmas.List.Sums.{sum_by_push}
+use Rattle.std.proofs.lemmas.List.{length-map}
+use Rattle.std.proofs.lemmas.List.Sums.{sum_by_push, sum-map}
 use Rattle.text_bytes.specs.Attributes.{with_value}
 use Rattle.tp_base.specs.Names.{Named}
 use Rattle.tp_base.specs.Places.{place_at}
@@ -14,7 +15,8 @@ use Rattle.tree_sem.specs.declared.actions.Action.TheVariants.{Classes}
 use Rattle.html_subset.specs.declared.faults.PageFault.{PageFault}
 use Rattle.html_subset.specs.Reading.{read_forest}
 use Rattle.js_scan.specs.Tokens.{script_tokens}
-use Rattle.jq_sem.specs.Statements.{Chain, Statement, Call, filter, add, back}
+use Rattle.jq_sem.specs.Sharp.{ExactCall, plain, first, ExactChain, ExactStatement, wide_call, wide_chain, wide_of, wides}
+use Rattle.jq_sem.specs.Statements.{Chain, Statement, add, back}
 use Rattle.jq_words.specs.declared.faults.ScriptFault.TheVariants.{TooManyForestNodes, TooManyStatements, TooLong, ThisOutside}
 use Rattle.jq_words.specs.declared.faults.TheConstants.{MOST_STATEMENTS, MOST_CALLS, MOST_FOREST_NODES, MOST_OPEN}
 use Rattle.jq_words.specs.Words.{Word, words, Outcome, ◌>>=◌, is_mark, is_name, is_any_name, is_name_among, fits, first_is, is_form, spelled, begins, begins_name, place, unexpected, want, want_name, want_open, end}
@@ -40,9 +42,9 @@ use Rattle.jq_read.specs.CallArguments.{made, and_call, compounds_argument, move
 use Rattle.jq_read.specs.Chains.{behind_one, several, listened, listening, listen_arguments, unchanged, at_least, arguments_of, dot_name, admitted, and_stated, call, ended, all_read, calls, chain}
 use Rattle.jq_read.specs.Openings.{form_of}
 use Rattle.jq_read.specs.Statements.{Blocks, plain_list, and_end, condition, bracketed, start, behind_document, ready, called_with, once, delay, timer, named_function, declared_value, value_behind, one, more_ones, declaration, chain_statement, with_state, statement_as, is_branch, begin, is_over, turn, at_file_end, sequence, no_block, braces, block}
-use Rattle.jq_read.specs.Script.{from_scan, at_top, nothing_read, script_of, script}
+use Rattle.jq_read.specs.Script.{from_scan, at_top, nothing_read, script_of, script_with, script}
 use Rattle.jq_read.proofs.ReadingLaws.{and_then, any_then, either, all_push, all_take, first_some, this_one}
-use Rattle.jq_read.specs.Limits.{trees_added, nodes_added, calls_of, AreWithin}
+use Rattle.jq_read.specs.Limits.{trees_added, nodes_added, calls_of_chains, calls_of, AreWithin}
 
 -- ---- what is counted
 
@@ -58,6 +60,13 @@ abbrev pub pending_in : Option Value → ℕ
 pending_in None = 0
 pending_in (Some v) = pending v
 
+-- how many nodes some statements add, and how many calls one has, as they are read
+abbrev pub nodes_of : List ExactStatement → ℕ
+nodes_of ss = sum_by (λ s. nodes_in (trees_added s.action)) ss
+
+abbrev pub length_of : ExactStatement → ℕ
+length_of s = calls_in (s.chain ∷ s.handlers)
+
 -- no name is bound to markup
 abbrev pub AllClear : List Declaration → Type 0
 AllClear ds = AllByRecursion (λ d. pending_in d.value ≡ 0) ds
@@ -65,9 +74,9 @@ AllClear ds = AllByRecursion (λ d. pending_in d.value ≡ 0) ds
 -- the statements are within the limits, where so many nodes are read and in no statement yet
 pub record IsIn (k : ℕ) (s : State) : Type 0 where
   pub few : length s.statements ≤ MOST_STATEMENTS
-  pub short : AllByRecursion (λ t. calls_of t ≤ MOST_CALLS) s.statements
+  pub short : AllByRecursion (λ t. length_of t ≤ MOST_CALLS) s.statements
   pub small : s.grown.nodes ≤ MOST_FOREST_NODES
-  pub slack : k + nodes_added s.statements ≤ s.grown.nodes
+  pub slack : k + nodes_of s.statements ≤ s.grown.nodes
   pub clear : AllClear s.declarations
 
 pub less : (j k : ℕ) (s : State) → j ≤ k → IsIn k s → IsIn j s
@@ -96,7 +105,7 @@ forest_counted at letters g = forest_read at g (read_forest letters g.names)
 
 -- ---- statements
 
-room_for : (k : ℕ) (c : Context) (at : ℕ) (chain : Chain) (action : Action) (s : State) (full long : Bool)
+room_for : (k : ℕ) (c : Context) (at : ℕ) (chain : ExactChain) (action : Action) (s : State) (full long : Bool)
     → (full ≡ false → length s.statements < MOST_STATEMENTS) → (long ≡ false → calls_in (chain ∷ chains_of c.handlers) ≤ MOST_CALLS)
     → IsIn (nodes_in (trees_added action) + k) s
     → IfOk ((if full then Err (TooManyStatements at) else (if long then Err (TooLong at)
@@ -104,11 +113,11 @@ room_for : (k : ℕ) (c : Context) (at : ℕ) (chain : Chain) (action : Action) 
 room_for k c at chain action s true long room short here = tt
 room_for k c at chain action s false true room short here = tt
 room_for k c at chain action s false false room short here =
-    let one : Statement = record { handlers = chains_of c.handlers; chain = chain; action = action; place = place_at c.text at } in
-    let count : nodes_added (s.statements ++ one ∷ []) ≡ nodes_added s.statements + nodes_in (trees_added action) = sum_by_push (λ t. nodes_in (trees_added t.action)) s.statements one in
+    let one : ExactStatement = record { handlers = chains_of c.handlers; chain = chain; action = action; place = place_at c.text at } in
+    let count : nodes_of (s.statements ++ one ∷ []) ≡ nodes_of s.statements + nodes_in (trees_added action) = sum_by_push (λ t. nodes_in (trees_added t.action)) s.statements one in
     record {
       few = omega (arith, length-append s.statements (one ∷ []), room refl);
-      short = all_push (λ t. calls_of t ≤ MOST_CALLS) s.statements one here.short (short refl);
+      short = all_push (λ t. length_of t ≤ MOST_CALLS) s.statements one here.short (short refl);
       small = here.small;
       slack = omega (arith, count, here.slack);
       clear = here.clear;
@@ -204,16 +213,16 @@ root_in k room c s ws here =
 abbrev pub DoneIn : ℕ → (Value × Effect) × State × List Word → Type 0
 DoneIn k d = IsIn (pending d.0.0 + added_by d.0.1 + k) d.1
 
-pending_call : (v : Value) (call : Call) → pending (and_call v call) ≡ pending v
+pending_call : (v : Value) (call : ExactCall) → pending (and_call v call) ≡ pending v
 pending_call (elements chain) call = refl
 pending_call everywhere call = refl
 pending_call (markup trees) call = refl
 pending_call placed call = refl
 
-called_in : (k : ℕ) (v : Value) (call : Call) (s : State) → IsIn (pending v + k) s → IsIn (pending (and_call v call) + 0 + k) s
+called_in : (k : ℕ) (v : Value) (call : ExactCall) (s : State) → IsIn (pending v + k) s → IsIn (pending (and_call v call) + 0 + k) s
 called_in k v call s here = less (pending (and_call v call) + 0 + k) (pending v + k) s (omega (arith, pending_call v call)) here
 
-acted_in : (k : ℕ) (v : Value) (chain : Option Chain) (action : Action) (s : State)
+acted_in : (k : ℕ) (v : Value) (chain : Option ExactChain) (action : Action) (s : State)
     → IsIn (pending v + nodes_in (trees_added action) + k) s → IsIn (pending v + added_by (acting chain action) + k) s
 acted_in k v None action s here = less (pending v + 0 + k) (pending v + nodes_in (trees_added action) + k) s (omega arith) here
 acted_in k v (Some chain) action s here = here
@@ -226,7 +235,7 @@ unite_in : (k : ℕ) (c : Context) (v : Value) (s : State) (ws : List Word) → 
 unfolding unite_arguments
 unite_in k c v s ws here =
     any_then _ (text_argument (size c) ws) _ (λ t.
-    any_then _ (selectors t.1 t.0 s.grown.names) _ (λ r. called_in k v (add r.0) (with_names r.1 s) (renamed (pending v + k) r.1 s here)))
+    any_then _ (selectors t.1 t.0 s.grown.names) _ (λ r. called_in k v (plain (add r.0)) (with_names r.1 s) (renamed (pending v + k) r.1 s here)))
 
 class_in : (k room : ℕ) (c : Context) (v : Value) (s : State) (ws : List Word) → IsIn (pending v + k) s → IfOk (class_arguments c room v s ws) (DoneIn k)
 unfolding class_arguments
@@ -322,13 +331,13 @@ module _ (block : Block) (keeps : Keeps block) where
   unfolding function
   function_in k room c s ws here = any_then _ (want_function (size c) ws) _ (λ behind. body_in k room c s (behind_name behind) here)
 
-  handed_in : (k : ℕ) (lists : Bool) (room : ℕ) (c : Context) (chain : Option Chain) (s : State) (ws : List Word) → IsIn k s → IfOk (handed lists block room c chain s ws) (λ r. IsIn k r.0)
+  handed_in : (k : ℕ) (lists : Bool) (room : ℕ) (c : Context) (chain : Option ExactChain) (s : State) (ws : List Word) → IsIn k s → IfOk (handed lists block room c chain s ws) (λ r. IsIn k r.0)
   unfolding handed
   handed_in k lists room c chain s ws here =
       either _ (begins_name (codes "function") ws) _ _ (function_in k room (in_handler c (handler_at (place (size c) ws) chain)) s ws here)
       (any_then _ (handed_other lists room c ws) _ (λ rest. here))
 
-  several_in : (k : ℕ) (lists : Bool) (room : ℕ) (c : Context) (chain : Option Chain) (n : ℕ) (s : State) (ws : List Word) → IsIn k s → IfOk (several lists block room c chain n s ws) (λ r. IsIn k r.0)
+  several_in : (k : ℕ) (lists : Bool) (room : ℕ) (c : Context) (chain : Option ExactChain) (n : ℕ) (s : State) (ws : List Word) → IsIn k s → IfOk (several lists block room c chain n s ws) (λ r. IsIn k r.0)
   unfolding several
   several_in k lists room c chain zero s ws here = here
   several_in k lists room c chain (suc others) s ws here =
@@ -357,9 +366,9 @@ module _ (block : Block) (keeps : Keeps block) where
       → IsIn (pending v + k) s → IfOk (arguments_of block room c v (record { name = name; fewest = fewest; most = most; form = f }) count s ws) (DoneIn k)
   unfolding arguments_of
   arguments_in k room c v (moves step) name fewest most count s ws here = move_in k c (moves step) (count == 0 && fewest == 0) v s ws here
-  arguments_in k room c v takes_first name fewest most count s ws here = called_in k v (filter ([] ∷ [])) s here
+  arguments_in k room c v takes_first name fewest most count s ws here = called_in k v first s here
   arguments_in k room c v unites name fewest most count s ws here = unite_in k c v s ws here
-  arguments_in k room c v goes_back name fewest most count s ws here = called_in k v back s here
+  arguments_in k room c v goes_back name fewest most count s ws here = called_in k v (plain back) s here
   arguments_in k room c v classes name fewest most count s ws here = class_in k room c v s ws here
   arguments_in k room c v attributes name fewest most count s ws here = attribute_in k c v s ws here
   arguments_in k room c v (grows beside) name fewest most count s ws here = grow_in k room c beside v s ws here
@@ -371,7 +380,7 @@ module _ (block : Block) (keeps : Keeps block) where
   call_in : (k room : ℕ) (c : Context) (v : Value) (s : State) (ws : List Word) → IsIn (pending v + k) s → IfOk (call block room c v s ws) (λ r. IsIn (pending r.0 + k) r.1)
   unfolding call
   call_in k room c v s ws here =
-      any_then _ (dot_name (size c) v ws) _ (λ name.
+      any_then _ (dot_name c.exact (size c) v ws) _ (λ name.
       any_then _ (admitted (size c) v name.0.0 name.0.1 name.1) _ (λ count.
       any_then _ (want_open (size c) room (codes "(") name.1) _ (λ inside.
       and_then _ _ (arguments_of block (room - 1) c v name.0.0 count s inside) _
@@ -456,7 +465,7 @@ module _ (blocks : Blocks) (keeps : (opened : ℕ) → Keeps (blocks opened)) wh
   declared_in k room c s ws here =
       either _ (begins_name (codes "function") ws) _ _
       (and_then _ _ (function (blocks 0) room (in_handler c None) s ws) _ (function_in (blocks 0) (keeps 0) k room (in_handler c None) s ws here) (λ f known. (refl, known)))
-      (either _ (is_chain false s.declarations ws) _ _
+      (either _ (is_chain c.exact s.declarations ws) _ _
       (and_then _ _ (chain (blocks 1) room c s ws) _ (chain_in (blocks 1) (keeps 1) k room c s ws here) (λ r known. known))
       (any_then _ (plain_list c room ws) _ (λ rest. (refl, here))))
 
@@ -521,7 +530,7 @@ module _ (blocks : Blocks) (keeps : (opened : ℕ) → Keeps (blocks opened)) wh
   unfolding at_file_end
   file_end_in k in_block b c s here = either _ (in_block || b.wanted) _ _ tt here
 
-  sequence_in : (k : ℕ) (in_block : Bool) (room : ℕ) (c : Context) (b : Between) (s : State) (skip : ℕ) (ws : List Word) → IsIn k s → IfOk (sequence in_block blocks room c b s skip ws) (StateIn k)
+  pub sequence_in : (k : ℕ) (in_block : Bool) (room : ℕ) (c : Context) (b : Between) (s : State) (skip : ℕ) (ws : List Word) → IsIn k s → IfOk (sequence in_block blocks room c b s skip ws) (StateIn k)
   unfolding sequence
   sequence_in k in_block room c b s skip [] here = file_end_in k in_block b c s here
   sequence_in k in_block room c b s (suc skip) (w ∷ ws) here = sequence_in k in_block room c b s skip ws here
@@ -537,25 +546,67 @@ braces_in room blocks keeps k c s ws here =
     any_then _ (want_open (size c) (suc room) (codes "{") ws) _ (λ inside.
     and_then _ _ (sequence true blocks room c begin s 0 inside) _ (sequence_in blocks keeps k true room c begin s 0 inside here) (λ all known. known))
 
-blocks_in : (room opened : ℕ) → Keeps (block room opened)
+pub blocks_in : (room opened : ℕ) → Keeps (block room opened)
 unfolding block no_block
 blocks_in zero opened k c s ws here = any_then _ (want_open (size c) 0 (codes "{") ws) _ (λ inside. here)
 blocks_in (suc room) (suc opened) k c s ws here = blocks_in room opened k c s ws here
 blocks_in (suc room) zero k c s ws here = braces_in room (block room) (blocks_in room) k c s ws here
 
-nothing_in : (names : List Named) → IsIn 0 (nothing_read names)
+pub nothing_in : (names : List Named) → IsIn 0 (nothing_read names)
 nothing_in names = record { few = omega arith; short = tt; small = omega arith; slack = omega arith; clear = tt }
 
-file_in : (text : List ℕ) (ws : List Word) (names : List Named) → IfOk (script_of text ws names) (λ r. AreWithin r.0)
-unfolding script_of
-file_in text ws names =
-    and_then _ _ (sequence false (block MOST_OPEN) MOST_OPEN (at_top text ws) begin (nothing_read names) 0 ws) _
-    (sequence_in (block MOST_OPEN) (blocks_in MOST_OPEN) 0 false MOST_OPEN (at_top text ws) begin (nothing_read names) 0 ws (nothing_in names))
-    (λ all known. record { few = known.few; short = known.short; small = omega (arith, known.slack, known.small) })
+-- ---- as they are judged
 
-script_in : (text : List ℕ) (names : List Named) → IfOk (script text names) (λ r. AreWithin r.0)
+lengths : (chains : List ExactChain) → map (λ (c : Chain). length c.calls) (map wide_chain chains) ≡ map (λ (c : ExactChain). length c.calls) chains
+lengths [] = refl
+lengths (c ∷ chains) =
+    let first = length-map c.calls wide_call in
+    let rest = lengths chains in
+    λ j. first j ∷ rest j
+
+long_chains : (chains : List ExactChain) → calls_of_chains (map wide_chain chains) ≡ calls_in chains
+long_chains chains = ap sum (lengths chains)
+
+short_wides : (ss : List ExactStatement) → AllByRecursion (λ t. length_of t ≤ MOST_CALLS) ss → AllByRecursion (λ t. calls_of t ≤ MOST_CALLS) (wides ss)
+short_wides [] short = tt
+short_wides (s ∷ ss) short =
+    let same : calls_of (wide_of s) ≡ length_of s = long_chains (s.chain ∷ s.handlers) in
+    let least = short.0 in
+    (omega (arith, same, least), short_wides ss short.1)
+
+numbers : (ss : List ExactStatement) → map (λ (s : Statement). nodes_in (trees_added s.action)) (wides ss) ≡ map (λ (s : ExactStatement). nodes_in (trees_added s.action)) ss
+numbers [] = refl
+numbers (s ∷ ss) = ap (λ ns. nodes_in (trees_added s.action) ∷ ns) (numbers ss)
+
+nodes_wides : (ss : List ExactStatement) → nodes_added (wides ss) ≡ nodes_of ss
+nodes_wides ss =
+    sym (sum-map (λ (s : Statement). nodes_in (trees_added s.action)) (wides ss)) ∙ ap sum (numbers ss)
+    ∙ sum-map (λ (s : ExactStatement). nodes_in (trees_added s.action)) ss
+
+pub within_wides : (k : ℕ) (s : State) → IsIn k s → AreWithin (wides s.statements)
+within_wides k s here = record {
+  few = omega (arith, length-map s.statements wide_of, here.few);
+  short = short_wides s.statements here.short;
+  small = omega (arith, nodes_wides s.statements, here.slack, here.small);
+}
+
+file_in : (exact : Bool) (text : List ℕ) (ws : List Word) (names : List Named) → IfOk (script_of exact text ws names) (λ r. AreWithin (wides r.0))
+unfolding script_of
+file_in exact text ws names =
+    and_then _ _ (sequence false (block MOST_OPEN) MOST_OPEN (at_top exact text ws) begin (nothing_read names) 0 ws) _
+    (sequence_in (block MOST_OPEN) (blocks_in MOST_OPEN) 0 false MOST_OPEN (at_top exact text ws) begin (nothing_read names) 0 ws (nothing_in names))
+    (λ all known. within_wides 0 all.0 known)
+
+script_in : (exact : Bool) (text : List ℕ) (names : List Named) → IfOk (script_with exact text names) (λ r. AreWithin (wides r.0))
+unfolding script_with
+script_in exact text names = any_then _ (from_scan (script_tokens text)) _ (λ ts. file_in exact text (words text ts) names)
+
+plain_in : (text : List ℕ) (names : List Named) → IfOk (script text names) (λ r. AreWithin r.0)
 unfolding script
-script_in text names = any_then _ (from_scan (script_tokens text)) _ (λ ts. file_in text (words text ts) names)
+plain_in text names = and_then _ _ (script_with false text names) _ (script_in false text names) (λ r known. known)
 
 pub kept_within : (text : List ℕ) (names later : List Named) (ss : List Statement) → script text names ≡ Ok (ss, later) → AreWithin ss
-kept_within text names later ss is = IfOk-at_ok (λ r. AreWithin r.0) is (script_in text names)
+kept_within text names later ss is = IfOk-at_ok (λ r. AreWithin r.0) is (plain_in text names)
+
+pub exact_within : (text : List ℕ) (names later : List Named) (ss : List ExactStatement) → script_with true text names ≡ Ok (ss, later) → AreWithin (wides ss)
+exact_within text names later ss is = IfOk-at_ok (λ r. AreWithin (wides r.0)) is (script_in true text names)

@@ -1,13 +1,13 @@
 -- Functions and lists that are handed over, one by one.
 use Rattle.std.proofs.Common.{◌≡◌, ℕ, suc, ◌+◌, Bool, List, Ok, Err, Option, refl, arith}
-use Rattle.jq_sem.specs.Statements.{Chain}
+use Rattle.jq_sem.specs.Sharp.{ExactChain}
 use Rattle.jq_words.specs.declared.faults.ScriptFault.{ScriptFault}
 use Rattle.jq_words.specs.Words.{Word}
 use Rattle.jq_read.specs.States.{Context, State, size}
 use Rattle.jq_read.specs.Functions.{Block, handed}
 use Rattle.jq_read.specs.Chains.{behind_one, several}
 
-module _ (lists : Bool) (block : Block) (room : ℕ) (c : Context) (chain : Option Chain) where
+module _ (lists : Bool) (block : Block) (room : ℕ) (c : Context) (chain : Option ExactChain) where
   pub goes_on : (n left : ℕ) (s t : State) (ws middle rest : List Word)
       → n ≡ left + 1 → handed lists block room c chain s ws ≡ Ok (t, middle) → behind_one (size c) left middle ≡ Ok rest
       → several lists block room c chain n s ws ≡ several lists block room c chain left t rest

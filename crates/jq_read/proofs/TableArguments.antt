@@ -1,5 +1,5 @@
 -- What the arguments of a call leave is over the table of names then.
-use Rattle.std.proofs.Common.{ℕ, ◌<◌, ◌≤◌, not, Bool, true, false, List, [], ◌∷◌, ◌++◌, length, drop, Option, Some, None, codes, arith}
+use Rattle.std.proofs.Common.{ℕ, ◌<◌, ◌≤◌, not, Bool, true, false, List, [], ◌∷◌, ◌++◌, length, map, drop, Option, Some, None, codes, arith}
 use Rattle.std.specs.Prelude.{IfOk}
 use Rattle.std.proofs.lemmas.List.Elements.{All-nil}
 use Rattle.text_bytes.specs.Attributes.{with_value}
@@ -7,7 +7,8 @@ use Rattle.tp_base.specs.Names.{Named}
 use Rattle.tree_sem.specs.Trees.{LabelTree}
 use Rattle.tree_sem.specs.declared.actions.Action.{Action}
 use Rattle.tree_sem.specs.declared.actions.Action.TheVariants.{Classes}
-use Rattle.jq_sem.specs.Statements.{Call, add}
+use Rattle.jq_sem.specs.Sharp.{ExactCall, plain, wide_call}
+use Rattle.jq_sem.specs.Statements.{add}
 use Rattle.jq_words.specs.Words.{Word, is_name_among, first_is, begins, place, want_open}
 use Rattle.jq_words.specs.Texts.{texts}
 use Rattle.jq_words.specs.Calls.{Form, moves, finding, to_children, to_parent, to_parents, filtering, having, to_closest, to_siblings, takes_first, unites, goes_back, classes, attributes, grows, places, handles, listens, passes}
@@ -32,17 +33,17 @@ use Rattle.jq_read.proofs.TableRoots.{ForestOver, forest_over, target_over}
 abbrev pub DoneOver : Context → State → (Value × Effect) × State × List Word → Type 0
 DoneOver c s d = IsLater c s d.1 × IsValueOver (count d.1) d.0.0 × IsEffectOver (count d.1) d.0.1
 
-more_calls : (n : ℕ) (calls : List Call) (call : Call) → AreCallsOver n calls → IsCallOver n call → AreCallsOver n (calls ++ call ∷ [])
+more_calls : (n : ℕ) (calls : List ExactCall) (call : ExactCall) → AreCallsOver n (map wide_call calls) → IsCallOver n (wide_call call) → AreCallsOver n (map wide_call (calls ++ call ∷ []))
 more_calls n [] call over one = (one, tt)
 more_calls n (x ∷ calls) call over one = (over.0, more_calls n calls call over.1 one)
 
-pub called_over : (n : ℕ) (v : Value) (call : Call) → IsValueOver n v → IsCallOver n call → IsValueOver n (and_call v call)
+pub called_over : (n : ℕ) (v : Value) (call : ExactCall) → IsValueOver n v → IsCallOver n (wide_call call) → IsValueOver n (and_call v call)
 called_over n (elements chain) call over one = (over.0, more_calls n chain.calls call over.1 one)
 called_over n everywhere call over one = tt
 called_over n (markup trees) call over one = over
 called_over n placed call over one = tt
 
-made_over : (n : ℕ) (f : Form) (cs : List (List ℕ)) → AreCompoundsOver n cs → IsCallOver n (made f cs)
+made_over : (n : ℕ) (f : Form) (cs : List (List ℕ)) → AreCompoundsOver n cs → IsCallOver n (wide_call (made f cs))
 made_over n (moves finding) cs over = over
 made_over n (moves to_children) cs over = over
 made_over n (moves to_parent) cs over = over
@@ -83,7 +84,7 @@ unfolding unite_arguments
 unite_over c v s ws over of =
     any_then _ (text_argument (size c) ws) _ (λ t.
     and_then _ _ (selectors t.1 t.0 s.grown.names) _ (selectors_over t.1 t.0 s.grown.names) (λ r known.
-    (renamed_over c s r.1 known.0 over, called_over (length r.1) v (add r.0) (value_more (count s) (length r.1) known.0 v of) known.1, tt)))
+    (renamed_over c s r.1 known.0 over, called_over (length r.1) v (plain (add r.0)) (value_more (count s) (length r.1) known.0 v of) known.1, tt)))
 
 acting_over : (n : ℕ) (v : Value) (action : Action) → IsValueOver n v → IsActionOver n action → IsEffectOver n (acting (elements_in v) action)
 acting_over n (elements chain) action over act = (over, act)

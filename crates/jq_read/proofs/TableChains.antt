@@ -4,7 +4,8 @@ use Rattle.std.specs.Prelude.{IfOk}
 use Rattle.std.proofs.lemmas.List.Elements.{All-nil}
 use Rattle.std.proofs.lemmas.Result.{IfOk-weaker}
 use Rattle.sel_core.specs.Selectors.{simple}
-use Rattle.jq_sem.specs.Statements.{Chain, find, filter, back}
+use Rattle.jq_sem.specs.Sharp.{plain, first, ExactChain, wide_chain}
+use Rattle.jq_sem.specs.Statements.{find, back}
 use Rattle.jq_words.specs.Words.{Word, Outcome, is_mark, is_any_name, begins, begins_name, place, want, want_name, want_open}
 use Rattle.jq_words.specs.Calls.{Form, moves, takes_first, unites, goes_back, classes, attributes, grows, places, handles, listens, passes}
 use Rattle.jq_parts.specs.Bindings.{Value, elements, everywhere, markup, placed, Declaration}
@@ -14,14 +15,14 @@ use Rattle.jq_parts.specs.Arguments.{text_argument}
 use Rattle.jq_parts.specs.Stating.{chains_of}
 use Rattle.jq_parts.specs.Parameters.{hidden, parameters, named_parameters, more_parameters}
 use Rattle.jq_parts.specs.Roots.{root}
-use Rattle.jq_sem.specs.Tables.{AreCompoundsOver, AreSelectorsOver, IsChainOver, AreChainsOver}
+use Rattle.jq_sem.specs.Tables.{AreCompoundsOver, AreSelectorsOver, AreChainsOver}
 use Rattle.jq_parts.proofs.TableLaws.{compounds_over}
 use Rattle.jq_parts.proofs.SelectorLaws.{AreChainsOver-more}
 use Rattle.jq_read.specs.States.{Context, State, size, scope_in}
 use Rattle.jq_read.specs.Functions.{Block, function_body, behind_name, want_function, function, elements_in, handler_at, in_handler, handed_other, handed}
 use Rattle.jq_read.specs.Chains.{behind_one, several, below, listened, listening, listen_arguments, unchanged, at_least, arguments_of, dot_name, admitted, and_stated, call, ended, all_read, calls, chain}
 use Rattle.jq_read.proofs.ReadingLaws.{and_then, any_then, either, all_push, all_take}
-use Rattle.jq_read.proofs.TableStates.{IsValueOver, IsBoundOver, AreBoundOver, IsElementsOver, count, AreOver, IsLater, value_more, elements_more, same, further, grown_over, renamed_over, stated_over}
+use Rattle.jq_read.proofs.TableStates.{IsExactOver, IsValueOver, IsBoundOver, AreBoundOver, IsElementsOver, count, AreOver, IsLater, value_more, elements_more, same, further, grown_over, renamed_over, stated_over}
 use Rattle.jq_read.proofs.TableRoots.{root_over}
 use Rattle.jq_read.proofs.TableArguments.{DoneOver, called_over, move_over, unite_over, class_over, attributes_over, grow_over, place_over}
 
@@ -60,9 +61,9 @@ bind c s ds all over = record { handlers = over.handlers; statements = over.stat
 -- the handler that a function may be
 abbrev pub IsHandlerOver : ℕ → Option Handler → Type 0
 IsHandlerOver n None = Unit {0}
-IsHandlerOver n (Some h) = IsChainOver n h.chain
+IsHandlerOver n (Some h) = IsExactOver n h.chain
 
-one_handler : (n : ℕ) (hs : List Handler) (h : Handler) → AreChainsOver n (chains_of hs) → IsChainOver n h.chain → AreChainsOver n (chains_of (hs ++ h ∷ []))
+one_handler : (n : ℕ) (hs : List Handler) (h : Handler) → AreChainsOver n (map wide_chain (chains_of hs)) → IsExactOver n h.chain → AreChainsOver n (map wide_chain (chains_of (hs ++ h ∷ [])))
 one_handler n [] h all one = (one, tt)
 one_handler n (x ∷ hs) h all one = (all.0, one_handler n hs h all.1 one)
 
@@ -74,10 +75,10 @@ within c (Some h) s of over = record { handlers = one_handler (count s) c.handle
 pub outside_over : (c : Context) (h : Option Handler) (s t : State) → AreOver c s → IsLater (in_handler c h) s t → IsLater c s t
 outside_over c h s t over later = record {
   longer = later.longer;
-  over = record { handlers = AreChainsOver-more (count s) (count t) later.longer (chains_of c.handlers) over.handlers; statements = later.over.statements; bindings = later.over.bindings };
+  over = record { handlers = AreChainsOver-more (count s) (count t) later.longer (map wide_chain (chains_of c.handlers)) over.handlers; statements = later.over.statements; bindings = later.over.bindings };
 }
 
-handler_over : (n at : ℕ) (chain : Option Chain) → IsElementsOver n chain → IsHandlerOver n (handler_at at chain)
+handler_over : (n at : ℕ) (chain : Option ExactChain) → IsElementsOver n chain → IsHandlerOver n (handler_at at chain)
 handler_over n at None over = tt
 handler_over n at (Some chain) over = over
 
@@ -93,7 +94,7 @@ simple_over n (c ∷ cs) over = ((over.0, tt), simple_over n cs over.1)
 
 below_over : (n : ℕ) (v : Value) (cs : List (List ℕ)) → IsValueOver n v → AreCompoundsOver n cs → IsValueOver n (below v cs)
 unfolding below
-below_over n (elements chain) cs over all = called_over n (elements chain) (find cs) over all
+below_over n (elements chain) cs over all = called_over n (elements chain) (plain (find cs)) over all
 below_over n everywhere cs over all = (simple_over n cs all, tt)
 below_over n (markup trees) cs over all = over
 below_over n placed cs over all = tt
@@ -137,7 +138,7 @@ module _ (block : Block) (keeps : KeepsOver block) where
       IfOk-weaker (function block room (in_handler c h) s ws) (λ r. IsLater (in_handler c h) s r.0) (λ r. IsLater c s r.0) (λ r later. outside_over c h s r.0 over later)
       (function_over room (in_handler c h) s ws (within c h s of over))
 
-  pub handed_over : (lists : Bool) (room : ℕ) (c : Context) (chain : Option Chain) (s : State) (ws : List Word) → IsElementsOver (count s) chain → AreOver c s
+  pub handed_over : (lists : Bool) (room : ℕ) (c : Context) (chain : Option ExactChain) (s : State) (ws : List Word) → IsElementsOver (count s) chain → AreOver c s
       → IfOk (handed lists block room c chain s ws) (λ r. IsLater c s r.0)
   unfolding handed
   handed_over lists room c chain s ws of over =
@@ -145,7 +146,7 @@ module _ (block : Block) (keeps : KeepsOver block) where
       (in_handler_over room c (handler_at (place (size c) ws) chain) s ws (handler_over (count s) (place (size c) ws) chain of) over)
       (any_then _ (handed_other lists room c ws) _ (λ rest. same c s over))
 
-  several_over : (lists : Bool) (room : ℕ) (c : Context) (chain : Option Chain) (n : ℕ) (s : State) (ws : List Word) → IsElementsOver (count s) chain → AreOver c s
+  several_over : (lists : Bool) (room : ℕ) (c : Context) (chain : Option ExactChain) (n : ℕ) (s : State) (ws : List Word) → IsElementsOver (count s) chain → AreOver c s
       → IfOk (several lists block room c chain n s ws) (λ r. IsLater c s r.0)
   unfolding several
   several_over lists room c chain zero s ws of over = same c s over
@@ -170,9 +171,9 @@ module _ (block : Block) (keeps : KeepsOver block) where
       → AreOver c s → IsValueOver (count s) v → IfOk (arguments_of block room c v (record { name = name; fewest = fewest; most = most; form = f }) n s ws) (DoneOver c s)
   unfolding arguments_of
   arguments_over room c v (moves step) name fewest most n s ws over of = move_over c (moves step) (n == 0 && fewest == 0) v s ws over of
-  arguments_over room c v takes_first name fewest most n s ws over of = (same c s over, called_over (count s) v (filter ([] ∷ [])) of (All-nil (λ a. a < count s), tt), tt)
+  arguments_over room c v takes_first name fewest most n s ws over of = (same c s over, called_over (count s) v first of (All-nil (λ a. a < count s), tt), tt)
   arguments_over room c v unites name fewest most n s ws over of = unite_over c v s ws over of
-  arguments_over room c v goes_back name fewest most n s ws over of = (same c s over, called_over (count s) v back of tt, tt)
+  arguments_over room c v goes_back name fewest most n s ws over of = (same c s over, called_over (count s) v (plain back) of tt, tt)
   arguments_over room c v classes name fewest most n s ws over of = class_over c room v s ws over of
   arguments_over room c v attributes name fewest most n s ws over of = attributes_over c v s ws over of
   arguments_over room c v (grows beside) name fewest most n s ws over of = grow_over c room beside v s ws over of
@@ -185,7 +186,7 @@ module _ (block : Block) (keeps : KeepsOver block) where
   call_over : (room : ℕ) (c : Context) (v : Value) (s : State) (ws : List Word) → AreOver c s → IsValueOver (count s) v → IfOk (call block room c v s ws) (ValueOver c s)
   unfolding call
   call_over room c v s ws over of =
-      any_then _ (dot_name (size c) v ws) _ (λ name.
+      any_then _ (dot_name c.exact (size c) v ws) _ (λ name.
       any_then _ (admitted (size c) v name.0.0 name.0.1 name.1) _ (λ n.
       any_then _ (want_open (size c) room (codes "(") name.1) _ (λ inside.
       and_then _ _ (arguments_of block (room - 1) c v name.0.0 n s inside) _

@@ -7,7 +7,7 @@ use Rattle.html_subset.specs.declared.faults.PageFault.{PageFault}
 use Rattle.html_subset.specs.Reading.{read_forest}
 use Rattle.html_subset.proofs.AtomLemmas.{AreForestOver, read_forest_over}
 use Rattle.html_subset.proofs.NamesKept.{read_forest_longer}
-use Rattle.jq_sem.specs.Statements.{Chain}
+use Rattle.jq_sem.specs.Sharp.{ExactChain}
 use Rattle.jq_words.specs.declared.faults.ScriptFault.TheVariants.{TooManyForestNodes}
 use Rattle.jq_words.specs.declared.faults.TheConstants.{MOST_FOREST_NODES}
 use Rattle.jq_words.specs.Words.{Word, is_mark, is_name, is_any_name, is_name_among, fits, is_form, spelled, place, unexpected, want, want_open}
@@ -20,10 +20,10 @@ use Rattle.jq_parts.specs.Selections.{selectors}
 use Rattle.jq_parts.specs.Markup.{Grown, forest, with_forest, nodes_in}
 use Rattle.jq_parts.specs.Arguments.{elements_of, is_apart, named_target, wrapped_target, wrapped_this, bare_target, other_target, target_or, target}
 use Rattle.jq_parts.specs.Roots.{root, wrapped_root, root_of, jquery_argument, lettered_root, named_root}
-use Rattle.jq_sem.specs.Tables.{IsChainOver, AreTreesOver}
+use Rattle.jq_sem.specs.Tables.{AreTreesOver}
 use Rattle.jq_parts.proofs.TableLaws.{selectors_over}
 use Rattle.jq_read.proofs.ReadingLaws.{and_then, any_then, either}
-use Rattle.jq_read.proofs.TableStates.{IsValueOver, AreBoundOver, used_over, this_over}
+use Rattle.jq_read.proofs.TableStates.{IsExactOver, IsValueOver, AreBoundOver, used_over, this_over}
 
 -- ---- markup
 
@@ -89,33 +89,33 @@ root_over size room scope g ws all =
 
 -- ---- targets
 
-elements_of_over : (n at : ℕ) (v : Value) → IsValueOver n v → IfOk (elements_of at v) (IsChainOver n)
+elements_of_over : (n at : ℕ) (v : Value) → IsValueOver n v → IfOk (elements_of at v) (IsExactOver n)
 elements_of_over n at (elements chain) over = over
 elements_of_over n at everywhere over = tt
 elements_of_over n at (markup trees) over = tt
 elements_of_over n at placed over = tt
 
-named_target_over : (n : ℕ) (scope : Scope) (at : ℕ) (name : List ℕ) (name_at : ℕ) → AreBoundOver n scope.declarations → IfOk (named_target scope at name name_at) (IsChainOver n)
+named_target_over : (n : ℕ) (scope : Scope) (at : ℕ) (name : List ℕ) (name_at : ℕ) → AreBoundOver n scope.declarations → IfOk (named_target scope at name name_at) (IsExactOver n)
 unfolding named_target
 named_target_over n scope at name name_at all =
     either _ (is_apart (bound name scope.declarations)) _ _ tt
     (and_then _ _ (used scope name name_at) _ (used_over n scope name name_at all) (λ v over. elements_of_over n at v over))
 
-wrapped_target_over : (n size room : ℕ) (scope : Scope) (at : ℕ) (ws : List Word) → AreBoundOver n scope.declarations → IfOk (wrapped_target size room scope at ws) (IsChainOver n)
+wrapped_target_over : (n size room : ℕ) (scope : Scope) (at : ℕ) (ws : List Word) → AreBoundOver n scope.declarations → IfOk (wrapped_target size room scope at ws) (IsExactOver n)
 unfolding wrapped_target
 wrapped_target_over n size room scope at ws all =
     either _ (is_apart (bound (spelled (drop 1 ws)) scope.declarations)) _ _ tt
     (any_then _ (want_open size room (codes "(") ws) _ (λ inside. named_target_over n scope at (spelled inside) (place size inside) all))
 
-wrapped_this_over : (n size room : ℕ) (scope : Scope) (ws : List Word) → IfOk (wrapped_this size room scope ws) (IsChainOver n)
+wrapped_this_over : (n size room : ℕ) (scope : Scope) (ws : List Word) → IfOk (wrapped_this size room scope ws) (IsExactOver n)
 unfolding wrapped_this
 wrapped_this_over n size room scope ws = any_then _ (want_open size room (codes "(") ws) _ (λ inside. this_over n scope (place size inside))
 
-bare_target_over : (n : ℕ) (scope : Scope) (at : ℕ) (ws : List Word) → AreBoundOver n scope.declarations → IfOk (bare_target scope at ws) (IsChainOver n)
+bare_target_over : (n : ℕ) (scope : Scope) (at : ℕ) (ws : List Word) → AreBoundOver n scope.declarations → IfOk (bare_target scope at ws) (IsExactOver n)
 unfolding bare_target
 bare_target_over n scope at ws all = either _ (is_form (is_name_besides (codes "this" ∷ []) ∷ []) ws) _ _ (named_target_over n scope at (spelled ws) at all) tt
 
-other_target_over : (n size room : ℕ) (scope : Scope) (ws : List Word) → AreBoundOver n scope.declarations → IfOk (other_target size room scope ws) (IsChainOver n)
+other_target_over : (n size room : ℕ) (scope : Scope) (ws : List Word) → AreBoundOver n scope.declarations → IfOk (other_target size room scope ws) (IsExactOver n)
 unfolding other_target
 other_target_over n size room scope ws all =
     either _ (is_form (is_name_among jquery ∷ is_mark (codes "(") ∷ is_name (codes "this") ∷ is_mark (codes ")") ∷ []) ws) _ _ (wrapped_this_over n size room scope (drop 1 ws))
@@ -123,8 +123,8 @@ other_target_over n size room scope ws all =
     (bare_target_over n scope (place size ws) ws all))
 
 -- a chain and the names then
-abbrev pub TargetOver : List Named → Chain × List Named → Type 0
-TargetOver names r = (length names ≤ length r.1) × IsChainOver (length r.1) r.0
+abbrev pub TargetOver : List Named → ExactChain × List Named → Type 0
+TargetOver names r = (length names ≤ length r.1) × IsExactOver (length r.1) r.0
 
 target_or_over : (size room : ℕ) (scope : Scope) (ws : List Word) (names : List Named) (letters : Option (List ℕ)) → AreBoundOver (length names) scope.declarations
     → IfOk (target_or size room scope ws names letters) (TargetOver names)

@@ -4,6 +4,7 @@ use Rattle.std.specs.Prelude.{Ok, IfOk}
 use Rattle.std.proofs.lemmas.Result.{IfOk-at_ok, IfOk-weaker}
 use Rattle.tp_base.specs.Names.{Named}
 use Rattle.js_scan.specs.Tokens.{script_tokens}
+use Rattle.jq_sem.specs.Sharp.{ExactStatement, wides}
 use Rattle.jq_sem.specs.Statements.{Statement}
 use Rattle.jq_words.specs.declared.faults.TheConstants.{MOST_OPEN}
 use Rattle.jq_words.specs.Words.{Word, words, Outcome, is_mark, begins, begins_name, want, want_name, want_open, end}
@@ -19,7 +20,7 @@ use Rattle.jq_read.specs.Functions.{function_body, function, in_handler, handed}
 use Rattle.jq_read.specs.Chains.{chain}
 use Rattle.jq_read.specs.Openings.{form_of}
 use Rattle.jq_read.specs.Statements.{Blocks, plain_list, and_end, condition, bracketed, start, behind_document, ready, called_with, once, delay, timer, named_function, declared_value, value_behind, one, more_ones, declaration, chain_statement, with_state, statement_as, is_branch, begin, is_over, turn, at_file_end, sequence, no_block, braces, block}
-use Rattle.jq_read.specs.Script.{from_scan, at_top, nothing_read, script_of, script}
+use Rattle.jq_read.specs.Script.{from_scan, at_top, nothing_read, script_of, script_with, script}
 use Rattle.jq_read.proofs.ReadingLaws.{and_then, any_then, either, all_push}
 use Rattle.jq_read.proofs.TableStates.{IsBoundOver, count, AreOver, IsLater, same, further}
 use Rattle.jq_read.proofs.TableChains.{KeepsOver, bind, within, outside_over, body_over, in_handler_over, handed_over, chain_is_over}
@@ -81,7 +82,7 @@ module _ (blocks : Blocks) (keeps : (opened : ℕ) → KeepsOver (blocks opened)
   declared_over room c s ws over =
       either _ (begins_name (codes "function") ws) _ _
       (and_then _ _ (function (blocks 0) room (in_handler c None) s ws) _ (in_handler_over (blocks 0) (keeps 0) room c None s ws tt over) (λ f later. (later, tt)))
-      (either _ (is_chain false s.declarations ws) _ _
+      (either _ (is_chain c.exact s.declarations ws) _ _
       (and_then _ _ (chain (blocks 1) room c s ws) _ (chain_is_over (blocks 1) (keeps 1) room c s ws over) (λ r known. known))
       (any_then _ (plain_list c room ws) _ (λ rest. (same c s over, tt))))
 
@@ -170,16 +171,23 @@ blocks_over zero opened c s ws over = any_then _ (want_open (size c) 0 (codes "{
 blocks_over (suc room) (suc opened) c s ws over = blocks_over room opened c s ws over
 blocks_over (suc room) zero c s ws over = braces_over room (block room) (blocks_over room) c s ws over
 
-pub file_over : (text : List ℕ) (ws : List Word) (names : List Named) → IfOk (script_of text ws names) (λ r. AreStatementsOver (length r.1) r.0)
+file_over : (exact : Bool) (text : List ℕ) (ws : List Word) (names : List Named) → IfOk (script_of exact text ws names) (λ r. AreStatementsOver (length r.1) (wides r.0))
 unfolding script_of
-file_over text ws names =
-    and_then _ _ (sequence false (block MOST_OPEN) MOST_OPEN (at_top text ws) begin (nothing_read names) 0 ws) _
-    (sequence_over (block MOST_OPEN) (blocks_over MOST_OPEN) false MOST_OPEN (at_top text ws) begin (nothing_read names) 0 ws (record { handlers = tt; statements = tt; bindings = tt }))
+file_over exact text ws names =
+    and_then _ _ (sequence false (block MOST_OPEN) MOST_OPEN (at_top exact text ws) begin (nothing_read names) 0 ws) _
+    (sequence_over (block MOST_OPEN) (blocks_over MOST_OPEN) false MOST_OPEN (at_top exact text ws) begin (nothing_read names) 0 ws (record { handlers = tt; statements = tt; bindings = tt }))
     (λ all later. later.over.statements)
 
-pub script_over : (text : List ℕ) (names : List Named) → IfOk (script text names) (λ r. AreStatementsOver (length r.1) r.0)
+script_over : (exact : Bool) (text : List ℕ) (names : List Named) → IfOk (script_with exact text names) (λ r. AreStatementsOver (length r.1) (wides r.0))
+unfolding script_with
+script_over exact text names = any_then _ (from_scan (script_tokens text)) _ (λ ts. file_over exact text (words text ts) names)
+
+plain_over : (text : List ℕ) (names : List Named) → IfOk (script text names) (λ r. AreStatementsOver (length r.1) r.0)
 unfolding script
-script_over text names = any_then _ (from_scan (script_tokens text)) _ (λ ts. file_over text (words text ts) names)
+plain_over text names = and_then _ _ (script_with false text names) _ (script_over false text names) (λ r known. known)
 
 pub kept_over : (text : List ℕ) (names later : List Named) (ss : List Statement) → script text names ≡ Ok (ss, later) → AreStatementsOver (length later) ss
-kept_over text names later ss is = IfOk-at_ok (λ r. AreStatementsOver (length r.1) r.0) is (script_over text names)
+kept_over text names later ss is = IfOk-at_ok (λ r. AreStatementsOver (length r.1) r.0) is (plain_over text names)
+
+pub exact_over : (text : List ℕ) (names later : List Named) (ss : List ExactStatement) → script_with true text names ≡ Ok (ss, later) → AreStatementsOver (length later) (wides ss)
+exact_over text names later ss is = IfOk-at_ok (λ r. AreStatementsOver (length r.1) (wides r.0)) is (script_over true text names)

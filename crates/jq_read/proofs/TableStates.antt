@@ -1,10 +1,10 @@
 -- What is known at a place of a script is over the table of names, and what is added keeps it so.
-use Rattle.std.proofs.Common.{ℕ, ◌≤◌, not, ◌&&◌, if◌then◌else◌, List, [], ◌∷◌, ◌++◌, length, Option, Some, None, arith}
+use Rattle.std.proofs.Common.{ℕ, ◌≤◌, not, ◌&&◌, if◌then◌else◌, List, [], ◌∷◌, ◌++◌, length, map, Option, Some, None, arith}
 use Rattle.std.specs.Prelude.{Ok, Err, IfOk, IfSome, nat_le, nat_lt, bytes_eq, option_and_then}
 use Rattle.std.specs.List.{AllByRecursion}
 use Rattle.tp_base.specs.Names.{Named}
 use Rattle.tp_base.specs.Places.{place_at}
-use Rattle.jq_sem.specs.Statements.{Chain, Statement}
+use Rattle.jq_sem.specs.Sharp.{ExactChain, ExactStatement, wide_chain, wide_of, wides}
 use Rattle.jq_words.specs.declared.faults.ScriptFault.TheVariants.{ThisOutside}
 use Rattle.jq_words.specs.declared.faults.TheConstants.{MOST_STATEMENTS, MOST_CALLS}
 use Rattle.jq_parts.specs.Bindings.{Value, elements, everywhere, markup, placed, Declaration, bound, latest, if_chain}
@@ -19,8 +19,11 @@ use Rattle.jq_read.proofs.ReadingLaws.{and_then, either, first_some, this_one}
 
 -- ---- what is over a table
 
+abbrev pub IsExactOver : ℕ → ExactChain → Type 0
+IsExactOver n c = IsChainOver n (wide_chain c)
+
 abbrev pub IsValueOver : ℕ → Value → Type 0
-IsValueOver n (elements chain) = IsChainOver n chain
+IsValueOver n (elements chain) = IsExactOver n chain
 IsValueOver n everywhere = Unit {0}
 IsValueOver n (markup trees) = AreTreesOver n trees
 IsValueOver n placed = Unit {0}
@@ -32,13 +35,13 @@ IsBoundOver n (Some v) = IsValueOver n v
 abbrev pub AreBoundOver : ℕ → List Declaration → Type 0
 AreBoundOver n ds = AllByRecursion (λ d. IsBoundOver n d.value) ds
 
-abbrev pub IsElementsOver : ℕ → Option Chain → Type 0
+abbrev pub IsElementsOver : ℕ → Option ExactChain → Type 0
 IsElementsOver n None = Unit {0}
-IsElementsOver n (Some chain) = IsChainOver n chain
+IsElementsOver n (Some chain) = IsExactOver n chain
 
 abbrev pub IsEffectOver : ℕ → Effect → Type 0
 IsEffectOver n None = Unit {0}
-IsEffectOver n (Some e) = IsChainOver n e.0 × IsActionOver n e.1
+IsEffectOver n (Some e) = IsExactOver n e.0 × IsActionOver n e.1
 
 -- how many names are in the table
 abbrev pub count : State → ℕ
@@ -46,8 +49,8 @@ count s = length s.grown.names
 
 -- what is known at a place, and the handlers round it
 pub record AreOver (c : Context) (s : State) : Type 0 where
-  pub handlers : AreChainsOver (count s) (chains_of c.handlers)
-  pub statements : AreStatementsOver (count s) s.statements
+  pub handlers : AreChainsOver (count s) (map wide_chain (chains_of c.handlers))
+  pub statements : AreStatementsOver (count s) (wides s.statements)
   pub bindings : AreBoundOver (count s) s.declarations
 
 -- the same later on
@@ -56,7 +59,7 @@ pub record IsLater (c : Context) (s t : State) : Type 0 where
   pub over : AreOver c t
 
 pub value_more : (n m : ℕ) → n ≤ m → (v : Value) → IsValueOver n v → IsValueOver m v
-value_more n m less (elements chain) over = IsChainOver-more n m less chain over
+value_more n m less (elements chain) over = IsChainOver-more n m less (wide_chain chain) over
 value_more n m less everywhere over = tt
 value_more n m less (markup trees) over = AreTreesOver-more n m less trees over
 value_more n m less placed over = tt
@@ -69,9 +72,9 @@ bound_more : (n m : ℕ) → n ≤ m → (ds : List Declaration) → AreBoundOve
 bound_more n m less [] over = tt
 bound_more n m less (d ∷ ds) over = (one_bound_more n m less d.value over.0, bound_more n m less ds over.1)
 
-pub elements_more : (n m : ℕ) → n ≤ m → (chain : Option Chain) → IsElementsOver n chain → IsElementsOver m chain
+pub elements_more : (n m : ℕ) → n ≤ m → (chain : Option ExactChain) → IsElementsOver n chain → IsElementsOver m chain
 elements_more n m less None over = tt
-elements_more n m less (Some chain) over = IsChainOver-more n m less chain over
+elements_more n m less (Some chain) over = IsChainOver-more n m less (wide_chain chain) over
 
 pub same : (c : Context) (s : State) → AreOver c s → IsLater c s s
 same c s over = record { longer = omega arith; over = over }
@@ -84,8 +87,8 @@ pub grown_over : (c : Context) (s : State) (g : Grown) → count s ≤ length g.
 grown_over c s g less over = record {
   longer = less;
   over = record {
-    handlers = AreChainsOver-more (count s) (length g.names) less (chains_of c.handlers) over.handlers;
-    statements = AreStatementsOver-more (count s) (length g.names) less s.statements over.statements;
+    handlers = AreChainsOver-more (count s) (length g.names) less (map wide_chain (chains_of c.handlers)) over.handlers;
+    statements = AreStatementsOver-more (count s) (length g.names) less (wides s.statements) over.statements;
     bindings = bound_more (count s) (length g.names) less s.declarations over.bindings;
   };
 }
@@ -96,20 +99,20 @@ renamed_over c s names less over = grown_over c s (grown names s.grown.nodes) le
 
 -- ---- statements
 
-one_statement : (n : ℕ) (ss : List Statement) (s : Statement) → AreStatementsOver n ss → IsStatementOver n s → AreStatementsOver n (ss ++ s ∷ [])
+one_statement : (n : ℕ) (ss : List ExactStatement) (s : ExactStatement) → AreStatementsOver n (wides ss) → IsStatementOver n (wide_of s) → AreStatementsOver n (wides (ss ++ s ∷ []))
 one_statement n [] s over one = (one, tt)
 one_statement n (t ∷ ss) s over one = (over.0, one_statement n ss s over.1 one)
 
-with_statements : (c : Context) (s : State) (ss : List Statement) → AreStatementsOver (count s) ss → AreOver c s → IsLater c s (record s { statements = ss })
+with_statements : (c : Context) (s : State) (ss : List ExactStatement) → AreStatementsOver (count s) (wides ss) → AreOver c s → IsLater c s (record s { statements = ss })
 with_statements c s ss all over = record { longer = omega arith; over = record { handlers = over.handlers; statements = all; bindings = over.bindings } }
 
 pub stated_over : (c : Context) (at : ℕ) (e : Effect) (s : State) → AreOver c s → IsEffectOver (count s) e → IfOk (and_stated c at e s) (IsLater c s)
 unfolding and_stated stated
 stated_over c at None s over effect = same c s over
 stated_over c at (Some (chain, action)) s over effect =
-    let one : Statement = record { handlers = chains_of c.handlers; chain = chain; action = action; place = place_at c.text at } in
-    and_then _ _ _ _ (either (λ ss. AreStatementsOver (count s) ss) (nat_le MOST_STATEMENTS (length s.statements)) _ _ tt
-    (either (λ ss. AreStatementsOver (count s) ss) (nat_lt MOST_CALLS (calls_in (chain ∷ chains_of c.handlers))) _ _ tt
+    let one : ExactStatement = record { handlers = chains_of c.handlers; chain = chain; action = action; place = place_at c.text at } in
+    and_then _ _ _ _ (either (λ ss. AreStatementsOver (count s) (wides ss)) (nat_le MOST_STATEMENTS (length s.statements)) _ _ tt
+    (either (λ ss. AreStatementsOver (count s) (wides ss)) (nat_lt MOST_CALLS (calls_in (chain ∷ chains_of c.handlers))) _ _ tt
     (one_statement (count s) s.statements one over.statements (over.handlers, effect.0, effect.1))))
     (λ ss all. with_statements c s ss all over)
 
@@ -140,5 +143,5 @@ pub used_over : (n : ℕ) (scope : Scope) (name : List ℕ) (at : ℕ) → AreBo
 unfolding used
 used_over n scope name at all = if_bound_over n scope.handlers name at (bound name scope.declarations) (bound_over n name scope.declarations all)
 
-pub this_over : (n : ℕ) (scope : Scope) (at : ℕ) → IfOk (this_at scope at) (IsChainOver n)
+pub this_over : (n : ℕ) (scope : Scope) (at : ℕ) → IfOk (this_at scope at) (IsExactOver n)
 this_over n scope at = either _ scope.has_this _ _ (tt, tt) tt

@@ -6,7 +6,8 @@ use Rattle.tp_base.specs.Names.{Named}
 use Rattle.tree_sem.specs.Trees.{LabelTree}
 use Rattle.tree_sem.specs.declared.actions.Action.{Action}
 use Rattle.tree_sem.specs.declared.actions.Action.TheVariants.{Classes, Inside, Beside}
-use Rattle.jq_sem.specs.Statements.{Call, find, children, parent, parents, filter, has, around, near, add, back, Chain}
+use Rattle.jq_sem.specs.Sharp.{ExactCall, plain, closest, siblings, ExactChain}
+use Rattle.jq_sem.specs.Statements.{find, children, parent, parents, filter, has, add, back}
 use Rattle.jq_words.specs.declared.faults.ScriptFault.TheVariants.{ComplexArgument}
 use Rattle.jq_words.specs.Words.{Word, begins, Outcome, ◌>>=◌, unexpected}
 use Rattle.jq_words.specs.Brackets.{is_empty, argument, behind_argument}
@@ -29,19 +30,19 @@ done v e s ws = Ok ((v, e), s, ws)
 -- ---- calls that make a set
 
 -- the call of a form that makes a set, by a list of compounds or by going back
-abbrev pub made : Form → List (List ℕ) → Call
-made (moves finding) cs = find cs
-made (moves to_children) cs = children cs
-made (moves to_parent) cs = parent cs
-made (moves to_parents) cs = parents cs
-made (moves filtering) cs = filter cs
-made (moves having) cs = has cs
-made (moves to_closest) cs = around cs
-made (moves to_siblings) cs = near cs
-made f cs = back
+abbrev pub made : Form → List (List ℕ) → ExactCall
+made (moves finding) cs = plain (find cs)
+made (moves to_children) cs = plain (children cs)
+made (moves to_parent) cs = plain (parent cs)
+made (moves to_parents) cs = plain (parents cs)
+made (moves filtering) cs = plain (filter cs)
+made (moves having) cs = plain (has cs)
+made (moves to_closest) cs = closest cs
+made (moves to_siblings) cs = siblings cs
+made f cs = plain back
 
 -- the chain of a value that is a set of elements, with one call more; no other value gets a call that makes a set
-abbrev pub and_call : Value → Call → Value
+abbrev pub and_call : Value → ExactCall → Value
 and_call (elements chain) call = elements (record chain { calls = chain.calls ++ call ∷ [] })
 and_call v call = v
 
@@ -60,12 +61,12 @@ unfoldable pub unite_arguments : Context → Value → State → List Word → D
 unite_arguments c v s ws = do
   t ← text_argument (size c) ws
   r ← selectors t.1 t.0 s.grown.names
-  done (and_call v (add r.0)) None (with_names r.1 s) t.2
+  done (and_call v (plain (add r.0))) None (with_names r.1 s) t.2
 
 -- ---- calls that act
 
 -- what is done to the elements of a value
-abbrev pub acting : Option Chain → Action → Effect
+abbrev pub acting : Option ExactChain → Action → Effect
 acting (Some chain) action = Some (chain, action)
 acting None action = None
 

@@ -3,14 +3,15 @@
 --     State       what was read up to there
 use Rattle.std.specs.Prelude.{ℕ, Bool, List, length}
 use Rattle.tp_base.specs.Names.{Named}
-use Rattle.jq_sem.specs.Statements.{Statement}
+use Rattle.jq_sem.specs.Sharp.{ExactStatement}
 use Rattle.jq_parts.specs.Bindings.{Declaration}
 use Rattle.jq_parts.specs.Scopes.{Handler, Scope}
 use Rattle.jq_parts.specs.Markup.{Grown, grown}
 
--- The bytes of the file, the functions that it declares, the handlers round the place, outermost first, and whether `this` names the
--- node of the innermost one there.
+-- Whether the script is read exactly, the bytes of the file, the functions that it declares, the handlers round the place, outermost
+-- first, and whether `this` names the node of the innermost one there.
 pub record Context : Type 0 where
+  pub exact : Bool
   pub text : List ℕ
   pub declared : List (List ℕ)
   pub handlers : List Handler
@@ -22,7 +23,7 @@ size c = length c.text
 -- The names in the table and how many nodes all markup has, the statements, and the declarations that are seen, in the order of the text.
 pub record State : Type 0 where
   pub grown : Grown
-  pub statements : List Statement
+  pub statements : List ExactStatement
   pub declarations : List Declaration
 
 abbrev pub with_names : List Named → State → State

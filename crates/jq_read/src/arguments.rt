@@ -2,12 +2,14 @@
 ghost use Rattle.std.specs.Prelude.{◌≡◌, ◌≤◌, ◌==◌, true, false, [], ◌∷◌, length, take, drop, map, option_map, Some, None, Ok, IfOk, IfErr, OnOk};
 ghost use Rattle.sel_core.specs.Results.{IsFront};
 ghost use Rattle.sel_core.specs.Views.{selector_of};
-ghost use Rattle.jq_sem.specs.Statements.{filter, back};
+ghost use Rattle.jq_sem.specs.Sharp.{plain, first};
+ghost use Rattle.jq_sem.specs.Statements.{back};
 ghost use Rattle.jq_sem.specs.Views as sem;
 ghost use Rattle.jq_words.specs.Brackets.{argument, behind_argument, is_empty};
 ghost use Rattle.jq_words.specs.CallViews.{form_of};
 ghost use Rattle.jq_words.specs.Results.{Gives, Finds, Leaves, Turns, IsRest, IsBehind};
 ghost use Rattle.jq_words.specs.declared.faults.ScriptFault.TheVariants.{Memory};
+ghost use Rattle.jq_parts.specs.MarkedCalls.{marked_of};
 ghost use Rattle.jq_parts.specs.ScopeViews.{effect_of};
 ghost use Rattle.jq_read.specs.CallArguments as spec;
 ghost use Rattle.jq_read.specs.Functions.{elements_in};
@@ -18,10 +20,10 @@ use crate::functions::list_in;
 use crate::states::{Reader, State};
 use crate::values::{Done, Reached, elements, with_call};
 use jq_parts::{
-    Cursor, add_attribute, class_set, compounds, is_attribute, markup_argument, selectors, target,
-    text_argument,
+    Cursor, MarkedCall, add_attribute, class_set, compounds, is_attribute, markup_argument,
+    selectors, target, text_argument,
 };
-use jq_sem::{Call, Selectors, SharedCompounds};
+use jq_sem::{Call, Selectors, SharedCompounds, SharpKind};
 use jq_words::{Form, ScriptFault, Words, argument_len, begins, place};
 use sel_core::{Atoms, Compound};
 use std::alloc::Global;
@@ -30,20 +32,26 @@ use tp_base::{AtomTable, ClassSet, NoMemory};
 use tree_sem::{Action, Forest, Trees};
 
 /// The call of a form that makes a set, by a list of compounds or by going back.
-fn made(form: Form, compounds: Vec<Compound>) -> Result<Call, NoMemory>
-    ensures { IfOk result (λ c. sem.call_of c ≡ spec.made (form_of form) (sem.atoms_of compounds.items)) }
+fn made(form: Form, compounds: Vec<Compound>) -> Result<MarkedCall, NoMemory>
+    ensures { IfOk result (λ c. marked_of c ≡ spec.made (form_of form) (sem.atoms_of compounds.items)) }
 {
     let compounds = SharedCompounds::new(compounds)?;
     Ok(match form {
-        Form::Find => Call::Find(compounds),
-        Form::Children => Call::Children(compounds),
-        Form::Parent => Call::Parent(compounds),
-        Form::Parents => Call::Parents(compounds),
-        Form::Filter => Call::Filter(compounds),
-        Form::Has => Call::Has(compounds),
-        Form::Closest => Call::Around(compounds),
-        Form::Siblings => Call::Near(compounds),
-        _ => Call::End,
+        Form::Find => MarkedCall::plain(Call::Find(compounds)),
+        Form::Children => MarkedCall::plain(Call::Children(compounds)),
+        Form::Parent => MarkedCall::plain(Call::Parent(compounds)),
+        Form::Parents => MarkedCall::plain(Call::Parents(compounds)),
+        Form::Filter => MarkedCall::plain(Call::Filter(compounds)),
+        Form::Has => MarkedCall::plain(Call::Has(compounds)),
+        Form::Closest => MarkedCall {
+            call: Call::Around(compounds),
+            kind: Some(SharpKind::Closest),
+        },
+        Form::Siblings => MarkedCall {
+            call: Call::Near(compounds),
+            kind: Some(SharpKind::Siblings),
+        },
+        _ => MarkedCall::plain(Call::End),
     })
 }
 
@@ -93,10 +101,10 @@ pub(crate) fn move_arguments(
 
 /// A call that goes back one set.
 pub(crate) fn go_back(alloc: Global, reached: Reached) -> Result<Done, ScriptFault>
-    ensures gives { IfOk result (λ d. done_of d ≡ (spec.and_call (reached_of reached) back, None)) }
+    ensures gives { IfOk result (λ d. done_of d ≡ (spec.and_call (reached_of reached) (plain back), None)) }
     ensures only_memory { IfErr result (λ e. e ≡ Memory) }
 {
-    let reached = with_call(alloc, reached, Call::End)?;
+    let reached = with_call(alloc, reached, MarkedCall::plain(Call::End))?;
     Ok(Done {
         reached,
         effect: None,
@@ -114,12 +122,24 @@ fn any(alloc: Global) -> Result<SharedCompounds, NoMemory>
     SharedCompounds::new(compounds)
 }
 
-/// A call that keeps the first node, of which every node is judged in its place.
+/// The first node, in whose place every node is judged.
+#[tactic(auto, using(crate::proofs::WideSteps::first_marked))]
+fn first_call(alloc: Global) -> Result<MarkedCall, NoMemory>
+    ensures { IfOk result (λ c. marked_of c ≡ first) }
+{
+    let compounds = any(alloc)?;
+    Ok(MarkedCall {
+        call: Call::Filter(compounds),
+        kind: Some(SharpKind::First),
+    })
+}
+
+/// A call that keeps the first node.
 pub(crate) fn take_first(alloc: Global, reached: Reached) -> Result<Done, ScriptFault>
-    ensures gives { IfOk result (λ d. done_of d ≡ (spec.and_call (reached_of reached) (filter ([] ∷ [])), None)) }
+    ensures gives { IfOk result (λ d. done_of d ≡ (spec.and_call (reached_of reached) first, None)) }
     ensures only_memory { IfErr result (λ e. e ≡ Memory) }
 {
-    let reached = with_call(alloc, reached, Call::Filter(any(alloc)?))?;
+    let reached = with_call(alloc, reached, first_call(alloc)?)?;
     Ok(Done {
         reached,
         effect: None,
@@ -142,7 +162,8 @@ pub(crate) fn unite_arguments(
     let at = place(reader.text.len(), words.words());
     let letters = text_argument(reader.alloc, reader.text.len(), words)?;
     let found = selectors(reader.alloc, at, &letters, atoms)?;
-    let reached = with_call(reader.alloc, reached, Call::Add(Selectors::new(found)?))?;
+    let call = MarkedCall::plain(Call::Add(Selectors::new(found)?));
+    let reached = with_call(reader.alloc, reached, call)?;
     Ok(Done {
         reached,
         effect: None,

@@ -15,7 +15,7 @@ ghost use Rattle.jq_read.specs.Views.{reached_of};
 
 use crate::states::{Reader, State};
 use crate::values::{Reached, copy_reached, with_call};
-use jq_parts::{Cursor, SharedChain, compounds, counts, stated, text_argument};
+use jq_parts::{Cursor, MarkedCall, SharedChain, compounds, counts, stated, text_argument};
 use jq_sem::{Call, Root, Selectors, SharedCompounds};
 use jq_words::{Form, Row, ScriptFault, begins, place, row_of};
 use sel_core::{Compound, Compounds, Joins, Selector};
@@ -58,13 +58,30 @@ fn is_placed(reached: &Reached) -> bool
     matches!(reached, Reached::Placed)
 }
 
-/// Passes the name of a call of the table, and gives its row and where it stands.
+fn is_first(form: Form) -> bool
+    ensures { result ≡ spec.is_first (form_of form) }
+{
+    matches!(form, Form::First)
+}
+
+/// Whether a call takes the first of nodes whose order isn't known. Constant.
+fn is_unordered(form: Form, reached: &Reached) -> bool
+    ensures { spec.is_unordered (form_of form) (reached_of reached.now) ≡ result }
+{
+    match reached {
+        Reached::Elements(chain) => is_first(form) && chain.calls.has_parents(),
+        _ => false,
+    }
+}
+
+/// Passes the name of a call that a script may have, and gives its row and where it stands.
 #[tactic(auto, unfolding(crate::specs::Chains::call_name))]
 fn call_name(
     reader: Reader<'_>,
+    reached: &Reached,
     words: &mut Cursor<'_, '_>,
 ) -> Result<(Row<'static>, usize), ScriptFault>
-    ensures gives { Finds (λ k. (row_from k.0.0.now k.0.1 k.0.2 k.0.3, k.1)) words.new result (spec.call_name (length reader.entry.text.now) words.old) }
+    ensures gives { Finds (λ k. (row_from k.0.0.now k.0.1 k.0.2 k.0.3, k.1)) words.new result (spec.call_name reader.entry.exact (length reader.entry.text.now) (reached_of reached.now) words.old) }
     ensures rest { OnOk result (IsBehind words.old words.new) }
 {
     let Some(word) = words.words().first() else {
@@ -73,9 +90,12 @@ fn call_name(
     if !word.is_any_name() {
         return Err(ScriptFault::UnknownForm(word.at()));
     }
-    let Some(row) = row_of(false, word.spelling()) else {
+    let Some(row) = row_of(reader.exact, word.spelling()) else {
         return Err(ScriptFault::UnknownCall(word.letters(reader.alloc)?, word.at()));
     };
+    if is_unordered(row.3, reached) {
+        return Err(ScriptFault::UnknownCall(word.letters(reader.alloc)?, word.at()));
+    }
     words.pass();
     Ok((row, word.at()))
 }
@@ -87,14 +107,14 @@ pub(crate) fn dot_name(
     reached: &Reached,
     words: &mut Cursor<'_, '_>,
 ) -> Result<(Row<'static>, usize), ScriptFault>
-    ensures gives { Finds (λ k. (row_from k.0.0.now k.0.1 k.0.2 k.0.3, k.1)) words.new result (spec.dot_name (length reader.entry.text.now) (reached_of reached.now) words.old) }
+    ensures gives { Finds (λ k. (row_from k.0.0.now k.0.1 k.0.2 k.0.3, k.1)) words.new result (spec.dot_name reader.entry.exact (length reader.entry.text.now) (reached_of reached.now) words.old) }
     ensures rest { OnOk result (IsBehind words.old words.new) }
 {
     if is_placed(reached) {
         return Err(ScriptFault::UnknownForm(place(reader.text.len(), words.words())));
     }
     words.pass();
-    let name = call_name(reader, words)?;
+    let name = call_name(reader, reached, words)?;
     Ok(name)
 }
 
@@ -219,7 +239,11 @@ fn below(alloc: Global, reached: &Reached, compounds: Vec<Compound>) -> Result<R
         return Ok(Reached::Elements(chain));
     }
     let copy = copy_reached(reached)?;
-    let found = with_call(alloc, copy, Call::Find(SharedCompounds::new(compounds)?))?;
+    let found = with_call(
+        alloc,
+        copy,
+        MarkedCall::plain(Call::Find(SharedCompounds::new(compounds)?)),
+    )?;
     Ok(found)
 }
 

@@ -111,7 +111,7 @@ fn value_behind<'a>(
         function(reader, None, room, state, atoms, words)?;
         return Ok(None);
     }
-    if is_chain(reader.alloc, false, &state.scope.declarations, words)? {
+    if is_chain(reader.alloc, reader.exact, &state.scope.declarations, words)? {
         let value = chain(reader, room, state, atoms, words)?;
         return Ok(Some(value));
     }

@@ -89,7 +89,7 @@ pub(crate) fn list_in(
     ensures rest { OnOk result (IsBehind words.old words.new) }
 {
     let rules = Rules {
-        exact: false,
+        exact: reader.exact,
         declared: reader.declared,
         has_this: state.scope.has_this,
         braces,

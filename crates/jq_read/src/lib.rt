@@ -17,4 +17,4 @@ mod states;
 mod values;
 
 pub use jq_words::{MOST_CALLS, MOST_FOREST_NODES, MOST_OPEN, MOST_STATEMENTS, ScriptFault};
-pub use script::read_script;
+pub use script::{read_exact, read_script};

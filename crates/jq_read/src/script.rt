@@ -1,6 +1,8 @@
 //! A script file: its statements, or why it isn't read.
 ghost use Rattle.std.specs.Prelude.{◌≡◌, ◌≢◌, ◌≤◌, length, IfOk, IfErr};
 ghost use Rattle.tp_base.specs.declared.places.TheConstants.{MOST_BYTES};
+ghost use Rattle.jq_sem.specs.Sharp.{wides};
+ghost use Rattle.jq_sem.specs.SharpViews.{exacts_of};
 ghost use Rattle.jq_sem.specs.Views.{statements_of};
 ghost use Rattle.js_scan.specs.Tokens.{InOrder, script_tokens};
 ghost use Rattle.js_scan.specs.declared.token.ScanFault.TheVariants as scan;
@@ -14,7 +16,7 @@ ghost use Rattle.jq_read.specs.Limits.{AreWithin};
 use crate::sequences::sequence;
 use crate::states::{Reader, State};
 use jq_parts::{Cursor, Declarations, Lists, Scope, placed};
-use jq_sem::Stmt;
+use jq_sem::{ExactStmt, Stmt};
 use jq_words::{MOST_OPEN, ScriptFault, declared_in};
 use js_scan::{ScanFault, Token, scan};
 use std::alloc::Global;
@@ -48,21 +50,23 @@ fn one_memory(fault: ScriptFault) -> ScriptFault
 }
 
 /// Reads a file whose words are known.
-#[tactic(auto, unfolding(crate::specs::Script::script_of), using(sel_core::proofs::Fronts::front_itself))]
+#[tactic(auto, unfolding(crate::specs::Script::script_of), using(sel_core::proofs::Fronts::front_itself, crate::proofs::HandlerLaws::all_counted))]
 fn read_words(
     alloc: Global,
+    exact: bool,
     text: &[u8],
     lists: &Lists<'_>,
     atoms: &mut AtomTable,
-) -> Result<Vec<Stmt>, ScriptFault>
+) -> Result<Vec<ExactStmt>, ScriptFault>
     requires in_limit { length text.now ≤ MOST_BYTES }
-    ensures reads { Finds (λ v. statements_of v.items) atoms.new result (spec.script_of text.now lists.now atoms.old) }
+    ensures reads { Finds (λ v. exacts_of v.items) atoms.new result (spec.script_of exact text.now lists.now atoms.old) }
     ensures front { IsFront atoms.old atoms.new }
 {
     let mut words = Cursor::new(lists);
     let declared = declared_in(alloc, words.words())?;
     let reader = Reader {
         alloc,
+        exact,
         text,
         declared: &declared,
     };
@@ -81,17 +85,47 @@ fn read_words(
     Ok(statements)
 }
 
-/// Reads a file.
+/// Reads a file, with the calls that are sharper than what is judged in their place, or without.
+#[tactic(auto, unfolding(crate::specs::Script::script_with), using(sel_core::proofs::Fronts::front_itself))]
+fn read_with(
+    alloc: Global,
+    exact: bool,
+    text: &[u8],
+    atoms: &mut AtomTable,
+) -> Result<Vec<ExactStmt>, ScriptFault>
+    requires in_limit { length text.now ≤ MOST_BYTES }
+    ensures reads { Finds (λ v. exacts_of v.items) atoms.new result (spec.script_with exact text.now atoms.old) }
+    ensures front { IsFront atoms.old atoms.new }
+{
+    let tokens = tokens_of(alloc, text)?;
+    let lists = Lists::new(alloc, text, &tokens)?;
+    let statements = read_words(alloc, exact, text, &lists, atoms)?;
+    Ok(statements)
+}
+
+/// The statements that are judged. Linear in them.
+#[tactic(auto, using(crate::proofs::WideSteps::one_wide, crate::proofs::WideSteps::all_wide))]
+fn wide(alloc: Global, statements: Vec<ExactStmt>) -> Result<Vec<Stmt>, ScriptFault>
+    ensures wide { IfOk result (λ v. wides (exacts_of statements.items) ≡ statements_of v.items) }
+    ensures only_memory { IfErr result (λ e. e ≡ Memory) }
+{
+    let mut found = Vec::new(alloc);
+    for statement in statements {
+        found.push(statement.wide)?;
+    }
+    Ok(found)
+}
+
+/// Reads a file without the sharp calls.
 #[tactic(auto, unfolding(crate::specs::Script::script), using(sel_core::proofs::Fronts::front_itself))]
 fn read_file(alloc: Global, text: &[u8], atoms: &mut AtomTable) -> Result<Vec<Stmt>, ScriptFault>
     requires in_limit { length text.now ≤ MOST_BYTES }
     ensures reads { Finds (λ v. statements_of v.items) atoms.new result (spec.script text.now atoms.old) }
     ensures front { IsFront atoms.old atoms.new }
 {
-    let tokens = tokens_of(alloc, text)?;
-    let lists = Lists::new(alloc, text, &tokens)?;
-    let statements = read_words(alloc, text, &lists, atoms)?;
-    Ok(statements)
+    let statements = read_with(alloc, false, text, atoms)?;
+    let plain = wide(alloc, statements)?;
+    Ok(plain)
 }
 
 /// Reads a script file: its statements, in the order of the names of their actions, or its first fault. Linear in the file but for
@@ -110,6 +144,27 @@ pub fn read_script(
     ensures over { IfOk result (λ v. AreStatementsOver (length atoms.new) (statements_of v.items)) }
 {
     match read_file(alloc, text, atoms) {
+        Ok(statements) => Ok(statements),
+        Err(e) => Err(one_memory(e)),
+    }
+}
+
+/// The same where `closest`, `siblings` and `first` may stand: each statement is wide, and its sharp calls are marked. Linear in the
+/// file but for look-ups of names.
+#[tactic(auto, using(sel_core::proofs::Fronts::front_itself, crate::proofs::LimitLaws::exact_within, crate::proofs::TableStatements::exact_over))]
+pub fn read_exact(
+    alloc: Global,
+    text: &[u8],
+    atoms: &mut AtomTable,
+) -> Result<Vec<ExactStmt>, ScriptFault>
+    requires in_limit { length text.now ≤ MOST_BYTES }
+    ensures reads { Finds (λ v. exacts_of v.items) atoms.new result (spec.exact_script text.now atoms.old) }
+    ensures memory { IfErr result (λ e. e ≢ Scan scan.Memory) }
+    ensures front { IsFront atoms.old atoms.new }
+    ensures within { IfOk result (λ v. AreWithin (wides (exacts_of v.items))) }
+    ensures over { IfOk result (λ v. AreStatementsOver (length atoms.new) (wides (exacts_of v.items))) }
+{
+    match read_with(alloc, true, text, atoms) {
         Ok(statements) => Ok(statements),
         Err(e) => Err(one_memory(e)),
     }

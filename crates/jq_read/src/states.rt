@@ -21,6 +21,8 @@ pub(crate) struct State<'a> {
 #[derive(Clone, Copy)]
 pub(crate) struct Reader<'r> {
     pub(crate) alloc: Global,
+    /// Whether calls may stand that are sharper than what is judged in their place.
+    pub(crate) exact: bool,
     pub(crate) text: &'r [u8],
     /// The functions that the script declares.
     pub(crate) declared: &'r [&'r [u8]],

@@ -1,6 +1,6 @@
 //! What a chain has come to while its calls are read.
 ghost use Rattle.std.specs.Prelude.{◌≡◌, option_map, IfOk, IfErr};
-ghost use Rattle.jq_sem.specs.Views as sem;
+ghost use Rattle.jq_parts.specs.MarkedCalls.{marked_of};
 ghost use Rattle.jq_parts.specs.SharedChains.{shared_of};
 ghost use Rattle.jq_parts.specs.Views.{value_of};
 ghost use Rattle.jq_words.specs.declared.faults.ScriptFault.TheVariants.{Memory};
@@ -8,8 +8,7 @@ ghost use Rattle.jq_read.specs.CallArguments.{and_call};
 ghost use Rattle.jq_read.specs.Functions.{elements_in};
 ghost use Rattle.jq_read.specs.Views.{reached_of};
 
-use jq_parts::{SharedChain, Value};
-use jq_sem::Call;
+use jq_parts::{MarkedCall, SharedChain, Value};
 use jq_words::ScriptFault;
 use std::alloc::Global;
 use tree_sem::{Action, Forest};
@@ -88,8 +87,12 @@ pub(crate) fn copy_reached(reached: &Reached) -> Result<Reached, ScriptFault>
 }
 
 /// A value with one call more, where it has elements. Constant.
-pub(crate) fn with_call(alloc: Global, reached: Reached, call: Call) -> Result<Reached, ScriptFault>
-    ensures value { IfOk result (λ r. and_call (reached_of reached) (sem.call_of call) ≡ reached_of r) }
+pub(crate) fn with_call(
+    alloc: Global,
+    reached: Reached,
+    call: MarkedCall,
+) -> Result<Reached, ScriptFault>
+    ensures value { IfOk result (λ r. and_call (reached_of reached) (marked_of call) ≡ reached_of r) }
     ensures only_memory { IfErr result (λ e. e ≡ Memory) }
 {
     match reached {
