@@ -1,7 +1,7 @@
--- A status past a budget comes of an answer that is left open, and that of a budget that doesn't suffice.
+-- A status past a budget comes of an answer that is left open, and that of a budget that doesn't suffice, or of steps that may be illegal.
 use Rattle.std.proofs.Common.{if◌then◌else◌, ◌≡◌, ◌⊎◌, ℕ, zero, suc, ◌+◌, ◌<◌, ◌||◌, nat_lt, Bool, true, false, List, [], ◌∷◌, ◌++◌, length, map, take, drop, get_or, Contains, refl, sym, ap, ◌∙◌, inl, inr, subst, arith, length-append}
 use Rattle.std.specs.List.{list_any}
-use Rattle.std.proofs.lemmas.Bool.{true≢false, cases_Bool}
+use Rattle.std.proofs.lemmas.Bool.{true≢false, cases_Bool, or_left, or_right}
 use Rattle.std.proofs.lemmas.List.{map-append, length-map}
 use Rattle.std.proofs.lemmas.List.Elements.{Contains-append_left, Contains-append_right}
 use Rattle.tp_base.proofs.Rising.{Contains-here, Contains-behind, Contains-cons, Contains-none}
@@ -10,6 +10,7 @@ use Rattle.tree_sem.proofs.NodeLemmas.{Contains-map, map-Contains}
 use Rattle.sel_core.specs.Selectors.{Selector}
 use Rattle.sel_core.specs.declared.faults.Skip.{Skip}
 use Rattle.css_read.specs.Sheets.{Outcome, judged, skipped as left_out, Item}
+use Rattle.jq_sem.specs.Sharp.{ExactStatement}
 use Rattle.jq_sem.specs.Statements.{Statement}
 use Rattle.guard_sem.specs.Guards.{Guard}
 use Rattle.usage_report.specs.Answers.{Answer, used, maybe, used_unshown, unused, skipped, spent}
@@ -24,9 +25,11 @@ use Rattle.dead_script.specs.Verdicts as dead
 use Rattle.dead_script.proofs.ProbeLemmas.{probes_counted}
 use Rattle.site_judge.specs.Sites as sites
 use Rattle.run_ends.specs.declared.status.Status.TheVariants as status
-use Rattle.treeped_app.specs.Answers.{IsRight, IsRightFor, AreRight, AreRightFor, IsPastBudget}
-use Rattle.treeped_app.specs.Modes.{Said, goals_in, guards_in, AreAnswersOf, IsOverBudget, is_open, site_on, best_in, lines_in, lines_on, verdicts_in, status_by, status_of}
+use Rattle.treeped_app.specs.Answers.{IsRightFor, AreRightFor, IsRightExactly, AreRightExactly, IsPastBudget}
+use Rattle.treeped_app.specs.Modes.{Said, goals_in, guards_in, AreAnswersOf, IsOverBudget, is_open, is_maybe, is_undecided, site_on, best_in, lines_in, lines_on, verdicts_in, status_by, status_of}
+use Rattle.treeped_app.specs.Commands.{HasMaybe}
 use Rattle.treeped_app.specs.Tasks.{Task}
+use Rattle.treeped_app.proofs.ExactLemmas.{any_sharp, one_maybe}
 
 budget_open : (a b : Bool) → status_by a b ≡ status.Budget → a ≡ true
 budget_open true b is = refl
@@ -45,7 +48,14 @@ found test (x ∷ xs) is = elim (one_of (test x) (list_any test xs) is) [
   | inr behind ↦ let rest = found test xs behind in (rest.0, Contains-behind rest.0 x xs rest.1, rest.2)
 ]
 
--- ---- what is left open is past a budget
+any_there : {X : Type 0} (test : X → Bool) (xs : List X) (x : X) → Contains xs x → test x ≡ true → list_any test xs ≡ true
+any_there test [] x there is = absurd (Contains-none x there)
+any_there test (y ∷ xs) x there is = elim ((Contains-cons x y xs).0 there) [
+  | inl same ↦ or_left (test y) (list_any test xs) (subst (λ z. test z ≡ true) same is)
+  | inr behind ↦ or_right (test y) (list_any test xs) (any_there test xs x behind is)
+]
+
+-- ---- what is left open of a goal is past a budget
 
 module _ (t : LabelTree) (ss : List Statement) (guards : List Guard) (n : ℕ) (limits : Limits) (goals : List Goal) where
   abbrev IsPast : Type 0
@@ -58,20 +68,6 @@ module _ (t : LabelTree) (ss : List Statement) (guards : List Guard) (n : ℕ) (
   goal_open g unused there right is = absurd (true≢false (sym is))
   goal_open g (skipped cause at) there right is = absurd right
   goal_open g spent there right is = inl right
-
-  item_open : (o : Outcome) (a : Answer) → ((s : Selector) → Contains (judged_of o) s → Contains goals (matching s)) → IsRight t ss guards n limits o a → is_open a ≡ true → IsPast
-  item_open (judged s) a among right is = goal_open (matching s) a (among s (Contains-here s s [] refl)) right is
-  item_open (left_out cause at) a among right is = absurd (true≢false (sym is ∙ ap is_open right))
-
-  items_open : (items : List Item) (answers : List Answer) → ((s : Selector) → Contains (judged_in items) s → Contains goals (matching s)) → AreRight t ss guards n limits items answers
-      → (a : Answer) → Contains answers a → is_open a ≡ true → IsPast
-  items_open [] [] among right a there is = absurd (Contains-none a there)
-  items_open [] (b ∷ answers) among right a there is = absurd right
-  items_open (i ∷ items) [] among right a there is = absurd right
-  items_open (i ∷ items) (b ∷ answers) among right a there is = elim ((Contains-cons a b answers).0 there) [
-    | inl same ↦ item_open i.outcome a (λ s mine. among s (Contains-append_left (judged_of i.outcome) (judged_in items) s mine)) (subst (λ (z : Answer). IsRight t ss guards n limits i.outcome z) (sym same) right.0) is
-    | inr behind ↦ items_open items answers (λ s mine. among s (Contains-append_right (judged_of i.outcome) (judged_in items) s mine)) right.1 a behind is
-  ]
 
   -- the answer at a place is right for the goal there
   right_at : (gs : List Goal) (answers : List Answer) (i : ℕ) → AreRightFor t ss guards n limits gs answers → i < length gs → (g : Goal) × Contains gs g × IsRightFor t ss guards n limits g (get_or answers i spent)
@@ -128,6 +124,42 @@ module _ (t : LabelTree) (ss : List Statement) (guards : List Guard) (n : ℕ) (
             verdicts_open stmts (drop (length s.handlers + 1) answers) (λ g there. among' g (Contains-append_right own others g there))
             (subst (λ k. AreRightFor t ss guards n limits others (drop k answers)) many left) behind
       ]
+
+-- ---- answers for items
+
+module _ (t : LabelTree) (exact : List ExactStatement) (ss : List Statement) (guards : List Guard) (n : ℕ) (limits : Limits) where
+  -- what is undecided is past a budget
+  item_undecided : (goals : List Goal) (o : Outcome) (a : Answer) → ((s : Selector) → Contains (judged_of o) s → Contains goals (matching s)) → IsRightExactly t exact ss guards n limits o a → is_undecided a ≡ true
+      → IsPastBudget t ss guards n limits goals
+  item_undecided goals (judged s) (used proof steps shown) among right is = absurd (true≢false (sym is))
+  item_undecided goals (judged s) (maybe proof steps shown broken) among right is = absurd (true≢false (sym is))
+  item_undecided goals (judged s) used_unshown among right is = goal_open t ss guards n limits goals (matching s) used_unshown (among s (Contains-here s s [] refl)) right refl
+  item_undecided goals (judged s) unused among right is = absurd (true≢false (sym is))
+  item_undecided goals (judged s) (skipped cause at) among right is = absurd right
+  item_undecided goals (judged s) spent among right is = goal_open t ss guards n limits goals (matching s) spent (among s (Contains-here s s [] refl)) right refl
+  item_undecided goals (left_out cause at) a among right is = absurd (true≢false (sym is ∙ ap is_undecided right))
+
+  items_undecided : (goals : List Goal) (items : List Item) (answers : List Answer) → ((s : Selector) → Contains (judged_in items) s → Contains goals (matching s)) → AreRightExactly t exact ss guards n limits items answers
+      → (a : Answer) → Contains answers a → is_undecided a ≡ true → IsPastBudget t ss guards n limits goals
+  items_undecided goals [] [] among right a there is = absurd (Contains-none a there)
+  items_undecided goals [] (b ∷ answers) among right a there is = absurd right
+  items_undecided goals (i ∷ items) [] among right a there is = absurd right
+  items_undecided goals (i ∷ items) (b ∷ answers) among right a there is = elim ((Contains-cons a b answers).0 there) [
+    | inl same ↦
+        item_undecided goals i.outcome a (λ s mine. among s (Contains-append_left (judged_of i.outcome) (judged_in items) s mine))
+        (subst (λ (z : Answer). IsRightExactly t exact ss guards n limits i.outcome z) (sym same) right.0) is
+    | inr behind ↦ items_undecided goals items answers (λ s mine. among s (Contains-append_right (judged_of i.outcome) (judged_in items) s mine)) right.1 a behind is
+  ]
+
+  -- what may be used is of a script with a sharp call
+  items_sharp : (items : List Item) (answers : List Answer) → AreRightExactly t exact ss guards n limits items answers → (a : Answer) → Contains answers a → is_maybe a ≡ true → any_sharp exact ≡ true
+  items_sharp [] [] right a there is = absurd (Contains-none a there)
+  items_sharp [] (b ∷ answers) right a there is = absurd right
+  items_sharp (i ∷ items) [] right a there is = absurd right
+  items_sharp (i ∷ items) (b ∷ answers) right a there is = elim ((Contains-cons a b answers).0 there) [
+    | inl same ↦ one_maybe t exact ss guards n limits i.outcome a (subst (λ (z : Answer). IsRightExactly t exact ss guards n limits i.outcome z) (sym same) right.0) is
+    | inr behind ↦ items_sharp items answers right.1 a behind is
+  ]
 
 -- ---- the best answers of a site are answers of its pages
 
@@ -187,13 +219,21 @@ line_from m said a there = go (takes_pages m) there
 abbrev pub OverOn : Task → List Said → Type 0
 OverOn t said = (x : Said) × Contains said x × IsOverBudget t.mode t.limits x.inputs
 
+open_is : (a : Answer) → is_open a ≡ true → (is_maybe a ≡ true) ⊎ (is_undecided a ≡ true)
+open_is (used proof steps shown) is = absurd (true≢false (sym is))
+open_is (maybe proof steps shown broken) is = inl refl
+open_is used_unshown is = inr refl
+open_is unused is = absurd (true≢false (sym is))
+open_is (skipped cause at) is = absurd (true≢false (sym is))
+open_is spent is = inr refl
+
 module _ (t : Task) (said : List Said) (all : (x : Said) → Contains said x → AreAnswersOf t.mode t.limits x.inputs x.items x.others) where
-  over_by_line : (a : Answer) → FromPage said a → is_open a ≡ true → OverOn t said
+  over_by_line : (a : Answer) → FromPage said a → is_undecided a ≡ true → OverOn t said
   over_by_line a (x, there, mine) is =
       let i = x.inputs in (
         x,
         there,
-        items_open i.tree i.stmts (guards_in t.mode i) (length i.names) t.limits (map matching (judged_in i.sheet.items) ++ goals_in t.mode i) i.sheet.items x.items
+        items_undecided i.tree i.exact i.stmts (guards_in t.mode i) (length i.names) t.limits (map matching (judged_in i.sheet.items) ++ goals_in t.mode i) i.sheet.items x.items
             (λ s listed. Contains-append_left (map matching (judged_in i.sheet.items)) (goals_in t.mode i) (matching s) (Contains-map matching (judged_in i.sheet.items) s listed)) (all x there).right a mine is,
       )
 
@@ -202,7 +242,7 @@ module _ (t : Task) (said : List Said) (all : (x : Said) → Contains said x →
   over_by_verdict Dead same (x ∷ ps) among is =
       let i = x.inputs in
       let there = among x (Contains-here x x ps refl) in
-      let right = subst (λ m. AreRightFor i.tree i.stmts (guards_in t.mode i) (length i.names) t.limits (goals_in m i) x.others) same (all x there).others_right in
+      let right = subst (λ m. AreRightFor i.tree i.stmts (guards_in t.mode i) (length i.names) t.limits (goals_in m i) x.others) same (all x there).are.others_right in
       let past = verdicts_open i.tree i.stmts (guards_in t.mode i) (length i.names) t.limits (map matching (judged_in i.sheet.items) ++ goals_in t.mode i) i.stmts x.others
       (λ g listed. Contains-append_right (map matching (judged_in i.sheet.items)) (goals_in t.mode i) g (subst (λ m. Contains (goals_in m i) g) (sym same) listed)) right is in
       (x, there, past)
@@ -212,10 +252,27 @@ module _ (t : Task) (said : List Said) (all : (x : Said) → Contains said x →
   over_by_verdict Site same ps among is = absurd (true≢false (sym is))
   over_by_verdict SitePrune same ps among is = absurd (true≢false (sym is))
 
-  pub past_budget_on : status_of t said ≡ status.Budget → OverOn t said
-  past_budget_on is =
+  -- by a line that may be used, or a budget
+  pub left_open : status_of t said ≡ status.Budget → HasMaybe t said ⊎ OverOn t said
+  left_open is =
       let open' = budget_open (list_any is_open (lines_in t.mode said) || list_any dead.is_open (verdicts_in t.mode said)) _ is in
       elim (one_of (list_any is_open (lines_in t.mode said)) (list_any dead.is_open (verdicts_in t.mode said)) open') [
-        | inl line ↦ let a = found is_open (lines_in t.mode said) line in over_by_line a.0 (line_from t.mode said a.0 a.1) a.2
-        | inr verdict ↦ over_by_verdict t.mode refl said (λ x there. there) verdict
+        | inl line ↦
+            let a = found is_open (lines_in t.mode said) line in
+            elim (open_is a.0 a.2) [ inl maybe' ↦ inl (any_there is_maybe (lines_in t.mode said) a.0 a.1 maybe') | inr undecided ↦ inr (over_by_line a.0 (line_from t.mode said a.0 a.1) undecided) ]
+        | inr verdict ↦ inr (over_by_verdict t.mode refl said (λ x there. there) verdict)
       ]
+
+  -- within all budgets each line is decided
+  pub all_decided : ¬ OverOn t said → list_any is_undecided (lines_in t.mode said) ≡ false
+  all_decided never = elim (cases_Bool (list_any is_undecided (lines_in t.mode said))) [
+    | inl some ↦ let a = found is_undecided (lines_in t.mode said) some in absurd (never (over_by_line a.0 (line_from t.mode said a.0 a.1) a.2))
+    | inr none ↦ none
+  ]
+
+  pub doubt_sharp : HasMaybe t said → (x : Said) × Contains said x × (any_sharp x.inputs.exact ≡ true)
+  doubt_sharp has =
+      let a = found is_maybe (lines_in t.mode said) has in
+      let from = line_from t.mode said a.0 a.1 in
+      let i = from.0.inputs in
+      (from.0, from.1, items_sharp i.tree i.exact i.stmts (guards_in t.mode i) (length i.names) t.limits i.sheet.items from.0.items (all from.0 from.1).right a.0 from.2 a.2)

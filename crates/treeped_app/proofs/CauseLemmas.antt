@@ -16,14 +16,14 @@ use Rattle.run_ends.specs.declared.refusals.Part.{Part}
 use Rattle.run_ends.specs.declared.stops.Stop.{Stop}
 use Rattle.run_ends.specs.declared.stops.Stop.TheVariants.{Words, TooLarge, ReadFault, Unread, Judging, WriteFault, NoMemory}
 use Rattle.command_words.specs.declared.words.Mode.{Mode}
-use Rattle.treeped_app.specs.Modes.{Texts, Inputs, Said, IsOverBudget, status_by, status_of}
+use Rattle.treeped_app.specs.Modes.{Texts, Inputs, Said, AreAnswersOf, IsOverBudget, text_of, status_by, status_of}
 use Rattle.treeped_app.specs.Tasks.{Names, Source, one, several, ring, Wanted, Origin, named, generated, Visit, visits, visits_from, with_sheet, succeeded, failed, loads_of, all_loads, Task, command}
 use Rattle.run_ends.specs.Stops.{line_of, status_of_stop}
 use Rattle.run_ends.specs.Tells.{Put}
 use Rattle.treeped_app.specs.Runs.{Told, Run, Ends, Fit, AreFrom, AreTexts, Exceeds, read_inputs, IsRefusedBy, IsJudgeable, IsSaid, AreSaid, IsWhole, IsAt, IsLast}
-use Rattle.treeped_app.proofs.BudgetLemmas.{past_budget_on}
+use Rattle.treeped_app.proofs.BudgetLemmas.{OverOn, left_open, all_decided, doubt_sharp}
 use Rattle.run_ends.specs.Tells.{Says, SaysWhy}
-use Rattle.treeped_app.specs.Commands.{Reports, IsTold, IsEnded, Fails, IsRefusal, FailedAt, AreToldFrom, FitFrom, IsWell, AreWell, HasVisit, IsRefusedOrFails, NothingFails, Causes}
+use Rattle.treeped_app.specs.Commands.{Reports, IsTold, IsEnded, Fails, IsRefusal, FailedAt, AreToldFrom, FitFrom, IsWell, AreWell, HasVisit, IsRefusedOrFails, NothingFails, HasMaybe, IsInDoubt, Causes}
 
 -- the stops whose line is said whole or not at all
 abbrev IsLined : Stop → Type 0
@@ -253,14 +253,14 @@ module _ (r : Run) (t : Task) (v : Visit) (x : Texts) (has : HasVisit r t v x) (
   same_texts : of_visit.0.texts ≡ x
   same_texts = texts_told r.told v.origin x of_visit.0.texts has.are_told of_visit.2.texts.from
 
-  reads : read_inputs v.number x ≡ Ok of_visit.0.inputs
-  reads = subst (λ (z : Texts). read_inputs v.number z ≡ Ok of_visit.0.inputs) same_texts of_visit.2.read
+  reads : read_inputs t.mode v.number x ≡ Ok of_visit.0.inputs
+  reads = subst (λ (z : Texts). read_inputs t.mode v.number z ≡ Ok of_visit.0.inputs) same_texts of_visit.2.read
 
   fits : FitFrom v.origin x
   fits = fit_from v.origin x (subst (λ (z : Texts). Fit z) same_texts of_visit.2.texts.fit)
 
   judgeable : IsJudgeable t.mode of_visit.0.inputs
-  judgeable = of_visit.2.answers.within
+  judgeable = of_visit.2.answers.are.within
 
 -- ---- a visit at which a run stops
 
@@ -282,15 +282,17 @@ module _ (r : Run) (t : Task) (task : command r.words ≡ Some t) (well : AreWel
       (all_named t.source v there w (subst (λ (z : List Wanted). Contains z w) (sym is.order) (Contains-append_right is.before (w ∷ is.after) w (Contains-here w w is.after refl))))
       its.are_told its.fit over
 
-  not_unread : (y : Texts) (stop : Stop) → AreTexts r.told v y → read_inputs v.number y ≡ Err stop → ⊥
-  not_unread y stop texts unread =
-      let same = texts_told r.told v.origin its.texts y its.are_told texts.from in
-      let read : read_inputs v.number y ≡ Ok its.inputs = subst (λ (z : Texts). read_inputs v.number z ≡ Ok its.inputs) (sym same) its.read in cc
+  is_read : (y : Texts) → AreTexts r.told v y → read_inputs t'.mode v.number y ≡ Ok its.inputs
+  is_read y texts =
+      subst (λ (u : Task). read_inputs u.mode v.number y ≡ Ok its.inputs) (sym this_task)
+      (subst (λ (z : Texts). read_inputs t.mode v.number z ≡ Ok its.inputs) (sym (texts_told r.told v.origin its.texts y its.are_told texts.from)) its.read)
 
-  not_refused : (y : Texts) (i : Inputs) (f : JudgeRefusal) → AreTexts r.told v y → read_inputs v.number y ≡ Ok i → IsRefusedBy t'.mode i f → ⊥
+  not_unread : (y : Texts) (stop : Stop) → AreTexts r.told v y → read_inputs t'.mode v.number y ≡ Err stop → ⊥
+  not_unread y stop texts unread = let read = is_read y texts in cc
+
+  not_refused : (y : Texts) (i : Inputs) (f : JudgeRefusal) → AreTexts r.told v y → read_inputs t'.mode v.number y ≡ Ok i → IsRefusedBy t'.mode i f → ⊥
   not_refused y i f texts read refused =
-      let same = texts_told r.told v.origin its.texts y its.are_told texts.from in
-      let both : Ok its.inputs ≡ Ok i = sym (subst (λ (z : Texts). read_inputs v.number z ≡ Ok its.inputs) (sym same) its.read) ∙ read in
+      let both : Ok its.inputs ≡ Ok i = sym (is_read y texts) ∙ read in
       let one' : its.inputs ≡ i = cc in
       refused_and_judged t.mode i f (subst (λ (u : Task). IsRefusedBy u.mode i f) this_task refused) (subst (λ (j : Inputs). IsJudgeable t.mode j) one' its.judgeable)
 
@@ -319,8 +321,9 @@ said_by told t (v ∷ vs) (s ∷ said) all x mine = elim ((Contains-cons x s sai
   | inr behind ↦ let rest = said_by told t vs said all.1 x behind in (rest.0, Contains-behind rest.0 v vs rest.1, rest.2)
 ]
 
-past_budget : (r : Run) (t : Task) (said : List Said) → IsWhole r t said → status_of t said ≡ status.Budget → (x : Said) × Contains said x × IsOverBudget t.mode t.limits x.inputs
-past_budget r t said whole is = past_budget_on t said (λ x there. (said_by r.told t (visits t.source) said whole.all x there).2.answers) is
+-- what is said of each page
+answers_on : (r : Run) (t : Task) (said : List Said) → IsWhole r t said → (x : Said) → Contains said x → AreAnswersOf t.mode t.limits x.inputs x.items x.others
+answers_on r t said whole x there = (said_by r.told t (visits t.source) said whole.all x there).2.answers
 
 within_all : (r : Run) (t : Task) → command r.words ≡ Some t → (well : AreWell r.told t) → ((v : Visit) (there : Contains (visits t.source) v) → ¬ IsOverBudget t.mode t.limits (well v there).inputs)
     → (t' : Task) (said : List Said) → IsWhole r t' said → (x : Said) → Contains said x → IsOverBudget t'.mode t'.limits x.inputs → ⊥
@@ -330,7 +333,7 @@ within_all r t task well enough t' said whole x there over =
     let of = said_by r.told t (visits t.source) said all' x there in
     let its' = well of.0 of.1 in
     let texts = texts_told r.told of.0.origin its'.texts x.texts its'.are_told of.2.texts.from in
-    let both : Ok x.inputs ≡ Ok its'.inputs = sym of.2.read ∙ ap (read_inputs of.0.number) texts ∙ its'.read in
+    let both : Ok x.inputs ≡ Ok its'.inputs = sym of.2.read ∙ ap (read_inputs t.mode of.0.number) texts ∙ its'.read in
     let inputs : x.inputs ≡ its'.inputs = cc in
     enough of.0 of.1 (subst (λ (i : Inputs). IsOverBudget t.mode t.limits i) inputs (subst (λ (u : Task). IsOverBudget u.mode u.limits x.inputs) same over))
 
@@ -387,10 +390,10 @@ module _ (r : Run) (err : Put) (s : Status) where
   too_large_of : IsOne r err s → (t : Task) (v : Visit) (x : Texts) → HasVisit r t v x → ¬ FitFrom v.origin x → IsRefusedOrFails err s
   too_large_of one' t v x has over = not_whole t has.task (λ t' said whole. over (fits r t v x has t' said whole)) one'
 
-  not_read_of : IsOne r err s → (t : Task) (v : Visit) (x : Texts) (stop : Stop) → HasVisit r t v x → read_inputs v.number x ≡ Err stop → IsRefusedOrFails err s
+  not_read_of : IsOne r err s → (t : Task) (v : Visit) (x : Texts) (stop : Stop) → HasVisit r t v x → read_inputs t.mode v.number x ≡ Err stop → IsRefusedOrFails err s
   not_read_of one' t v x stop has unread = not_whole t has.task (λ t' said whole. let read = reads r t v x has t' said whole in cc) one'
 
-  not_judged_of : IsOne r err s → (t : Task) (v : Visit) (x : Texts) (i : Inputs) (f : JudgeRefusal) → HasVisit r t v x → read_inputs v.number x ≡ Ok i → IsRefusedBy t.mode i f → IsRefusedOrFails err s
+  not_judged_of : IsOne r err s → (t : Task) (v : Visit) (x : Texts) (i : Inputs) (f : JudgeRefusal) → HasVisit r t v x → read_inputs t.mode v.number x ≡ Ok i → IsRefusedBy t.mode i f → IsRefusedOrFails err s
   not_judged_of one' t v x i f has read refused = not_whole t has.task (λ t' said whole.
       let both : Ok (of_visit r t v x has t' said whole).0.inputs ≡ Ok i = sym (reads r t v x has t' said whole) ∙ read in
       let same : (of_visit r t v x has t' said whole).0.inputs ≡ i = cc in
@@ -437,19 +440,23 @@ module _ (r : Run) (err : Put) (s : Status) where
   write_fault_of (unwritten ends status_is) is = inl ends.4
   write_fault_of (spent status_is) is = cc
 
-  budget_of : IsOne r err s → s ≡ status.Budget → (t : Task) × (said : List Said) × IsWhole r t said × ((x : Said) × Contains said x × IsOverBudget t.mode t.limits x.inputs)
-  budget_of (reported report ends) is = (ends.0, ends.1, ends.2, past_budget r ends.0 ends.1 ends.2 (sym ends.4 ∙ is))
-  budget_of (said_whole Words lined ends status_is line) is = cc
-  budget_of (said_whole (TooLarge part) lined ends status_is line) is = cc
-  budget_of (said_whole (ReadFault part) lined ends status_is line) is = cc
-  budget_of (said_whole (Unread refusal) lined ends status_is line) is = cc
-  budget_of (said_whole (Judging refusal) lined ends status_is line) is = cc
-  budget_of (said_whole WriteFault lined ends status_is line) is = elim lined [ ]
-  budget_of (said_whole NoMemory lined ends status_is line) is = elim lined [ ]
-  budget_of (cut stop ends (inl fault)) is = let a = fault.0 in cc
-  budget_of (cut stop ends (inr short)) is = cc
-  budget_of (unwritten ends status_is) is = cc
-  budget_of (spent status_is) is = cc
+  -- a status past a budget is that of a report
+  budget_ends : IsOne r err s → s ≡ status.Budget → Ends r (Ok s)
+  budget_ends (reported report ends) is = ends
+  budget_ends (said_whole Words lined ends status_is line) is = cc
+  budget_ends (said_whole (TooLarge part) lined ends status_is line) is = cc
+  budget_ends (said_whole (ReadFault part) lined ends status_is line) is = cc
+  budget_ends (said_whole (Unread refusal) lined ends status_is line) is = cc
+  budget_ends (said_whole (Judging refusal) lined ends status_is line) is = cc
+  budget_ends (said_whole WriteFault lined ends status_is line) is = elim lined [ ]
+  budget_ends (said_whole NoMemory lined ends status_is line) is = elim lined [ ]
+  budget_ends (cut stop ends (inl fault)) is = let a = fault.0 in cc
+  budget_ends (cut stop ends (inr short)) is = cc
+  budget_ends (unwritten ends status_is) is = cc
+  budget_ends (spent status_is) is = cc
+
+  budget_of : IsOne r err s → s ≡ status.Budget → (t : Task) × (said : List Said) × IsWhole r t said × (HasMaybe t said ⊎ ((x : Said) × Contains said x × IsOverBudget t.mode t.limits x.inputs))
+  budget_of one' is = let ends = budget_ends one' is in (ends.0, ends.1, ends.2, left_open ends.0 ends.1 (answers_on r ends.0 ends.1 ends.2) (sym ends.4 ∙ is))
 
   completes_of : (t : Task) → command r.words ≡ Some t → AreWell r.told t → NothingFails r t err → IsOne r err s → Reports s ⊎ (s ≡ status.NoMemory)
   completes_of t task well none (reported report ends) = inl report
@@ -466,15 +473,30 @@ module _ (r : Run) (err : Put) (s : Status) where
   completes_of t task well none (unwritten ends status_is) = absurd (none.out ends.4)
   completes_of t task well none (spent status_is) = inr status_is
 
-  -- within all budgets a report is not cut short
+  -- within all budgets what is left open is a line that may be used
+  in_doubt : (t : Task) → command r.words ≡ Some t → (well : AreWell r.told t) → ((v : Visit) (there : Contains (visits t.source) v) → ¬ IsOverBudget t.mode t.limits (well v there).inputs)
+      → (t' : Task) (said : List Said) (whole : IsWhole r t' said) → Adds r.out.held r.out.held' (text_of t' said) → status_of t' said ≡ status.Budget → IsInDoubt r t'
+  in_doubt t task well enough t' said whole adds is =
+      let all = answers_on r t' said whole in
+      let never : OverOn t' said → ⊥ = λ over. within_all r t task well enough t' said whole over.0 over.1 over.2 in
+      let doubt : HasMaybe t' said = elim (left_open t' said all is) [ inl maybe ↦ maybe | inr over ↦ absurd (never over) ] in record {
+        said = said;
+        whole = whole;
+        written = adds;
+        maybe = doubt;
+        decided = all_decided t' said all never;
+        sharp = doubt_sharp t' said all doubt;
+      }
+
   decided : (t : Task) → command r.words ≡ Some t → (well : AreWell r.told t) → ((v : Visit) (there : Contains (visits t.source) v) → ¬ IsOverBudget t.mode t.limits (well v there).inputs)
-      → IsOne r err s → Reports s ⊎ (s ≡ status.NoMemory) → (s ≡ status.Complete) ⊎ (s ≡ status.Unused) ⊎ (s ≡ status.NoMemory)
+      → IsOne r err s → Reports s ⊎ (s ≡ status.NoMemory) → (s ≡ status.Complete) ⊎ (s ≡ status.Unused) ⊎ ((s ≡ status.Budget) × IsInDoubt r t) ⊎ (s ≡ status.NoMemory)
   decided t task well enough one' (inl (inl complete)) = inl complete
   decided t task well enough one' (inl (inr (inl some))) = inr (inl some)
   decided t task well enough one' (inl (inr (inr budget))) =
-      let past = budget_of one' budget in
-      absurd (within_all r t task well enough past.0 past.1 past.2 past.3.0 past.3.1 past.3.2)
-  decided t task well enough one' (inr memory) = inr (inr memory)
+      let ends = budget_ends one' budget in
+      let doubt = in_doubt t task well enough ends.0 ends.1 ends.2 ends.3 (sym ends.4 ∙ budget) in
+      inr (inr (inl (budget, subst (λ (u : Task). IsInDoubt r u) (one_task r t ends.0 task ends.2.task) doubt)))
+  decided t task well enough one' (inr memory) = inr (inr (inr memory))
 
   -- all of them
   pub causes_of : IsEnded r err s → Causes r err s

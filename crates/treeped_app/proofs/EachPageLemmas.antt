@@ -7,13 +7,14 @@ use Rattle.sel_core.specs.Selectors.{Selector}
 use Rattle.sel_core.specs.declared.faults.Skip.{Skip}
 use Rattle.css_read.specs.Sheets.{Outcome, judged, skipped as left_out, Item}
 use Rattle.jq_sem.specs.Events.{ReachesWithLosses}
+use Rattle.jq_sem.specs.Sharp.{ExactStatement}
 use Rattle.jq_sem.specs.Statements.{Statement}
 use Rattle.guard_sem.specs.Guards.{Guard}
 use Rattle.limits.specs.declared.budgets.Limits.{Limits}
 use Rattle.usage_report.specs.Answers.{Answer, used, maybe, used_unshown, unused, skipped, spent}
 use Rattle.site_judge.specs.Sites.{rank, Best, Site, IsAnswerOn, IsBest, IsSite}
 use Rattle.site_judge.proofs.SiteLemmas.{all_pages_site}
-use Rattle.treeped_app.specs.Answers.{IsRight, AreRight}
+use Rattle.treeped_app.specs.Answers.{IsRightExactly, AreRightExactly}
 use Rattle.treeped_app.specs.Laws.{IsNeverReached, IsOfEachPage}
 use Rattle.treeped_app.specs.Modes.{Said, guards_in, site_on}
 use Rattle.treeped_app.specs.Runs.{Told, Run, IsSaid, AreSaid, IsWhole}
@@ -59,28 +60,28 @@ alike_many [] (j ∷ others) is = absurd is
 alike_many (i ∷ items) [] is = absurd is
 alike_many (i ∷ items) (j ∷ others) is = ap suc (alike_many items others is.1)
 
-module _ (t : LabelTree) (stmts : List Statement) (guards : List Guard) (n : ℕ) (limits : Limits) where
-  pub right_many : (items : List Item) (answers : List Answer) → AreRight t stmts guards n limits items answers → length answers ≡ length items
+module _ (t : LabelTree) (exact : List ExactStatement) (stmts : List Statement) (guards : List Guard) (n : ℕ) (limits : Limits) where
+  pub right_many : (items : List Item) (answers : List Answer) → AreRightExactly t exact stmts guards n limits items answers → length answers ≡ length items
   right_many [] [] are = refl
   right_many [] (a ∷ answers) are = absurd are
   right_many (i ∷ items) [] are = absurd are
   right_many (i ∷ items) (a ∷ answers) are = ap suc (right_many items answers are.1)
 
-  pub right_at : (items : List Item) (answers : List Answer) (k : ℕ) (a : Answer) → AreRight t stmts guards n limits items answers → slice_get answers k ≡ Some a
-      → (i : Item) × (slice_get items k ≡ Some i) × IsRight t stmts guards n limits i.outcome a
+  pub right_at : (items : List Item) (answers : List Answer) (k : ℕ) (a : Answer) → AreRightExactly t exact stmts guards n limits items answers → slice_get answers k ≡ Some a
+      → (i : Item) × (slice_get items k ≡ Some i) × IsRightExactly t exact stmts guards n limits i.outcome a
   right_at [] [] k a are at = cc
   right_at [] (b ∷ answers) k a are at = absurd are
   right_at (i ∷ items) [] k a are at = absurd are
-  right_at (i ∷ items) (b ∷ answers) zero a are at = let same : b ≡ a = cc in (i, refl, subst (IsRight t stmts guards n limits i.outcome) same are.0)
+  right_at (i ∷ items) (b ∷ answers) zero a are at = let same : b ≡ a = cc in (i, refl, subst (IsRightExactly t exact stmts guards n limits i.outcome) same are.0)
   right_at (i ∷ items) (b ∷ answers) (suc k) a are at = right_at items answers k a are.1 at
 
   -- what is unused is a selector, and isn't reached
-  pub never_met : (o : Outcome) → IsRight t stmts guards n limits o unused → (u : Selector) × (o ≡ judged u) × (¬ ReachesWithLosses t stmts u)
-  never_met (judged u) is = (u, refl, is)
+  pub never_met : (o : Outcome) → IsRightExactly t exact stmts guards n limits o unused → (u : Selector) × (o ≡ judged u) × (¬ ReachesWithLosses t stmts u)
+  never_met (judged u) is = (u, refl, is.0)
   never_met (left_out cause at) is = cc
 
   -- what is skipped isn't judged
-  left : (o : Outcome) (cause : Skip) (at : ℕ) → IsRight t stmts guards n limits o (skipped cause at) → (u : Selector) → IsAlikeOutcome o (judged u) → ⊥
+  left : (o : Outcome) (cause : Skip) (at : ℕ) → IsRightExactly t exact stmts guards n limits o (skipped cause at) → (u : Selector) → IsAlikeOutcome o (judged u) → ⊥
   left (judged s) cause at is u alike = is
   left (left_out c a) cause at is u alike = alike
 
@@ -100,7 +101,7 @@ module _ (r : Run) (t : Task) (said : List Said) (whole : IsWhole r t said) wher
   of_page s there = said_at r.told t (visits t.source) said whole.all s there
 
   abbrev RightOn : Said → Type 0
-  RightOn s = AreRight s.inputs.tree s.inputs.stmts (guards_in t.mode s.inputs) (length s.inputs.names) t.limits s.inputs.sheet.items s.items
+  RightOn s = AreRightExactly s.inputs.tree s.inputs.exact s.inputs.stmts (guards_in t.mode s.inputs) (length s.inputs.names) t.limits s.inputs.sheet.items s.items
 
   pub right_on : (s : Said) → Contains said s → RightOn s
   right_on s there = (of_page s there).1.answers.right
@@ -109,13 +110,13 @@ module _ (r : Run) (t : Task) (said : List Said) (whole : IsWhole r t said) wher
   alike a b there there' =
       let x = of_page a there in
       let y = of_page b there' in
-      (one_sheet_read x.0.number y.0.number a.texts b.texts a.inputs b.inputs (whole.one_sheet a b there there') x.1.read y.1.read).items
+      (one_sheet_read t.mode t.mode x.0.number y.0.number a.texts b.texts a.inputs b.inputs (whole.one_sheet a b there there') x.1.read y.1.read).items
 
   many : (a b : Said) → Contains said a → Contains said b → length a.items ≡ length b.items
   many a b there there' =
-      right_many a.inputs.tree a.inputs.stmts (guards_in t.mode a.inputs) (length a.inputs.names) t.limits a.inputs.sheet.items a.items (right_on a there)
+      right_many a.inputs.tree a.inputs.exact a.inputs.stmts (guards_in t.mode a.inputs) (length a.inputs.names) t.limits a.inputs.sheet.items a.items (right_on a there)
       ∙ alike_many a.inputs.sheet.items b.inputs.sheet.items (alike a b there there')
-      ∙ sym (right_many b.inputs.tree b.inputs.stmts (guards_in t.mode b.inputs) (length b.inputs.names) t.limits b.inputs.sheet.items b.items (right_on b there'))
+      ∙ sym (right_many b.inputs.tree b.inputs.exact b.inputs.stmts (guards_in t.mode b.inputs) (length b.inputs.names) t.limits b.inputs.sheet.items b.items (right_on b there'))
 
   first_many : (all : List Said) → ((s : Said) → Contains all s → Contains said s) → IsSite (lists_of all) (site_on all)
   first_many [] are = all_pages_site 0 [] (λ answers there. absurd (Contains-none answers there))
@@ -159,12 +160,12 @@ module _ (r : Run) (t : Task) (said : List Said) (whole : IsWhole r t said) wher
     unused_there s there is (skipped cause at') says more =
         let i = s.inputs in
         let j = giver.0.inputs in
-        let here = right_at i.tree i.stmts (guards_in t.mode i) (length i.names) t.limits i.sheet.items s.items k (skipped cause at') (right_on s there) says in
-        let first = right_at j.tree j.stmts (guards_in t.mode j) (length j.names) t.limits j.sheet.items giver.0.items k unused (right_on giver.0 giver.1) (giver_says ∙ ap Some is) in
-        let never = never_met j.tree j.stmts (guards_in t.mode j) (length j.names) t.limits first.0.outcome first.2 in
+        let here = right_at i.tree i.exact i.stmts (guards_in t.mode i) (length i.names) t.limits i.sheet.items s.items k (skipped cause at') (right_on s there) says in
+        let first = right_at j.tree j.exact j.stmts (guards_in t.mode j) (length j.names) t.limits j.sheet.items giver.0.items k unused (right_on giver.0 giver.1) (giver_says ∙ ap Some is) in
+        let never = never_met j.tree j.exact j.stmts (guards_in t.mode j) (length j.names) t.limits first.0.outcome first.2 in
         let both = alike_at i.sheet.items j.sheet.items k here.0 first.0 (alike s giver.0 there giver.1) here.1 first.1 in
         absurd
-        (left i.tree i.stmts (guards_in t.mode i) (length i.names) t.limits here.0.outcome cause at' here.2 never.0
+        (left i.tree i.exact i.stmts (guards_in t.mode i) (length i.names) t.limits here.0.outcome cause at' here.2 never.0
         (subst (λ (o : Outcome). IsAlikeOutcome here.0.outcome o) never.1 both.outcome))
 
     everywhere : b.answer ≡ unused → (s : Said) → Contains said s → slice_get s.items k ≡ Some unused
@@ -176,8 +177,8 @@ module _ (r : Run) (t : Task) (said : List Said) (whole : IsWhole r t said) wher
     never_reached : b.answer ≡ unused → (s : Said) → Contains said s → IsNeverReached s k
     never_reached is s there =
         let i = s.inputs in
-        let here = right_at i.tree i.stmts (guards_in t.mode i) (length i.names) t.limits i.sheet.items s.items k unused (right_on s there) (everywhere is s there) in
-        let never = never_met i.tree i.stmts (guards_in t.mode i) (length i.names) t.limits here.0.outcome here.2 in
+        let here = right_at i.tree i.exact i.stmts (guards_in t.mode i) (length i.names) t.limits i.sheet.items s.items k unused (right_on s there) (everywhere is s there) in
+        let never = never_met i.tree i.exact i.stmts (guards_in t.mode i) (length i.names) t.limits here.0.outcome here.2 in
         (here.0, never.0, here.1, never.1, never.2)
 
     pub of_each_page : IsOfEachPage said k b

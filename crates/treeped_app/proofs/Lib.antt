@@ -1,5 +1,8 @@
 pub mod StopLemmas
 pub mod RightLemmas
+pub mod ExactLemmas
+pub mod MarkLemmas
+pub mod RoomLemmas
 pub mod DeadLemmas
 pub mod BudgetLemmas
 pub mod CauseLemmas

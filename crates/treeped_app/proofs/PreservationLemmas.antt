@@ -69,12 +69,12 @@ on_page r t s whole =
     let i = s.inputs in
     let right = right_on r t (s ∷ []) whole s there in
     let page = of_page r t (s ∷ []) whole s there in
-    let read = sheet_read page.0.number s.texts i page.1.read in
+    let read = sheet_read t.mode page.0.number s.texts i page.1.read in
     same_on s s.texts.sheet i.sheet read.0 read.1 (map is_unused s.items) refl read.2
-    (length-map s.items is_unused ∙ right_many i.tree i.stmts (guards_in t.mode i) (length i.names) t.limits i.sheet.items s.items right)
+    (length-map s.items is_unused ∙ right_many i.tree i.exact i.stmts (guards_in t.mode i) (length i.names) t.limits i.sheet.items s.items right)
     (unreached_at i.tree i.stmts i.sheet.items (map is_unused s.items) (λ k x at flag.
-    let here = right_at i.tree i.stmts (guards_in t.mode i) (length i.names) t.limits i.sheet.items s.items k unused right (flag_unused s.items k flag) in
-    let never = never_met i.tree i.stmts (guards_in t.mode i) (length i.names) t.limits here.0.outcome here.2 in
+    let here = right_at i.tree i.exact i.stmts (guards_in t.mode i) (length i.names) t.limits i.sheet.items s.items k unused right (flag_unused s.items k flag) in
+    let never = never_met i.tree i.exact i.stmts (guards_in t.mode i) (length i.names) t.limits here.0.outcome here.2 in
     let same : here.0 ≡ x = cc in
     subst (λ (z : Item). IsUnreached i.tree i.stmts z.outcome) same (subst (λ o. IsUnreached i.tree i.stmts o) (sym never.1) never.2)))
 
@@ -91,13 +91,13 @@ on_site r t (x ∷ said) whole s there =
     let last = last_is x said in
     let i = last.0.inputs in
     let page = of_page r t all whole last.0 last.1 in
-    let read = sheet_read page.0.number last.0.texts i page.1.read in
+    let read = sheet_read t.mode page.0.number last.0.texts i page.1.read in
     let place = place_of all last.0 last.1 in
     let count : length (map is_unused (best_in all)) ≡ length i.sheet.items =
     length-map (best_in all) is_unused
     ∙ length-map (site_on all).items (λ (b : Best). b.answer)
     ∙ sym ((site r t all whole).one_length place.0 last.0.items place.1)
-    ∙ right_many i.tree i.stmts (guards_in t.mode i) (length i.names) t.limits i.sheet.items last.0.items (right_on r t all whole last.0 last.1)
+    ∙ right_many i.tree i.exact i.stmts (guards_in t.mode i) (length i.names) t.limits i.sheet.items last.0.items (right_on r t all whole last.0 last.1)
     in
     let unreached : AreUnreached s.inputs.tree s.inputs.stmts (with_flags s.inputs.sheet.items (map is_unused (best_in all))) =
     unreached_at s.inputs.tree s.inputs.stmts s.inputs.sheet.items (map is_unused (best_in all)) (λ k y at flag.

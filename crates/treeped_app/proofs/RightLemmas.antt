@@ -1,5 +1,4 @@
--- What `judge_more` answers is right for the goals and the items, and can be reported; and the steps that it shows can be traced as
--- whole runs.
+-- What `judge_more` answers is right for the goals and the items, and what it answers for probes can be written.
 use Rattle.std.proofs.Common.{◌≡◌, ℕ, ◌<◌, List, [], ◌∷◌, length, map, Option, Some, None, slice_get, IsSomeAnd, All, suc, refl, ap, arith}
 use Rattle.std.proofs.lemmas.List.{length-map}
 use Rattle.std.proofs.lemmas.List.Elements.{All-nil, All-cons, All-same}
@@ -13,9 +12,7 @@ use Rattle.jq_sem.specs.Statements.{Statement, Selected}
 use Rattle.jq_sem.proofs.EventLemmas.{losses_reach_is}
 use Rattle.guard_sem.specs.Guards.{Guard}
 use Rattle.usage_report.specs.Answers.{Answer, used, maybe, used_unshown, unused, skipped, spent}
-use Rattle.usage_report.specs.Reportable.{HavePlaces, IsReportable, AreReportable}
-use Rattle.run_trace.specs.Traces.{shown_in, IsTracked, AreTracked}
-use Rattle.run_trace.proofs.AnswerLemmas.{tracked_by}
+use Rattle.usage_report.specs.Reportable.{HavePlaces}
 use Rattle.dead_script.specs.Verdicts.{IsProbed}
 use Rattle.limits.specs.declared.budgets.Limits.{Limits}
 use Rattle.judge.specs.Answers.{IsAnswer, AreAnswers, IsAnswerFor, AreAnswersFor, spent_for, spent_answers}
@@ -64,7 +61,7 @@ module _ (t : LabelTree) (ss : List Statement) (guards : List Guard) (n : ℕ) (
   all_spent more [] = tt
   all_spent more (i ∷ rest) = (one_spent more i.outcome, all_spent more rest)
 
-  -- ---- they can be reported
+  -- ---- the places of legal steps
 
   abbrev places : List Place
   places = map (λ (s : Statement). s.place) ss
@@ -74,48 +71,10 @@ module _ (t : LabelTree) (ss : List Statement) (guards : List Guard) (n : ℕ) (
   stands None k P is some = absurd some
   stands (Some s) k P is some = let within = slice_get_within ss k s is in let same = length-map ss (λ (x : Statement). x.place) in omega (arith, within, same)
 
-  legal_placed : (u : LabelTree) (steps : List Step) → AreLegal u ss steps → HavePlaces places steps
+  pub legal_placed : (u : LabelTree) (steps : List Step) → AreLegal u ss steps → HavePlaces places steps
   legal_placed u [] legal = All-nil (λ (x : Step). x.stmt < length places)
   legal_placed u (x ∷ steps) legal =
       All-cons (λ (x : Step). x.stmt < length places) x steps (stands (slice_get ss x.stmt) x.stmt (λ s. Selected u s x.at) refl legal.0) (legal_placed (after_step u ss x) steps legal.1)
-
-  one_reportable : (o : Outcome) (a : Answer) → IsRight t ss guards n limits o a → IsReportable places o a
-  one_reportable (judged s) (used proof steps None) is = (tt, tt)
-  one_reportable (judged s) (used proof steps (Some u)) is =
-      let t' = trace ss guards n t (matching s) proof in
-      (tt, All-same (λ (x : Step). x.stmt < length places) u.steps t'.0 is.shows.1 (legal_placed t t'.0 is.witness.legal))
-  one_reportable (judged s) (maybe proof steps shown broken) is = absurd is
-  one_reportable (judged s) used_unshown is = tt
-  one_reportable (judged s) unused is = tt
-  one_reportable (judged s) (skipped cause at) is = absurd is
-  one_reportable (judged s) spent is = tt
-  one_reportable (left_out cause at) a is = rw is refl
-
-  pub all_reportable : (rest : List Item) (answers : List Answer) → AreRight t ss guards n limits rest answers → AreReportable places rest answers
-  all_reportable [] [] are = tt
-  all_reportable [] (a ∷ answers) are = absurd are
-  all_reportable (i ∷ rest) [] are = absurd are
-  all_reportable (i ∷ rest) (a ∷ answers) are = (one_reportable i.outcome a are.0, all_reportable rest answers are.1)
-
-  -- ---- the steps that they show can be traced as whole runs
-
-  one_tracked : (o : Outcome) (a : Answer) → IsRight t ss guards n limits o a → IsTracked t ss (shown_in o a)
-  one_tracked (judged s) (used proof steps None) is = tt
-  one_tracked (judged s) (used proof steps (Some u)) is =
-      let t' = trace ss guards n t (matching s) proof in
-      tracked_by t ss s u t'.0 t'.1 is.shows.1 is.shows.2 is.witness.legal is.witness.match
-  one_tracked (judged s) (maybe proof steps shown broken) is = absurd is
-  one_tracked (judged s) used_unshown is = tt
-  one_tracked (judged s) unused is = tt
-  one_tracked (judged s) (skipped cause at) is = tt
-  one_tracked (judged s) spent is = tt
-  one_tracked (left_out cause at) a is = tt
-
-  pub all_tracked : (rest : List Item) (answers : List Answer) → AreRight t ss guards n limits rest answers → AreTracked t ss rest answers
-  all_tracked [] [] are = tt
-  all_tracked [] (a ∷ answers) are = absurd are
-  all_tracked (i ∷ rest) [] are = absurd are
-  all_tracked (i ∷ rest) (a ∷ answers) are = (one_tracked i.outcome a are.0, all_tracked rest answers are.1)
 
   -- ---- the probes' answers can be written
 

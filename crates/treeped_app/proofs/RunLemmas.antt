@@ -114,7 +114,7 @@ module _ (told : Told) (words : List (List ℕ)) (start end : List Load) (out : 
       task = task;
       loads = loads ∙ ap (λ z. start ++ z) (sym (append-nil (loads_of v.wanted)) ∙ ap all_loads (sym only));
       all = subst (λ (vs : List Visit). AreSaid told t' vs (u ∷ [])) (sym only) (
-        record { texts = subst (AreTexts told v) (sym same) texts; read = subst (λ k. Rattle.treeped_app.specs.Runs.read_inputs k u.texts ≡ Ok u.inputs) (sym number) is.read; answers = is.answers; traces = is.traces },
+        record { texts = subst (AreTexts told v) (sym same) texts; read = subst (λ k. Rattle.treeped_app.specs.Runs.read_inputs m k u.texts ≡ Ok u.inputs) (sym number) is.read; answers = is.answers; traces = is.traces },
         tt,
       );
       one_sheet = λ a b there there'. ap (λ (z : Said). z.texts.sheet) (only_one u a there ∙ sym (only_one u b there'));

@@ -1,10 +1,16 @@
 -- What the answers come to that a mode asks for, and why there are none.
-use Rattle.std.proofs.Common.{◌≡◌, ℕ, List, [], ◌∷◌, length, map, Option, All, Ok, Err, sym, subst, ◌∙◌, inl, inr}
+use Rattle.std.proofs.Common.{◌≡◌, ℕ, List, [], ◌∷◌, length, map, Option, All, Ok, Err, sym, ap, subst, ◌∙◌, inl, inr}
 use Rattle.std.proofs.lemmas.List.{length-map}
+use Rattle.jq_sem.specs.Sharp.{wides}
 use Rattle.jq_sem.specs.Statements.{Statement}
+use Rattle.jq_exact.specs.Settling.{AreSettled, IsUnfolded}
 use Rattle.guard_sem.specs.Guards.{Guard}
+use Rattle.simple_core.specs.declared.system.System.{System}
 use Rattle.rule_translate.specs.Translation.{guard_of}
 use Rattle.usage_report.specs.Answers.{Answer, spent}
+use Rattle.usage_report.specs.Views.{answer_of}
+use Rattle.usage_report.specs.declared.answers.Answer as code
+use Rattle.limits.specs.Budgets.{IsInRange}
 use Rattle.limits.specs.declared.budgets.Limits.{Limits}
 use Rattle.command_words.specs.declared.words.Mode.{Mode}
 use Rattle.command_words.specs.declared.words.Mode.TheVariants.{Report, Prune, Dead, Runs, Site, SitePrune}
@@ -22,11 +28,12 @@ use Rattle.run_ends.specs.declared.stops.Stop.{Stop}
 use Rattle.run_ends.specs.declared.stops.Stop.TheVariants as stop
 use Rattle.treeped_app.specs.Answers.{AreRight, AreRightFor, IsSpent}
 use Rattle.treeped_app.specs.Inputs.{AreInputs, IsUnanswered, IsRead, IsSaying, IsWritable, judging_stop}
-use Rattle.treeped_app.specs.Modes.{Texts, Inputs, Said, places_of, goals_in, extra_in, guards_in, AreAnswersOf}
+use Rattle.treeped_app.specs.Modes.{Texts, Inputs, Said, places_of, goals_in, extra_in, guards_in, AreJudgedOf, AreAnswersOf}
 use Rattle.treeped_app.specs.Runs.{IsSheetOf, read_inputs}
 use Rattle.treeped_app.proofs.DeadLemmas.{of_guards, guards_over}
 use Rattle.treeped_app.proofs.SheetLemmas.{sheet_read}
-use Rattle.treeped_app.proofs.RightLemmas.{answers_right, goals_right, all_spent, all_tracked, all_reportable, all_probed, as_many}
+use Rattle.treeped_app.proofs.ExactLemmas.{all_settled, all_unfolded, all_tracked, all_reportable}
+use Rattle.treeped_app.proofs.RightLemmas.{answers_right, goals_right, all_spent, all_probed, as_many}
 
 -- ---- right answers
 
@@ -73,7 +80,7 @@ others_right SitePrune limits i items others (inl (are, for, few)) = none_asked 
 others_right SitePrune limits i items others (inr (by, by', more)) = none_spent limits i (guards_in SitePrune i) others by'
 
 pub answers_are : (m : Mode) (limits : Limits) (i : Inputs) (ss : List Statement) (extra : List Guard) (items others : List Answer) → ss ≡ i.stmts → extra ≡ extra_in m i
-    → judge.IsWithin ss i.sheet.items extra (length i.names) → judge.AreJudged ss i.sheet.items extra (length i.names) i.tree limits items others → AreAnswersOf m limits i items others
+    → judge.IsWithin ss i.sheet.items extra (length i.names) → judge.AreJudged ss i.sheet.items extra (length i.names) i.tree limits items others → AreJudgedOf m limits i items others
 answers_are m limits i ss extra items others same same' within judged =
     let exactly : Exactly m limits i items others =
     subst (λ (z : List Statement). judge.AreJudged z i.sheet.items (extra_in m i) (length i.names) i.tree limits items others) same
@@ -87,20 +94,47 @@ answers_are m limits i ss extra items others same same' within judged =
       exactly = exactly;
     }
 
+-- by the system of these inputs
+pub system_as : (m : Mode) (i : Inputs) (ss : List Statement) (extra : List Guard) (system : System) → ss ≡ i.stmts → extra ≡ extra_in m i → system ≡ judge.system_in ss i.sheet.items extra (length i.names)
+    → system ≡ judge.system_in i.stmts i.sheet.items (extra_in m i) (length i.names)
+system_as m i ss extra system same same' is =
+    is ∙ ap (λ (z : List Statement). judge.system_in z i.sheet.items extra (length i.names)) same ∙ ap (λ (z : List Guard). judge.system_in i.stmts i.sheet.items z (length i.names)) same'
+
+-- and settled
+pub answers_settled : (m : Mode) (limits : Limits) (i : Inputs) (old new others : List Answer) → wides i.exact ≡ i.stmts → AreJudgedOf m limits i old others
+    → AreSettled i.tree i.exact (judge.system_in i.stmts i.sheet.items (extra_in m i) (length i.names)) old new → AreAnswersOf m limits i new others
+answers_settled m limits i old new others wide are settled = record {
+  judged = old;
+  are = are;
+  settled = settled;
+  right = all_settled i.tree i.exact i.stmts (guards_in m i) (length i.names) limits wide i.sheet.items old new are.right settled;
+}
+
+-- of inputs that are parted again
+pub said_right : (m : Mode) (limits : Limits) (i j : Inputs) (old new others : List Answer) (system : System) → j ≡ i → wides i.exact ≡ i.stmts → AreJudgedOf m limits i old others
+    → system ≡ judge.system_in i.stmts i.sheet.items (extra_in m i) (length i.names) → AreSettled i.tree i.exact system old new → AreAnswersOf m limits j new others
+said_right m limits i j old new others system same wide are is settled =
+    subst (λ (z : Inputs). AreAnswersOf m limits z new others) (sym same)
+    (answers_settled m limits i old new others wide are (subst (λ (z : System). AreSettled i.tree i.exact z old new) is settled))
+
+pub unfolded_of : (m : Mode) (limits : Limits) (i : Inputs) (items : List code.Answer) (others : List Answer) → IsInRange limits → AreJudgedOf m limits i (map answer_of items) others
+    → All (λ (a : code.Answer). IsUnfolded i.tree (judge.system_in i.stmts i.sheet.items (extra_in m i) (length i.names)) (answer_of a)) items
+unfolded_of m limits i items others range are = all_unfolded i.tree i.exact i.stmts (guards_in m i) (length i.names) limits range.list i.sheet.items items are.right
+
 pub tracked_of : (m : Mode) (limits : Limits) (i : Inputs) (items others : List Answer) → AreAnswersOf m limits i items others → AreTracked i.tree i.stmts i.sheet.items items
-tracked_of m limits i items others are = all_tracked i.tree i.stmts (guards_in m i) (length i.names) limits i.sheet.items items are.right
+tracked_of m limits i items others are = all_tracked i.tree i.exact i.stmts (guards_in m i) (length i.names) limits i.sheet.items items are.right
 
 -- ---- what is said can be written
 
 pub reportable_of : (m : Mode) (s : Said) → IsWritable m s → AreReportable (places_of s.inputs) s.inputs.sheet.items s.items
-reportable_of m s (limits, page, is) = all_reportable s.inputs.tree s.inputs.stmts (guards_in m s.inputs) (length s.inputs.names) limits s.inputs.sheet.items s.items is.answers.right
+reportable_of m s (limits, page, is) = all_reportable s.inputs.tree s.inputs.exact s.inputs.stmts (guards_in m s.inputs) (length s.inputs.names) limits s.inputs.sheet.items s.items is.answers.right
 
 pub probed_of : (s : Said) → IsWritable Dead s → (length s.others ≡ length (all_probes s.inputs.stmts)) × All (IsProbed (places_of s.inputs)) s.others
 probed_of s (limits, page, is) =
     let i = s.inputs in
     let goals = map selecting (all_probes i.stmts) in (
-      as_many i.tree i.stmts (guards_in Dead i) (length i.names) limits goals s.others is.answers.others_right ∙ length-map {B = Goal} (all_probes i.stmts) selecting,
-      all_probed i.tree i.stmts (guards_in Dead i) (length i.names) limits goals s.others is.answers.others_right,
+      as_many i.tree i.stmts (guards_in Dead i) (length i.names) limits goals s.others is.answers.are.others_right ∙ length-map {B = Goal} (all_probes i.stmts) selecting,
+      all_probed i.tree i.stmts (guards_in Dead i) (length i.names) limits goals s.others is.answers.are.others_right,
     )
 
 pub traceable_of : (s : Said) → IsWritable Runs s → AreTraceable (places_of s.inputs) s.inputs.sheet.items s.traces
@@ -108,7 +142,7 @@ traceable_of s (limits, page, is) =
     traces_placed s.inputs.tree s.inputs.stmts s.inputs.sheet.items s.items s.traces (tracked_of Runs limits s.inputs s.items s.others is.answers) is.traces
 
 pub sheet_of_said : (m : Mode) (s : Said) → IsWritable m s → IsSheetOf s.texts.sheet s.inputs.sheet
-sheet_of_said m s (limits, page, is) = sheet_read page s.texts s.inputs is.read
+sheet_of_said m s (limits, page, is) = sheet_read m page s.texts s.inputs is.read
 
 -- ---- what may be judged
 
@@ -148,7 +182,7 @@ refused_by_system m i ss extra e same same' is =
     (subst (λ (z : List Guard). judge.IsFault ss i.sheet.items z (length i.names) e) same' is))
 
 module _ (m : Mode) (limits : Limits) (page : Option ℕ) (x : Texts) where
-  pub not_read : (e : Stop) → IsRead (read_inputs page x) (Err e) → IsSaying m limits page x (Err e)
+  pub not_read : (e : Stop) → IsRead (read_inputs m page x) (Err e) → IsSaying m limits page x (Err e)
   not_read stop.Words is = absurd is
   not_read (stop.TooLarge part) is = absurd is
   not_read (stop.ReadFault part) is = absurd is
@@ -157,7 +191,7 @@ module _ (m : Mode) (limits : Limits) (page : Option ℕ) (x : Texts) where
   not_read stop.WriteFault is = absurd is
   not_read stop.NoMemory is = tt
 
-  pub not_answered : (i : Inputs) (e : Stop) → read_inputs page x ≡ Ok i → IsUnanswered m i e → IsSaying m limits page x (Err e)
+  pub not_answered : (i : Inputs) (e : Stop) → read_inputs m page x ≡ Ok i → IsUnanswered m i e → IsSaying m limits page x (Err e)
   not_answered i stop.Words read is = absurd is
   not_answered i (stop.TooLarge part) read is = absurd is
   not_answered i (stop.ReadFault part) read is = absurd is

@@ -30,7 +30,7 @@ use Rattle.treeped_app.specs.Runs.{Told, Holds, run_of, Ends, AreTexts, IsSaid, 
 use Rattle.treeped_app.specs.Inputs.{AllLoaded, IsSaidOf}
 use Rattle.treeped_app.specs.Sites.{IsBegun, HasFirst, HasNext, IsKept, PageAdded, MorePages, Finished, all_places, page_wanted, best_answers, text_of_site, site_status}
 use Rattle.treeped_app.specs.Views.{inputs_of}
-use Rattle.treeped_app.proofs.RightLemmas.{all_reportable}
+use Rattle.treeped_app.proofs.ExactLemmas.{all_reportable}
 use Rattle.treeped_app.proofs.RunLemmas.{all_joined, load_stops, say_stops, not_whole}
 use Rattle.css_read.specs.Shapes.{IsAlikeOutcome, AreAlike}
 use Rattle.treeped_app.proofs.SheetLemmas.{one_sheet_read, sheet_read}
@@ -147,27 +147,28 @@ better_many (b ∷ bs) (c ∷ cs) e = ap suc (better_many bs cs (omega (arith, e
 
 -- what is said of a page can be reported
 rep_of : (mode : Mode) (limits : Limits) (s : Said) → AreAnswersOf mode limits s.inputs s.items s.others → page.AreReportable (places_of s.inputs) s.inputs.sheet.items s.items
-rep_of mode limits s are = all_reportable s.inputs.tree s.inputs.stmts (guards_in mode s.inputs) (length s.inputs.names) limits s.inputs.sheet.items s.items are.right
+rep_of mode limits s are = all_reportable s.inputs.tree s.inputs.exact s.inputs.stmts (guards_in mode s.inputs) (length s.inputs.names) limits s.inputs.sheet.items s.items are.right
 
 -- the sheet that was read last
 pub kept_read : (sheet : List ℕ) (seen : Seen) → IsKept sheet seen → IsSheetOf sheet (inputs_of seen.last).sheet
-kept_read sheet seen is = subst (λ (z : List ℕ). IsSheetOf z (inputs_of seen.last).sheet) is.same (sheet_read is.page is.texts (inputs_of seen.last) is.read)
+kept_read sheet seen is = subst (λ (z : List ℕ). IsSheetOf z (inputs_of seen.last).sheet) is.same (sheet_read is.mode is.page is.texts (inputs_of seen.last) is.read)
 
 -- a page that is read of the same sheet can be added
 pub can_add : (sheet : List ℕ) (seen : Seen) (mode : Mode) (limits : Limits) (k : Option ℕ) (s : Said) → IsKept sheet seen → s.texts.sheet ≡ sheet → IsSaidOf mode limits k s → length s.items ≡ length seen.site.items
 can_add sheet seen mode limits k s can same is =
-    let alike = one_sheet_read can.page k can.texts s.texts (inputs_of seen.last) s.inputs (can.same ∙ sym same) can.read is.read in
+    let alike = one_sheet_read can.mode mode can.page k can.texts s.texts (inputs_of seen.last) s.inputs (can.same ∙ sym same) can.read is.read in
     as_many (places_of s.inputs) s.inputs.sheet.items s.items (rep_of mode limits s is.answers) ∙ sym (alike_many (inputs_of seen.last).sheet.items s.inputs.sheet.items alike.items) ∙ sym can.many
 
 -- and then another one
 pub added_can : (sheet : List ℕ) (old new : Seen) (mode : Mode) (limits : Limits) (k : ℕ) (s : Said) → IsKept sheet old → s.texts.sheet ≡ sheet → IsSaidOf mode limits (Some k) s → HasNext s old new → IsKept sheet new
 added_can sheet old new mode limits k s can same is next =
     let many = can_add sheet old mode limits (Some k) s can same is in
-    let alike = one_sheet_read can.page (Some k) can.texts s.texts (inputs_of old.last) s.inputs (can.same ∙ sym same) can.read is.read in
+    let alike = one_sheet_read can.mode mode can.page (Some k) can.texts s.texts (inputs_of old.last) s.inputs (can.same ∙ sym same) can.read is.read in
     let before = site_forth (all_places old) (inputs_of old.last).sheet.items s.inputs.sheet.items old.site.items alike.items can.reportable in
     let number : old.site.pages + 1 ≡ length (all_places old) + 1 = ap (λ n. n + 1) can.pages in
     let rep = page_added (all_places old) (places_of s.inputs) s.inputs.sheet.items old.site.items s.items (old.site.pages + 1) number before (rep_of mode limits s is.answers) in
     let on : length (sites.items_on (old.site.pages + 1) s.items) ≡ length s.items = length-map s.items _ in record {
+      mode = mode;
       page = Some k;
       texts = s.texts;
       same = same;
@@ -189,6 +190,7 @@ first_can sheet seen mode limits s same is first = record {
       subst (λ (z : sites.Site). AreReportable (all_places seen) (inputs_of seen.last).sheet.items z.items) (sym first.site)
       (subst (λ (z : Inputs). AreReportable (all_places seen) z.sheet.items (sites.items_on 1 s.items)) (sym first.last)
       (subst (λ ps. AreReportable ps s.inputs.sheet.items (sites.items_on 1 s.items)) (sym first.places) (first_added (places_of s.inputs) s.inputs.sheet.items s.items (rep_of mode limits s is.answers))));
+  mode = mode;
   page = Some 1;
   texts = s.texts;
   same = same;
@@ -258,7 +260,7 @@ module _ (told : Told) (mode : Mode) (limits : Limits) (source : Source) (sheet 
 
   seen_first : (v : Visit) (s : Said) (seen : Seen) → v.number ≡ Some 1 → AreTexts told v s.texts → s.texts.sheet ≡ sheet → IsSaidOf mode limits (Some 1) s → HasFirst s seen → IsSeen told t sheet (v ∷ []) s [] seen
   seen_first v s seen number texts same is first = record {
-    all = (record { texts = texts; read = subst (λ k. read_inputs k s.texts ≡ Ok s.inputs) (sym number) is.read; answers = is.answers; traces = is.traces }, tt);
+    all = (record { texts = texts; read = subst (λ k. read_inputs mode k s.texts ≡ Ok s.inputs) (sym number) is.read; answers = is.answers; traces = is.traces }, tt);
     sheets = (same, tt);
     site = first.site;
     places = first.places;
@@ -269,7 +271,7 @@ module _ (told : Told) (mode : Mode) (limits : Limits) (source : Source) (sheet 
   seen_next : (done : List Visit) (v : Visit) (k : ℕ) (first : Said) (more : List Said) (s : Said) (old new : Seen) → v.number ≡ Some k → IsSeen told t sheet done first more old → AreTexts told v s.texts → s.texts.sheet ≡ sheet
       → IsSaidOf mode limits (Some k) s → HasNext s old new → IsSeen told t sheet (done ++ v ∷ []) first (more ++ s ∷ []) new
   seen_next done v k first more s old new number seen texts same is next = record {
-    all = said_joined told t sheet done (first ∷ more) v s seen.all (record { texts = texts; read = subst (λ k. read_inputs k s.texts ≡ Ok s.inputs) (sym number) is.read; answers = is.answers; traces = is.traces });
+    all = said_joined told t sheet done (first ∷ more) v s seen.all (record { texts = texts; read = subst (λ k. read_inputs mode k s.texts ≡ Ok s.inputs) (sym number) is.read; answers = is.answers; traces = is.traces });
     sheets = sheet_joined told t sheet (first ∷ more) s seen.sheets same;
     site =
         next.site ∙ ap (λ z. sites.with_page z s.items) seen.site ∙ sym (pages_joined (sites.first_page first.items) (items_in more) s.items)

@@ -116,15 +116,15 @@ IsUnanswered m i e = ⊥
 
 -- what is said of texts that were read
 pub record IsSaidOf (m : Mode) (limits : Limits) (page : Option ℕ) (s : modes.Said) : Type 0 where
-  pub read : read_inputs page s.texts ≡ Ok s.inputs
+  pub read : read_inputs m page s.texts ≡ Ok s.inputs
   pub answers : modes.AreAnswersOf m limits s.inputs s.items s.others
   pub traces : modes.HasTraces m s
 
 -- the same, or why there is nothing to say of them
 abbrev pub IsSaying : Mode → Limits → Option ℕ → modes.Texts → Result Said Stop → Type 0
 IsSaying m limits page x (Ok s) = IsSaidOf m limits page (said_of x s)
-IsSaying m limits page x (Err (Unread refusal)) = read_inputs page x ≡ Err (Unread refusal)
-IsSaying m limits page x (Err (Judging f)) = (i : modes.Inputs) × (read_inputs page x ≡ Ok i) × IsRefusedBy m i f
+IsSaying m limits page x (Err (Unread refusal)) = read_inputs m page x ≡ Err (Unread refusal)
+IsSaying m limits page x (Err (Judging f)) = (i : modes.Inputs) × (read_inputs m page x ≡ Ok i) × IsRefusedBy m i f
 IsSaying m limits page x (Err NoMemory) = Unit {0}
 IsSaying m limits page x (Err e) = ⊥
 
@@ -138,7 +138,7 @@ IsWritable m s = (limits : Limits) × (page : Option ℕ) × IsSaidOf m limits p
 abbrev pub Written : Mode → Limits → modes.Texts → (modes.Said → List ℕ) → Put → Result Status Stop → Type 0
 Written m limits x text out (Ok s) = (said : modes.Said) × (said.texts ≡ x) × IsSaidOf m limits None said × Adds out.held out.held' (text said) × (s ≡ modes.status_on m said)
 Written m limits x text out (Err WriteFault) = (said : modes.Said) × (said.texts ≡ x) × IsSaidOf m limits None said × AddsPrefix out.held out.held' (text said) × Rose out.faults out.faults'
-Written m limits x text out (Err (Unread refusal)) = (read_inputs None x ≡ Err (Unread refusal)) × (out.held' ≡ out.held)
-Written m limits x text out (Err (Judging f)) = (i : modes.Inputs) × (read_inputs None x ≡ Ok i) × IsRefusedBy m i f × (out.held' ≡ out.held)
+Written m limits x text out (Err (Unread refusal)) = (read_inputs m None x ≡ Err (Unread refusal)) × (out.held' ≡ out.held)
+Written m limits x text out (Err (Judging f)) = (i : modes.Inputs) × (read_inputs m None x ≡ Ok i) × IsRefusedBy m i f × (out.held' ≡ out.held)
 Written m limits x text out (Err NoMemory) = (out.held' ≡ out.held) ⊎ ((said : modes.Said) × (said.texts ≡ x) × IsSaidOf m limits None said × AddsPrefix out.held out.held' (text said))
 Written m limits x text out (Err e) = ⊥

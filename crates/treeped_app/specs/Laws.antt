@@ -1,8 +1,10 @@
 -- What right answers come to, of statements and of sites.
+--     PlainIsRight       of a script without sharp calls each answer is that for the statements that are judged
 --     DeadIsRight        what `--dead` writes of each statement is so, where nothing is spent
 --     SiteIsRight        an item is unused on a site exactly where it is on every page
 --     PruneIsRight       what is left of a sheet does at each node of a page what the sheet does, and so on each page of a site
-use Rattle.std.specs.Prelude.{◌≡◌, ◌↔◌, ℕ, Bool, List, [], ◌∷◌, Contains, Some, slice_get, Ok}
+use Rattle.std.specs.Prelude.{◌≡◌, ◌↔◌, ℕ, Bool, false, List, [], ◌∷◌, Contains, Some, slice_get, Ok}
+use Rattle.std.specs.List.{list_any}
 use Rattle.tp_base.specs.Names.{Named}
 use Rattle.tree_sem.specs.declared.actions.Event.{Event}
 use Rattle.sel_core.specs.Selectors.{Selector}
@@ -11,15 +13,21 @@ use Rattle.css_read.specs.Reading.{read_sheet}
 use Rattle.css_read.specs.Sheets.{Item, Sheet, judged}
 use Rattle.css_prune.specs.NodeEffects.{Tells}
 use Rattle.jq_sem.specs.Events.{AreLegalEvents, end_of_events, ReachesWithLosses}
+use Rattle.jq_sem.specs.Sharp.{is_sharp_statement}
 use Rattle.limits.specs.declared.budgets.Limits.{Limits}
+use Rattle.command_words.specs.declared.words.Mode.{Mode}
 use Rattle.command_words.specs.declared.words.Mode.TheVariants.{Prune, Dead, SitePrune}
 use Rattle.usage_report.specs.Answers.{Answer, unused, spent}
 use Rattle.dead_script.specs.Laws.{AreRightVerdicts}
 use Rattle.dead_script.specs.Verdicts.{verdicts}
 use Rattle.site_judge.specs.Sites.{Best}
-use Rattle.treeped_app.specs.Modes.{Inputs, Said, AreAnswersOf, site_on, text_on, text_by}
+use Rattle.treeped_app.specs.Modes.{Inputs, Said, AreJudgedOf, AreAnswersOf, site_on, text_on, text_by}
 use Rattle.treeped_app.specs.Runs.{Run, IsWhole}
 use Rattle.treeped_app.specs.Tasks.{Task}
+
+-- Where no statement has a sharp call, the answers are right for the statements as they are judged, and as exactly as `judge_more` decides.
+abbrev pub PlainIsRight : Type 0
+PlainIsRight = (m : Mode) (limits : Limits) (i : Inputs) (items others : List Answer) → AreAnswersOf m limits i items others → list_any is_sharp_statement i.exact ≡ false → AreJudgedOf m limits i items others
 
 -- Of answers that are right, none of them spent: a statement is dead exactly where no legal steps from the page end in a tree in which it
 -- selects a node, and the handler that is named is the first that never has an element.

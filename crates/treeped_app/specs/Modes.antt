@@ -1,7 +1,9 @@
 -- What each mode promises: what it asks besides the selectors of a sheet, what it writes of the answers, and the status that they give.
 --     Said                 what was read of a page, and what is said of it
+--     reads_exactly m      whether calls may stand in a script that are sharper than what is judged in their place
 --     goals_in m i         the goals that are asked besides the sheet's selectors
---     AreAnswersOf         right answers for the sheet's items and for those goals
+--     AreJudgedOf          right answers for the sheet's items and for those goals, of the statements that are judged
+--     AreAnswersOf         those answers, settled by the statements as they stand in the script
 --     HasTraces m s        where the mode asks for whole runs, each answer that shows steps has the trace of their runs
 --     text_of t said       what is written
 --     status_of t said     the status: 7 where a line is open, else 1 where a line is unused or dead, else 0
@@ -12,7 +14,9 @@ use Rattle.tp_base.specs.declared.places.Place.{Place}
 use Rattle.tree_sem.specs.Trees.{LabelTree}
 use Rattle.css_read.specs.Pruned.{pruned}
 use Rattle.css_read.specs.Sheets.{Sheet}
+use Rattle.jq_sem.specs.Sharp.{ExactStatement}
 use Rattle.jq_sem.specs.Statements.{Statement}
+use Rattle.jq_exact.specs.Settling.{AreSettled}
 use Rattle.guard_sem.specs.Guards.{Guard}
 use Rattle.usage_report.specs.Answers.{Answer, maybe, used_unshown, unused, spent}
 use Rattle.usage_report.specs.Report.{report, report_with}
@@ -31,7 +35,7 @@ use Rattle.site_judge.specs.Sites as sites
 use Rattle.site_judge.specs.SiteReport.{site_report}
 use Rattle.run_ends.specs.declared.status.Status.{Status}
 use Rattle.run_ends.specs.declared.status.Status.TheVariants as status
-use Rattle.treeped_app.specs.Answers.{AreRight, AreRightFor, IsPastBudget}
+use Rattle.treeped_app.specs.Answers.{AreRight, AreRightFor, AreRightExactly, IsPastBudget}
 use Rattle.treeped_app.specs.Summary.{summary}
 use Rattle.treeped_app.specs.Tasks.{Source, ring, Task}
 
@@ -41,11 +45,12 @@ pub record Texts : Type 0 where
   pub sheet : List ℕ
   pub script : List ℕ
 
--- what is read: the page's tree, the sheet, the script's statements, and all names
+-- what is read: the page's tree, the sheet, the script's statements as they are judged and as they stand in it, and all names
 pub record Inputs : Type 0 where
   pub tree : LabelTree
   pub sheet : Sheet
   pub stmts : List Statement
+  pub exact : List ExactStatement
   pub names : List Named
 
 -- a page's texts, what was read of them, an answer for each item of the sheet, one for each other goal, and for whole runs a trace
@@ -62,6 +67,12 @@ places_of i = map (λ (s : Statement). s.place) i.stmts
 
 -- ---- what is asked
 
+-- statements that may be dead, and whole runs, are those that are judged
+abbrev pub reads_exactly : Mode → Bool
+reads_exactly Dead = false
+reads_exactly Runs = false
+reads_exactly _ = true
+
 -- whether each handler of each statement ever runs, and the statement itself
 abbrev pub goals_in : Mode → Inputs → List Goal
 goals_in Dead i = map selecting (all_probes i.stmts)
@@ -76,11 +87,18 @@ abbrev pub guards_in : Mode → Inputs → List Guard
 guards_in m i = judge.guards_in i.sheet.items (extra_in m i)
 
 -- One right answer for each item, and one for each other goal; and as exactly as `judge_more` decides it.
-pub record AreAnswersOf (m : Mode) (limits : Limits) (i : Inputs) (answers others : List Answer) : Type 0 where
+pub record AreJudgedOf (m : Mode) (limits : Limits) (i : Inputs) (answers others : List Answer) : Type 0 where
   pub right : AreRight i.tree i.stmts (guards_in m i) (length i.names) limits i.sheet.items answers
   pub others_right : AreRightFor i.tree i.stmts (guards_in m i) (length i.names) limits (goals_in m i) others
   pub within : judge.IsWithin i.stmts i.sheet.items (extra_in m i) (length i.names)
   pub exactly : judge.AreJudged i.stmts i.sheet.items (extra_in m i) (length i.names) i.tree limits answers others
+
+-- Those answers as `settle` leaves them, each of which is right for its item by the statements as they stand in the script.
+pub record AreAnswersOf (m : Mode) (limits : Limits) (i : Inputs) (answers others : List Answer) : Type 0 where
+  pub judged : List Answer
+  pub are : AreJudgedOf m limits i judged others
+  pub settled : AreSettled i.tree i.exact (judge.system_in i.stmts i.sheet.items (extra_in m i) (length i.names)) judged answers
+  pub right : AreRightExactly i.tree i.exact i.stmts (guards_in m i) (length i.names) limits i.sheet.items answers
 
 abbrev pub AreTracesIn : Mode → Inputs → List Answer → List (Option RunTrace) → Type 0
 AreTracesIn Runs i items traces = AreTracesOf i.tree i.stmts i.sheet.items items traces
@@ -98,6 +116,17 @@ IsOverBudget m limits i = IsPastBudget i.tree i.stmts (guards_in m i) (length i.
 abbrev pub is_unused : Answer → Bool
 is_unused unused = true
 is_unused _ = false
+
+-- it may be used
+abbrev pub is_maybe : Answer → Bool
+is_maybe (maybe proof steps shown broken) = true
+is_maybe _ = false
+
+-- a budget didn't suffice
+abbrev pub is_undecided : Answer → Bool
+is_undecided used_unshown = true
+is_undecided spent = true
+is_undecided _ = false
 
 -- something is left open: the steps, or whether there are any
 abbrev pub is_open : Answer → Bool

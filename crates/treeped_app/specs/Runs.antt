@@ -1,10 +1,11 @@
 -- What a run of the command comes to, and why.
---     read_inputs k x            what reading a page's three texts gives
+--     statements_in m text       what reading a script gives
+--     read_inputs m k x          what reading a page's three texts gives
 --     IsSaid told t v s          a visit was loaded and read, and what is said of it is right
 --     IsWhole r t said           all visits were
 --     IsAt r t .. v              the visits before this one were
 --     Ends r end                 what the run comes to: what its mode writes, with its status, or why there is nothing
-use Rattle.std.specs.Prelude.{◌≡◌, ◌⊎◌, ℕ, ◌<◌, ◌≤◌, List, [], ◌∷◌, ◌++◌, length, take, All, Contains, Option, Some, None, IfSome, Result, Ok, Err}
+use Rattle.std.specs.Prelude.{◌≡◌, ◌⊎◌, ℕ, ◌<◌, ◌≤◌, if◌then◌else◌, List, [], ◌∷◌, ◌++◌, length, map, take, All, Contains, Option, Some, None, IfSome, Result, Ok, Err}
 use Rattle.tp_base.specs.Names.{Named}
 use Rattle.tp_io.specs.Files.{Load}
 use Rattle.tp_io.specs.Sinks.{Adds, AddsPrefix, Rose}
@@ -17,15 +18,16 @@ use Rattle.run_ends.specs.declared.stops.Stop.TheVariants.{Words, TooLarge, Read
 use Rattle.html_subset.specs.Reading.{read_page}
 use Rattle.css_read.specs.Reading.{read_sheet}
 use Rattle.css_read.specs.Sheets.{Sheet}
+use Rattle.jq_sem.specs.Sharp.{ExactStatement, exact_statement, wides}
 use Rattle.jq_sem.specs.Statements.{Statement}
 use Rattle.jq_words.specs.Words.{Outcome}
-use Rattle.jq_read.specs.Script.{script}
+use Rattle.jq_read.specs.Script.{exact_script, script}
 use Rattle.judge.specs.declared.faults.JudgeFault.{JudgeFault}
 use Rattle.judge.specs.declared.faults.JudgeFault.TheVariants as fault
 use Rattle.judge.specs.Outcomes.{IsFault, IsWithin}
 use Rattle.command_words.specs.declared.words.Mode.{Mode}
 use Rattle.triple_gen.specs.Ring as rings
-use Rattle.treeped_app.specs.Modes.{Texts, Inputs, Said, extra_in, AreAnswersOf, HasTraces, text_of, status_of}
+use Rattle.treeped_app.specs.Modes.{Texts, Inputs, Said, reads_exactly, extra_in, AreAnswersOf, HasTraces, text_of, status_of}
 use Rattle.run_ends.specs.Refusals.{page_stop, sheet_stop, script_stop}
 use Rattle.run_ends.specs.Tells.{Put}
 use Rattle.treeped_app.specs.Tasks.{Names, Wanted, Origin, named, generated, Visit, visits, succeeded, failed, loads_of, all_loads, Task, command}
@@ -37,7 +39,16 @@ abbrev pub read_as : {A E : Type 0} → (E → Stop) → List Named × Result A 
 read_as stop (names, Ok x) = Ok (x, names)
 read_as stop (names, Err e) = Err (stop e)
 
-abbrev pub read_script_as : Option ℕ → List ℕ → Outcome (List Statement × List Named) → Result (List Statement × List Named) Stop
+-- statements that stand in the script as they are judged
+abbrev pub plainly : Outcome (List Statement × List Named) → Outcome (List ExactStatement × List Named)
+plainly (Ok (stmts, names)) = Ok (map exact_statement stmts, names)
+plainly (Err e) = Err e
+
+-- the statements of a script, with sharp calls or without
+abbrev pub statements_in : Mode → List ℕ → List Named → Outcome (List ExactStatement × List Named)
+statements_in m text names = if reads_exactly m then exact_script text names else plainly (script text names)
+
+abbrev pub read_script_as : Option ℕ → List ℕ → Outcome (List ExactStatement × List Named) → Result (List ExactStatement × List Named) Stop
 read_script_as page text (Ok r) = Ok r
 read_script_as page text (Err e) = Err (script_stop page text e)
 
@@ -47,12 +58,12 @@ abbrev pub ◌>>=◌ : {A B E : Type 0} → Result A E → (A → Result B E) �
 (Err e) >>= f = Err e
 
 -- the page, the sheet and the script are read in this order, with one list of names that is new for each page
-unfoldable pub read_inputs : Option ℕ → Texts → Result Inputs Stop
-read_inputs page x = do
+unfoldable pub read_inputs : Mode → Option ℕ → Texts → Result Inputs Stop
+read_inputs m page x = do
   p ← read_as (page_stop page x.page) (read_page x.page [])
   s ← read_as (sheet_stop x.sheet) (read_sheet x.sheet p.1)
-  j ← read_script_as page x.script (script x.script s.1)
-  Ok (record { tree = p.0; sheet = s.0; stmts = j.0; names = j.1 })
+  j ← read_script_as page x.script (statements_in m x.script s.1)
+  Ok (record { tree = p.0; sheet = s.0; stmts = wides j.0; exact = j.0; names = j.1 })
 
 -- the sheet was read of this text, whatever names were there before
 abbrev pub IsSheetOf : List ℕ → Sheet → Type 0
@@ -116,7 +127,7 @@ IsJudgeable m i = IsWithin i.stmts i.sheet.items (extra_in m i) (length i.names)
 -- the visit's texts were had and read, and what is said of them is right
 pub record IsSaid (told : Told) (t : Task) (v : Visit) (s : Said) : Type 0 where
   pub texts : AreTexts told v s.texts
-  pub read : read_inputs v.number s.texts ≡ Ok s.inputs
+  pub read : read_inputs t.mode v.number s.texts ≡ Ok s.inputs
   pub answers : AreAnswersOf t.mode t.limits s.inputs s.items s.others
   pub traces : HasTraces t.mode s
 
@@ -179,9 +190,9 @@ Ends r (Ok s) = (t : Task) × (said : List Said) × IsWhole r t said × Adds r.o
 Ends r (Err Words) = (command r.words ≡ None) × (r.loads' ≡ r.loads) × IsSilent r
 Ends r (Err (TooLarge p)) = (t : Task) × (done : List Visit) × (v : Visit) × (w : Wanted) × IsAt r t done v × IsLast r done v w (succeeded w.name) × (w.part ≡ p) × Exceeds r.told w.name × IsSilent r
 Ends r (Err (ReadFault p)) = (t : Task) × (done : List Visit) × (v : Visit) × (w : Wanted) × IsAt r t done v × IsLast r done v w (failed w.name) × (w.part ≡ p) × IsSilent r
-Ends r (Err (Unread refusal)) = (t : Task) × (done : List Visit) × (v : Visit) × (x : Texts) × IsAt r t done v × IsLoaded r done v x × (read_inputs v.number x ≡ Err (Unread refusal)) × IsSilent r
+Ends r (Err (Unread refusal)) = (t : Task) × (done : List Visit) × (v : Visit) × (x : Texts) × IsAt r t done v × IsLoaded r done v x × (read_inputs t.mode v.number x ≡ Err (Unread refusal)) × IsSilent r
 Ends r (Err (Judging f)) =
-    (t : Task) × (done : List Visit) × (v : Visit) × (x : Texts) × (i : Inputs) × IsAt r t done v × IsLoaded r done v x × (read_inputs v.number x ≡ Ok i) × IsRefusedBy t.mode i f × IsSilent r
+    (t : Task) × (done : List Visit) × (v : Visit) × (x : Texts) × (i : Inputs) × IsAt r t done v × IsLoaded r done v x × (read_inputs t.mode v.number x ≡ Ok i) × IsRefusedBy t.mode i f × IsSilent r
 Ends r (Err WriteFault) = (t : Task) × (said : List Said) × IsWhole r t said × AddsPrefix r.out.held r.out.held' (text_of t said) × Rose r.out.faults r.out.faults'
 Ends r (Err NoMemory) =
     ((r.loads' ≡ r.loads) × IsSilent r)

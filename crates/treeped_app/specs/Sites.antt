@@ -47,10 +47,11 @@ IsBegun m limits x (Err e) = IsSaying m limits (Some 1) x (Err e)
 
 -- what was read last was read of this sheet, there is an answer for each of its items, and they can be reported on it
 pub record IsKept (sheet : List ℕ) (seen : Seen) : Type 0 where
+  pub mode : Mode
   pub page : Option ℕ
   pub texts : Texts
   pub same : texts.sheet ≡ sheet
-  pub read : read_inputs page texts ≡ Ok (inputs_of seen.last)
+  pub read : read_inputs mode page texts ≡ Ok (inputs_of seen.last)
   pub many : length seen.site.items ≡ length (inputs_of seen.last).sheet.items
   pub pages : seen.site.pages ≡ length (all_places seen)
   pub reportable : AreReportable (all_places seen) (inputs_of seen.last).sheet.items seen.site.items

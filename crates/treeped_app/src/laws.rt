@@ -1,5 +1,10 @@
-//! What the command's answers say of statements and of sites, and what a pruned sheet does.
-ghost use Rattle.treeped_app.specs.Laws.{DeadIsRight, PruneIsRight, SiteIsRight, SitePruneIsRight};
+//! What the command's answers say of scripts without sharp calls, of statements and of sites, and what a pruned sheet does.
+ghost use Rattle.treeped_app.specs.Laws.{DeadIsRight, PlainIsRight, PruneIsRight, SiteIsRight, SitePruneIsRight};
+
+/// Of a script without sharp calls each answer is the one for its statements as they are judged, so that none is `maybe`.
+pub fn plain_is_right()
+    ensures { PlainIsRight }
+{}
 
 /// Where no answer is spent, what `--dead` writes of a statement is so: it is dead exactly where it selects no node of any tree that
 /// legal steps reach, the handler that is named is the first that never runs, and the steps of a live one lead to a node that it selects.

@@ -4,6 +4,7 @@
 mod best;
 mod laws;
 mod loading;
+mod marks;
 mod pages;
 mod pruning;
 mod reading;
@@ -15,6 +16,6 @@ mod summaries;
 mod tasks;
 mod writing;
 
-pub use laws::{dead_is_right, prune_is_right, site_is_right};
+pub use laws::{dead_is_right, plain_is_right, prune_is_right, site_is_right};
 pub use run_ends::{Fault, JudgeRefusal, Part, Refusal, Status, Stop};
 pub use runs::treeped;

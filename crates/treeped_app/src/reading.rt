@@ -1,26 +1,32 @@
 //! The texts of a page, and what is read of them.
-ghost use Rattle.std.specs.Prelude.{◌≡◌, ◌≤◌, length, IfOk};
+ghost use Rattle.std.specs.Prelude.{◌≡◌, ◌≤◌, ◌+◌, length, IfOk};
 ghost use Rattle.tp_base.specs.declared.places.TheConstants.{MOST_BYTES};
 ghost use Rattle.treeped_app.specs.Runs as spec;
 ghost use Rattle.tree_sem.specs.Nodes.{IsTreeOver};
+ghost use Rattle.tree_sem.specs.Trees.{count_of};
 ghost use Rattle.sel_core.specs.Results.{IsFront};
 ghost use Rattle.html_subset.specs.Reading as html;
+ghost use Rattle.html_subset.specs.declared.faults.TheConstants.{MOST_PAGE_NODES};
 ghost use Rattle.css_read.specs.Reading as css;
 ghost use Rattle.css_read.specs.Places.{ArePlaced};
 ghost use Rattle.css_read.specs.Readable.{AllReadable};
 ghost use Rattle.css_read.specs.Views.{sheet_of};
+ghost use Rattle.jq_sem.specs.Sharp.{wides};
 ghost use Rattle.jq_sem.specs.Tables.{AreStatementsOver};
 ghost use Rattle.jq_sem.specs.Views.{statements_of};
+ghost use Rattle.jq_exact.specs.Room.{HasRoom};
 ghost use Rattle.jq_read.specs.Limits.{AreWithin};
-ghost use Rattle.jq_read.specs.Script.{script};
+ghost use Rattle.jq_read.specs.Script.{exact_script, script};
 ghost use Rattle.treeped_app.specs.Inputs.{AreInputs, IsOpened, IsRead};
+ghost use Rattle.treeped_app.specs.Modes as modes;
 ghost use Rattle.run_ends.specs.Refusals.{page_stop, sheet_stop};
-ghost use Rattle.treeped_app.specs.Views.{inputs_of, texts_of};
+ghost use Rattle.treeped_app.specs.Views.{exact_in, inputs_of, texts_of};
 
+use crate::marks::{Script, parted};
+use command_words::Mode;
 use css_read::{Sheet, read_sheet};
 use html_subset::read_page;
-use jq_read::read_script;
-use jq_sem::Stmt;
+use jq_read::{read_exact, read_script};
 use run_ends::{Stop, page_stop, script_stop, sheet_stop};
 use std::alloc::Global;
 use tp_base::AtomTable;
@@ -39,7 +45,7 @@ pub(crate) struct Texts<'a> {
 pub(crate) struct Inputs {
     pub(crate) page: Tree,
     pub(crate) sheet: Sheet,
-    pub(crate) stmts: Vec<Stmt>,
+    pub(crate) script: Script,
     pub(crate) atoms: AtomTable,
 }
 
@@ -47,22 +53,24 @@ pub(crate) struct Inputs {
 #[tactic(auto, unfolding(crate::specs::Runs::read_inputs))]
 pub(crate) fn read_all(
     alloc: Global,
+    mode: Mode,
     number: Option<u32>,
     texts: &Texts<'_>,
 ) -> Result<Inputs, Stop>
     requires fit { spec.Fit (texts_of texts.now) }
-    ensures read { IsRead (spec.read_inputs number (texts_of texts.now)) result }
+    ensures read { IsRead (spec.read_inputs mode number (texts_of texts.now)) result }
     ensures given { IfOk result (λ i. AreInputs (inputs_of i)) }
+    ensures room { IfOk result (λ i. HasRoom (inputs_of i).tree (inputs_of i).exact) }
     ensures placed { IfOk result (λ i. ArePlaced (length (texts_of texts.now).sheet) i.sheet.items) }
 {
     let mut atoms = AtomTable::new(alloc);
     let page = open_page(alloc, number, texts.page, &mut atoms)?;
     let sheet = open_sheet(alloc, texts.sheet, &mut atoms)?;
-    let stmts = open_script(alloc, number, texts.script, &mut atoms)?;
+    let script = open_script(alloc, mode, number, texts.script, &mut atoms)?;
     Ok(Inputs {
         page,
         sheet,
-        stmts,
+        script,
         atoms,
     })
 }
@@ -77,6 +85,7 @@ fn open_page(
     requires { length text.now ≤ MOST_BYTES }
     ensures opened { IsOpened (λ t. t) (spec.read_as (page_stop number text.now) (html.read_page text.now atoms.old)) result atoms.new }
     ensures over { IfOk result (λ t. IsTreeOver (length atoms.new) t) }
+    ensures few { IfOk result (λ t. count_of t ≤ MOST_PAGE_NODES + 1) }
 {
     match read_page(alloc, text, atoms) {
         Ok(tree) => Ok(tree),
@@ -99,21 +108,78 @@ fn open_sheet(alloc: Global, text: &[u8], atoms: &mut AtomTable) -> Result<Sheet
 }
 
 /// The statements of a script, or why the run stops at it.
-#[tactic(auto, using(crate::proofs::ReadingLemmas::not_opened))]
 fn open_script(
+    alloc: Global,
+    mode: Mode,
+    number: Option<u32>,
+    text: &[u8],
+    atoms: &mut AtomTable,
+) -> Result<Script, Stop>
+    requires { length text.now ≤ MOST_BYTES }
+    ensures opened { IsOpened exact_in (spec.read_script_as number text.now (spec.statements_in mode text.now atoms.old)) result atoms.new }
+    ensures wide { IfOk result (λ s. wides (exact_in s) ≡ statements_of s.stmts.items) }
+    ensures over { IfOk result (λ s. AreStatementsOver (length atoms.new) (statements_of s.stmts.items)) }
+    ensures within { IfOk result (λ s. AreWithin (statements_of s.stmts.items)) }
+    ensures front { IsFront atoms.old atoms.new }
+{
+    if reads_exactly(mode) {
+        open_exact(alloc, number, text, atoms)
+    } else {
+        open_plain(alloc, number, text, atoms)
+    }
+}
+
+/// Whether sharp calls may stand in a script. Whole runs, and statements that may be dead, are those that are judged.
+fn reads_exactly(mode: Mode) -> bool
+    ensures { result ≡ modes.reads_exactly mode }
+{
+    !matches!(mode, Mode::Dead | Mode::Runs)
+}
+
+/// The statements of a script in which sharp calls may stand.
+#[tactic(auto, using(crate::proofs::ReadingLemmas::not_opened))]
+fn open_exact(
     alloc: Global,
     number: Option<u32>,
     text: &[u8],
     atoms: &mut AtomTable,
-) -> Result<Vec<Stmt>, Stop>
+) -> Result<Script, Stop>
     requires { length text.now ≤ MOST_BYTES }
-    ensures opened { IsOpened (λ v. statements_of v.items) (spec.read_script_as number text.now (script text.now atoms.old)) result atoms.new }
-    ensures over { IfOk result (λ v. AreStatementsOver (length atoms.new) (statements_of v.items)) }
-    ensures within { IfOk result (λ v. AreWithin (statements_of v.items)) }
+    ensures opened { IsOpened exact_in (spec.read_script_as number text.now (exact_script text.now atoms.old)) result atoms.new }
+    ensures wide { IfOk result (λ s. wides (exact_in s) ≡ statements_of s.stmts.items) }
+    ensures over { IfOk result (λ s. AreStatementsOver (length atoms.new) (statements_of s.stmts.items)) }
+    ensures within { IfOk result (λ s. AreWithin (statements_of s.stmts.items)) }
+    ensures front { IsFront atoms.old atoms.new }
+{
+    match read_exact(alloc, text, atoms) {
+        Ok(statements) => {
+            let script = parted(alloc, statements)?;
+            Ok(script)
+        }
+        Err(fault) => Err(script_stop(number, text, fault)),
+    }
+}
+
+/// Those of a script in which none may.
+#[tactic(auto, using(crate::proofs::ReadingLemmas::not_opened))]
+fn open_plain(
+    alloc: Global,
+    number: Option<u32>,
+    text: &[u8],
+    atoms: &mut AtomTable,
+) -> Result<Script, Stop>
+    requires { length text.now ≤ MOST_BYTES }
+    ensures opened { IsOpened exact_in (spec.read_script_as number text.now (spec.plainly (script text.now atoms.old))) result atoms.new }
+    ensures wide { IfOk result (λ s. wides (exact_in s) ≡ statements_of s.stmts.items) }
+    ensures over { IfOk result (λ s. AreStatementsOver (length atoms.new) (statements_of s.stmts.items)) }
+    ensures within { IfOk result (λ s. AreWithin (statements_of s.stmts.items)) }
     ensures front { IsFront atoms.old atoms.new }
 {
     match read_script(alloc, text, atoms) {
-        Ok(statements) => Ok(statements),
+        Ok(stmts) => Ok(Script {
+            stmts,
+            sharp: Vec::new(alloc),
+        }),
         Err(fault) => Err(script_stop(number, text, fault)),
     }
 }

@@ -115,7 +115,7 @@ fn seen_first(alloc: Global, said: Said) -> Result<Seen, NoMemory>
     ensures first { IfOk result (λ s. IsFirst said s) }
     ensures last { IfOk result (λ s. s.last ≡ said.inputs) }
 {
-    let places = places_of(alloc, &said.inputs.stmts)?;
+    let places = places_of(alloc, &said.inputs.script.stmts)?;
     let mut all = Vec::new(alloc);
     all.push(places)?;
     let site = Site::first(alloc, said.items)?;
@@ -202,7 +202,7 @@ fn add(alloc: Global, said: Said, seen: &mut Seen) -> Result<(), NoMemory>
     ensures added { OnOk result (IsAdded said seen.old seen.new) }
     ensures last { OnOk result (seen.new.last ≡ said.inputs) }
 {
-    let places = places_of(alloc, &said.inputs.stmts)?;
+    let places = places_of(alloc, &said.inputs.script.stmts)?;
     seen.places.push(places)?;
     seen.site.add(said.items);
     seen.last = said.inputs;

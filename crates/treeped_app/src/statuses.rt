@@ -77,7 +77,7 @@ fn asks(mode: Mode, question: Question, said: &Said) -> bool
     ensures { (x : spec.Texts) → result ≡ list_any (verdict.is_so question) (spec.verdicts_in mode (said_of x said.now ∷ [])) }
 {
     match mode {
-        Mode::Dead => any_verdict(question, &said.inputs.stmts, &said.others),
+        Mode::Dead => any_verdict(question, &said.inputs.script.stmts, &said.others),
         _ => false,
     }
 }

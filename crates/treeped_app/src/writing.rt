@@ -55,10 +55,10 @@ pub(crate) fn write_one<O: Sink>(
         }
         Mode::Dead => {
             write_page(alloc, texts, said, out)?;
-            write_dead(alloc, &inputs.stmts, &said.others, out)
+            write_dead(alloc, &inputs.script.stmts, &said.others, out)
         }
         Mode::Runs => {
-            let places = places_of(alloc, &inputs.stmts)?;
+            let places = places_of(alloc, &inputs.script.stmts)?;
             write_traces(
                 alloc,
                 &inputs.sheet,
@@ -90,7 +90,7 @@ fn write_page<O: Sink>(
     ensures never_falls { O.faults out.old ≤ O.faults out.new }
 {
     let inputs = &said.inputs;
-    let places = places_of(alloc, &inputs.stmts)?;
+    let places = places_of(alloc, &inputs.script.stmts)?;
     write_report(
         alloc,
         &inputs.sheet,

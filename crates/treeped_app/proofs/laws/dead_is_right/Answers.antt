@@ -9,4 +9,4 @@ use Rattle.treeped_app.proofs.laws.dead_is_right.Goals as goal
 
 pub returns : goal.returns
 returns c = λ limits i items others are none.
-    verdicts_right i.tree i.stmts i.stmts others (all_told i.tree i.stmts (guards_in Dead i) (length i.names) limits (all_probes i.stmts) others are.others_right none)
+    verdicts_right i.tree i.stmts i.stmts others (all_told i.tree i.stmts (guards_in Dead i) (length i.names) limits (all_probes i.stmts) others are.are.others_right none)

@@ -2,7 +2,7 @@ use Rattle.std.proofs.Common.{map, ap}
 use Rattle.jq_sem.specs.Views.{statements_of}
 use Rattle.usage_report.specs.Views.{answer_of}
 use Rattle.treeped_app.specs.Views.{inputs_of}
-use Rattle.treeped_app.proofs.SayingLemmas.{answers_are, given_with, refused_by_system}
+use Rattle.treeped_app.proofs.SayingLemmas.{answers_are, system_as, given_with, refused_by_system}
 use Rattle.treeped_app.proofs.saying.answers_of.Goals as goal
 
 pub judge_more-requires-clause-given : goal.judge_more-requires-clause-given
@@ -13,6 +13,10 @@ pub returns-in-Ok-clause-answers : goal.returns-in-Ok-clause-answers
 returns-in-Ok-clause-answers c =
     answers_are c.args.mode c.args.limits.now (inputs_of c.args.inputs.now) (statements_of c.deref.result.now) c.in_ok-extra.extra.items (map answer_of c.in-Ok.both.items) (map answer_of c.in-Ok.both.extra)
     (ap statements_of c.deref.ensures.value) c.in_ok-extra.ensures c.in-Ok.ensures.within c.in-Ok.ensures.judged
+
+pub returns-in-Ok-clause-system : goal.returns-in-Ok-clause-system
+returns-in-Ok-clause-system c =
+    system_as c.args.mode (inputs_of c.args.inputs.now) (statements_of c.deref.result.now) c.in_ok-extra.extra.items c.in-Ok.both.system (ap statements_of c.deref.ensures.value) c.in_ok-extra.ensures c.in-Ok.ensures.system
 
 pub returns-in-Err-clause-stop : goal.returns-in-Err-clause-stop
 returns-in-Err-clause-stop c =

@@ -1,8 +1,9 @@
-use Rattle.std.proofs.Common.{map, sym}
+use Rattle.std.proofs.Common.{map, Ok, sym, ap, ◌∙◌}
 use Rattle.std.proofs.lemmas.Result.{err_from_is_err_and}
 use Rattle.usage_report.specs.Views.{answer_of}
 use Rattle.treeped_app.specs.Views.{inputs_of, texts_of}
-use Rattle.treeped_app.proofs.SayingLemmas.{tracked_of, not_read, not_answered}
+use Rattle.treeped_app.proofs.SayingLemmas.{tracked_of, not_read, not_answered, said_right, unfolded_of}
+use Rattle.treeped_app.proofs.MarkLemmas.{wides_marked}
 use Rattle.treeped_app.proofs.saying.say.Goals as goal
 
 pub returns-in_err-inputs-clause-said : goal.returns-in_err-inputs-clause-said
@@ -15,15 +16,34 @@ returns-in_err-both-clause-said c =
     let exit = err_from_is_err_and c.from_residual-in_err-both.result c.from_residual-in_err-both.ensures.1 in
     rw (exit.1, exit.2) (not_answered c.args.mode c.args.limits.now c.args.number (texts_of c.args.texts.now) (inputs_of c.in_ok-inputs.inputs) _ c.in_ok-inputs.ensures.read c.in_err-both.ensures.stop)
 
+pub said_by-requires-clause-unfolded : goal.said_by-requires-clause-unfolded
+said_by-requires-clause-unfolded c =
+    let i = inputs_of c.in_ok-inputs.inputs in
+    rw c.in_ok-both.ensures.system (unfolded_of c.args.mode c.args.limits.now i c.in_ok-both.both.items (map answer_of c.in_ok-both.both.extra) c.requires.limits c.in_ok-both.ensures.answers)
+
 pub traces_of-requires : goal.traces_of-requires
 traces_of-requires c =
-    let i = inputs_of c.in_ok-inputs.inputs in
-    record { tracked = rw c.items.ensures (tracked_of c.args.mode c.args.limits.now i (map answer_of c.in_ok-both.both.items) (map answer_of c.in_ok-both.both.extra) c.in_ok-both.ensures.answers) }
+    let old = c.in_ok-inputs.inputs in
+    let both = c.in_ok-both.both in
+    let said = c.in_ok-said.said in
+    record {
+      tracked =
+          rw c.deref.ensures.value
+          (tracked_of c.args.mode c.args.limits.now (inputs_of said.inputs) (map answer_of said.items.items) (map answer_of both.extra)
+          (said_right c.args.mode c.args.limits.now (inputs_of old) (inputs_of said.inputs) (map answer_of both.items) (map answer_of said.items.items) (map answer_of both.extra) both.system c.in_ok-said.ensures.inputs
+          (wides_marked old.script.stmts.items old.script.sharp.items) c.in_ok-both.ensures.answers c.in_ok-both.ensures.system c.in_ok-said.ensures.settled));
+    }
 
 pub returns-clause-said : goal.returns-clause-said
 returns-clause-said c =
+    let old = c.in_ok-inputs.inputs in
+    let both = c.in_ok-both.both in
+    let said = c.in_ok-said.said in
     record {
-      read = c.in_ok-inputs.ensures.read;
-      answers = rw (c.into_items.ensures, c.into_items-2.ensures) c.in_ok-both.ensures.answers;
-      traces = rw (c.into_items.ensures, sym c.items.ensures) c.in_ok-traces.ensures;
+      read = c.in_ok-inputs.ensures.read ∙ ap Ok (sym c.in_ok-said.ensures.inputs);
+      answers =
+          rw c.in_ok-said.ensures.others
+          (said_right c.args.mode c.args.limits.now (inputs_of old) (inputs_of said.inputs) (map answer_of both.items) (map answer_of said.items.items) (map answer_of both.extra) both.system c.in_ok-said.ensures.inputs
+          (wides_marked old.script.stmts.items old.script.sharp.items) c.in_ok-both.ensures.answers c.in_ok-both.ensures.system c.in_ok-said.ensures.settled);
+      traces = rw c.deref.ensures.value at c.in_ok-traces.ensures;
     }

@@ -69,7 +69,7 @@ pub write_dead-requires-clause-probed : goal.write_dead-requires-clause-probed
 write_dead-requires-clause-probed g c =
     let s = said_of (texts_of c.args.texts.now) c.args.said.now in
     let all = probed_of s (subst (λ (m : Mode). IsWritable m s) c.in-Dead.is c.requires.writable) in
-    rw (c.deref-in-Dead.ensures.value, c.deref-in-Dead-2.ensures.value) (all_unmapped (IsProbed (places_of (statements_of c.args.said.now.inputs.stmts.items))) answer_of c.args.said.now.others.items all.1)
+    rw (c.deref-in-Dead.ensures.value, c.deref-in-Dead-2.ensures.value) (all_unmapped (IsProbed (places_of (statements_of c.args.said.now.inputs.script.stmts.items))) answer_of c.args.said.now.others.items all.1)
 
 pub returns-in_ok-write_page-in-Dead-clause-err : goal.returns-in_ok-write_page-in-Dead-clause-err
 returns-in_ok-write_page-in-Dead-clause-err g c =
