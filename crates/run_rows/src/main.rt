@@ -3,7 +3,8 @@
 //! The table's lines: `== NAME` begins an example, `-- file NAME` a file, whose lines follow; `-- loads N ..`,
 //! `-- puts N ..` and `-- errors N ..` say which loads, puts on `out` and puts on `err` fail, and `-- most N` how many
 //! bytes a put takes. `-- run WORD ..` runs the command, and what it says is printed behind its status; `-- status
-//! WORD ..` does the same, and leaves the report out. Other lines say nothing.
+//! WORD ..` does the same, and leaves the report out. Other lines say nothing. What stands in brackets is spelt as
+//! `row_text` says, in files and in words.
 #![tactic(auto)]
 
 mod examples;

@@ -1,5 +1,6 @@
 //! A run of the command over an example.
 use crate::examples::{Example, MOST};
+use row_text::bytes_of;
 use std::alloc::{AllocError, Global};
 use tp_io::{MemFiles, MemSink};
 use treeped_app::{Status, treeped};
@@ -30,9 +31,11 @@ fn ended(
     Ok(treeped(alloc, &words, &mut files, out, err))
 }
 
+// What stands in brackets is spelt out, as in a file.
 fn words_of(alloc: Global, text: &str) -> Result<Vec<String>, AllocError> {
+    let spelt = bytes_of(alloc, text)?;
     let mut words = Vec::new(alloc);
-    for word in text.split_whitespace() {
+    for word in str::from_utf8(&spelt).unwrap_or("").split_whitespace() {
         words.push(String::from_str(alloc, word)?)?;
     }
     Ok(words)

@@ -6,4 +6,6 @@ mod sure_runs;
 pub use sure_runs::sure_run;
 
 #[cfg(test)]
+mod cuts;
+#[cfg(test)]
 mod tests;

@@ -1,8 +1,14 @@
 //! What is read of letters alone, and the places of statements in a text.
-use crate::places::places;
-use jq_parts::{Stated, class_set, compounds, placed, selectors, stated, this_chain};
+ghost use Rattle.std.specs.List.{AllByRecursion};
+ghost use Rattle.std.specs.Prelude.{ℕ, List, map, IfOk};
+ghost use Rattle.jq_parts.specs.ScopeViews.{stated_in};
+ghost use Rattle.jq_parts.specs.Stating.{IsCounted};
+
+use crate::places::exact_places;
+use jq_parts::{MarkedChain, Stated, class_set, compounds, placed, selectors};
+use jq_sem::Root;
 use jq_words::ScriptFault;
-use std::alloc::Global;
+use std::alloc::{AllocError, Global};
 use tp_base::{AtomTable, ClassSet, MOST_BYTES};
 use tree_sem::Action;
 
@@ -52,22 +58,30 @@ fn chosen(alloc: Global, text: &[u8]) -> Result<String, ScriptFault> {
     counts(alloc, text, &mut atoms)
 }
 
-/// Adds the statement of a call that acts, whose name stands at an offset.
-fn acting(alloc: Global, at: usize, statements: &mut Vec<Stated>) -> Result<(), ScriptFault> {
-    let effect = Some((this_chain(alloc)?, Action::Classes(ClassSet::new(alloc))));
-    stated(alloc, &[], at, effect, statements)
+/// A statement on `this`, the name of whose action stands at an offset.
+#[tactic(auto, using(crate::proofs::Counts::bare_counted))]
+fn acting(alloc: Global, at: usize) -> Stated
+    ensures counted { (text : List ℕ) → IsCounted (stated_in text result) }
+{
+    Stated {
+        at,
+        handlers: Vec::new(alloc),
+        chain: MarkedChain {
+            root: Root::This,
+            calls: Vec::new(alloc),
+        },
+        action: Action::Classes(ClassSet::new(alloc)),
+    }
 }
 
-fn all_acting(alloc: Global, size: usize, statements: &mut Vec<Stated>) -> Result<(), ScriptFault> {
-    acting(alloc, size, statements)?;
-    acting(alloc, 1, statements)?;
-    acting(alloc, usize::MAX, statements)
-}
-
-fn statements(alloc: Global, size: usize) -> Result<Vec<Stated>, ScriptFault> {
-    let mut statements = Vec::new(alloc);
-    all_acting(alloc, size, &mut statements)?;
-    Ok(statements)
+fn statements(alloc: Global, size: usize) -> Result<Vec<Stated>, AllocError>
+    ensures counted { (text : List ℕ) → IfOk result (λ v. AllByRecursion IsCounted (map (stated_in text) v.items)) }
+{
+    let first = acting(alloc, size);
+    let second = acting(alloc, 1);
+    let third = acting(alloc, usize::MAX);
+    let all = vec![in alloc; first, second, third]?;
+    Ok(all)
 }
 
 /// The places of statements at the end of a text, at its second byte, and behind its end.
@@ -75,6 +89,7 @@ fn standing(alloc: Global, text: &[u8]) -> Result<String, ScriptFault> {
     if text.len() > MOST_BYTES as usize {
         return Err(ScriptFault::Memory);
     }
-    let placed = placed(alloc, text, statements(alloc, text.len())?)?;
-    Ok(places(alloc, &placed)?)
+    let statements = statements(alloc, text.len())?;
+    let placed = placed(alloc, text, statements)?;
+    Ok(exact_places(alloc, &placed)?)
 }

@@ -4,6 +4,7 @@
 
 mod faults;
 mod letters;
+mod marks;
 mod parts;
 mod places;
 mod scripts;
@@ -28,9 +29,10 @@ enum Kind {
     Letters(OfLetters),
 }
 
-static HEADINGS: [(&str, Kind); 16] = [
+static HEADINGS: [(&str, Kind); 17] = [
     ("# scripts", Kind::Script(OfScript::Places)),
     ("# statements", Kind::Script(OfScript::Actions)),
+    ("# sharp", Kind::Script(OfScript::Marks)),
     ("# expressions", Kind::Words(OfWords::BehindList)),
     ("# joined", Kind::Words(OfWords::Joined)),
     ("# closed", Kind::Words(OfWords::Closed)),

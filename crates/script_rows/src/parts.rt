@@ -4,10 +4,10 @@ ghost use Rattle.js_scan.specs.Tokens.{InOrder};
 
 use crate::words::{lettered, tokens_of};
 use jq_parts::{
-    Bound, Cursor, Declaration, Declarations, Lists, Scope, SharedChain, Value, is_chain,
-    markup_argument, parameters, root, target, text_argument,
+    Bound, Cursor, Declaration, Declarations, Lists, MarkedChain, Scope, SharedChain, Value,
+    is_chain, markup_argument, parameters, root, target, text_argument,
 };
-use jq_sem::{Chain, Root};
+use jq_sem::Root;
 use jq_words::{ScriptFault, Words, place};
 use js_scan::Token;
 use std::alloc::{AllocError, Global};
@@ -178,7 +178,7 @@ fn aim(
     size: usize,
     scope: &Scope<'_>,
     words: &Words<'_>,
-) -> Result<Chain, ScriptFault> {
+) -> Result<MarkedChain, ScriptFault> {
     let chain = shared(alloc, size, scope, words)?;
     Ok(chain.copy(alloc)?)
 }

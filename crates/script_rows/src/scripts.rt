@@ -1,6 +1,7 @@
-//! Scripts: the places of their statements, and what each does to a node.
+//! Scripts: the places of their statements, what each does to a node, and which calls of each are marked.
+use crate::marks::marks;
 use crate::places::places;
-use jq_read::{ScriptFault, read_script};
+use jq_read::{ScriptFault, read_exact, read_script};
 use jq_sem::Stmt;
 use std::alloc::{AllocError, Global};
 use tp_base::{AtomTable, MOST_BYTES};
@@ -10,6 +11,8 @@ use tree_sem::Action;
 pub(crate) enum OfScript {
     Places,
     Actions,
+    /// Of a script that is read exactly.
+    Marks,
 }
 
 pub(crate) fn of_script(alloc: Global, case: OfScript, text: &[u8]) -> Result<String, ScriptFault> {
@@ -17,20 +20,19 @@ pub(crate) fn of_script(alloc: Global, case: OfScript, text: &[u8]) -> Result<St
         return Ok(String::from_str(alloc, "too large")?);
     }
     let mut atoms = AtomTable::new(alloc);
-    let stmts = read_script(alloc, text, &mut atoms)?;
-    Ok(written(alloc, case, &stmts, &atoms)?)
+    match case {
+        OfScript::Marks => Ok(marks(alloc, &read_exact(alloc, text, &mut atoms)?)?),
+        OfScript::Places => Ok(places(alloc, &read_script(alloc, text, &mut atoms)?)?),
+        OfScript::Actions => acted(alloc, text, &mut atoms),
+    }
 }
 
-fn written(
-    alloc: Global,
-    case: OfScript,
-    stmts: &[Stmt],
-    atoms: &AtomTable,
-) -> Result<String, AllocError> {
-    match case {
-        OfScript::Places => places(alloc, stmts),
-        OfScript::Actions => actions(alloc, stmts, atoms),
+fn acted(alloc: Global, text: &[u8], atoms: &mut AtomTable) -> Result<String, ScriptFault> {
+    if text.len() > MOST_BYTES as usize {
+        return Err(ScriptFault::Memory);
     }
+    let stmts = read_script(alloc, text, atoms)?;
+    Ok(actions(alloc, &stmts, atoms)?)
 }
 
 fn actions(alloc: Global, stmts: &[Stmt], atoms: &AtomTable) -> Result<String, AllocError> {

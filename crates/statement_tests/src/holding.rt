@@ -1,9 +1,9 @@
-use crate::reading::page_of;
 use guard_sem::{Guard, GuardNode, Guards, holds, of_selector};
 use sel_core::{SelFault, Selector, read_strict_list};
 use std::alloc::Global;
 use std::test::Fail;
 use test_building::path_of;
+use test_reading::page_of;
 use tp_base::{AtomTable, NoMemory};
 use tree_sem::Tree;
 

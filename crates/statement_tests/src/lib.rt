@@ -5,17 +5,11 @@
 #[cfg(test)]
 mod holding;
 #[cfg(test)]
-mod losing;
-#[cfg(test)]
 mod marking;
-#[cfg(test)]
-mod reading;
 #[cfg(test)]
 mod running;
 #[cfg(test)]
 mod simplifying;
-#[cfg(test)]
-mod stepping;
 #[cfg(test)]
 mod systems;
 #[cfg(test)]

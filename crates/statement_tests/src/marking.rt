@@ -17,6 +17,9 @@ enum Made {
     FarBelow,
     Over,
     FarOver,
+    Beside,
+    FreeOver,
+    FirstIn,
     Both,
     Either,
     IfAny,
@@ -43,7 +46,7 @@ const NONE: u32 = 2;
 // How a set is made, the atoms of the nodes of the two that it is made of, and the marks of the six nodes.
 type Row = (Made, u32, u32, [bool; 6]);
 
-static ROWS: [Row; 14] = [
+static ROWS: [Row; 18] = [
     (Made::Only, A, B, [false, false, false, false, true, false]),
     (Made::Every, A, B, [true, true, true, true, true, true]),
     (Made::No, A, B, [false, false, false, false, false, false]),
@@ -59,6 +62,25 @@ static ROWS: [Row; 14] = [
     ),
     (Made::Over, A, B, [true, false, true, false, false, false]),
     (Made::FarOver, A, B, [true, true, true, false, false, false]),
+    (Made::Beside, A, B, [false, false, false, true, false, true]),
+    (
+        Made::Beside,
+        B,
+        A,
+        [false, true, false, false, false, false],
+    ),
+    (
+        Made::FreeOver,
+        A,
+        B,
+        [true, false, true, false, false, false],
+    ),
+    (
+        Made::FirstIn,
+        B,
+        A,
+        [false, false, true, false, false, false],
+    ),
     (Made::Both, A, B, [false, false, false, false, false, false]),
     (Made::Either, A, B, [false, true, true, false, true, true]),
     (Made::IfAny, A, B, [true, true, true, true, true, true]),
@@ -92,6 +114,9 @@ fn make(
         Made::FarBelow => nodes.far_below(first),
         Made::Over => nodes.over(first),
         Made::FarOver => nodes.far_over(first),
+        Made::Beside => nodes.beside(first),
+        Made::FreeOver => nodes.free_over(first, second),
+        Made::FirstIn => nodes.first_in(first),
         Made::Both => nodes.in_both(first, second),
         Made::Either => nodes.in_either(first, second),
         Made::IfAny => nodes.if_any(first),

@@ -1,35 +1,62 @@
 ghost use Rattle.std.specs.Prelude.{◌↔◌, ◌<◌, All, IsTrue};
 
-use crate::reading::{PAGE, page_of, script_of, statement_of};
 use jq_sem::{Stmt, run_within};
 use run_trace::{MOST_RUN_NODES, RunFault, first_match, replay_runs};
 use sel_core::{SelFault, Selector, read_selector};
 use std::alloc::Global;
 use std::test::Fail;
 use test_building::is_path;
+use test_reading::{PAGE, page_of, script_of, statement_of};
 use tp_base::{AtomTable, NoMemory};
 use tree_sem::{MOST_NODES, Tree, TreeFault};
 
-// A page, how often a box is put into each box, and how many nodes there may be; what `replay_runs` answers, and how many nodes
-// there are then. Three nodes are no boxes, and the boxes double with each run.
-type Row = (&'static str, usize, u32, Result<(), RunFault>, u32);
+// A script of one statement, a page, how often the statement is run, and how many nodes there may be; what `replay_runs` answers,
+// and how many nodes there are then.
+type Row = (
+    &'static str,
+    &'static str,
+    usize,
+    u32,
+    Result<(), RunFault>,
+    u32,
+);
 
 const BOX: &str = "<div class=box></div>";
 
-static ROWS: [Row; 7] = [
-    (BOX, 0, 0, Ok(()), 4),
-    (BOX, 2, 200, Ok(()), 7),
-    (BOX, 2, 7, Ok(()), 7),
-    (BOX, 2, 6, Err(RunFault::OverLimit(1)), 5),
-    (BOX, 2, 3, Err(RunFault::OverLimit(0)), 4),
-    ("", 2, 2, Err(RunFault::OverLimit(0)), 3),
+const FILL: &str = "$('.box').append('<div class=box></div>')";
+
+const NOBODY: &str = "$('.bag').append('<div class=box></div>')";
+
+// What these take away stays where a run does them.
+const EMPTIED: &str = "$('.box').empty().removeClass('box').append('<div class=box></div>')";
+
+const INSTEAD: &str = "$('.box').html('<div class=box></div>')";
+
+const TOGGLED: &str = "$('.box').toggleClass('box')";
+
+static ROWS: [Row; 14] = [
+    // Three nodes are no boxes, and the boxes double with each run.
+    (FILL, BOX, 0, 0, Ok(()), 4),
+    (FILL, BOX, 2, 200, Ok(()), 7),
+    (FILL, BOX, 2, 7, Ok(()), 7),
+    (FILL, BOX, 2, 6, Err(RunFault::OverLimit(1)), 5),
+    (FILL, BOX, 2, 3, Err(RunFault::OverLimit(0)), 4),
+    (FILL, "", 2, 2, Err(RunFault::OverLimit(0)), 3),
     (
+        FILL,
         BOX,
         18,
         MOST_RUN_NODES,
         Err(RunFault::OverLimit(17)),
         131_075,
     ),
+    (NOBODY, BOX, 2, 4, Ok(()), 4),
+    (NOBODY, BOX, 2, 3, Err(RunFault::OverLimit(0)), 4),
+    (EMPTIED, BOX, 2, 7, Ok(()), 7),
+    (EMPTIED, BOX, 2, 6, Err(RunFault::OverLimit(1)), 5),
+    (INSTEAD, BOX, 2, 7, Ok(()), 7),
+    (INSTEAD, BOX, 2, 6, Err(RunFault::OverLimit(1)), 5),
+    (TOGGLED, BOX, 2, 4, Ok(()), 4),
 ];
 
 fn numbers(alloc: Global, times: usize) -> Result<Vec<u32>, NoMemory> {
@@ -46,8 +73,8 @@ fn run_all(
     tree: &mut Tree,
     row: &Row,
 ) -> Result<Result<(), RunFault>, NoMemory> {
-    let runs = numbers(alloc, row.1)?;
-    Ok(run_those(alloc, stmts, tree, &runs, row.2))
+    let runs = numbers(alloc, row.2)?;
+    Ok(run_those(alloc, stmts, tree, &runs, row.3))
 }
 
 fn run_those(
@@ -76,29 +103,22 @@ fn is_there(run: u32, count: usize) -> bool
 }
 
 fn runs(alloc: Global, stmts: &[Stmt], row: &Row, atoms: &mut AtomTable) -> Result<bool, Fail> {
-    let mut tree = page_of(alloc, row.0, atoms)?;
+    let mut tree = page_of(alloc, row.1, atoms)?;
     let answer = run_all(alloc, stmts, &mut tree, row)?;
-    Ok(answer == row.3 && tree.count() == row.4)
+    Ok(answer == row.4 && tree.count() == row.5)
 }
 
-fn all_run(alloc: Global, stmts: &[Stmt], atoms: &mut AtomTable) -> Result<bool, Fail> {
-    for row in &ROWS {
-        if !runs(alloc, stmts, row, atoms)? {
-            return Ok(false);
-        }
-    }
-    Ok(true)
-}
-
-fn boxes_run(alloc: Global, atoms: &mut AtomTable) -> Result<bool, Fail> {
-    let stmts = script_of(alloc, "$('.box').append('<div class=box></div>')", atoms)?;
-    all_run(alloc, &stmts, atoms)
+fn script_runs(alloc: Global, row: &Row, atoms: &mut AtomTable) -> Result<bool, Fail> {
+    let stmts = script_of(alloc, row.0, atoms)?;
+    runs(alloc, &stmts, row, atoms)
 }
 
 #[test]
 fn replays_runs(rt: HostRuntime) -> Result<(), Fail> {
     let mut atoms = AtomTable::new(rt.alloc());
-    assert!(rt; boxes_run(rt.alloc(), &mut atoms)?);
+    for row in &ROWS {
+        assert!(rt; script_runs(rt.alloc(), row, &mut atoms)?);
+    }
     Ok(())
 }
 

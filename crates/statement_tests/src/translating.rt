@@ -1,4 +1,3 @@
-use crate::reading::{Twist, script_of, statement_of, twisted};
 use crate::writing::{guard_text, rule_text};
 use dead_script::{probe_guards, probes};
 use guard_sem::{Guard, Rule, of_compound, of_selector};
@@ -8,6 +7,7 @@ use rule_translate::translate;
 use sel_core::{Compound, SelFault, Selector, read_strict_list};
 use std::alloc::Global;
 use std::test::Fail;
+use test_reading::{Twist, script_of, statement_of, twisted};
 use tp_base::{AtomTable, NoMemory};
 
 // A selector, its guard, and the guard of its last compound.

@@ -97,7 +97,7 @@ fn next_cell(
     requires inside { AreIn d.old.branches now.now }
 {
     let equations = Equations::new(alloc, system)?;
-    equations.next_cell(alloc, d, now, kind, Atom(atom))
+    equations.next_cell(d, now, kind, Atom(atom))
 }
 
 fn cell_behind(

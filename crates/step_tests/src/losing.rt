@@ -1,11 +1,10 @@
 use crate::losing::Happening::{Cut, Run, Take};
-use crate::reading::{PAGE, page_of, script_of};
-use crate::writing::label_text;
 use jq_sem::Stmt;
 use rule_core::{ReplayFault, replay_events};
 use std::alloc::Global;
 use std::test::Fail;
 use test_building::path_of;
+use test_reading::{PAGE, label_text, page_of, script_of};
 use tp_base::{AtomFault, AtomKind, AtomTable, ClassSet, NoMemory, Path};
 use tree_sem::{Event, Step, Tree};
 

@@ -1,10 +1,9 @@
-use crate::reading::{PAGE, Twist, page_of, script_of, statement_of, twisted};
-use crate::writing::has_class;
 use jq_sem::{Stmt, act, run_whole, selects};
 use rule_core::{ReplayFault, replay};
 use std::alloc::Global;
 use std::test::Fail;
 use test_building::path_of;
+use test_reading::{PAGE, Twist, has_class, page_of, script_of, statement_of, twisted};
 use tp_base::{AtomTable, NoMemory, Path};
 use tree_sem::{Step, Tree, TreeFault, go_on};
 

@@ -1,9 +1,8 @@
 //! Pages and statements from their texts.
-use html_subset::read_page;
+use html_subset::{PageFault, read_page};
 use jq_read::{ScriptFault, read_script};
 use jq_sem::{Call, Calls, Chains, Root, Selectors, Stmt};
 use std::alloc::Global;
-use std::test::Fail;
 use tp_base::{AtomTable, MOST_BYTES, NoMemory};
 use tree_sem::Tree;
 
@@ -12,8 +11,8 @@ pub const PAGE: &str =
     "<div class=a><div class=b><div class=c></div><div class='a b'></div></div><div class=c><div></div></div></div><div class=b><div class=a><div class=c></div></div><div class=c></div></div><div class=d></div>";
 
 /// The tree of a page.
-pub fn page_of(alloc: Global, text: &str, atoms: &mut AtomTable) -> Result<Tree, Fail> {
-    Ok(read_page(alloc, text.as_bytes(), atoms)?)
+pub fn page_of(alloc: Global, text: &str, atoms: &mut AtomTable) -> Result<Tree, PageFault> {
+    read_page(alloc, text.as_bytes(), atoms)
 }
 
 /// The statements of a script. One past the limit is refused as if no memory was to be had, which no test expects.
