@@ -3,12 +3,12 @@ use Rattle.std.proofs.Common.{◌≡◌, ◌↔◌, ◌⊎◌, ℕ, ◌+◌, ◌
 use Rattle.std.proofs.lemmas.List.{take_more}
 use Rattle.tp_base.specs.declared.no_memory.NoMemory.{NoMemory}
 use Rattle.tree_sem.specs.Trees.{LabelTree}
-use Rattle.tree_sem.specs.Nodes.{IsNode}
+use Rattle.tree_sem.specs.Nodes.{IsNode, HasAtoms}
 use Rattle.tree_sem.proofs.NodeLemmas.{HasAtom-node}
-use Rattle.node_marks.specs.Marks.{HasAtoms, IsMarked, IsSetOf, HasParentIn, HasAncestorIn, HasChildIn, HasDescendantIn}
+use Rattle.node_marks.specs.Marks.{IsMarked, IsSetOf, HasParentIn, HasAncestorIn, HasChildIn, HasDescendantIn}
 use Rattle.guard_sem.specs.Guards.{Guard, atom, parent, ancestor, child, descendant, somewhere, at_or_below, guards_of}
 use Rattle.guard_sem.specs.Holding.{Holds, HoldAll, HoldsOne}
-use Rattle.guard_sem.proofs.SelectorLemmas.{Fits-none, Fits-more, Fits-first}
+use Rattle.guard_sem.proofs.SelectorLemmas.{HasAtoms-none, HasAtoms-more, HasAtoms-first}
 
 -- a set by another test of its nodes
 pub of_same : (t : LabelTree) (P Q : List ℕ → Type 0) → ((v : List ℕ) → P v ↔ Q v) → (r : Result (List Bool) NoMemory) → IfOk r (λ m. IsSetOf t m P) → IfOk r (λ m. IsSetOf t m Q)
@@ -22,7 +22,7 @@ module _ (t : LabelTree) (h : Guard) (r : Result (List Bool) NoMemory) where
 
   pub of_atom : (a : ℕ) → h ≡ atom a → IfOk r (λ m. IsSetOf t m (λ v. HasAtoms t v (a ∷ []))) → IfOk r (λ m. IsSetOf t m (λ v. Holds t v h))
   of_atom a same is = of_guard (atom a) same
-      (of_same t (λ v. HasAtoms t v (a ∷ [])) (λ v. Holds t v (atom a)) (λ v. (λ fits. Fits-first t v a [] fits, λ has. Fits-more t v a [] has (Fits-none t v (HasAtom-node t v a has)))) r is)
+      (of_same t (λ v. HasAtoms t v (a ∷ [])) (λ v. Holds t v (atom a)) (λ v. (λ fits. HasAtoms-first t v a [] fits, λ has. HasAtoms-more t v a [] has (HasAtoms-none t v (HasAtom-node t v a has)))) r is)
 
   module _ (g : Guard) (b : List Bool) (part : IsSetOf t b (λ v. Holds t v g)) where
     pub of_parent : h ≡ parent g → IfOk r (λ m. IsSetOf t m (λ v. IsNode t v × HasParentIn (IsMarked t b) v)) → IfOk r (λ m. IsSetOf t m (λ v. Holds t v h))

@@ -5,15 +5,14 @@ use Rattle.std.proofs.lemmas.List.{take-append-le, length-take}
 use Rattle.std.proofs.Math.Seq.{take-length}
 use Rattle.tp_base.specs.declared.no_memory.NoMemory.{NoMemory}
 use Rattle.tree_sem.specs.Trees.{LabelTree, node_at}
-use Rattle.tree_sem.specs.Nodes.{IsNode, HasAtom}
+use Rattle.tree_sem.specs.Nodes.{IsNode, HasAtom, HasAtoms}
 use Rattle.tree_sem.proofs.BothLemmas.{last_of}
-use Rattle.tree_sem.proofs.NodeLemmas.{HasAtom-node}
+use Rattle.tree_sem.proofs.NodeLemmas.{HasAtom-node, HasAtoms-node}
 use Rattle.tree_sem.proofs.PathLemmas.{take_take}
-use Rattle.sel_core.specs.Selectors.{Join, child as to_parent, inside, Outer, Selector, Fits, IsAbove, Above, Matches, simple}
+use Rattle.sel_core.specs.Selectors.{Join, child as to_parent, inside, Outer, Selector, IsAbove, Above, Matches, simple}
 use Rattle.sel_core.specs.declared.selectors.Compound.{Compound}
 use Rattle.sel_core.specs.declared.selectors.Join as code
 use Rattle.sel_core.specs.Parts.{and_then, with_parts, selector_from}
-use Rattle.sel_core.proofs.ImageLemmas.{Fits-node}
 use Rattle.guard_sem.specs.Guards.{Guard, atom, guards_of}
 use Rattle.guard_sem.specs.Holding.{Holds, HoldAll}
 use Rattle.guard_sem.specs.OfSelectors.{of_compound, of_join, of_parts, of_selector, with_joined}
@@ -22,45 +21,45 @@ module _ (t : LabelTree) (v : List ℕ) where
   abbrev Label : Option LabelTree → (List ℕ → Type 0) → Type 0
   Label o P = IsSomeAnd (option_map (λ (n : LabelTree). n.label) o) P
 
-  pub Fits-none : IsNode t v → Fits t v []
-  Fits-none is = elim (node_at v t) as (λ o. IsSome o → Label o (λ l. All (Contains l) [])) [ None ↦ λ is. cc | Some s ↦ λ is. All-nil (Contains s.label) ] is
+  pub HasAtoms-none : IsNode t v → HasAtoms t v []
+  HasAtoms-none is = elim (node_at v t) as (λ o. IsSome o → Label o (λ l. All (Contains l) [])) [ None ↦ λ is. cc | Some s ↦ λ is. All-nil (Contains s.label) ] is
 
-  pub Fits-more : (a : ℕ) (atoms : List ℕ) → HasAtom t v a → Fits t v atoms → Fits t v (a ∷ atoms)
-  Fits-more a atoms has fits = elim (node_at v t) as (λ o. Label o (λ l. Contains l a) → Label o (λ l. All (Contains l) atoms) → Label o (λ l. All (Contains l) (a ∷ atoms))) [
+  pub HasAtoms-more : (a : ℕ) (atoms : List ℕ) → HasAtom t v a → HasAtoms t v atoms → HasAtoms t v (a ∷ atoms)
+  HasAtoms-more a atoms has fits = elim (node_at v t) as (λ o. Label o (λ l. Contains l a) → Label o (λ l. All (Contains l) atoms) → Label o (λ l. All (Contains l) (a ∷ atoms))) [
     | None ↦ λ has fits. absurd fits
     | Some s ↦ λ has fits. All-cons (Contains s.label) a atoms has fits
   ] has fits
 
-  pub Fits-first : (a : ℕ) (atoms : List ℕ) → Fits t v (a ∷ atoms) → HasAtom t v a
-  Fits-first a atoms fits = elim (node_at v t) as (λ o. Label o (λ l. All (Contains l) (a ∷ atoms)) → Label o (λ l. Contains l a)) [
+  pub HasAtoms-first : (a : ℕ) (atoms : List ℕ) → HasAtoms t v (a ∷ atoms) → HasAtom t v a
+  HasAtoms-first a atoms fits = elim (node_at v t) as (λ o. Label o (λ l. All (Contains l) (a ∷ atoms)) → Label o (λ l. Contains l a)) [
     | None ↦ λ fits. absurd fits
     | Some s ↦ λ fits. All-head (Contains s.label) a atoms fits
   ] fits
 
-  pub Fits-others : (a : ℕ) (atoms : List ℕ) → Fits t v (a ∷ atoms) → Fits t v atoms
-  Fits-others a atoms fits = elim (node_at v t) as (λ o. Label o (λ l. All (Contains l) (a ∷ atoms)) → Label o (λ l. All (Contains l) atoms)) [
+  pub HasAtoms-others : (a : ℕ) (atoms : List ℕ) → HasAtoms t v (a ∷ atoms) → HasAtoms t v atoms
+  HasAtoms-others a atoms fits = elim (node_at v t) as (λ o. Label o (λ l. All (Contains l) (a ∷ atoms)) → Label o (λ l. All (Contains l) atoms)) [
     | None ↦ λ fits. absurd fits
     | Some s ↦ λ fits. All-tail (Contains s.label) a atoms fits
   ] fits
 
-  pub Fits-has : (atoms : List ℕ) (a : ℕ) → Fits t v atoms → Contains atoms a → HasAtom t v a
-  Fits-has atoms a fits listed = elim (node_at v t) as (λ o. Label o (λ l. All (Contains l) atoms) → Label o (λ l. Contains l a)) [
+  pub HasAtoms-has : (atoms : List ℕ) (a : ℕ) → HasAtoms t v atoms → Contains atoms a → HasAtom t v a
+  HasAtoms-has atoms a fits listed = elim (node_at v t) as (λ o. Label o (λ l. All (Contains l) atoms) → Label o (λ l. Contains l a)) [
     | None ↦ λ fits. absurd fits
     | Some s ↦ λ fits. All-contains (Contains s.label) atoms a fits listed
   ] fits
 
-  of_atoms : (atoms : List ℕ) → IsNode t v → HoldAll t v (guards_of (map atom atoms)) ↔ Fits t v atoms
-  of_atoms [] is = (λ h. Fits-none is, λ fits. tt)
+  of_atoms : (atoms : List ℕ) → IsNode t v → HoldAll t v (guards_of (map atom atoms)) ↔ HasAtoms t v atoms
+  of_atoms [] is = (λ h. HasAtoms-none is, λ fits. tt)
   of_atoms (a ∷ atoms) is =
       let rest = of_atoms atoms is in
-      (λ h. Fits-more a atoms h.0 (rest.0 h.1), λ fits. (Fits-first a atoms fits, rest.1 (Fits-others a atoms fits)))
+      (λ h. HasAtoms-more a atoms h.0 (rest.0 h.1), λ fits. (HasAtoms-first a atoms fits, rest.1 (HasAtoms-others a atoms fits)))
 
-  pub of_compound-fits : (atoms : List ℕ) → Holds t v (of_compound atoms) ↔ Fits t v atoms
-  of_compound-fits [] = (λ is. Fits-none is, λ fits. Fits-node t v [] fits)
-  of_compound-fits (a ∷ []) = (λ has. Fits-more a [] has (Fits-none (HasAtom-node t v a has)), λ fits. Fits-first a [] fits)
+  pub of_compound-fits : (atoms : List ℕ) → Holds t v (of_compound atoms) ↔ HasAtoms t v atoms
+  of_compound-fits [] = (λ is. HasAtoms-none is, λ fits. HasAtoms-node t v [] fits)
+  of_compound-fits (a ∷ []) = (λ has. HasAtoms-more a [] has (HasAtoms-none (HasAtom-node t v a has)), λ fits. HasAtoms-first a [] fits)
   of_compound-fits (a ∷ b ∷ atoms) = (
     λ h. (of_atoms (a ∷ b ∷ atoms) h.0).0 h.1,
-    λ fits. let is = Fits-node t v (a ∷ b ∷ atoms) fits in (is, (of_atoms (a ∷ b ∷ atoms) is).1 fits),
+    λ fits. let is = HasAtoms-node t v (a ∷ b ∷ atoms) fits in (is, (of_atoms (a ∷ b ∷ atoms) is).1 fits),
   )
 
 -- Where g holds above v at the levels with P, a join to g leads to such a level.
@@ -90,14 +89,14 @@ module _ (t : LabelTree) (v : List ℕ) (g : Guard) (P : ℕ → Type 0) (same :
       (is, m, omega (arith, above), rw front ((same m (omega (arith, above))).1 p))
 
 -- the compounds from this one on, at the node that the first n numbers of v lead to
-of_parts-matches : (t : LabelTree) (v : List ℕ) (outer : List Outer) (atoms : List ℕ) (n : ℕ) → n ≤ length v → Holds t (take n v) (of_parts atoms outer) ↔ (Fits t (take n v) atoms × Above t v n outer)
+of_parts-matches : (t : LabelTree) (v : List ℕ) (outer : List Outer) (atoms : List ℕ) (n : ℕ) → n ≤ length v → Holds t (take n v) (of_parts atoms outer) ↔ (HasAtoms t (take n v) atoms × Above t v n outer)
 of_parts-matches t v [] atoms n le = let here = of_compound-fits t (take n v) atoms in (λ h. (here.0 h, tt), λ m. here.1 m.0)
 of_parts-matches t v (o ∷ outer) atoms n le =
     let here = of_compound-fits t (take n v) atoms in
-    let P : ℕ → Type 0 = λ m. Fits t (take m v) o.atoms × Above t v m outer in
+    let P : ℕ → Type 0 = λ m. HasAtoms t (take m v) o.atoms × Above t v m outer in
     let same : (m : ℕ) → m ≤ length v → Holds t (take m v) (of_parts o.atoms outer) ↔ P m = λ m le'. of_parts-matches t v outer o.atoms m le' in (
       λ h. let up = of_join-up t v (of_parts o.atoms outer) P same n le o.join h.1.1.0 in (here.0 h.1.0, (up.0, up.1, up.2.0, up.2.1)),
-      λ m. (Fits-node t (take n v) atoms m.0, (here.1 m.0, (of_join-down t v (of_parts o.atoms outer) P same n le (Fits-node t (take n v) atoms m.0) o.join m.1.0 m.1.1 (m.1.2, m.1.3), tt))),
+      λ m. (HasAtoms-node t (take n v) atoms m.0, (here.1 m.0, (of_join-down t v (of_parts o.atoms outer) P same n le (HasAtoms-node t (take n v) atoms m.0) o.join m.1.0 m.1.1 (m.1.2, m.1.3), tt))),
     )
 
 pub guard_matches_is : (t : LabelTree) (v : List ℕ) (s : Selector) → Holds t v (of_selector s) ↔ Matches t v s

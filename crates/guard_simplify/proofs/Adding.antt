@@ -6,16 +6,15 @@ use Rattle.std.proofs.lemmas.List.Elements.{All-contains}
 use Rattle.tp_base.proofs.ClassLemmas.{Contains-union_of}
 use Rattle.tp_base.proofs.Rising.{Contains-none, All-from_Contains}
 use Rattle.tree_sem.specs.Trees.{LabelTree, node_at}
-use Rattle.sel_core.specs.Selectors.{Fits}
 use Rattle.simple_core.specs.declared.rules.Local.{Local}
 use Rattle.simple_core.specs.declared.rules.Link.{Link}
 use Rattle.simple_core.specs.declared.system.System.{System}
 use Rattle.simple_core.specs.Labels.{set_of}
 use Rattle.guard_sem.specs.Guards.{Guard, always, atom, all, any, parent, ancestor, child, descendant, somewhere, Guards, no_guards, guard, parts}
 use Rattle.guard_sem.specs.Holding.{Holds, HoldAll, HoldsOne}
-use Rattle.guard_sem.proofs.SelectorLemmas.{Fits-none, Fits-more}
+use Rattle.guard_sem.proofs.SelectorLemmas.{HasAtoms-none, HasAtoms-more}
 use Rattle.guard_simplify.proofs.Steps.{IsLater, later_itself, later_both, Got, got_already, then_got, got_by_local, got_by_up, got_by_down}
-use Rattle.tree_sem.specs.Nodes.{IsNode, HasAtom}
+use Rattle.tree_sem.specs.Nodes.{IsNode, HasAtom, HasAtoms}
 use Rattle.tree_sem.proofs.NodeLemmas.{HasAtom-node, IsNode-front}
 use Rattle.tree_sem.proofs.GrowthLemmas.{IsNode-grows, HasAtom-grows}
 use Rattle.guard_sem.proofs.HoldingLemmas.{HoldAll-grows}
@@ -88,11 +87,11 @@ module _ (s : System) (at : Guard → ℕ) where
       let is = IsNode-front first.after v (k ∷ []) (HasAtom-node first.after (v ++ k ∷ []) x first.has) in
       then_got s u first.after v x first.later (got_by_down s (link_of x x) on first.after v k is first.has)
 
-  pub one_need : (u : LabelTree) (v : List ℕ) (y : ℕ) → HasAtom u v y → Fits u v (y ∷ [])
-  one_need u v y has = Fits-more u v y [] has (Fits-none u v (HasAtom-node u v y has))
+  pub one_need : (u : LabelTree) (v : List ℕ) (y : ℕ) → HasAtom u v y → HasAtoms u v (y ∷ [])
+  one_need u v y has = HasAtoms-more u v y [] has (HasAtoms-none u v (HasAtom-node u v y has))
 
-  Fits-set_of : (u : LabelTree) (v xs : List ℕ) → Fits u v xs → Fits u v (set_of xs)
-  Fits-set_of u v xs fits = elim (node_at v u) as (λ o. IsSomeAnd (option_map (λ (n : LabelTree). n.label) o) (λ l. All (Contains l) xs) → IsSomeAnd (option_map (λ (n : LabelTree). n.label) o) (λ l. All (Contains l) (set_of xs))) [
+  HasAtoms-set_of : (u : LabelTree) (v xs : List ℕ) → HasAtoms u v xs → HasAtoms u v (set_of xs)
+  HasAtoms-set_of u v xs fits = elim (node_at v u) as (λ o. IsSomeAnd (option_map (λ (n : LabelTree). n.label) o) (λ l. All (Contains l) xs) → IsSomeAnd (option_map (λ (n : LabelTree). n.label) o) (λ l. All (Contains l) (set_of xs))) [
     | None ↦ λ fits. absurd fits
     | Some n ↦ λ fits. All-from_Contains (Contains n.label) (set_of xs) (λ x in_set. elim ((Contains-union_of [] xs x).0 in_set) [
       | inl none ↦ absurd (Contains-none x none)
@@ -104,16 +103,16 @@ module _ (s : System) (at : Guard → ℕ) where
   record GotAll (u : LabelTree) (v : List ℕ) (xs : List ℕ) : Type 0 where
     after : LabelTree
     later : IsLater s u after
-    fits : Fits after v xs
+    fits : HasAtoms after v xs
 
   mutual
     pub add : (g : Guard) → Served g → (u : LabelTree) (v : List ℕ) → Holds u v g → Got s u v (at g)
-    add always served u v h = got_by_local s (rule_of [] (at always)) served u v (Fits-none u v h)
+    add always served u v h = got_by_local s (rule_of [] (at always)) served u v (HasAtoms-none u v h)
     add (atom a) served u v h = got_already s u v (at (atom a)) (rw served h)
     add (all gs) served u v h =
         let parts' = add_all gs served.1 u v h.0 h.1 in
         then_got s u parts'.after v (at (all gs)) parts'.later
-        (got_by_local s (rule_of (set_of (map at (parts gs))) (at (all gs))) served.0 parts'.after v (Fits-set_of parts'.after v (map at (parts gs)) parts'.fits))
+        (got_by_local s (rule_of (set_of (map at (parts gs))) (at (all gs))) served.0 parts'.after v (HasAtoms-set_of parts'.after v (map at (parts gs)) parts'.fits))
     add (any gs) served u v h = add_one (at (any gs)) gs served u v h
     add (parent g) served u v h =
         let p = h.2 in
@@ -141,7 +140,7 @@ module _ (s : System) (at : Guard → ℕ) where
         then_got s u root.after v x root.later (up_along x served.1 v [] root.after (IsNode-grows u root.after root.later.grows v h.0) root.has)
 
     add_all : (gs : Guards) → ServedAll gs → (u : LabelTree) (v : List ℕ) → IsNode u v → HoldAll u v gs → GotAll u v (map at (parts gs))
-    add_all no_guards served u v is h = record { after = u; later = later_itself s u; fits = Fits-none u v is }
+    add_all no_guards served u v is h = record { after = u; later = later_itself s u; fits = HasAtoms-none u v is }
     add_all (guard g gs) served u v is h =
         let first = add g served.0 u v h.0 in
         let grows = first.later.grows in
@@ -149,7 +148,7 @@ module _ (s : System) (at : Guard → ℕ) where
         record {
           after = rest.after;
           later = later_both s u first.after rest.after first.later rest.later;
-          fits = Fits-more rest.after v (at g) (map at (parts gs)) (HasAtom-grows first.after rest.after rest.later.grows v (at g) first.has) rest.fits;
+          fits = HasAtoms-more rest.after v (at g) (map at (parts gs)) (HasAtom-grows first.after rest.after rest.later.grows v (at g) first.has) rest.fits;
         }
 
     add_one : (x : ℕ) (gs : Guards) → ServedOne x gs → (u : LabelTree) (v : List ℕ) → HoldsOne u v gs → Got s u v x

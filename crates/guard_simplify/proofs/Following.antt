@@ -14,7 +14,6 @@ use Rattle.tree_sem.proofs.RowLemmas.{there, node_at-append}
 use Rattle.tree_sem.proofs.EditLemmas.{node_at-add_child_new}
 use Rattle.tree_sem.proofs.ImageLemmas.{image_grows, edit_image}
 use Rattle.tree_sem.proofs.WithinLemmas.{within_at, within_both, are_within_each, all_in, carried, image_node}
-use Rattle.sel_core.specs.Selectors.{Fits}
 use Rattle.simple_core.specs.declared.rules.Local.{Local}
 use Rattle.simple_core.specs.declared.system.System.{System}
 use Rattle.simple_core.specs.Systems.{kind_label}
@@ -22,11 +21,11 @@ use Rattle.guard_sem.specs.Guards.{Guard}
 use Rattle.guard_sem.specs.declared.rules.Rule.{Rule}
 use Rattle.guard_sem.specs.Rules.{RuleStep, taken, IsLegal, after_step, end_of, AreLegal}
 use Rattle.guard_sem.proofs.HoldingLemmas.{Holds-node, holds_image}
-use Rattle.guard_sem.proofs.SelectorLemmas.{Fits-none, Fits-more}
+use Rattle.guard_sem.proofs.SelectorLemmas.{HasAtoms-none, HasAtoms-more}
 use Rattle.guard_simplify.proofs.Steps.{IsLater, later_itself, later_both, got_by_local, later_by_spawn}
 use Rattle.guard_simplify.proofs.Adding.{Served, add, one_need}
 use Rattle.guard_simplify.proofs.PushedTrees.{one_down, pushed_cases}
-use Rattle.tree_sem.specs.Nodes.{HasAtom}
+use Rattle.tree_sem.specs.Nodes.{HasAtom, HasAtoms}
 use Rattle.tree_sem.proofs.NodeLemmas.{HasAtom-node}
 use Rattle.tree_sem.specs.Growth.{Grows}
 use Rattle.tree_sem.proofs.GrowthLemmas.{grows_at, HasAtom-grows}
@@ -121,10 +120,10 @@ module _ (s : System) (at : Guard → ℕ) where
   record GotClasses (u : LabelTree) (w : List ℕ) (classes : List ℕ) : Type 0 where
     after : LabelTree
     later : IsLater s u after
-    fits : Fits after w classes
+    fits : HasAtoms after w classes
 
   add_each : (classes : List ℕ) (x : ℕ) → GivesEach x classes → (u : LabelTree) (w : List ℕ) → HasAtom u w x → GotClasses u w classes
-  add_each [] x gives u w has = record { after = u; later = later_itself s u; fits = Fits-none u w (HasAtom-node u w x has) }
+  add_each [] x gives u w has = record { after = u; later = later_itself s u; fits = HasAtoms-none u w (HasAtom-node u w x has) }
   add_each (c ∷ classes) x gives u w has =
       let r = gives.0.0 in
       let first = got_by_local s r gives.0.1 u w (rw gives.0.2 (one_need s at u w x has)) in
@@ -133,7 +132,7 @@ module _ (s : System) (at : Guard → ℕ) where
       record {
         after = rest.after;
         later = later_both s u first.after rest.after first.later rest.later;
-        fits = Fits-more rest.after w c classes (HasAtom-grows first.after rest.after rest.later.grows w c has_c) rest.fits;
+        fits = HasAtoms-more rest.after w c classes (HasAtom-grows first.after rest.after rest.later.grows w c has_c) rest.fits;
       }
 
   -- a rule is in the system: its guard's formulas, and what its action does
@@ -189,7 +188,7 @@ module _ (s : System) (at : Guard → ℕ) where
             (λ s' x' at' there'. classes_within s' x' got.after at' there' (image_grows t u v w image got.after got.later.grows) got.fits);
       }
     where
-      classes_within : (s' x' u' : LabelTree) → node_at v t ≡ Some s' → node_at w u' ≡ Some x' → IsImage t u' v w → Fits u' w classes → IsWithin (add_classes classes s') x'
+      classes_within : (s' x' u' : LabelTree) → node_at v t ≡ Some s' → node_at w u' ≡ Some x' → IsImage t u' v w → HasAtoms u' w classes → IsWithin (add_classes classes s') x'
       classes_within s' x' u' at' there' image' fits =
           let found = image_node t u' v w image' s' at' in
           let same : found.0 ≡ x' = cc in

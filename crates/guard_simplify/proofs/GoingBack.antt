@@ -18,7 +18,7 @@ use Rattle.guard_simplify.specs.Auxiliaries.{Auxiliary, formula, owner, seen}
 use Rattle.std.specs.Prelude.{slice_get, nat_lt, true, map, unwrap_or}
 use Rattle.std.proofs.lemmas.Bool.{cases_Bool, lt-ltb}
 use Rattle.std.proofs.lemmas.List.Elements.{All-contains, Contains-append_left, Contains-append_right, Contains-append_cases}
-use Rattle.tree_sem.proofs.NodeLemmas.{Contains-map, map-Contains, HasAtom-node, IsNode-front}
+use Rattle.tree_sem.proofs.NodeLemmas.{Contains-map, map-Contains, HasAtom-node, IsNode-front, HasAtoms-node}
 use Rattle.simple_core.specs.declared.rules.Local.{Local}
 use Rattle.simple_core.specs.declared.rules.Link.{Link}
 use Rattle.simple_core.specs.declared.rules.Spawn.{Spawn}
@@ -27,7 +27,7 @@ use Rattle.simple_core.specs.Systems.{kind_label}
 use Rattle.simple_core.specs.SimpleSteps as simple
 use Rattle.guard_sem.specs.Guards.{same_guard}
 use Rattle.std.specs.List.{flat_map}
-use Rattle.guard_sem.proofs.SelectorLemmas.{Fits-has}
+use Rattle.guard_sem.proofs.SelectorLemmas.{HasAtoms-has}
 use Rattle.guard_sem.proofs.SameGuards.{same_guard-sound, same_guard-itself}
 use Rattle.guard_simplify.specs.Firsts.{different}
 use Rattle.guard_simplify.specs.Auxiliaries.{formulas, forest_of, nodes_of, children_in, by_rule}
@@ -42,7 +42,6 @@ use Rattle.tree_sem.specs.Nodes.{IsNode, HasAtom, IsTreeOver}
 use Rattle.tree_sem.specs.Growth.{Grows}
 use Rattle.tree_sem.proofs.GrowthLemmas.{IsNode-grows, HasAtom-grows}
 use Rattle.guard_sem.proofs.HoldingLemmas.{Holds-grows}
-use Rattle.sel_core.proofs.ImageLemmas.{Fits-node}
 
 same_or_other : (xs ys : List ℕ) → (xs ≡ ys) ⊎ (xs ≢ ys)
 same_or_other [] [] = inl refl
@@ -312,8 +311,8 @@ module _ (rules : List Rule) (guards : List Guard) (n : ℕ) (T : LabelTree) whe
     -- each step
     step_back : (u : LabelTree) → IsBack u → (step : simple.SimpleStep) → simple.IsLegal s u step → IsBack (simple.after_step s u step)
     step_back u b (simple.by_local r v) legal =
-        let node = Fits-node u v r.needs legal.1 in
-        let all_say : (a : ℕ) → Contains r.needs a → Says b.steps a (b.image v) = λ a is. b.says v a (Fits-has u v r.needs a legal.1 is) in
+        let node = HasAtoms-node u v r.needs legal.1 in
+        let all_say : (a : ℕ) → Contains r.needs a → Says b.steps a (b.image v) = λ a is. b.says v a (HasAtoms-has u v r.needs a legal.1 is) in
         let F = flat_map (formula_locals rules guards n) (formulas rules guards) in
         let A = by_rule (action_locals rules guards n) 0 rules in
         elim (Contains-append_cases (F ++ A) (map (seen_local rules guards n) (different same_guard guards)) r legal.0) [
@@ -329,7 +328,7 @@ module _ (rules : List Rule) (guards : List Guard) (n : ℕ) (T : LabelTree) whe
                 let rule = of.1 in
                 let class = map-Contains _ (classes_of rule.action) r of.3 in
                 let needs : Contains r.needs (at rule.guard) = subst (λ (z : Local). Contains z.needs (at rule.guard)) (sym class.2) (Contains-here (at rule.guard) (at rule.guard) [] refl) in
-                let b' = back_class u b v of.0 rule class.0 of.2 class.1 (Fits-has u v r.needs (at rule.guard) legal.1 needs) in
+                let b' = back_class u b v of.0 rule class.0 of.2 class.1 (HasAtoms-has u v r.needs (at rule.guard) legal.1 needs) in
                 subst (λ z. IsBack (edit_at v (add_class z) u)) (sym (ap (λ (z : Local). z.gives) class.2)) b'
           ]
           | inr by_seen ↦

@@ -4,17 +4,16 @@ use Rattle.tp_base.specs.Classes.{with_class}
 use Rattle.tp_base.proofs.ClassLemmas.{with_class-there}
 use Rattle.tree_sem.specs.Trees.{LabelTree, node_at, edit_at, add_class, add_child}
 use Rattle.tree_sem.proofs.EditLemmas.{label_at-add_class}
-use Rattle.sel_core.specs.Selectors.{Fits}
 use Rattle.simple_core.specs.declared.rules.Local.{Local}
 use Rattle.simple_core.specs.declared.rules.Link.{Link}
 use Rattle.simple_core.specs.declared.rules.Spawn.{Spawn}
 use Rattle.simple_core.specs.declared.system.System.{System}
 use Rattle.simple_core.specs.Systems.{kind_label}
 use Rattle.simple_core.specs.SimpleSteps.{SimpleStep, by_local, by_up, by_down, by_spawn, after_step, end_of, AreLegal}
-use Rattle.tree_sem.specs.Nodes.{IsNode, HasAtom}
-use Rattle.sel_core.proofs.ImageLemmas.{Fits-node}
+use Rattle.tree_sem.specs.Nodes.{IsNode, HasAtom, HasAtoms}
 use Rattle.tree_sem.specs.Growth.{Grows}
 use Rattle.tree_sem.proofs.GrowthLemmas.{grows_itself, grows_both, add_class_grows, add_child_grows}
+use Rattle.tree_sem.proofs.NodeLemmas.{HasAtoms-node}
 
 module _ (s : System) where
   pub end_of-append : (u : LabelTree) (a b : List SimpleStep) → end_of s u (a ++ b) ≡ end_of s (end_of s u a) b
@@ -62,11 +61,11 @@ module _ (s : System) where
         | Some n ↦ λ is. with_class-there x n.label
       ] is)
 
-  pub got_by_local : (r : Local) → Contains s.local r → (u : LabelTree) (v : List ℕ) → Fits u v r.needs → Got u v r.gives
+  pub got_by_local : (r : Local) → Contains s.local r → (u : LabelTree) (v : List ℕ) → HasAtoms u v r.needs → Got u v r.gives
   got_by_local r listed u v needs = record {
     after = edit_at v (add_class r.gives) u;
     later = record { steps = by_local r v ∷ []; legal = ((listed, needs), tt); ends = refl; grows = add_class_grows r.gives v u };
-    has = has_new u v r.gives (Fits-node u v r.needs needs);
+    has = has_new u v r.gives (HasAtoms-node u v r.needs needs);
   }
 
   pub got_by_up : (l : Link) → Contains s.up l → (u : LabelTree) (p : List ℕ) (k : ℕ) → IsNode u (p ++ k ∷ []) → HasAtom u p l.from → Got u (p ++ k ∷ []) l.to

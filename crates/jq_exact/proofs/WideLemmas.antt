@@ -2,12 +2,12 @@
 use Rattle.std.proofs.Common.{◌≡◌, ◌⊎◌, ℕ, zero, suc, List, [], ◌∷◌, ◌++◌, map, reverse, Option, Some, None, IsSomeAnd, slice_get, Contains, refl, sym, ap, ◌∙◌, subst, inl, inr, append-nil}
 use mathlib.Core.List.{reverse_aux}
 use Rattle.std.proofs.lemmas.List.Elements.{All-nil}
-use Rattle.tree_sem.specs.Nodes.{IsNode}
+use Rattle.tree_sem.specs.Nodes.{IsNode, HasAtoms}
 use Rattle.tree_sem.specs.Trees.{LabelTree, node_at}
 use Rattle.tree_sem.specs.declared.actions.Event.{Event}
 use Rattle.tree_sem.specs.declared.actions.Event.TheVariants.{Step, Take, Cut}
 use Rattle.tree_sem.proofs.RowLemmas.{there}
-use Rattle.sel_core.specs.Selectors.{Selector, Fits}
+use Rattle.sel_core.specs.Selectors.{Selector}
 use Rattle.jq_sem.specs.Statements as script
 use Rattle.jq_sem.specs.Statements.{Root, matched, Call, find, children, parent, parents, filter, has, around, near, add, back, IsMade, InRoot, InCalls, SelectedUnder}
 use Rattle.jq_sem.specs.Events.{IsLegalEvent, after_event, AreLegalEvents}
@@ -20,7 +20,7 @@ use Rattle.jq_exact.specs.Events.{IsLegalExactEvent, AreLegalExactEvents}
 use Rattle.jq_exact.specs.Laws.{IsNarrower, AreNarrower, ReachesLess}
 
 -- a compound without atoms fits each node
-fits_all : (t : LabelTree) (v : List ℕ) → IsNode t v → Fits t v []
+fits_all : (t : LabelTree) (v : List ℕ) → IsNode t v → HasAtoms t v []
 fits_all t v is = let at = there (node_at v t) is in rw at.1 (All-nil (Contains at.0.label))
 
 made_wide : (t : LabelTree) (S L : List ℕ → Type 0) → ((v : List ℕ) → L v → IsNode t v) → ((v : List ℕ) → S v → L v) → (c : ExactCall) (v : List ℕ) → IsMadeExactly t S c v → IsMade t L (wide_call c) v

@@ -14,6 +14,7 @@ use Rattle.tree_sem.specs.Trees.{LabelTree, node_at, label_at, children_at, leng
 use Rattle.tree_sem.proofs.RowLemmas.{there, tree_of-within, child_node_at}
 use Rattle.tree_sem.proofs.PathLemmas.{IsSome-parent_of}
 use Rattle.tree_sem.specs.Paths.{parent_of}
+use Rattle.tree_sem.specs.Nodes.{HasAtom}
 use Rattle.tree_sem.proofs.NodeLemmas.{Contains-map, map-Contains}
 use Rattle.proof_check.proofs.ItemLemmas.{slice_get-Contains}
 use Rattle.simple_core.specs.declared.rules.Kind.{Kind}
@@ -22,7 +23,6 @@ use Rattle.simple_core.specs.declared.rules.Local as rule
 use Rattle.simple_core.specs.declared.rules.Spawn.{Spawn}
 use Rattle.simple_core.specs.declared.system.System.{System}
 use Rattle.simple_core.specs.Systems.{kind_label, IsSound as IsSoundSystem}
-use Rattle.simple_core.specs.SimpleSteps.{Has}
 use Rattle.simple_core.specs.Labels.{visible_in}
 use Rattle.simple_core.specs.Rounds.{grown, IsFirst}
 use Rattle.simple_core.specs.Pages.{page_round}
@@ -119,7 +119,7 @@ module _ (s : System) (page : LabelTree) where
   at_start_is (page_node v) a is = set_of-is (unwrap_or (label_at v page) []) a is
   at_start_is (added t) a is = set_of-is (kind_label s t.kind) a is
 
-  on_page_has : (v : List ℕ) (a : ℕ) → Contains (unwrap_or (label_at v page) []) a → Has page v a
+  on_page_has : (v : List ℕ) (a : ℕ) → Contains (unwrap_or (label_at v page) []) a → HasAtom page v a
   on_page_has v a is = elim (label_at v page) as (λ o. Contains (unwrap_or o []) a → IsSomeAnd o (λ label. Contains label a)) [ None ↦ λ h. absurd (Contains-none a h) | Some l ↦ λ h. h ] is
 
   -- what no rule gives is there at the start

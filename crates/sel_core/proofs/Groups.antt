@@ -3,10 +3,11 @@ use Rattle.std.proofs.Common.{◌≡◌, ◌↔◌, ℕ, suc, ◌+◌, ◌<◌, 
 use Rattle.tree_sem.specs.Paths.{parent_of, IsAncestor}
 use Rattle.tree_sem.specs.Trees.{LabelTree}
 use Rattle.tree_sem.specs.TreeNodes.{TreeNode, node_of, parent_node}
+use Rattle.tree_sem.specs.Nodes.{HasAtoms}
 use Rattle.sel_core.specs.declared.selectors.Compound.{Compound}
 use Rattle.sel_core.specs.declared.selectors.Join.{Join}
 use Rattle.sel_core.specs.declared.selectors.Join.TheVariants.{Inside, Child}
-use Rattle.sel_core.specs.Selectors.{Selector, Fits, Matches}
+use Rattle.sel_core.specs.Selectors.{Selector, Matches}
 use Rattle.sel_core.specs.Parts.{and_then, selector_from}
 use Rattle.sel_core.specs.Places.{IsUpTo, MatchesNode, IsLeft, Leaves}
 use Rattle.sel_core.proofs.PartLemmas.{selector_from-push, selector_from-subject}
@@ -23,7 +24,7 @@ reached_itself n s = record { enough = λ h. h; back = λ h. h; needed = λ u is
 
 module _ (from : TreeNode) (s : Selector) (n : TreeNode) where
   -- behind a `>`, at the parent
-  pub reached_child : (m : TreeNode) (front : Selector) (c : Compound) → IsReached from s n (and_then front Child c) → Fits n.tree n.path c.atoms → Some m ≡ parent_node n → IsReached from s m front
+  pub reached_child : (m : TreeNode) (front : Selector) (c : Compound) → IsReached from s n (and_then front Child c) → HasAtoms n.tree n.path c.atoms → Some m ≡ parent_node n → IsReached from s m front
   reached_child m front c r fit is =
       let above = up.parent_is n m is in
       let p = above.0 in
@@ -47,7 +48,7 @@ module _ (from : TreeNode) (s : Selector) (n : TreeNode) where
 
   -- behind a join that is no `>`
   pub leaves_inside : (parts : List Compound) (joins : List Join) (c : Compound)
-      → IsReached from s n (and_then (selector_from parts joins) Inside c) → Fits n.tree n.path c.atoms → 0 < length parts → Leaves from s n parts joins
+      → IsReached from s n (and_then (selector_from parts joins) Inside c) → HasAtoms n.tree n.path c.atoms → 0 < length parts → Leaves from s n parts joins
   leaves_inside [] joins c r fit some = absurd (omega arith)
   leaves_inside (d ∷ parts) joins c r fit some =
       let front = selector_from (d ∷ parts) joins in
@@ -61,7 +62,7 @@ module _ (from : TreeNode) (s : Selector) (n : TreeNode) where
 
   -- at the first compound
   pub leaves_nothing : (parts : List Compound) (joins : List Join) (c : Compound)
-      → IsReached from s n (selector_from (parts ++ c ∷ []) joins) → Fits n.tree n.path c.atoms → length parts ≡ 0 → length joins ≡ 0 → Leaves from s n parts joins
+      → IsReached from s n (selector_from (parts ++ c ∷ []) joins) → HasAtoms n.tree n.path c.atoms → length parts ≡ 0 → length joins ≡ 0 → Leaves from s n parts joins
   leaves_nothing [] [] c r fit none empty = record { enough = λ h. r.enough (fit, tt); needed = λ u within h. tt }
   leaves_nothing [] (j ∷ joins) c r fit none empty = absurd (omega arith)
   leaves_nothing (d ∷ parts) joins c r fit none empty = absurd (omega arith)
@@ -74,7 +75,7 @@ module _ (from : TreeNode) (s : Selector) (n : TreeNode) where
 
   -- where the last compound doesn't fit
   pub fits_not : (all parts : List Compound) (joins : List Join) (c : Compound)
-      → IsReached from s n (selector_from all joins) → all ≡ parts ++ c ∷ [] → length parts ≡ length joins → (Fits n.tree n.path c.atoms → ⊥) → MatchesNode from s → ⊥
+      → IsReached from s n (selector_from all joins) → all ≡ parts ++ c ∷ [] → length parts ≡ length joins → (HasAtoms n.tree n.path c.atoms → ⊥) → MatchesNode from s → ⊥
   fits_not all parts joins c r e same not_fits h =
       let there : MatchesNode n (selector_from (parts ++ c ∷ []) joins) = rw (← e) (r.back h) in
       not_fits (rw (← selector_from-subject parts joins c same) there.0)

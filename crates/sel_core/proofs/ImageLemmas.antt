@@ -2,27 +2,20 @@
 use Rattle.std.proofs.Common.{◌≡◌, ℕ, ◌≤◌, List, [], ◌∷◌, length, take, Some, None, option_map, IsSome, IsSomeAnd, All, Contains, refl, subst, sym, arith}
 use Rattle.std.proofs.Math.Seq.{take-length}
 use Rattle.tree_sem.specs.Trees.{LabelTree, node_at}
-use Rattle.tree_sem.specs.Nodes.{IsNode}
+use Rattle.tree_sem.specs.Nodes.{IsNode, HasAtoms}
 use Rattle.tree_sem.specs.Embedding.{IsImage}
 use Rattle.tree_sem.specs.Growth.{Grows}
 use Rattle.tree_sem.proofs.WithinLemmas.{image_fits}
 use Rattle.tree_sem.proofs.GrowthLemmas.{grows_image}
-use Rattle.sel_core.specs.Selectors.{Join, child, inside, Outer, Selector, Fits, IsAbove, Above, Matches}
+use Rattle.tree_sem.proofs.NodeLemmas.{HasAtoms-node}
+use Rattle.sel_core.specs.Selectors.{Join, child, inside, Outer, Selector, IsAbove, Above, Matches}
 
--- what fits is a node
-pub Fits-node : (t : LabelTree) (v wanted : List ℕ) → Fits t v wanted → IsNode t v
-Fits-node t v wanted fits =
-    elim (node_at v t) as (λ o. IsSomeAnd (option_map (λ (n : LabelTree). n.label) o) (λ l. All (Contains l) wanted) → IsSome o) [
-      | None ↦ λ fits. absurd fits
-      | Some s ↦ λ fits. refl
-    ] fits
-
-pub Fits-image : (t u : LabelTree) (v w : List ℕ) → IsImage t u v w → (wanted : List ℕ) → Fits t v wanted → Fits u w wanted
-Fits-image t u v w image wanted fits =
+pub HasAtoms-image : (t u : LabelTree) (v w : List ℕ) → IsImage t u v w → (wanted : List ℕ) → HasAtoms t v wanted → HasAtoms u w wanted
+HasAtoms-image t u v w image wanted fits =
     let same = image.same_length in
     let whole : take (length v) v ≡ v = take-length v in
     let whole' : take (length v) w ≡ w = subst (λ n. take n w ≡ w) same (take-length w) in
-    let fits' : Fits t (take (length v) v) wanted = rw whole fits in
+    let fits' : HasAtoms t (take (length v) v) wanted = rw whole fits in
     rw whole' at (image_fits t u v w image (length v) (omega arith) wanted fits')
 
 Above-image : (t u : LabelTree) (v w : List ℕ) → IsImage t u v w → (n : ℕ) → n ≤ length v → (outer : List Outer) → Above t v n outer → Above u w n outer
@@ -38,11 +31,11 @@ Above-image t u v w image n within (o ∷ outer) above =
 -- an image is matched by what matches its node
 pub Matches-image : (t u : LabelTree) (v w : List ℕ) → IsImage t u v w → (s : Selector) → Matches t v s → Matches u w s
 Matches-image t u v w image s matches =
-    (Fits-image t u v w image s.subject matches.0, subst (λ n. Above u w n s.outer) (sym image.same_length) (Above-image t u v w image (length v) (omega arith) s.outer matches.1))
+    (HasAtoms-image t u v w image s.subject matches.0, subst (λ n. Above u w n s.outer) (sym image.same_length) (Above-image t u v w image (length v) (omega arith) s.outer matches.1))
 
-pub Fits-grows : (t u : LabelTree) → Grows t u → (v wanted : List ℕ) → Fits t v wanted → Fits u v wanted
-Fits-grows t u grows v wanted fits = Fits-image t u v v (grows_image t u grows v (Fits-node t v wanted fits)) wanted fits
+pub HasAtoms-grows : (t u : LabelTree) → Grows t u → (v wanted : List ℕ) → HasAtoms t v wanted → HasAtoms u v wanted
+HasAtoms-grows t u grows v wanted fits = HasAtoms-image t u v v (grows_image t u grows v (HasAtoms-node t v wanted fits)) wanted fits
 
 -- what was matched stays so
 pub Matches-grows : (t u : LabelTree) → Grows t u → (v : List ℕ) (s : Selector) → Matches t v s → Matches u v s
-Matches-grows t u grows v s matches = Matches-image t u v v (grows_image t u grows v (Fits-node t v s.subject matches.0)) s matches
+Matches-grows t u grows v s matches = Matches-image t u v v (grows_image t u grows v (HasAtoms-node t v s.subject matches.0)) s matches

@@ -7,9 +7,10 @@ use Rattle.tree_sem.specs.Trees.{LabelTree, node_at}
 use Rattle.tree_sem.specs.Paths.{parent_of, IsAncestor}
 use Rattle.tree_sem.specs.TreeNodes.{TreeNode, node_of, parent_node}
 use Rattle.tree_sem.proofs.PathLemmas.{take_take, parent_of-none, parent_of-take}
+use Rattle.tree_sem.specs.Nodes.{HasAtoms}
 use Rattle.sel_core.specs.declared.selectors.Compound.{Compound}
 use Rattle.sel_core.specs.declared.selectors.Join.TheVariants.{Inside, Child}
-use Rattle.sel_core.specs.Selectors.{Selector, Join, Outer, Fits, IsAbove, child, inside, Above, Matches}
+use Rattle.sel_core.specs.Selectors.{Selector, Join, Outer, IsAbove, child, inside, Above, Matches}
 use Rattle.sel_core.specs.Parts.{and_then}
 use Rattle.sel_core.specs.Places.{IsUpTo}
 
@@ -69,24 +70,24 @@ above_take : (t : LabelTree) (v : List ℕ) (k n : ℕ) → n ≤ k → (outer :
 above_take t v k n le [] above = tt
 above_take t v k n le (o ∷ outer) (m, is, fits, above) =
     let within = level_within o.join m n k le is in
-    (m, is, subst (λ p. Fits t p o.atoms) (sym (take_take m k v within)) fits, above_take t v k m within outer above)
+    (m, is, subst (λ p. HasAtoms t p o.atoms) (sym (take_take m k v within)) fits, above_take t v k m within outer above)
 
 take_above : (t : LabelTree) (v : List ℕ) (k n : ℕ) → n ≤ k → (outer : List Outer) → Above t (take k v) n outer → Above t v n outer
 take_above t v k n le [] above = tt
 take_above t v k n le (o ∷ outer) (m, is, fits, above) =
     let within = level_within o.join m n k le is in
-    (m, is, subst (λ p. Fits t p o.atoms) (take_take m k v within) fits, take_above t v k m within outer above)
+    (m, is, subst (λ p. HasAtoms t p o.atoms) (take_take m k v within) fits, take_above t v k m within outer above)
 
 -- a selector matches a node above where its last compound fits, and the others match above that level
-matches_take : (t : LabelTree) (v : List ℕ) (m : ℕ) → m ≤ length v → (s : Selector) → Fits t (take m v) s.subject → Above t v m s.outer → Matches t (take m v) s
+matches_take : (t : LabelTree) (v : List ℕ) (m : ℕ) → m ≤ length v → (s : Selector) → HasAtoms t (take m v) s.subject → Above t v m s.outer → Matches t (take m v) s
 matches_take t v m le s fits above = (fits, subst (λ n. Above t (take m v) n s.outer) (sym (length-take-le m v le)) (above_take t v m m (omega arith) s.outer above))
 
-take_matches : (t : LabelTree) (v : List ℕ) (m : ℕ) → m ≤ length v → (s : Selector) → Matches t (take m v) s → Fits t (take m v) s.subject × Above t v m s.outer
+take_matches : (t : LabelTree) (v : List ℕ) (m : ℕ) → m ≤ length v → (s : Selector) → Matches t (take m v) s → HasAtoms t (take m v) s.subject × Above t v m s.outer
 take_matches t v m le s (fits, above) = (fits, take_above t v m m (omega arith) s.outer (subst (λ n. Above t (take m v) n s.outer) (length-take-le m v le) above))
 
 module _ (t : LabelTree) (v : List ℕ) (front : Selector) (c : Compound) where
   -- behind a `>`, the front matches the parent
-  pub child_matches : (p : List ℕ) → parent_of v ≡ Some p → Fits t v c.atoms → Matches t p front → Matches t v (and_then front Child c)
+  pub child_matches : (p : List ℕ) → parent_of v ≡ Some p → HasAtoms t v c.atoms → Matches t p front → Matches t v (and_then front Child c)
   child_matches p up fits matches =
       let is = parent_take v p up in
       let parts = take_matches t v (length v - 1) (omega arith) front (subst (λ u. Matches t u front) is.1 matches) in
@@ -102,7 +103,7 @@ module _ (t : LabelTree) (v : List ℕ) (front : Selector) (c : Compound) where
   root_matches none (fits, (m, is, last, above)) = let long = ap length (parent_of-none v none) in omega (arith, is, long)
 
   -- behind a join that is no `>`, some node above
-  pub inside_matches : (u : List ℕ) → IsAncestor u v → Fits t v c.atoms → Matches t u front → Matches t v (and_then front Inside c)
+  pub inside_matches : (u : List ℕ) → IsAncestor u v → HasAtoms t v c.atoms → Matches t u front → Matches t v (and_then front Inside c)
   inside_matches u (n, less, is) fits matches =
       let parts = take_matches t v n (omega (arith, less)) front (subst (λ w. Matches t w front) is matches) in
       (fits, (n, less, parts.0, parts.1))

@@ -1,9 +1,9 @@
 -- Selectors, and the nodes that they match.
---     Fits t v wanted        the node at v has each of these atoms
 --     Above t v n outer      the outer compounds match above the node that the first n numbers of v lead to
 --     Matches t v s          the selector matches the node at v
-use Rattle.std.specs.Prelude.{◌≡◌, ℕ, ◌+◌, ◌<◌, List, [], ◌∷◌, length, take, IsSomeAnd, All, Contains}
-use Rattle.tree_sem.specs.Trees.{LabelTree, label_at}
+use Rattle.std.specs.Prelude.{◌≡◌, ℕ, ◌+◌, ◌<◌, List, [], ◌∷◌, length, take}
+use Rattle.tree_sem.specs.Trees.{LabelTree}
+use Rattle.tree_sem.specs.Nodes.{HasAtoms}
 
 -- how a compound stands to the one on its right: `a > b` at the parent, `a b` at some node above
 pub data Join : Type 0 where
@@ -20,9 +20,6 @@ pub record Selector : Type 0 where
   pub subject : List ℕ
   pub outer : List Outer
 
-abbrev pub Fits : LabelTree → List ℕ → List ℕ → Type 0
-Fits t v wanted = IsSomeAnd (label_at v t) (λ label. All (Contains label) wanted)
-
 -- the level m is that of the parent, or of some node above
 abbrev pub IsAbove : Join → ℕ → ℕ → Type 0
 IsAbove child m n = m + 1 ≡ n
@@ -30,10 +27,10 @@ IsAbove inside m n = m < n
 
 abbrev pub Above : LabelTree → List ℕ → ℕ → List Outer → Type 0
 Above t v n [] = Unit {0}
-Above t v n (o ∷ outer) = (m : ℕ) × IsAbove o.join m n × Fits t (take m v) o.atoms × Above t v m outer
+Above t v n (o ∷ outer) = (m : ℕ) × IsAbove o.join m n × HasAtoms t (take m v) o.atoms × Above t v m outer
 
 abbrev pub Matches : LabelTree → List ℕ → Selector → Type 0
-Matches t v s = Fits t v s.subject × Above t v (length v) s.outer
+Matches t v s = HasAtoms t v s.subject × Above t v (length v) s.outer
 
 -- the selector of one compound
 abbrev pub simple : List ℕ → Selector

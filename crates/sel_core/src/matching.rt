@@ -2,7 +2,8 @@
 //! above the other, so they are placed as one group, and each group takes the nearest place that fits.
 ghost use Rattle.std.specs.Prelude.{◌≡◌, ◌<◌, ◌+◌, ◌↔◌, length, IsTrue, IfNone, IfSome};
 ghost use Rattle.tp_base.specs.Classes.{all_among};
-ghost use Rattle.sel_core.specs.Selectors.{Fits, Matches};
+ghost use Rattle.tree_sem.specs.Nodes.{HasAtoms};
+ghost use Rattle.sel_core.specs.Selectors.{Matches};
 ghost use Rattle.sel_core.specs.Parts.{selector_from};
 ghost use Rattle.sel_core.specs.Places.{MatchesNode, IsLeft, Leaves};
 ghost use Rattle.sel_core.specs.Views.{selector_of};
@@ -99,7 +100,7 @@ fn placed<'t, 'a>(node: Node<'t>, parts: &'a [Compound], joins: &'a [Join]) -> O
 /// Whether the node at the path has each atom of the compound; false where no node is there. Linear in the path's
 /// length, and in the compound's times the logarithm of the label's.
 pub fn fits(tree: &Tree, at: &Path, c: &Compound) -> bool
-    ensures { IsTrue result ↔ Fits tree.now at.now c.now.atoms }
+    ensures { IsTrue result ↔ HasAtoms tree.now at.now c.now.atoms }
 {
     match tree.label(at) {
         None => false,
@@ -109,7 +110,7 @@ pub fn fits(tree: &Tree, at: &Path, c: &Compound) -> bool
 
 // Whether the node has each atom of the compound.
 fn fits_here(node: &Node<'_>, compound: &Compound) -> bool
-    ensures { IsTrue result ↔ Fits node.now.tree node.now.path compound.now.atoms }
+    ensures { IsTrue result ↔ HasAtoms node.now.tree node.now.path compound.now.atoms }
 {
     has_all(node.label(), compound.atoms.items())
 }

@@ -10,7 +10,7 @@ use Rattle.tree_sem.proofs.RowLemmas.{there}
 use Rattle.tree_sem.proofs.PathLemmas.{child_of_parent, IsSome-parent_of}
 use Rattle.tree_sem.proofs.NodeLemmas.{map-Contains}
 use Rattle.tree_sem.proofs.EditLemmas.{node_at-add_child_new}
-use Rattle.tree_sem.specs.Nodes.{IsNode, HasAtom}
+use Rattle.tree_sem.specs.Nodes.{IsNode, HasAtom, HasAtoms}
 use Rattle.tree_sem.specs.Growth.{Grows}
 use Rattle.tree_sem.proofs.GrowthLemmas.{grows_itself, grows_both, IsNode-grows, HasAtom-grows}
 use Rattle.simple_core.specs.declared.system.System.{System}
@@ -23,7 +23,6 @@ use Rattle.simple_core.proofs.RoundLemmas.{set_of-is, labels_below-is}
 use Rattle.simple_core.proofs.PageLemmas.{parent_in, real_below, below_in}
 use Rattle.simple_core.proofs.PageRest.{counted_child}
 use Rattle.simple_core.proofs.CellLemmas.{grown-next}
-use Rattle.simple_core.specs.SimpleSteps.{HasAll}
 use Rattle.simple_core.specs.Reached.{IsLater, Got}
 use Rattle.simple_core.proofs.GrowthLemmas.{label_there}
 use Rattle.simple_core.proofs.Steps.{later_itself, later_both, got_already, then_got, got_by_local, got_by_up, got_by_down, later_by_spawn}
@@ -51,7 +50,7 @@ module _ (s : System) where
         ];
       }
 
-  has_all : (u : LabelTree) (w xs : List ℕ) → IsNode u w → ((a : ℕ) → Contains xs a → HasAtom u w a) → HasAll u w xs
+  has_all : (u : LabelTree) (w xs : List ℕ) → IsNode u w → ((a : ℕ) → Contains xs a → HasAtom u w a) → HasAtoms u w xs
   has_all u w xs is has =
       let l = label_there w u is in
       rw l.1 (All-from_Contains (Contains l.0) xs (λ a listed. rw l.1 at has a listed))

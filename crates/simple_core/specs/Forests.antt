@@ -1,13 +1,13 @@
 -- What is asked of a system besides its soundness, so that the proofs of its atoms keep to the forests of its statements.
 use Rattle.std.specs.Prelude.{◌≡◌, ◌≢◌, ℕ, true, List, Contains, Some, None, slice_get}
 use Rattle.tree_sem.specs.Trees.{LabelTree}
+use Rattle.tree_sem.specs.Nodes.{HasAtom}
 use Rattle.simple_core.specs.declared.rules.Kind.{Kind}
 use Rattle.simple_core.specs.declared.rules.Link.{Link}
 use Rattle.simple_core.specs.declared.rules.Local.{Local}
 use Rattle.simple_core.specs.declared.rules.Spawn.{Spawn}
 use Rattle.simple_core.specs.declared.system.System.{System}
 use Rattle.simple_core.specs.Systems.{kind_label}
-use Rattle.simple_core.specs.SimpleSteps.{Has}
 
 abbrev pub NoLocal : System → ℕ → Type 0
 NoLocal s a = (r : Local) → Contains s.local r → r.gives ≢ a
@@ -17,11 +17,11 @@ NoLink links a = (l : Link) → Contains links l → l.to ≢ a
 
 -- the atom is in labels of the kind j and comes from nowhere else
 abbrev pub IsOwn : System → LabelTree → ℕ → ℕ → Type 0
-IsOwn s page a j = NoLocal s a × NoLink s.up a × NoLink s.down a × ((v : List ℕ) → ¬ Has page v a) × ((i : ℕ) → Contains (kind_label s i) a → i ≡ j)
+IsOwn s page a j = NoLocal s a × NoLink s.up a × NoLink s.down a × ((v : List ℕ) → ¬ HasAtom page v a) × ((i : ℕ) → Contains (kind_label s i) a → i ≡ j)
 
 -- the atom is given by a child alone
 abbrev pub IsFromBelow : System → LabelTree → ℕ → Type 0
-IsFromBelow s page a = NoLocal s a × NoLink s.up a × ((v : List ℕ) → ¬ Has page v a) × ((i : ℕ) → ¬ Contains (kind_label s i) a)
+IsFromBelow s page a = NoLocal s a × NoLink s.up a × ((v : List ℕ) → ¬ HasAtom page v a) × ((i : ℕ) → ¬ Contains (kind_label s i) a)
 
 -- what spawns an inner kind is the own atom of the kind above it, and what spawns a top kind that comes beside a child comes from below
 pub record KeepsForests (s : System) (page : LabelTree) : Type 0 where

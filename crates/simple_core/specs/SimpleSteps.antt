@@ -2,9 +2,9 @@
 --     IsLegal s t step       the rule is one of s, and what it looks at is there
 --     end_of t steps         the tree after the steps
 --     AreLegal s t steps     each step is legal in the tree before it
-use Rattle.std.specs.Prelude.{◌≡◌, ℕ, List, [], ◌∷◌, ◌++◌, All, Contains, IsSomeAnd}
-use Rattle.tree_sem.specs.Trees.{LabelTree, label_at, edit_at, add_class, add_child}
-use Rattle.tree_sem.specs.Nodes.{IsNode, HasAtom}
+use Rattle.std.specs.Prelude.{◌≡◌, ℕ, List, [], ◌∷◌, ◌++◌, Contains}
+use Rattle.tree_sem.specs.Trees.{LabelTree, edit_at, add_class, add_child}
+use Rattle.tree_sem.specs.Nodes.{IsNode, HasAtom, HasAtoms}
 use Rattle.simple_core.specs.declared.rules.Local.{Local}
 use Rattle.simple_core.specs.declared.rules.Link.{Link}
 use Rattle.simple_core.specs.declared.rules.Spawn.{Spawn}
@@ -18,17 +18,9 @@ pub data SimpleStep : Type 0 where
   by_down : Link → List ℕ → SimpleStep
   by_spawn : Spawn → List ℕ → SimpleStep
 
--- there is a node at v, and it has all these atoms
-abbrev pub HasAll : LabelTree → List ℕ → List ℕ → Type 0
-HasAll t v wanted = IsSomeAnd (label_at v t) (λ label. All (Contains label) wanted)
-
--- there is a node at v, and it has the atom
-abbrev pub Has : LabelTree → List ℕ → ℕ → Type 0
-Has t v a = HasAtom t v a
-
 -- `up` looks at the parent, and `down` at some child
 abbrev pub IsLegal : System → LabelTree → SimpleStep → Type 0
-IsLegal s t (by_local r v) = Contains s.local r × HasAll t v r.needs
+IsLegal s t (by_local r v) = Contains s.local r × HasAtoms t v r.needs
 IsLegal s t (by_up l v) = Contains s.up l × IsNode t v × (p : List ℕ) × (n : ℕ) × (v ≡ p ++ n ∷ []) × HasAtom t p l.from
 IsLegal s t (by_down l v) = Contains s.down l × (n : ℕ) × HasAtom t (v ++ n ∷ []) l.from
 IsLegal s t (by_spawn c v) = Contains s.child c × HasAtom t v c.needs

@@ -4,7 +4,7 @@ use Rattle.std.proofs.Math.Seq.{take-length}
 use Rattle.std.proofs.lemmas.List.{length-map, get_or-map, take-append-le}
 use Rattle.std.proofs.lemmas.List.Elements.{Contains-append_left, Contains-append_right, Contains-append_cases, Contains-push_cases}
 use Rattle.tree_sem.specs.Trees.{Row, no_nodes, node, LabelTree, tree_of, nodes_of, count_of, node_at}
-use Rattle.tree_sem.specs.Nodes.{IsNode, HasAtom}
+use Rattle.tree_sem.specs.Nodes.{IsNode, HasAtom, HasAtoms}
 use Rattle.tree_sem.specs.Order.{paths_from, paths_of}
 use Rattle.tree_sem.proofs.PathLemmas.{IsSome-take}
 
@@ -123,6 +123,14 @@ Contains-paths_of t v = (to v, from v)
 pub HasAtom-node : (t : LabelTree) (v : List ℕ) (a : ℕ) → HasAtom t v a → IsNode t v
 HasAtom-node t v a has =
     elim (node_at v t) as (λ o. IsSomeAnd (option_map (λ (n : LabelTree). n.label) o) (λ l. Contains l a) → IsSome o) [
+      | None ↦ λ has. absurd has
+      | Some s ↦ λ has. refl
+    ] has
+
+-- a node with all of some atoms is one
+pub HasAtoms-node : (t : LabelTree) (v wanted : List ℕ) → HasAtoms t v wanted → IsNode t v
+HasAtoms-node t v wanted has =
+    elim (node_at v t) as (λ o. IsSomeAnd (option_map (λ (n : LabelTree). n.label) o) (λ l. All (Contains l) wanted) → IsSome o) [
       | None ↦ λ has. absurd has
       | Some s ↦ λ has. refl
     ] has

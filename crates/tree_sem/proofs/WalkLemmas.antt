@@ -60,6 +60,11 @@ module _ (t : LabelTree) (a : List ℕ) (n : ℕ) (has : n ≡ unwrap_or (option
     pub parent_part : a ≡ take (length a) v
     parent_part = part_above a v k up.len up.part
 
+    -- where a walk is stopped on its way up, it is above the place from which it came
+    pub above : {T E : Type 0} (r : Result T E) (w : List ℕ) → w ≡ a → OnErr r ((len : ℕ) × (w ≡ take len v))
+    above (Ok x) w same = tt
+    above (Err e) w same = (length a, same ∙ parent_part)
+
     pub child_within : k < n
     child_within =
         let family = node_at-child a k t up.node in

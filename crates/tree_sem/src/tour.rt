@@ -1,5 +1,5 @@
 //! A walk over the nodes of a tree in the order of the document, which keeps its place.
-ghost use Rattle.std.specs.Prelude.{◌≡◌, [], ◌∷◌, ◌++◌, Some, IfOk, IfSome, IfNone, OnOk, OnErr, MatchBool};
+ghost use Rattle.std.specs.Prelude.{◌≡◌, ℕ, [], ◌∷◌, ◌++◌, take, Some, IfOk, IfSome, IfNone, OnOk, OnErr, MatchBool};
 ghost use Rattle.tree_sem.specs.Nodes.{IsNode};
 ghost use Rattle.tree_sem.specs.Trees.{label_at, children_at};
 ghost use Rattle.tree_sem.specs.Order.{rest_of};
@@ -99,12 +99,14 @@ impl<'a> Tour<'a> {
     }
 
     /// Goes on to the next node in the order of the document, and says whether there was one; where there was none, it is at
-    /// the root again. A whole tour costs a few steps for each node.
+    /// the root again. Where it wants memory, it is at the node or at some node above. A whole tour costs a few steps for each
+    /// node.
     pub fn go_on(&mut self) -> Result<bool, NoMemory>
         ensures next { IfOk result (λ moved. MatchBool moved
             (rest_of self.old.at self.old.tree ≡ self.new.at ∷ rest_of self.new.at self.old.tree)
             ((rest_of self.old.at self.old.tree ≡ []) × (self.new.at ≡ []))) }
         ensures tree { self.new.tree ≡ self.old.tree }
+        ensures err { OnErr result ((len : ℕ) × (self.new.at ≡ take len self.old.at)) }
     {
         if self.children() > 0 {
             self.go_down(0)?;

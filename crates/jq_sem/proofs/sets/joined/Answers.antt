@@ -1,5 +1,6 @@
 use Rattle.std.proofs.Common.{◌↔◌, subst}
-use Rattle.node_marks.specs.Marks.{IsMarked, HasAtoms}
+use Rattle.tree_sem.specs.Nodes.{HasAtoms}
+use Rattle.node_marks.specs.Marks.{IsMarked}
 use Rattle.jq_sem.proofs.SetLemmas.{on_ok, under_and_then}
 use Rattle.jq_sem.proofs.sets.joined.Goals as goal
 
