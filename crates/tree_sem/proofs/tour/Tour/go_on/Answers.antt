@@ -20,7 +20,7 @@ returns-in_err-go_down-2-clause-err c =
     let tree : c.rise.new.self.tree ≡ t = c.in-Some.ensures.tree ∙ c.loop-step.invariant.0 in
     let has = subst (λ (z : LabelTree). c.children-children.result ≡ unwrap_or (children_at a z) 0) tree (ap (λ o. unwrap_or o 0) c.children-children.ensures.count) in
     let up = subst (λ z. IsUp t c.args.self.now.at z) c.in-Some.ensures.some c.loop-step.invariant.1 in
-    above t a c.children-children.result has c.args.self.now.at c.in-Some.step up c.from_residual-in_err-go_down-2.result c.go_down-2.new.self.at (ap (λ (g : GrowingTree). g.at) c.in_err-go_down-2.ensures.err)
+    above t a c.children-children.result has c.args.self.now.at c.in-Some.step up c.from_residual-in_err-go_down-2.result c.go_down-then-step-children.new.self.at (ap (λ (g : GrowingTree). g.at) c.in_err-go_down-2.ensures.err)
 
 pub returns-then-children-gt0-clause-next : goal.returns-then-children-gt0-clause-next
 returns-then-children-gt0-clause-next c =
