@@ -14,6 +14,7 @@ use Rattle.css_read.specs.Sheets.{Outcome, judged, skipped, Sheet}
 use Rattle.css_read.specs.declared.faults.SheetFault.{SheetFault}
 use Rattle.css_read.proofs.KeptLemmas.{sheets_kept}
 use Rattle.css_prune.specs.NodeEffects.{Tells, IsUnreached, AreUnreached, KeepsEffects}
+use Rattle.css_prune.proofs.PartLemmas.{not_true}
 
 -- ---- such a test there is
 
@@ -33,10 +34,6 @@ pub told : (t : LabelTree) (v : List ℕ) → (test : Selector → Bool) × Tell
 told t v = ((λ s. is_match (match t v s)), (λ s. told_by (Matches t v s) (match t v s)))
 
 -- ---- it fails on what is never reached
-
-not_true : (x : Bool) → (x ≡ true → ⊥) → x ≡ false
-not_true true not = absurd (not refl)
-not_true false not = refl
 
 all_fail : (page : LabelTree) (stmts : List Statement) (events : List Event) (v : List ℕ) (test : Selector → Bool) → AreLegalEvents page stmts events → Tells (end_of_events page stmts events) v test → (fs : List Flagged) → AreUnreached page stmts fs → AllFail test fs
 all_fail page stmts events v test legal tells [] unreached = tt

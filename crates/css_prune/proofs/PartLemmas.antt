@@ -7,7 +7,7 @@ use Rattle.css_read.specs.Pruned.{has_word, has_order_mark}
 use Rattle.css_prune.specs.Flags.{begins_word, begins_early_rule, begins_order_mark, has_early_rule}
 use Rattle.css_prune.specs.Parts.{from_byte}
 
-not_true : (t : Bool) → (t ≡ true → ⊥) → t ≡ false
+pub not_true : (t : Bool) → (t ≡ true → ⊥) → t ≡ false
 not_true true wrong = absurd (wrong refl)
 not_true false wrong = refl
 

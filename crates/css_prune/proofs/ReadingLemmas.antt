@@ -1,32 +1,17 @@
 -- The selectors that are read of a text stand by their rules.
-use Rattle.std.proofs.Common.{◌≡◌, ℕ, ◌≤◌, ◌==◌, Bool, true, false, if◌then◌else◌, nat_lt, List, [], ◌∷◌, ◌++◌, length, Ok, Err, subst, arith}
+use Rattle.std.proofs.Common.{◌≡◌, ℕ, ◌≤◌, ◌==◌, if◌then◌else◌, nat_lt, List, [], ◌∷◌, ◌++◌, length, Ok, Err, subst, arith}
 use Rattle.std.specs.Str.Lossy.{utf8_valid_len}
 use Rattle.std.proofs.lemmas.List.{length_push}
 use Rattle.tp_base.specs.Names.{Named}
-use Rattle.sel_core.specs.declared.faults.SelFault.TheVariants as sel
 use Rattle.sel_core.specs.Reading as one
-use Rattle.sel_core.specs.Selectors.{Selector}
 use Rattle.css_read.specs.declared.faults.TheConstants.{MOST_SELECTORS}
 use Rattle.css_read.specs.declared.faults.SheetFault.TheVariants.{NotUtf8, TooManySelectors}
 use Rattle.css_read.specs.declared.sheets.Range.{Range}
-use Rattle.css_read.specs.Reading.{Ending, then_read, item, item_from, read_item, add_item, add_items, pieces_of, add_rule, add_rules, empty_sheet, read_sheet}
+use Rattle.css_read.specs.Reading.{then_read, item, read_item, add_item, add_items, pieces_of, add_rule, add_rules, empty_sheet, read_sheet}
 use Rattle.css_read.specs.Rules.{Rule, rules_of}
-use Rattle.css_read.specs.Sheets.{Outcome, judged, skipped, Item, Sheet}
+use Rattle.css_read.specs.Sheets.{Item, Sheet}
+use Rattle.css_read.proofs.ReadLemmas.{IfRead, after, choose, from_any}
 use Rattle.css_prune.specs.Groups.{AreInOrder}
-
--- ---- what is read
-
-abbrev IfRead : {A : Type 0} → (A → Type 0) → Ending A → Type 0
-IfRead P (names, Ok x) = P x
-IfRead P (names, Err e) = Unit {0}
-
-after : {A B : Type 0} (P : A → Type 0) (Q : B → Type 0) (e : Ending A) (f : List Named → A → Ending B) → IfRead P e → ((names : List Named) (x : A) → P x → IfRead Q (f names x)) → IfRead Q (then_read e f)
-after P Q (names, Ok x) f here later = later names x here
-after P Q (names, Err e) f here later = tt
-
-choose : {A : Type 0} (P : A → Type 0) (test : Bool) (e f : Ending A) → IfRead P e → IfRead P f → IfRead P (if test then e else f)
-choose P true e f first second = first
-choose P false e f first second = second
 
 -- ---- selectors, up to the rule with a number
 
@@ -45,12 +30,6 @@ one_more from to (j ∷ js) i are less = (are.0, one_more j.rule to js i are.1 l
 in_order : (from to : ℕ) (is : List Item) → AreUpTo from to is → AreInOrder from is
 in_order from to [] are = tt
 in_order from to (i ∷ is) are = (are.0, in_order i.rule to is are.1)
-
-from_any : (P : Item → Type 0) (rule : ℕ) (p : Range) (e : one.Ending Selector) → ((o : Outcome) → P (item rule p o)) → IfRead P (item_from rule p e)
-from_any P rule p (names, Ok s) holds = holds (judged s)
-from_any P rule p (names, Err (sel.Skipped why at)) holds = holds (skipped why at)
-from_any P rule p (names, Err sel.TooManyAtoms) holds = tt
-from_any P rule p (names, Err sel.Memory) holds = tt
 
 item_added : (text : List ℕ) (rule : ℕ) (found : List Item) (names : List Named) (p : Range) → AreUpTo 0 rule found → IfRead (AreUpTo 0 rule) (add_item text rule found names p)
 unfolding add_item read_item

@@ -54,7 +54,7 @@ whole_behind rs at [] ys whole = let unit : at + 0 ≡ at = omega arith in rw un
 whole_behind rs at (x ∷ xs) ys whole = let next : at + suc (length xs) ≡ at + 1 + length xs = omega arith in rw next (whole_behind rs (at + 1) xs ys whole.1)
 
 -- what is inside goes as the first byte does
-less_or : (m n : ℕ) → m ≤ n → (m ≡ n) ⊎ (m + 1 ≤ n)
+pub less_or : (m n : ℕ) → m ≤ n → (m ≡ n) ⊎ (m + 1 ≤ n)
 less_or m n less = by (nat_lt m n) refl
   where
     over : (m n : ℕ) → nat_lt m n ≡ true → m + 1 ≤ n

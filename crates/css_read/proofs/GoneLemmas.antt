@@ -5,15 +5,12 @@ use Rattle.std.proofs.lemmas.Bool.{and_parts}
 use Rattle.std.proofs.lemmas.Bool.Decides.{nat_tests}
 use Rattle.css_read.specs.declared.holders.Holder.{Holder}
 use Rattle.css_read.specs.Pruned.{is_owner, held_by, insides, all_of_some, gone_holders}
+use Rattle.css_read.proofs.TameLemmas.{both_ways}
 
 -- ---- what is held
 
 abbrev are_all : List Bool → Bool
 are_all gone = list_all (λ x. x) gone
-
-both_ways : (x : Bool) → x ≡ true → x ≡ false → ⊥
-both_ways true is not = cc
-both_ways false is not = cc
 
 all_some : (xs : List Bool) → all_of_some xs ≡ true → are_all xs ≡ true
 all_some [] is = refl

@@ -78,7 +78,7 @@ changed_none f same n [] = refl
 changed_none f same zero (h ∷ hs) = ap (λ (k : Holder). k ∷ hs) (same h)
 changed_none f same (suc n) (h ∷ hs) = ap (λ (ks : List Holder). h ∷ ks) (changed_none f same n hs)
 
-and_true : (x : Bool) → (x && true) ≡ x
+pub and_true : (x : Bool) → (x && true) ≡ x
 and_true true = refl
 and_true false = refl
 

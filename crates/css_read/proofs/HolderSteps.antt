@@ -8,12 +8,7 @@ use Rattle.css_read.specs.FoundHolders.{Found, none_found, passed_over, found_af
 use Rattle.css_read.specs.Holders.{steps_from, steps_of}
 use Rattle.css_read.specs.Rules.{next_front, depth_after}
 use Rattle.css_read.specs.Units.{begins_gap}
-
-skips : (size depth n : ℕ) (bs : List ℕ) → steps_from size depth n bs ≡ steps_from size depth 0 (drop n bs)
-unfolding steps_from
-skips size depth zero bs = refl
-skips size depth (suc n) [] = refl
-skips size depth (suc n) (b ∷ bs) = skips size depth n bs
+use Rattle.css_read.proofs.SpanLemmas.{steps_skip}
 
 step : (size depth : ℕ) (bs rest : List ℕ) (f : Front) → (f, rest) ≡ next_front (nat_lt 0 depth) bs → IsRest bs rest → length rest < length bs
     → steps_from size depth 0 bs ≡ (record { front = f; from = size - length bs; to = size - length rest }) ∷ steps_from size (depth_after depth f) 0 rest
@@ -22,7 +17,7 @@ step size depth [] rest f is last less = absurd (omega arith)
 step size depth (b ∷ bs) rest f is last less =
     let count : length (b ∷ bs) - length rest ≡ suc (length bs - length rest) = omega arith in
     let behind : drop (length bs - length rest) bs ≡ rest = ap (λ n. drop n (b ∷ bs)) (sym count) ∙ last.last in
-    rw (← is, skips size (depth_after depth f) (length bs - length rest) bs, behind) refl
+    rw (← is, steps_skip size (depth_after depth f) (length bs - length rest) bs, behind) refl
 
 length-behind : (outer : List ℕ) → length (drop 1 outer) ≡ length outer - 1
 length-behind [] = refl

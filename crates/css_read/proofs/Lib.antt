@@ -30,6 +30,7 @@ pub mod PieceOrder
 pub mod PlanLemmas
 pub mod PrunedLemmas
 pub mod PrunedText
+pub mod ReadLemmas
 pub mod ReadableLemmas
 pub mod RelistLemmas
 pub mod RereadLemmas

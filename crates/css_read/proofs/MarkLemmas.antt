@@ -17,7 +17,7 @@ use Rattle.css_read.specs.Pruned.{Flagged, goes, with_flags, of_rule, has_order_
 use Rattle.css_read.specs.Reading.{add_rules, empty_sheet}
 use Rattle.css_read.specs.Rules.{Rule, depth_after, rules_of}
 use Rattle.css_read.specs.Sheets.{Item, Sheet}
-use Rattle.css_read.proofs.CharLemmas.{IsInner, CutsWhole, whole_behind, cuts_whole}
+use Rattle.css_read.proofs.CharLemmas.{IsInner, CutsWhole, whole_behind, cuts_whole, less_or}
 use Rattle.css_read.proofs.CutLemmas.{IsCut, in_range, AreFrom, from_earlier, none_before}
 use Rattle.css_read.proofs.GoneLemmas.{IsFrom, OwnersFrom, StandApart, holder_goes, rule_goes, first_stays}
 use Rattle.css_read.proofs.HeldLemmas.{end_after, none_ends}
@@ -27,21 +27,10 @@ use Rattle.css_read.proofs.PrunedLemmas.{IsOwned, AreOwned, owned_from, spans_of
 use Rattle.css_read.proofs.PrunedText.{cuts_between}
 use Rattle.css_read.proofs.RuleOrder.{AreRulesApart, rules_apart}
 use Rattle.css_read.proofs.SpanLemmas.{Span, bytes_of, AreRead, steps_at, rules_in, spans_read}
+use Rattle.css_read.proofs.TameLemmas.{both_ways}
+use Rattle.css_read.proofs.PlanLemmas.{from_append}
 
 -- ---- the first byte that stays
-
-less_or : (m n : ℕ) → m ≤ n → (m ≡ n) ⊎ (m + 1 ≤ n)
-less_or m n less = by (nat_lt m n) refl
-  where
-    over : (m n : ℕ) → nat_lt m n ≡ true → m + 1 ≤ n
-    over m n is = grind (arith, nat_tests)
-
-    under : (m n : ℕ) → nat_lt m n ≡ false → n ≤ m
-    under m n is = grind (arith, nat_tests)
-
-    by : (test : Bool) → nat_lt m n ≡ test → (m ≡ n) ⊎ (m + 1 ≤ n)
-    by true is = inr (over m n is)
-    by false is = inl (omega (arith, less, under m n is))
 
 record FirstLeft (rs : List Range) (at : ℕ) (bs : List ℕ) (b : ℕ) (left : List ℕ) : Type 0 where
   front : List ℕ
@@ -88,10 +77,6 @@ first_left rs at (c ∷ bs) b left is = by (IsCut rs at) refl is (λ later. firs
           stays = ap (IsCut rs) (no_more at) ∙ cut;
           behind = ap (λ n. without rs (n + 1) bs) (no_more at) ∙ others;
         }
-
-both_ways : (x : Bool) → x ≡ true → x ≡ false → ⊥
-both_ways true is not = cc
-both_ways false is not = cc
 
 -- a byte inside a character follows at once
 inner_follows : (rs : List Range) (at : ℕ) (bs : List ℕ) (b : ℕ) (left : List ℕ) → CutsWhole rs at bs → IsInner b → (is : FirstLeft rs at bs b left) → is.front ≡ []
@@ -274,10 +259,6 @@ own_from text fs k r order own =
   where
     length-slice : (text : List ℕ) (from to : ℕ) → length (slice_range text from to) ≤ to - from
     length-slice text from to = let count = length-take (to - from) (drop from text) in omega arith
-
-from_append : (n : ℕ) (rs qs : List Range) → AreFrom n rs → AreFrom n qs → AreFrom n (rs ++ qs)
-from_append n [] qs first second = second
-from_append n (r ∷ rs) qs first second = (first.0, from_append n rs qs first.1 second)
 
 -- of rules that begin behind the first byte
 lists_from : (text : List ℕ) (fs : List Flagged) (k : ℕ) (rs : List Rule) → AreFrom 1 (ranges_of rs) → AreOrdered rs → AreOwned text fs k rs → AreFrom 1 (lists_cuts text k (ranges_of rs) fs)

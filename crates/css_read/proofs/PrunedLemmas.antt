@@ -23,7 +23,7 @@ use Rattle.css_read.proofs.PlanLemmas.{Plan, keep, drop_rule, drop_block, relist
 use Rattle.css_read.proofs.RelistLemmas.{AreWell, HasTexts, ClosesAll, rule_at, plans_left}
 use Rattle.css_read.proofs.RulePlans.{IsRulePlan, rule_plan, texts_left, slice_at}
 use Rattle.css_read.proofs.TameLemmas.{AreClosed, all_closed}
-use Rattle.css_read.proofs.SpanLemmas.{Span, bytes_of, IsReadBefore, AreRead, IsStyle, IsRuleBehind, AreReadBefore, left_of, steps_at, rules_in, rules_are, read_steps, spans_from, spans_read}
+use Rattle.css_read.proofs.SpanLemmas.{Span, bytes_of, IsReadBefore, AreRead, IsStyle, IsRuleBehind, AreReadBefore, left_of, steps_at, rules_in, rules_are, read_steps, spans_from, spans_read, style_depth}
 
 -- ---- the selectors of each rule, with their flags
 
@@ -38,7 +38,7 @@ abbrev pub AreOwned : List ℕ → List Flagged → ℕ → List Rule → Type 0
 AreOwned text fs k [] = Unit {0}
 AreOwned text fs k (r ∷ rs) = IsOwned text fs k r × AreOwned text fs (k + 1) rs
 
-flags_taken : (own : List Item) (flags : List Bool) → with_flags own flags ≡ with_flags own (take (length own) flags)
+pub flags_taken : (own : List Item) (flags : List Bool) → with_flags own flags ≡ with_flags own (take (length own) flags)
 flags_taken [] flags = refl
 flags_taken (i ∷ own) [] = refl
 flags_taken (i ∷ own) (g ∷ flags) = ap (λ (fs : List Flagged). (i, g) ∷ fs) (flags_taken own flags)
@@ -94,12 +94,6 @@ abbrev pub AreWellAt : ℕ → List Plan → List Span → Type 0
 AreWellAt d [] ss = Unit {0}
 AreWellAt d (p ∷ ps) [] = Unit {0}
 AreWellAt d (p ∷ ps) (s ∷ ss) = IsWellAt d p (bytes_of ss) × AreWellAt (depth_after d s.front) ps ss
-
-style_depth : (f : Front) (n : ℕ) → IsStyle f → depth_after n f ≡ n
-style_depth (Styles len) n is = refl
-style_depth Passed n is = absurd is
-style_depth Opens n is = absurd is
-style_depth Closes n is = absurd is
 
 open_depth : (f : Front) (n : ℕ) → IsOpening f → depth_after n f ≡ n + 1
 open_depth Opens n is = refl

@@ -14,6 +14,7 @@ use Rattle.css_read.proofs.AgainLemmas.{AreKnownIn, IsReadAt, item_again}
 use Rattle.css_read.proofs.RereadLemmas.{AreReread}
 use Rattle.css_read.proofs.ShiftLemmas.{HaveBytes}
 use Rattle.css_read.proofs.StayLemmas.{AreNumbered}
+use Rattle.css_read.proofs.ReadLemmas.{IfRead, after}
 
 -- ---- moved selectors
 
@@ -113,14 +114,6 @@ sheet_again text other names gone found (r ∷ rs) items are known few =
     }
 
 -- ---- no more selectors than were read before
-
-abbrev IfRead : {A : Type 0} → (A → Type 0) → Ending A → Type 0
-IfRead P (names, Ok x) = P x
-IfRead P (names, Err e) = Unit {0}
-
-after : {A B : Type 0} (P : A → Type 0) (Q : B → Type 0) (e : Ending A) (f : List Named → A → Ending B) → IfRead P e → ((names : List Named) (x : A) → P x → IfRead Q (f names x)) → IfRead Q (then_read e f)
-after P Q (names, Ok x) f here later = later names x here
-after P Q (names, Err e) f here later = tt
 
 abbrev Any : Item → Type 0
 Any i = Unit {0}

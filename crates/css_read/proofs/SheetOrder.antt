@@ -1,46 +1,24 @@
 -- The selectors of a sheet stand in its rules, and both in the order of the file.
-use Rattle.std.proofs.Common.{◌≡◌, ℕ, zero, suc, ◌-◌, ◌≤◌, ◌<◌, Bool, true, false, if◌then◌else◌, nat_lt, List, [], ◌∷◌, ◌++◌, length, drop, map, All, Option, Some, slice_get, slice_range, Ok, Err, refl, sym, subst, arith}
+use Rattle.std.proofs.Common.{◌≡◌, ℕ, zero, suc, ◌-◌, ◌≤◌, ◌<◌, if◌then◌else◌, nat_lt, List, [], ◌∷◌, ◌++◌, length, drop, map, All, Option, Some, slice_get, slice_range, Ok, Err, refl, sym, subst, arith}
 use Rattle.std.specs.Option.{IsSomeAnd}
 use Rattle.std.proofs.lemmas.List.{map-append, length-take}
 use Rattle.std.proofs.lemmas.List.Elements.{All-nil, All-cons, All-head, All-tail, All-push, All-weaker}
 use Rattle.tp_base.specs.Names.{Named}
-use Rattle.sel_core.specs.declared.faults.SelFault.TheVariants as sel
-use Rattle.sel_core.specs.Selectors.{Selector}
 use Rattle.sel_core.specs.Reading as one
 use Rattle.css_read.specs.declared.faults.TheConstants.{MOST_SELECTORS}
 use Rattle.css_read.specs.declared.faults.SheetFault.TheVariants.{TooManySelectors}
 use Rattle.css_read.specs.declared.sheets.Range.{Range}
 use Rattle.css_read.specs.declared.sheets.SheetItem.{SheetItem}
 use Rattle.css_read.specs.Order.{AreApart, range_of, IsInRule, AreInRules}
-use Rattle.css_read.specs.Reading.{Ending, then_read, item, item_from, read_item, add_item, add_items, pieces_of, add_rule, add_rules, empty_sheet}
+use Rattle.css_read.specs.Reading.{item, read_item, add_item, add_items, pieces_of, add_rule, add_rules, empty_sheet}
 use Rattle.css_read.specs.Rules.{Rule, rules_of}
-use Rattle.css_read.specs.Sheets.{Outcome, judged, skipped, Item, Sheet}
+use Rattle.css_read.specs.Sheets.{Outcome, Item, Sheet}
 use Rattle.css_read.specs.Views.{item_of}
 use Rattle.css_read.proofs.PieceOrder.{to_later, joined, in_order, pieces_apart}
 use Rattle.css_read.proofs.RuleOrder.{AreRulesApart, rules_apart}
-
--- ---- what is read
-
--- it holds of what is read, if something is
-abbrev IfRead : {A : Type 0} → (A → Type 0) → Ending A → Type 0
-IfRead P (names, Ok x) = P x
-IfRead P (names, Err e) = Unit {0}
-
-after : {A B : Type 0} (P : A → Type 0) (Q : B → Type 0) (e : Ending A) (f : List Named → A → Ending B) → IfRead P e → ((names : List Named) (x : A) → P x → IfRead Q (f names x)) → IfRead Q (then_read e f)
-after P Q (names, Ok x) f here later = later names x here
-after P Q (names, Err e) f here later = tt
-
-choose : {A : Type 0} (P : A → Type 0) (test : Bool) (e f : Ending A) → IfRead P e → IfRead P f → IfRead P (if test then e else f)
-choose P true e f first second = first
-choose P false e f first second = second
+use Rattle.css_read.proofs.ReadLemmas.{IfRead, after, choose, from_any}
 
 -- ---- one selector
-
-from_any : (P : Item → Type 0) (rule : ℕ) (p : Range) (e : one.Ending Selector) → ((o : Outcome) → P (item rule p o)) → IfRead P (item_from rule p e)
-from_any P rule p (names, Ok s) holds = holds (judged s)
-from_any P rule p (names, Err (sel.Skipped why at)) holds = holds (skipped why at)
-from_any P rule p (names, Err sel.TooManyAtoms) holds = tt
-from_any P rule p (names, Err sel.Memory) holds = tt
 
 item_if : (P : Item → Type 0) (text : List ℕ) (rule : ℕ) (names : List Named) (p : Range) → ((o : Outcome) → P (item rule p o)) → IfRead P (read_item text rule names p)
 unfolding read_item

@@ -4,16 +4,11 @@ use Rattle.std.proofs.lemmas.Bool.Decides.{nat_tests}
 use Rattle.text_bytes.specs.Rests.{IsRest}
 use Rattle.css_read.specs.Units.{behind_unit, begins_gap}
 use Rattle.css_read.specs.Pieces.{with_unit, solid_len}
+use Rattle.css_read.proofs.UnitLemmas.{solid_skip}
 
 -- so many bytes count of the n that were passed, and so many behind them
 unfoldable pub joined : ℕ → ℕ → ℕ → ℕ
 joined len n others = if others == 0 then len else n + others
-
-skips : (n : ℕ) (bs : List ℕ) → solid_len n bs ≡ solid_len 0 (drop n bs)
-unfolding solid_len
-skips zero bs = refl
-skips (suc n) [] = refl
-skips (suc n) (b ∷ bs) = skips n bs
 
 step : (b : ℕ) (bs : List ℕ) → IsRest (b ∷ bs) (behind_unit (b ∷ bs)) → length (behind_unit (b ∷ bs)) < length (b ∷ bs)
     → solid_len 0 (b ∷ bs) ≡ with_unit (begins_gap (b ∷ bs)) (length (b ∷ bs) - length (behind_unit (b ∷ bs))) (solid_len 0 (behind_unit (b ∷ bs)))
@@ -24,7 +19,7 @@ step b bs rest less =
     let count : length (b ∷ bs) - length after ≡ suc left = omega arith in
     let one : 1 + left ≡ length (b ∷ bs) - length after = omega arith in
     let last : drop left bs ≡ after = ap (λ n. drop n (b ∷ bs)) (sym count) ∙ rest.last in
-    let behind : solid_len left bs ≡ solid_len 0 after = skips left bs ∙ ap (solid_len 0) last in
+    let behind : solid_len left bs ≡ solid_len 0 after = solid_skip left bs ∙ ap (solid_len 0) last in
     ap (λ n. with_unit (begins_gap (b ∷ bs)) n (solid_len left bs)) one ∙ ap (with_unit (begins_gap (b ∷ bs)) (length (b ∷ bs) - length after)) behind
 
 joins_gap : (len n u others : ℕ) → joined len n (with_unit true u others) ≡ joined len (n + u) others

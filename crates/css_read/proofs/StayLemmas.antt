@@ -9,9 +9,10 @@ use Rattle.css_read.specs.Rules.{Rule}
 use Rattle.css_read.specs.Sheets.{Item}
 use Rattle.css_read.proofs.AgainLemmas.{AreKnownIn}
 use Rattle.css_read.proofs.ItemLemmas.{AreOf, AreItemsOf, items_from, own_of, others_of}
-use Rattle.css_read.proofs.PrunedLemmas.{IsOwned}
+use Rattle.css_read.proofs.PrunedLemmas.{IsOwned, flags_taken}
 use Rattle.css_read.proofs.RulePlans.{texts_left}
 use Rattle.css_read.proofs.ShiftLemmas.{item_text, AreWithin}
+use Rattle.css_read.proofs.HolderLemmas.{and_true}
 
 -- ---- the flags of each rule, one rule after another
 
@@ -23,11 +24,6 @@ flags_split : (own others : List Item) (flags : List Bool) → length own ≤ le
 flags_split [] others flags few = refl
 flags_split (i ∷ own) others [] few = absurd (omega arith)
 flags_split (i ∷ own) others (g ∷ flags) few = ap (λ (fs : List Flagged). (i, g) ∷ fs) (flags_split own others flags (omega arith))
-
-flags_taken : (own : List Item) (flags : List Bool) → with_flags own flags ≡ with_flags own (take (length own) flags)
-flags_taken [] flags = refl
-flags_taken (i ∷ own) [] = refl
-flags_taken (i ∷ own) (g ∷ flags) = ap (λ (fs : List Flagged). (i, g) ∷ fs) (flags_taken own flags)
 
 pub groups_from : (text : List ℕ) (fs : List Flagged) (k : ℕ) (rs : List Rule) (items : List Item) (flags : List Bool) → AreItemsOf text k rs items → length flags ≡ length items
     → ((j : ℕ) → k ≤ j → of_rule j fs ≡ of_rule j (with_flags items flags)) → AreGroups text fs k rs (with_flags items flags)
@@ -68,10 +64,6 @@ none_goes : (x : Bool) → (x && false) ≡ false
 none_goes true = refl
 none_goes false = refl
 
-as_flagged : (x : Bool) → (x && true) ≡ x
-as_flagged true = refl
-as_flagged false = refl
-
 -- in a rule that is fixed all of them do
 pub fixed_stay : (fixed : List Bool) (k : ℕ) (own : List Item) (flags : List Bool) → AreOf k own → length flags ≡ length own → get_or fixed k false ≡ true → stayed_in fixed (with_flags own flags) ≡ own
 fixed_stay fixed k [] flags of count is = refl
@@ -86,7 +78,7 @@ free_stay fixed k [] flags of is = refl
 free_stay fixed k (i ∷ own) [] of is = refl
 free_stay fixed k (i ∷ own) (g ∷ flags) of is =
     let here : get_or fixed i.rule false ≡ false = ap (λ n. get_or fixed n false) of.0 ∙ is in
-    rw (here, as_flagged g, free_stay fixed k own flags of.1 is) refl
+    rw (here, and_true g, free_stay fixed k own flags of.1 is) refl
 
 pub none_stay : (fs : List Flagged) → list_all goes fs ≡ true → unflagged fs ≡ []
 none_stay [] all = refl

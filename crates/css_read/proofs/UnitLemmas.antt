@@ -13,8 +13,8 @@ use Rattle.css_read.specs.declared.brackets.Bracket.{Bracket}
 use Rattle.css_read.specs.Units.{is_quote, begins_comment, begins_gap, behind_unit, after_byte, stops_at, from_first_in, behind_string}
 use Rattle.css_read.proofs.Firsts.{skips}
 use Rattle.css_read.proofs.FrontLemmas.{StaysGap, comment_stays, comment_unit, blank_unit, unit_end}
-use Rattle.css_read.proofs.Lengths.{no_longer}
-use Rattle.css_read.proofs.ScanLemmas.{no_front, within, close_no_longer}
+use Rattle.css_read.proofs.Lengths.{no_longer, close_no_longer}
+use Rattle.css_read.proofs.ScanLemmas.{no_front, within}
 
 -- ---- chunks
 
@@ -275,7 +275,7 @@ pub string_unit : (b : ℕ) (bs : List ℕ) → is_quote b ≡ true → behind_u
 unfolding behind_unit
 string_unit b bs quote = rw quote refl
 
-quote_no_gap : (b : ℕ) (bs : List ℕ) → is_quote b ≡ true → begins_gap (b ∷ bs) ≡ false
+pub quote_no_gap : (b : ℕ) (bs : List ℕ) → is_quote b ≡ true → begins_gap (b ∷ bs) ≡ false
 quote_no_gap b [] quote = grind (arith, nat_tests)
 quote_no_gap b (c ∷ bs) quote = grind (arith, nat_tests)
 
@@ -390,7 +390,7 @@ abbrev pub solids : List Chunk → List Chunk
 solids [] = []
 solids (c ∷ cs) = with_solid (is_gap c) c (solids cs)
 
-solid_skip : (n : ℕ) (bs : List ℕ) → solid_len n bs ≡ solid_len 0 (drop n bs)
+pub solid_skip : (n : ℕ) (bs : List ℕ) → solid_len n bs ≡ solid_len 0 (drop n bs)
 unfolding solid_len
 solid_skip zero bs = refl
 solid_skip (suc n) [] = refl
