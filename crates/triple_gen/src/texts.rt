@@ -22,19 +22,27 @@ impl Model for Text {
 }
 
 impl Text {
-    /// The bytes.
-    pub fn into_items(self) -> Vec<u8>
-        ensures { result.items ≡ self }
-    {
-        self.items
-    }
-
-    pub(crate) fn empty(alloc: Global) -> Self
+    /// No bytes.
+    pub fn new(alloc: Global) -> Self
         ensures { result ≡ [] }
     {
         Text {
             items: Vec::new(alloc),
         }
+    }
+
+    /// The bytes.
+    pub fn items(&self) -> &[u8]
+        ensures { result.now ≡ self.now }
+    {
+        self.items.as_slice()
+    }
+
+    /// The bytes, to be kept without the text.
+    pub fn into_items(self) -> Vec<u8>
+        ensures { result.items ≡ self }
+    {
+        self.items
     }
 
     pub(crate) fn put(&mut self, bytes: &[u8]) -> Result<(), NoMemory>

@@ -43,7 +43,7 @@ pub fn generate(alloc: Global, n: u32) -> Result<Triple, NoMemory>
 fn page(alloc: Global, n: u32) -> Result<Text, NoMemory>
     ensures { IfOk result (λ t. t ≡ spec.page n) }
 {
-    let mut text = Text::empty(alloc);
+    let mut text = Text::new(alloc);
     'boxes: for i in 0..n {
         text.page_line(i)?;
     }
@@ -54,7 +54,7 @@ fn page(alloc: Global, n: u32) -> Result<Text, NoMemory>
 fn sheet(alloc: Global, n: u32) -> Result<Text, NoMemory>
     ensures { IfOk result (λ t. t ≡ spec.sheet n) }
 {
-    let mut text = Text::empty(alloc);
+    let mut text = Text::new(alloc);
     'boxes: for i in 0..n {
         text.sheet_lines(i)?;
     }
@@ -65,7 +65,7 @@ fn script(alloc: Global, n: u32) -> Result<Text, NoMemory>
     requires { n ≤ MOST_BOXES }
     ensures { IfOk result (λ t. t ≡ spec.script n) }
 {
-    let mut text = Text::empty(alloc);
+    let mut text = Text::new(alloc);
     'boxes: for i in 0..n {
         text.script_line(i, (i + 1) % n)?;
     }
