@@ -1,7 +1,10 @@
+-- What public contracts cite.
 pub mod Counts
 pub mod Files
-pub mod LoadLists
 pub mod MemoryFiles
 pub mod MemorySinks
 pub mod Sinks
 pub mod Streams
+
+-- How a list of loads is kept.
+pub mod LoadLists
