@@ -5,6 +5,5 @@ pub mod MemoryFiles
 pub mod MemorySinks
 pub mod Sinks
 pub mod Streams
-
 -- How a list of loads is kept.
 pub mod LoadLists
