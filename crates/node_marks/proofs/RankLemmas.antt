@@ -1,12 +1,12 @@
 -- Numbers of nodes, by the marks at those that are less than a number.
-use Rattle.std.proofs.Common.{◌≡◌, ◌⊎◌, ◌↔◌, ℕ, zero, suc, ◌<◌, ◌≤◌, nat_lt, min, Bool, true, false, ◌&&◌, ◌||◌, if◌then◌else◌, List, [], ◌∷◌, ◌++◌, length, map, set, get_or, replicate, refl, sym, ap, ◌∙◌, subst, inl, inr, arith}
-use Rattle.std.proofs.lemmas.Bool.{cases_Bool, cases_eq, ltb-true, ltb-false, lt-ltb, le-ltb, false≢true}
+use Rattle.std.proofs.Common.{◌≡◌, ◌⊎◌, ◌↔◌, ℕ, zero, suc, ◌+◌, ◌<◌, ◌≤◌, nat_lt, min, Bool, true, false, ◌&&◌, ◌||◌, IsTrue, if◌then◌else◌, List, [], ◌∷◌, ◌++◌, length, map, set, get_or, replicate, refl, sym, ap, ◌∙◌, subst, inl, inr, arith}
+use Rattle.std.proofs.lemmas.Bool.{cases_Bool, cases_eq, cases_lt, and_parts, and_from, ltb-true, ltb-false, lt-ltb, le-ltb, false≢true}
 use Rattle.std.proofs.lemmas.List.{map-append, map-set, length-map, get_or-map, get_or-replicate, get_or-set_same, get_or-set_other, length-replicate}
 use Rattle.node_marks.specs.Marks.{mark}
 use Rattle.node_marks.specs.Numbering.{parent_number, AreAbove}
-use Rattle.node_marks.specs.Passes.{AreBoth, AreBelow, AreFarBelow, AreOver, AreFarOver, AreFreeOver, AreSeen, SeenFrom}
-use Rattle.node_marks.specs.Ranks.{rank, under, above, AreChosen, AreRanksBelow, AreRanksFarBelow}
-use Rattle.node_marks.proofs.PassLemmas.{none_seen_from, seen_from_one, free_one}
+use Rattle.node_marks.specs.Passes.{AreBoth, AreEither, AreBelow, AreFarBelow, AreOver, AreFarOver, AreFreeOver, AreBehind, AreAhead, AreSeen, SeenBefore, SeenFrom}
+use Rattle.node_marks.specs.Ranks.{rank, under, above, AreChosen, AreLesser, AreRanksBelow, AreRanksFarBelow}
+use Rattle.node_marks.proofs.PassLemmas.{none_seen, none_seen_from, seen_one, seen_from_one, free_one, none_behind, behind_one, IsAhead, none_ahead, ahead_one, all_ahead}
 
 -- a number that isn't there is none of the nodes
 pub under_at : (k none : ℕ) → k ≤ none → (ranks : List ℕ) (i : ℕ) → mark (under k ranks) i ≡ nat_lt (get_or ranks i none) k
@@ -110,7 +110,7 @@ over_one parents ranks made new n none k low some within before long more =
     let at = under_at k none low ranks n in
     seen_from_one parents (under k ranks) (under k made) (under k new) n (nat_lt (rank ranks none n) k) within before (λ on. (some, at ∙ on), λ h. sym at ∙ h.1) (length-under k new ∙ long ∙ sym (length-under k made)) more
 
-or_true : (a b : Bool) → (a || b) ≡ true ↔ ((a ≡ true) ⊎ (b ≡ true))
+pub or_true : (a b : Bool) → (a || b) ≡ true ↔ ((a ≡ true) ⊎ (b ≡ true))
 or_true true b = (λ on. inl refl, λ h. refl)
 or_true false b = (λ on. inr on, λ h. elim h [ inl no' ↦ cc | inr on ↦ on ])
 
@@ -156,3 +156,73 @@ lowered k made node r within i = elim (cases_eq i node) [
         λ h. kept ∙ elim h [ inl old ↦ old | inr now ↦ absurd (other now.0) ],
       )
 ]
+
+-- ---- the children of the parent before a node, and behind it
+
+module _ (parents ranks : List ℕ) (none k : ℕ) (low : k ≤ none) where
+  abbrev marks : List Bool
+  marks = under k ranks
+
+  abbrev up : ℕ → ℕ
+  up i = parent_number parents i
+
+  both_true : (n : ℕ) (b : Bool) → IsTrue (nat_lt 0 n && b) ↔ ((0 < n) × (b ≡ true))
+  both_true n b = (
+    λ on. let h = and_parts (nat_lt 0 n) b on in (ltb-true 0 n h.0, h.1),
+    λ h. and_from (nat_lt 0 n) b (lt-ltb 0 n h.0) h.1,
+  )
+
+  pub none_seen_yet : AreSeen parents (under k (replicate (length parents) none)) (SeenBefore parents marks 0)
+  none_seen_yet = subst (λ z. AreSeen parents z (SeenBefore parents marks 0)) (sym (none_under k none low (length parents))) (none_seen parents marks)
+
+  pub seen_more : (seen new : List ℕ) (n : ℕ) → AreSeen parents (under k seen) (SeenBefore parents marks n) → length new ≡ length seen
+      → ((i : ℕ) → (mark (under k new) i ≡ true) ↔ ((mark (under k seen) i ≡ true) ⊎ ((i ≡ up n) × ((nat_lt 0 n && nat_lt (rank ranks none n) k) ≡ true)))) → AreSeen parents (under k new) (SeenBefore parents marks (suc n))
+  seen_more seen new n before long more =
+      let test : IsTrue (nat_lt 0 n && nat_lt (rank ranks none n) k) ↔ ((0 < n) × (mark marks n ≡ true)) =
+      subst (λ z. IsTrue (nat_lt 0 n && z) ↔ ((0 < n) × (mark marks n ≡ true))) (under_at k none low ranks n) (both_true n (mark marks n)) in
+      seen_one parents marks (under k seen) (under k new) n (nat_lt 0 n && nat_lt (rank ranks none n) k) before test (length-under k new ∙ long ∙ sym (length-under k seen)) more
+
+  pub behind_more : (made seen : List ℕ) (n : ℕ) → AreAbove parents → n < length parents → AreBehind parents marks (under k made) n → AreSeen parents (under k seen) (SeenBefore parents marks n)
+      → AreBehind parents marks (under k (made ++ above parents seen none n ∷ [])) (suc n)
+  behind_more made seen n smaller within before seen_is =
+      let x = nat_lt 0 n && mark (under k seen) (up n) in
+      let same : under k (made ++ above parents seen none n ∷ []) ≡ under k made ++ x ∷ [] =
+      map-append (λ r. nat_lt r k) made (above parents seen none n ∷ []) ∙ ap (λ z. under k made ++ z ∷ []) (chosen_under none k low (nat_lt 0 n) seen (up n)) in
+      subst (λ z. AreBehind parents marks z (suc n)) (sym same)
+      (behind_one parents marks (under k made) (under k seen) n x smaller within before seen_is (both_true n (mark (under k seen) (up n))))
+
+  pub none_ahead_yet : IsAhead parents marks (under k (replicate (length parents) none)) (length parents)
+  none_ahead_yet = subst (λ z. IsAhead parents marks z (length parents)) (sym (none_under k none low (length parents))) (none_ahead parents marks)
+
+  pub ahead_more : (made seen : List ℕ) (n : ℕ) → AreAbove parents → 0 < n → n < length parents → IsAhead parents marks (under k made) (suc n) → AreSeen parents (under k seen) (SeenFrom parents marks (suc n))
+      → IsAhead parents marks (under k (set made n (rank seen none (up n)))) n
+  ahead_more made seen n smaller some within before seen_is =
+      let r = rank seen none (up n) in
+      let at = under_at k none low seen (up n) in
+      subst (λ z. IsAhead parents marks z n) (sym (under_set k made n r))
+      (ahead_one parents marks (under k made) (under k seen) n (nat_lt r k) smaller within before seen_is (λ on. (some, at ∙ on), λ h. sym at ∙ h.1))
+
+pub lesser_either : (none k : ℕ) → k ≤ none → (ranks others made : List ℕ) (n : ℕ) → AreLesser ranks others made none n → AreEither (under k ranks) (under k others) (under k made) n
+lesser_either none k low ranks others made n is = record {
+  count = length-under k made ∙ is.count;
+  each = λ i lt.
+      under_at k none low made i
+      ∙ ap (λ r. nat_lt r k) (is.each i lt)
+      ∙ least_under k (rank ranks none i) (rank others none i)
+      ∙ ap (λ x. x || nat_lt (rank others none i) k) (sym (under_at k none low ranks i))
+      ∙ ap (λ x. mark (under k ranks) i || x) (sym (under_at k none low others i));
+}
+
+-- the least of one number more
+pub least_more : (ranks : List ℕ) (none i found r new : ℕ) → r ≡ rank ranks none i → new ≡ min found r → ((k : ℕ) → k ≤ none → (found < k) ↔ ((j : ℕ) × (j < i) × (rank ranks none j < k)))
+    → (k : ℕ) → k ≤ none → (new < k) ↔ ((j : ℕ) × (j < i + 1) × (rank ranks none j < k))
+least_more ranks none i found r new at is before k low = (
+  λ less. elim (cases_lt found k) [
+    | inl old ↦ let h = (before k low).0 old in let lt = h.1 in (h.0, omega (arith, lt), h.2)
+    | inr past ↦ let own : rank ranks none i < k = omega (arith, less, is, at, past) in (i, omega arith, own)
+  ],
+  λ h. elim (cases_eq h.0 i) [
+    | inl same ↦ let own : rank ranks none i < k = subst (λ j. rank ranks none j < k) same h.2 in omega (arith, own, at, is)
+    | inr other ↦ let lt = h.1 in let old = (before k low).1 (h.0, omega (arith, lt, other), h.2) in omega (arith, old, is)
+  ],
+)

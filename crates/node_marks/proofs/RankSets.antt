@@ -1,18 +1,19 @@
 -- The passes over numbers of nodes, as sets of nodes.
-use Rattle.std.proofs.Common.{◌≡◌, ◌⊎◌, ◌↔◌, ℕ, zero, suc, ◌-◌, ◌<◌, ◌≤◌, nat_lt, Bool, true, false, ◌&&◌, if◌then◌else◌, List, [], ◌∷◌, ◌++◌, length, refl, sym, ap, ◌∙◌, subst, inl, inr, arith, append_assoc, append-nil}
+use Rattle.std.proofs.Common.{◌≡◌, ◌⊎◌, ◌↔◌, ℕ, zero, suc, ◌-◌, ◌<◌, ◌≤◌, nat_lt, Bool, true, false, ◌&&◌, ◌||◌, IsTrue, if◌then◌else◌, List, [], ◌∷◌, ◌++◌, length, refl, sym, ap, ◌∙◌, subst, inl, inr, arith, append_assoc, append-nil}
 use Rattle.std.proofs.lemmas.Bool.{cases_Bool, cases_eq, and_parts, and_from, false≢true, lt-ltb, ltb-true}
 use Rattle.tree_sem.specs.Trees.{LabelTree, count_of}
 use Rattle.tree_sem.specs.Nodes.{IsNode}
 use Rattle.tree_sem.specs.Order.{Before}
 use Rattle.tree_sem.proofs.NodeLemmas.{length-paths_of}
 use Rattle.tree_sem.proofs.RestLemmas.{Before-irreflexive, Before-transitive, AllPairs-paths_of}
-use Rattle.node_marks.specs.Marks.{path_at, mark, IsMarked, IsSetOf, IsFree, IsFirstIn, HasParentIn, HasAncestorIn, HasChildIn, HasDescendantIn}
+use Rattle.node_marks.specs.Marks.{path_at, mark, IsMarked, IsSetOf, IsFree, IsFirstIn, HasParentIn, HasAncestorIn, HasChildIn, HasDescendantIn, HasOtherIn}
 use Rattle.node_marks.specs.Numbering.{parent_number, IsNumbering}
-use Rattle.node_marks.specs.Passes.{AreOver, AreFarOver}
-use Rattle.node_marks.specs.Ranks.{rank, under, above, IsUnder, AreRanked, HasNearestIn, IsEarly, IsReached, AreOwn, AreChosen, AreRanksBelow, AreRanksFarBelow, AreNearest, AreReached}
+use Rattle.node_marks.specs.Passes.{AreOver, AreFarOver, AreBehind, AreAhead}
+use Rattle.node_marks.specs.Ranks.{rank, under, above, IsUnder, AreRanked, HasNearestIn, IsEarly, IsReached, IsLeastRank, HasUnranked, AreOwn, AreChosen, AreLesser, AreUpTo, AreRanksBelow, AreRanksFarBelow, AreNearest, AreReached}
 use Rattle.node_marks.proofs.NumberLemmas.{IsNumbered, node_there, number_there, marked_at, numbered, IsSetOf_numbers, parent_is}
 use Rattle.node_marks.proofs.SetLemmas.{marked_node, marked_number, marked_both, marked_below, marked_far_below, marked_over, marked_far_over}
-use Rattle.node_marks.proofs.RankLemmas.{under_at, chosen_under, chosen_both, below_below, far_below_below}
+use Rattle.node_marks.proofs.BesideLemmas.{marked_beside}
+use Rattle.node_marks.proofs.RankLemmas.{under_at, chosen_under, chosen_both, below_below, far_below_below, lesser_either, least_under, or_true}
 
 module _ (t : LabelTree) (made : List ℕ) where
   pub ranked_own : AreOwn made (count_of t) (count_of t) → AreRanked t made (IsEarly t)
@@ -42,6 +43,11 @@ module _ (t : LabelTree) (parents steps : List ℕ) (labels : List (List ℕ)) (
 
   pub ranked_far_over : ((k : ℕ) → k ≤ length parents → AreFarOver parents (under k ranks) (under k made) 0) → AreRanked t made (λ k. HasDescendantIn (IsUnder t k ranks))
   ranked_far_over of k low = marked_far_over t parents steps labels is (under k ranks) (under k made) (of k (lower k low))
+
+  pub ranked_beside : (before after : List ℕ) → ((k : ℕ) → k ≤ length parents → AreBehind parents (under k ranks) (under k before) (length parents))
+      → ((k : ℕ) → k ≤ length parents → AreAhead parents (under k ranks) (under k after) 0) → AreLesser before after made (count_of t) (count_of t) → AreRanked t made (λ k v. IsNode t v × HasOtherIn (IsUnder t k ranks) v)
+  ranked_beside before after behind ahead lesser k low =
+      marked_beside t parents steps labels is (under k ranks) (under k made) (under k before) (under k after) (behind k (lower k low)) (ahead k (lower k low)) (lesser_either (count_of t) k low before after made (count_of t) lesser)
 
 -- the last step of a way that is free
 free_push : (F : List ℕ → Type 0) (v q : List ℕ) (k : ℕ) → IsFree F v (q ++ k ∷ []) ↔ (IsFree F v q × (F ((v ++ q) ++ k ∷ []) → ⊥))
@@ -192,3 +198,31 @@ first_of t M nodes r least there v = (
   where
     before_at : (i j : ℕ) → j < count_of t → i < j → Before (path_at t i) (path_at t j)
     before_at i j lt less = let count = length-paths_of t in AllPairs-paths_of t i j [] less (omega (arith, lt, count))
+
+-- ---- numbers that stop at one, and the least of all
+
+pub ranked_up_to : (t : LabelTree) (ranks : List ℕ) (most : ℕ) (made : List ℕ) → AreUpTo ranks most made (count_of t) (count_of t) → AreRanked t made (λ k v. IsNode t v × (IsUnder t k ranks v ⊎ (most < k)))
+ranked_up_to t ranks most made is k low = IsSetOf_numbers t (under k made) (λ v. IsNode t v × (IsUnder t k ranks v ⊎ (most < k))) (λ v h. h.0) (λ i lt.
+    let at : mark (under k made) i ≡ (mark (under k ranks) i || nat_lt most k) =
+    under_at k (count_of t) low made i
+    ∙ ap (λ r. nat_lt r k) (is.each i lt)
+    ∙ least_under k (rank ranks (count_of t) i) most
+    ∙ ap (λ x. x || nat_lt most k) (sym (under_at k (count_of t) low ranks i)) in (
+      λ on. (
+        node_there t i lt,
+        elim ((or_true (mark (under k ranks) i) (nat_lt most k)).0 (sym at ∙ on)) [ inl here ↦ inl (i, lt, refl, here) | inr less ↦ inr (ltb-true most k less) ],
+      ),
+      λ h. at ∙ (or_true (mark (under k ranks) i) (nat_lt most k)).1 (elim h.1 [ inl here ↦ inl (marked_at t (under k ranks) i lt here) | inr less ↦ inr (lt-ltb most k less) ]),
+    ))
+
+pub least_ranked : (t : LabelTree) (ranks : List ℕ) (r : ℕ) → ((k : ℕ) → k ≤ count_of t → (r < k) ↔ ((i : ℕ) × (i < count_of t) × (rank ranks (count_of t) i < k))) → IsLeastRank t ranks r
+least_ranked t ranks r is k low = (
+  λ less. let h = (is k low).0 less in (path_at t h.0, (h.0, h.1, refl, under_at k (count_of t) low ranks h.0 ∙ lt-ltb (rank ranks (count_of t) h.0) k h.2)),
+  λ h. let u = h.1 in (is k low).1 (u.0, u.1, ltb-true (rank ranks (count_of t) u.0) k (sym (under_at k (count_of t) low ranks u.0) ∙ u.3)),
+)
+
+pub unranked : (t : LabelTree) (marks : List Bool) (ranks : List ℕ) (b : Bool) → IsTrue b ↔ ((i : ℕ) × (i < count_of t) × (mark marks i ≡ true) × (count_of t ≤ rank ranks (count_of t) i)) → IsTrue b ↔ HasUnranked t ranks (IsMarked t marks)
+unranked t marks ranks b is = (
+  λ on. let h = is.0 on in (h.0, h.1, (h.0, h.1, refl, h.2), h.3),
+  λ h. is.1 (h.0, h.1, marked_at t marks h.0 h.1 h.2, h.3),
+)

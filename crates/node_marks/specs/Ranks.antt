@@ -31,6 +31,14 @@ IsEarly t k v = (i : ℕ) × (i < count_of t) × (path_at t i ≡ v) × (i < k)
 abbrev pub IsReached : LabelTree → List ℕ → (List ℕ → Type 0) → List ℕ → Type 0
 IsReached t ranks S v = (i : ℕ) × (i < count_of t) × S (path_at t i) × (rank ranks (count_of t) i < count_of t) × (path_at t (rank ranks (count_of t) i) ≡ v)
 
+-- the least of all numbers
+abbrev pub IsLeastRank : LabelTree → List ℕ → ℕ → Type 0
+IsLeastRank t ranks r = (k : ℕ) → k ≤ count_of t → (r < k) ↔ ((v : List ℕ) × IsUnder t k ranks v)
+
+-- some node in S has no number
+abbrev pub HasUnranked : LabelTree → List ℕ → (List ℕ → Type 0) → Type 0
+HasUnranked t ranks S = (i : ℕ) × (i < count_of t) × S (path_at t i) × (count_of t ≤ rank ranks (count_of t) i)
+
 -- ---- the first n numbers, as the passes make them
 
 pub record AreOwn (made : List ℕ) (none n : ℕ) : Type 0 where
@@ -40,6 +48,15 @@ pub record AreOwn (made : List ℕ) (none n : ℕ) : Type 0 where
 pub record AreChosen (marks : List Bool) (ranks made : List ℕ) (none n : ℕ) : Type 0 where
   pub count : length made ≡ n
   pub each : (i : ℕ) → i < n → rank made none i ≡ (if mark marks i then rank ranks none i else none)
+
+-- the lesser of two, and of each and one more
+pub record AreLesser (ranks others made : List ℕ) (none n : ℕ) : Type 0 where
+  pub count : length made ≡ n
+  pub each : (i : ℕ) → i < n → rank made none i ≡ min (rank ranks none i) (rank others none i)
+
+pub record AreUpTo (ranks : List ℕ) (most : ℕ) (made : List ℕ) (none n : ℕ) : Type 0 where
+  pub count : length made ≡ n
+  pub each : (i : ℕ) → i < n → rank made none i ≡ min (rank ranks none i) most
 
 -- of the parent
 abbrev pub above : List ℕ → List ℕ → ℕ → ℕ → ℕ

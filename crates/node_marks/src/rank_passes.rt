@@ -1,9 +1,9 @@
 //! Passes over a number for each of a tree's nodes: the least of those at nodes above or below. A number past all nodes is none.
-ghost use Rattle.std.specs.Prelude.{◌≡◌, ◌↔◌, ◌⊎◌, ℕ, ◌<◌, ◌≤◌, nat_lt, min, true, length, replicate, set, if◌then◌else◌, IfOk};
+ghost use Rattle.std.specs.Prelude.{◌≡◌, ◌↔◌, ◌⊎◌, ℕ, ◌<◌, ◌≤◌, nat_lt, min, true, ◌&&◌, length, get_or, replicate, set, if◌then◌else◌, IfOk, IsTrue};
 ghost use Rattle.node_marks.specs.Marks.{mark};
 ghost use Rattle.node_marks.specs.Numbering.{parent_number, AreAbove};
-ghost use Rattle.node_marks.specs.Passes.{AreOver, AreFarOver};
-ghost use Rattle.node_marks.specs.Ranks.{rank, under, AreOwn, AreChosen, AreRanksBelow, AreRanksFarBelow, AreNearest, AreReached};
+ghost use Rattle.node_marks.specs.Passes.{AreOver, AreFarOver, AreBehind, AreAhead};
+ghost use Rattle.node_marks.specs.Ranks.{rank, under, AreOwn, AreChosen, AreLesser, AreUpTo, AreRanksBelow, AreRanksFarBelow, AreNearest, AreReached};
 
 use crate::passes::{mark_at, number_at};
 use std::alloc::Global;
@@ -196,6 +196,111 @@ fn put(made: &mut Vec<usize>, node: usize, rank: usize)
     ensures { made.new.items ≡ set made.old.items node rank }
 {
     made[node] = rank;
+}
+
+/// The least number of the children of the parent before each node.
+pub fn behind(alloc: Global, parents: &[usize], ranks: &[usize]) -> Result<Vec<usize>, NoMemory>
+    requires { AreAbove parents.now }
+    ensures { IfOk result (λ m. (k : ℕ) → k ≤ length parents.now → AreBehind parents.now (under k ranks.now) (under k m.items) (length parents.now)) }
+{
+    let mut made = Vec::new(alloc);
+    let mut seen = all_none(alloc, parents.len())?;
+    'nodes: for i in 0..parents.len() {
+        let rank = rank_below(parents, seen.as_slice(), i);
+        made.push(rank)?;
+        see(&mut seen, parents, ranks, i);
+    }
+    Ok(made)
+}
+
+// The number of a parent is now at most that of its child.
+fn see(seen: &mut Vec<usize>, parents: &[usize], ranks: &[usize], child: usize)
+    requires { 0 < child → get_or parents.now child 0 < length seen.old.items }
+    ensures count { length seen.new.items ≡ length seen.old.items }
+    ensures each { (k i : ℕ) → (mark (under k seen.new.items) i ≡ true) ↔ ((mark (under k seen.old.items) i ≡ true) ⊎ ((i ≡ parent_number parents.now child) × ((nat_lt 0 child && nat_lt (rank ranks.now (length parents.now) child) k) ≡ true))) }
+{
+    if child > 0 {
+        let rank = rank_at(ranks, child, parents.len());
+        let parent = number_at(parents, child);
+        lower(seen, parent, rank);
+    }
+}
+
+/// The least number of the children of the parent behind each node.
+pub fn ahead(alloc: Global, parents: &[usize], ranks: &[usize]) -> Result<Vec<usize>, NoMemory>
+    requires { AreAbove parents.now }
+    ensures { IfOk result (λ m. (k : ℕ) → k ≤ length parents.now → AreAhead parents.now (under k ranks.now) (under k m.items) 0) }
+{
+    let mut made = all_none(alloc, parents.len())?;
+    let mut seen = all_none(alloc, parents.len())?;
+    let mut next = parents.len();
+    'nodes: while next > 1 {
+        next -= 1;
+        let parent = number_at(parents, next);
+        let rank = rank_at(seen.as_slice(), parent, parents.len());
+        put(&mut made, next, rank);
+        let own = rank_at(ranks, next, parents.len());
+        lower(&mut seen, parent, own);
+    }
+    Ok(made)
+}
+
+/// The lesser of two numbers of each node.
+pub fn lesser(
+    alloc: Global,
+    len: usize,
+    ranks: &[usize],
+    others: &[usize],
+) -> Result<Vec<usize>, NoMemory>
+    ensures { IfOk result (λ m. AreLesser ranks.now others.now m.items len len) }
+{
+    let mut made = Vec::new(alloc);
+    'nodes: for i in 0..len {
+        let rank = least(rank_at(ranks, i, len), rank_at(others, i, len));
+        made.push(rank)?;
+    }
+    Ok(made)
+}
+
+/// The number of each node, where it isn't more than this one.
+pub fn up_to(
+    alloc: Global,
+    len: usize,
+    ranks: &[usize],
+    most: usize,
+) -> Result<Vec<usize>, NoMemory>
+    ensures { IfOk result (λ m. AreUpTo ranks.now most m.items len len) }
+{
+    let mut made = Vec::new(alloc);
+    'nodes: for i in 0..len {
+        let rank = least(rank_at(ranks, i, len), most);
+        made.push(rank)?;
+    }
+    Ok(made)
+}
+
+/// The least number of all nodes.
+pub fn least_of(len: usize, ranks: &[usize]) -> usize
+    ensures { (k : ℕ) → k ≤ len → (result < k) ↔ ((i : ℕ) × (i < len) × (rank ranks.now len i < k)) }
+{
+    let mut found = len;
+    'nodes: for i in 0..len {
+        found = least(found, rank_at(ranks, i, len));
+    }
+    found
+}
+
+/// Whether a marked node has no number.
+pub fn is_any_without(len: usize, marks: &[bool], ranks: &[usize]) -> bool
+    ensures { IsTrue result ↔ ((i : ℕ) × (i < len) × (mark marks.now i ≡ true) × (len ≤ rank ranks.now len i)) }
+{
+    'nodes: for i in 0..len {
+        let rank = rank_at(ranks, i, len);
+        if mark_at(marks, i) && rank >= len {
+            return true;
+        }
+    }
+    false
 }
 
 /// Marks at the nodes that are the number of a marked one.

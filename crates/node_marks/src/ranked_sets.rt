@@ -1,8 +1,8 @@
 //! The least numbers of nodes above or below each node of a tree.
-ghost use Rattle.std.specs.Prelude.{◌<◌, ℕ, IfOk};
+ghost use Rattle.std.specs.Prelude.{◌<◌, ◌⊎◌, ◌↔◌, ℕ, IfOk, IsTrue};
 ghost use Rattle.tree_sem.specs.Nodes.{IsNode};
-ghost use Rattle.node_marks.specs.Marks.{IsMarked, IsSetOf, HasParentIn, HasAncestorIn, HasChildIn, HasDescendantIn};
-ghost use Rattle.node_marks.specs.Ranks.{IsUnder, AreRanked, HasNearestIn, IsEarly, IsReached};
+ghost use Rattle.node_marks.specs.Marks.{IsMarked, IsSetOf, HasParentIn, HasAncestorIn, HasChildIn, HasDescendantIn, HasOtherIn};
+ghost use Rattle.node_marks.specs.Ranks.{IsUnder, AreRanked, HasNearestIn, IsEarly, IsReached, IsLeastRank, HasUnranked};
 
 use crate::marks::Marks;
 use crate::numbered_tree::NumberedTree;
@@ -58,6 +58,38 @@ impl<'a> NumberedTree<'a> {
         ensures { IfOk result (λ m. AreRanked self.now m (λ k v. IsNode self.now v × HasNearestIn (IsMarked self.now set.now) (IsUnder self.now k ranks.now) v)) }
     {
         Ok(Ranks::new(passes::nearest(self.alloc(), self.parents(), ranks.items(), set.items())?))
+    }
+
+    /// The least one of the other children of the parent.
+    pub fn ranks_beside(&self, ranks: &Ranks) -> Result<Ranks, NoMemory>
+        ensures { IfOk result (λ m. AreRanked self.now m (λ k v. IsNode self.now v × HasOtherIn (IsUnder self.now k ranks.now) v)) }
+    {
+        let parents = self.parents();
+        let behind = passes::behind(self.alloc(), parents, ranks.items())?;
+        let ahead = passes::ahead(self.alloc(), parents, ranks.items())?;
+        let made = passes::lesser(self.alloc(), self.count(), &behind, &ahead)?;
+        Ok(Ranks::new(made))
+    }
+
+    /// The numbers that aren't more than this one, and in the place of those that are it.
+    pub fn ranks_up_to(&self, ranks: &Ranks, most: usize) -> Result<Ranks, NoMemory>
+        ensures { IfOk result (λ m. AreRanked self.now m (λ k v. IsNode self.now v × (IsUnder self.now k ranks.now v ⊎ (most < k)))) }
+    {
+        Ok(Ranks::new(passes::up_to(self.alloc(), self.count(), ranks.items(), most)?))
+    }
+
+    /// The least of all numbers; none where no node has one.
+    pub fn least_rank(&self, ranks: &Ranks) -> usize
+        ensures { IsLeastRank self.now ranks.now result }
+    {
+        passes::least_of(self.count(), ranks.items())
+    }
+
+    /// Whether a node of the set has none.
+    pub fn has_unranked(&self, set: &Marks, ranks: &Ranks) -> bool
+        ensures { IsTrue result ↔ HasUnranked self.now ranks.now (IsMarked self.now set.now) }
+    {
+        passes::is_any_without(self.count(), set.items(), ranks.items())
     }
 
     /// The nodes whose numbers those of the set have.
