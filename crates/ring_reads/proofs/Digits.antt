@@ -49,7 +49,7 @@ drop_before all last part =
     rw (part.is, len) (drop-append_seam part.before last)
 
 -- closed texts are ASCII
-each_of : (q : ℕ → Bool) (bs : List ℕ) → list_all q bs ≡ true → Each q bs
+pub each_of : (q : ℕ → Bool) (bs : List ℕ) → list_all q bs ≡ true → Each q bs
 each_of q [] all = tt
 each_of q (b ∷ bs) all = let both = and_parts (q b) (list_all q bs) all in (both.0, each_of q bs both.1)
 
@@ -66,3 +66,7 @@ lines_ascii line each a zero few = IsAscii-nil
 lines_ascii line each a (suc n) few =
     subst IsAscii (sym (flat_map-cons line a (range_with_len (a + 1) n)))
     (IsAscii-append (line a) (flat_map line (range_with_len (a + 1) n)) (each a (omega arith)) (lines_ascii line each (a + 1) n (omega arith)))
+
+pub each_prefix : (q : ℕ → Bool) (xs : List ℕ) → Each q xs → prefix_len q xs ≡ length xs
+each_prefix q [] each = refl
+each_prefix q (x ∷ xs) each = rw (each.0, each_prefix q xs each.1) (omega arith)

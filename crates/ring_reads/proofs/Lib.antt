@@ -4,3 +4,7 @@ pub mod PageTrees
 pub mod PageLemmas
 pub mod SheetLemmas
 pub mod RingSheets
+pub mod ScriptWords
+pub mod ScriptLines
+pub mod ScriptParts
+pub mod ScriptForest

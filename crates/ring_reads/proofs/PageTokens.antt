@@ -48,7 +48,7 @@ one_attribute b bs a after other solid is last = rw (other, solid, is, attribute
 quote_last : (before value rest : List ℕ) → IsLast (before ++ (value ++ 34 ∷ rest)) rest
 quote_last before value rest = record { before = before ++ (value ++ 34 ∷ []); is = simp append_assoc }
 
-one_class : (value rest : List ℕ) → Each (is_not 34) value → attributes (codes " class=\"" ++ (value ++ 34 ∷ rest)) ≡ (attributes rest >>= λ others. Some (named (codes "class") value ∷ others.0, others.1))
+pub one_class : (value rest : List ℕ) → Each (is_not 34) value → attributes (codes " class=\"" ++ (value ++ 34 ∷ rest)) ≡ (attributes rest >>= λ others. Some (named (codes "class") value ∷ others.0, others.1))
 unfolding attributes_from
 one_class value rest each = one_attribute 99 (codes "lass=\"" ++ (value ++ 34 ∷ rest)) (named (codes "class") value) rest refl refl (class_is value rest each) (quote_last (codes "lass=\"") value rest)
 
@@ -78,7 +78,7 @@ box_tag class id closes_itself at = record { name = codes "div"; id = Some id; c
 abbrev pub paragraph_tag : Bool → ℕ → StartTag
 paragraph_tag closes_itself at = record { name = codes "p"; id = None; class = Some (codes "t"); others = []; closes_itself = closes_itself; at = at }
 
-abbrev closing : List ℕ → List ℕ → Bool
+abbrev pub closing : List ℕ → List ℕ → Bool
 closing bs rest = ends_with nat_eq (take (length bs - length rest) bs) (codes "/>")
 
 box_front : (at : ℕ) (class id rest : List ℕ) → Each (is_not 34) class → Each (is_not 34) id
@@ -94,7 +94,7 @@ paragraph_stop : (at : ℕ) (rest : List ℕ) → front at (codes "</p>" ++ rest
 unfolding front begins_markup markup end_markup end_tag tag attributes_from value_of others_in firsts_besides
 paragraph_stop at rest = refl
 
-box_stop : (at : ℕ) (rest : List ℕ) → front at (codes "</div>" ++ rest) ≡ (Some (stop (codes "div") at), rest)
+pub box_stop : (at : ℕ) (rest : List ℕ) → front at (codes "</div>" ++ rest) ≡ (Some (stop (codes "div") at), rest)
 unfolding front begins_markup markup end_markup end_tag tag attributes_from value_of others_in firsts_besides
 box_stop at rest = refl
 
@@ -116,11 +116,11 @@ tokens_skip size zero bs = refl
 tokens_skip size (suc n) [] = refl
 tokens_skip size (suc n) (b ∷ bs) = tokens_skip size n bs
 
-one_token : (size b : ℕ) (bs : List ℕ) (t : Token) (rest : List ℕ) → front (size - length (b ∷ bs)) (b ∷ bs) ≡ (Some t, rest) → IsLast bs rest → tokens_from size 0 (b ∷ bs) ≡ t ∷ tokens_from size 0 rest
+pub one_token : (size b : ℕ) (bs : List ℕ) (t : Token) (rest : List ℕ) → front (size - length (b ∷ bs)) (b ∷ bs) ≡ (Some t, rest) → IsLast bs rest → tokens_from size 0 (b ∷ bs) ≡ t ∷ tokens_from size 0 rest
 unfolding tokens_from
 one_token size b bs t rest is last = rw (is, tokens_skip size (length bs - length rest) bs, drop_before bs rest last) refl
 
-then_token : (size b : ℕ) (bs : List ℕ) (t : Token) (rest : List ℕ) (ts : List Token) → front (size - length (b ∷ bs)) (b ∷ bs) ≡ (Some t, rest) → IsLast bs rest → tokens_from size 0 rest ≡ ts → tokens_from size 0 (b ∷ bs) ≡ t ∷ ts
+pub then_token : (size b : ℕ) (bs : List ℕ) (t : Token) (rest : List ℕ) (ts : List Token) → front (size - length (b ∷ bs)) (b ∷ bs) ≡ (Some t, rest) → IsLast bs rest → tokens_from size 0 rest ≡ ts → tokens_from size 0 (b ∷ bs) ≡ t ∷ ts
 then_token size b bs t rest ts is last more = one_token size b bs t rest is last ∙ ap (λ (us : List Token). t ∷ us) more
 
 -- the tokens of a box, and of what is behind it

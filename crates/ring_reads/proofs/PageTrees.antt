@@ -28,7 +28,7 @@ gives_then P Q (Err e) f first next = absurd first
 
 -- ---- labels
 
-words_count : (skip : ℕ) (bs : List ℕ) → length (words_from skip bs) ≤ length bs
+pub words_count : (skip : ℕ) (bs : List ℕ) → length (words_from skip bs) ≤ length bs
 unfolding words_from
 words_count skip [] = omega arith
 words_count (suc skip) (b ∷ bs) = let others = words_count skip bs in omega arith
@@ -63,7 +63,7 @@ pub record IsGrown (t : StartTag) (s : State) (m : ℕ) (q : State) : Type 0 whe
   pub is : q ≡ record s { trees = add s.depth t.name label s.trees; table = table }
   pub few : length table ≤ m
 
-one_node : (t : StartTag) (s : State) (m : ℕ) → level s.document + s.depth + 1 ≤ MOST_DEPTH → others s.document + size s.trees < MOST_PAGE_NODES → length s.table + length (node_names t) ≤ m → m ≤ MOST_ATOMS
+pub one_node : (t : StartTag) (s : State) (m : ℕ) → level s.document + s.depth + 1 ≤ MOST_DEPTH → others s.document + size s.trees < MOST_PAGE_NODES → length s.table + length (node_names t) ≤ m → m ≤ MOST_ATOMS
     → Gives (IsGrown t s m) (with_node t s)
 unfolding with_node
 one_node t s m shallow few room most =

@@ -1,6 +1,7 @@
-//! What is known of readings before any reader runs: each short sheet is read, and so are the page and the sheet of each ring.
+//! What is known of readings before any reader runs: each short sheet is read, and so are the page and the sheet of each ring,
+//! the words of its script, and what these have in their brackets.
 #![tactic(auto)]
 
 mod laws;
 
-pub use laws::{rings_are_read, short_sheets_are_read};
+pub use laws::{classes_are_read, ring_scripts_are_words, rings_are_read, short_sheets_are_read};
