@@ -1,8 +1,9 @@
-//! Runs over each ring, and a run in which nothing can fail.
-use crate::sure_runs::sure_run;
+//! Runs over each ring, a run in which nothing can fail, and runs whose standard error has its room from the start.
+use crate::room_sink::ROOM;
+use crate::sure_runs::{errors_of, sure_run};
 use std::alloc::{AllocError, Global};
 use std::test::Fail;
-use tp_io::{MemFiles, SureFiles, SureSink};
+use tp_io::{MemFiles, MemSink, SureFiles, SureSink};
 use treeped_app::treeped;
 
 const NAMES: [&str; 3] = ["page", "sheet", "script"];
@@ -60,5 +61,38 @@ fn runs_where_nothing_fails(rt: HostRuntime) -> Result<(), Fail> {
     assert!(rt; status.code() == 0, "status {status:?}");
     assert!(rt; out.bytes() == OWN_REPORT);
     assert!(rt; err.bytes().is_empty());
+    Ok(())
+}
+
+/// Standard output takes nothing of the report.
+#[test]
+fn a_failed_write_is_heard(rt: HostRuntime) -> Result<(), Fail> {
+    let alloc = rt.alloc();
+    let words = strings(alloc, &NAMES)?;
+    let mut files = SureFiles::new(alloc, entries(alloc, &OWN)?);
+    let mut out = MemSink::new(alloc, Vec::from_slice(alloc, &[1])?, 100);
+    let (status, errors) = errors_of(alloc, &words, &mut files, &mut out)?;
+    assert!(rt; status.code() == 5, "status {status:?}");
+    assert!(rt; errors.as_slice() == b"treeped: write fault\n");
+    Ok(())
+}
+
+/// The line would name a call whose name is longer than the room.
+#[test]
+fn a_full_sink_takes_no_more(rt: HostRuntime) -> Result<(), Fail> {
+    let alloc = rt.alloc();
+    let words = strings(alloc, &NAMES)?;
+    let mut script = Vec::from_slice(alloc, b"$('p').")?;
+    for _ in 0..ROOM {
+        script.push(b'a')?;
+    }
+    script.extend_from_slice(b"();")?;
+    let texts: [&[u8]; 3] = [b"<p>", b"p{}", script.as_slice()];
+    let mut files = SureFiles::new(alloc, entries(alloc, &texts)?);
+    let mut out = SureSink::new(alloc);
+    let (status, errors) = errors_of(alloc, &words, &mut files, &mut out)?;
+    assert!(rt; status.code() == 5, "status {status:?}");
+    assert!(rt; errors.len() == ROOM);
+    assert!(rt; errors.starts_with(b"treeped: script: unknown call aaa"));
     Ok(())
 }

@@ -1,11 +1,13 @@
 //! Finds the CSS rules that a page can never use: `treeped PAGE SHEET SCRIPT`.
 #![tactic(auto)]
 
-ghost use Rattle.std.specs.Prelude.{◌≡◌};
+ghost use Rattle.std.specs.Prelude.{◌≡◌, drop, map, string_bytes, IfOk};
+ghost use Rattle.std.specs.Vec.Iter.{into_iter_items};
 ghost use Rattle.std.specs.Process.{exit_status};
+ghost use Rattle.treeped.specs.Runs.{IsSystemRun, stream_put};
 ghost use Rattle.treeped_app.specs.Stops.{code_of};
 
-use std::alloc::Global;
+use std::alloc::{AllocError, Global};
 use std::io::ErrorKind;
 use std::process::ExitCode;
 use std::rt::{Env, Files, Stderr, Stdout};
@@ -31,7 +33,9 @@ fn run<R: Files + Drop>(
     system: R,
     out: &mut HostSink<Stdout>,
     err: &mut HostSink<Stderr>,
-) -> Status {
+) -> Status
+    ensures { IsSystemRun (map string_bytes words.now) (stream_put out.old.faults out.new.faults) (stream_put err.old.faults err.new.faults) result }
+{
     let mut files = HostFiles::new(alloc, system);
     treeped(alloc, words, &mut files, out, err)
 }
@@ -52,17 +56,31 @@ fn exit_code(status: Status) -> ExitCode
 
 // The words after the program's name. A word that isn't UTF-8 names no file, so that there are no words then.
 fn words<R: Env + Alloc<A = Global>>(rt: &R, alloc: Global) -> io::Result<Vec<String>> {
-    let mut words = Vec::new(alloc);
     match env::args(rt) {
-        Ok(args) => {
-            for word in args.skip(1) {
-                words.push(word)?;
-            }
-        }
-        Err(e) if e.kind() == ErrorKind::InvalidData => {}
-        Err(e) => return Err(e),
+        Ok(args) => Ok(behind_name(alloc, args)?),
+        Err(e) if e.kind() == ErrorKind::InvalidData => Ok(Vec::new(alloc)),
+        Err(e) => Err(e),
     }
-    Ok(words)
+}
+
+// All arguments but the first, which is the program's name.
+fn behind_name(alloc: Global, mut args: env::Args) -> Result<Vec<String>, AllocError>
+    ensures { IfOk result (λ words. words.items ≡ drop 1 (into_iter_items args)) }
+{
+    match args.next() {
+        Some(_) => all_of(alloc, args),
+        None => Ok(Vec::new(alloc)),
+    }
+}
+
+fn all_of(alloc: Global, mut left: env::Args) -> Result<Vec<String>, AllocError>
+    ensures { IfOk result (λ all. all.items ≡ into_iter_items left) }
+{
+    let mut all = Vec::new(alloc);
+    'arguments: while let Some(argument) = left.next() {
+        all.push(argument)?;
+    }
+    Ok(all)
 }
 
 #[cfg(test)]

@@ -19,5 +19,6 @@ pub mod EachPageLemmas
 pub mod BestLemmas
 pub mod WritingLemmas
 pub mod PreservationLemmas
+pub mod EngineLemmas
 mod PruneLemmas
 mod Rows

@@ -1,4 +1,5 @@
--- What loading, reading and judging come to, part by part.
+-- What loading, reading and judging come to, part by part. No public contract cites it: each is what one function beneath hands on, over
+-- its answer or the stop, and `Runs` says what they come to together.
 --     OneLoaded ..       what loading one file comes to
 --     AllLoaded ..       what loading several comes to, up to the first that is refused
 --     IsRead ..          what reading the texts of a page comes to

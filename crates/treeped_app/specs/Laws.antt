@@ -1,9 +1,10 @@
--- What right answers come to, of statements and of sites.
+-- What right answers come to, of statements and of sites, and by which engine.
+--     EnginesAgree       two runs that ask the same of the same texts write the same, by diagrams or by a table, where each has room
 --     PlainIsRight       of a script without sharp calls each answer is that for the statements that are judged
 --     DeadIsRight        what `--dead` writes of each statement is so, where nothing is spent
 --     SiteIsRight        an item is unused on a site exactly where it is on every page
 --     PruneIsRight       what is left of a sheet does at each node of a page what the sheet does, and so on each page of a site
-use Rattle.std.specs.Prelude.{◌≡◌, ◌↔◌, ℕ, Bool, false, List, [], ◌∷◌, Contains, Some, slice_get, Ok}
+use Rattle.std.specs.Prelude.{◌≡◌, ◌↔◌, ℕ, Bool, false, List, [], ◌∷◌, map, Contains, Some, slice_get, Ok}
 use Rattle.std.specs.List.{list_any}
 use Rattle.tp_base.specs.Names.{Named}
 use Rattle.tree_sem.specs.declared.actions.Event.{Event}
@@ -21,9 +22,31 @@ use Rattle.usage_report.specs.Answers.{Answer, unused, spent}
 use Rattle.dead_script.specs.Laws.{AreRightVerdicts}
 use Rattle.dead_script.specs.Verdicts.{verdicts}
 use Rattle.site_judge.specs.Sites.{Best}
-use Rattle.treeped_app.specs.Modes.{Inputs, Said, AreJudgedOf, AreAnswersOf, site_on, text_on, text_by}
+use Rattle.treeped_app.specs.Modes.{Inputs, Said, AreJudgedOf, AreAnswersOf, site_on, text_on, text_by, text_of, status_of}
 use Rattle.treeped_app.specs.Runs.{Run, IsWhole}
 use Rattle.treeped_app.specs.Tasks.{Task}
+
+-- there was room enough to find out all that is said of a page
+pub record HasRoom (s : Said) : Type 0 where
+  pub items : ¬ Contains s.items spent
+  pub others : ¬ Contains s.others spent
+
+-- Two whole runs ask the same of the same texts: by the same source, in the same mode, with the same limits of a proof and of a list. What
+-- they calculate by, and how much room it has, may differ, where each has enough.
+pub record AskTheSame (r r' : Run) (t t' : Task) (said said' : List Said) : Type 0 where
+  pub whole : IsWhole r t said
+  pub whole' : IsWhole r' t' said'
+  pub source : t'.source ≡ t.source
+  pub mode : t'.mode ≡ t.mode
+  pub entries : t'.limits.entries ≡ t.limits.entries
+  pub list : t'.limits.list ≡ t.limits.list
+  pub texts : map (λ (s : Said). s.texts) said' ≡ map (λ (s : Said). s.texts) said
+  pub room : (s : Said) → Contains said s → HasRoom s
+  pub room' : (s : Said) → Contains said' s → HasRoom s
+
+-- Then they write the same text, and end with the same status.
+abbrev pub EnginesAgree : Type 0
+EnginesAgree = (r r' : Run) (t t' : Task) (said said' : List Said) → AskTheSame r r' t t' said said' → (text_of t' said' ≡ text_of t said) × (status_of t' said' ≡ status_of t said)
 
 -- Where no statement has a sharp call, the answers are right for the statements as they are judged, and as exactly as `judge_more` decides.
 abbrev pub PlainIsRight : Type 0

@@ -1,4 +1,5 @@
--- What is known of a site behind some of its pages, and what further pages come to.
+-- What is known of a site behind some of its pages, and what further pages come to. No public contract cites it: it is what the functions
+-- beneath hand on, page by page.
 --     IsBegun ..        what the first page comes to
 --     PageAdded ..      what one page more comes to
 --     MorePages ..      what the pages behind it come to

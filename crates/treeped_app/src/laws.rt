@@ -1,5 +1,12 @@
-//! What the command's answers say of scripts without sharp calls, of statements and of sites, and what a pruned sheet does.
-ghost use Rattle.treeped_app.specs.Laws.{DeadIsRight, PlainIsRight, PruneIsRight, SiteIsRight, SitePruneIsRight};
+//! What the command's answers say of scripts without sharp calls, of statements and of sites, what a pruned sheet does, and that
+//! both engines say the same.
+ghost use Rattle.treeped_app.specs.Laws.{DeadIsRight, EnginesAgree, PlainIsRight, PruneIsRight, SiteIsRight, SitePruneIsRight};
+
+/// Two runs that ask the same of the same texts, with the same limits of a proof and of a list, write the same bytes: with `--plain`
+/// or without, and whatever room there is, where no answer of either is spent.
+pub fn engines_agree()
+    ensures { EnginesAgree }
+{}
 
 /// Of a script without sharp calls each answer is the one for its statements as they are judged, so that none is `maybe`.
 pub fn plain_is_right()

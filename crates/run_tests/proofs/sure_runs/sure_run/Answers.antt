@@ -1,5 +1,8 @@
-use Rattle.tp_io.proofs.LoadLemmas.{last_load_succeeded}
+use Rattle.std.proofs.Common.{map, string_bytes}
+use Rattle.run_tests.proofs.SureLemmas.{is_sure}
 use Rattle.run_tests.proofs.sure_runs.sure_run.Goals as goal
 
-pub returns-clause-no_read_fault : goal.returns-clause-no_read_fault
-returns-clause-no_read_fault c is = let failed = (c.treeped.ensures.causes.read_fault is).3 in last_load_succeeded _ _ failed.file.name failed.loads
+pub returns : goal.returns
+returns c =
+    let e = c.treeped.ensures in
+    is_sure (map string_bytes c.args.words.now) c.args.files.now c.treeped.new.files c.args.out.now c.treeped.new.out c.args.err.now c.treeped.new.err c.treeped.result e.headline e.ended e.causes

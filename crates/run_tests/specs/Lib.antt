@@ -1,0 +1,2 @@
+pub mod RoomSinks
+pub mod SureRuns
