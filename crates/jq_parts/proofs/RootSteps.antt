@@ -3,7 +3,7 @@ use Rattle.std.proofs.Common.{◌≡◌, ℕ, true, false, List, [], ◌∷◌, 
 use Rattle.jq_words.specs.declared.faults.ScriptFault.TheVariants.{ComplexArgument, ThisOutside}
 use Rattle.jq_words.specs.Words.{Word, is_name, is_any_name, is_name_among, is_one, place, spelled}
 use Rattle.jq_words.proofs.FitSteps.{no_form, form}
-use Rattle.jq_parts.specs.Keywords.{pages}
+use Rattle.jq_cursor.specs.Keywords.{pages}
 use Rattle.jq_parts.specs.Bindings.{elements, everywhere}
 use Rattle.jq_parts.specs.Scopes.{Scope, this_chain, used}
 use Rattle.jq_parts.specs.Roots.{named_root}

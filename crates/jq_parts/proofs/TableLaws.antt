@@ -16,7 +16,7 @@ use Rattle.html_tokens.specs.Words as tags
 use Rattle.jq_words.specs.declared.faults.ScriptFault.TheVariants.{ComplexArgument}
 use Rattle.jq_words.specs.Words.{Outcome, ◌>>=◌}
 use Rattle.jq_words.specs.Brackets.{is_empty}
-use Rattle.jq_parts.specs.Selections.{with_selectors, selectors, compounds, and_class, with_classes, class_set, with_attribute}
+use Rattle.jq_cursor.specs.Selections.{with_selectors, selectors, compounds, and_class, with_classes, class_set, with_attribute}
 use Rattle.jq_sem.specs.Tables.{AreAtoms, AreCompoundsOver, AreSelectorsOver}
 use Rattle.jq_parts.proofs.SelectorLaws.{IsListOver, list_over, AreAtoms-more}
 

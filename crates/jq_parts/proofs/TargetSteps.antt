@@ -4,7 +4,7 @@ use Rattle.std.proofs.lemmas.Slice.Eq.{bytes_eq-Decides}
 use Rattle.jq_words.specs.declared.faults.ScriptFault.TheVariants.{ComplexArgument}
 use Rattle.jq_words.specs.Words.{Word, is_mark, is_name, is_name_kind, is_any_name, is_among, is_name_among, is_form, is_one, place, spelled}
 use Rattle.jq_words.proofs.FitSteps.{no_form, form}
-use Rattle.jq_parts.specs.Keywords.{jquery, pages, is_name_besides}
+use Rattle.jq_cursor.specs.Keywords.{jquery, pages, is_name_besides}
 use Rattle.jq_parts.specs.Scopes.{Scope}
 use Rattle.jq_parts.specs.Arguments.{named_target, bare_target, wrapped_target, wrapped_this, other_target}
 

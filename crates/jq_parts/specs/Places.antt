@@ -1,15 +1,9 @@
 -- Where names stand last in a list of declarations.
 --     last_in       the place of the last one of a name
 --     IsIndexed     a table tells the last place of each name, and each entry the place of the one that it hides
-use Rattle.std.specs.Prelude.{◌≡◌, ⊤, ℕ, suc, if◌then◌else◌, List, [], ◌∷◌, ◌++◌, map, bytes_eq, Option, Some, None, unwrap_or}
-use Rattle.indexmap.specs.IndexMap.{get_by}
+use Rattle.std.specs.Prelude.{◌≡◌, ⊤, ℕ, suc, if◌then◌else◌, List, [], ◌∷◌, ◌++◌, map, bytes_eq, Option, Some, None}
 use Rattle.jq_parts.specs.declared.entries.Entry.{Entry}
-use Rattle.jq_parts.specs.declared.last_places.LastPlaces.{LastPlaces}
 use Rattle.jq_parts.specs.Bindings.{or_else}
-
--- the place that a table has for a name
-abbrev pub place_in : LastPlaces → List ℕ → Option ℕ
-place_in table q = unwrap_or (get_by (λ k. bytes_eq q k.now) table.table) None
 
 -- the place of the last of these names that is this one, where the first has this place
 abbrev pub last_in : ℕ → List ℕ → List (List ℕ) → Option ℕ

@@ -4,10 +4,10 @@ use Rattle.jq_words.specs.declared.faults.ScriptFault.TheVariants.{ComplexArgume
 use Rattle.jq_words.specs.Words.{Word, is_mark, is_name, is_any_name, is_name_among, fits, is_form, place, spelled, Outcome, ◌>>=◌, unexpected, want, want_open}
 use Rattle.jq_words.specs.Brackets.{is_empty, arguments, behind_arguments}
 use Rattle.jq_words.specs.Texts.{texts, is_markup}
-use Rattle.jq_parts.specs.Keywords.{jquery, pages}
+use Rattle.jq_cursor.specs.Keywords.{jquery, pages}
 use Rattle.jq_parts.specs.Bindings.{Value, elements, everywhere, markup}
 use Rattle.jq_parts.specs.Scopes.{Scope, used, this_at, matched_chain}
-use Rattle.jq_parts.specs.Selections.{selectors}
+use Rattle.jq_cursor.specs.Selections.{selectors}
 use Rattle.jq_parts.specs.Markup.{Grown, grown, forest}
 
 -- `this`, document or window, or a bound name

@@ -1,44 +1,19 @@
-//! Arguments that are Texts, and those that are markup.
+//! Arguments that are markup.
 ghost use Rattle.std.specs.Prelude.{◌≡◌, ◌≤◌, option_map, IfOk, IfErr, OnOk};
 ghost use Rattle.sel_core.specs.Results.{IsFront};
 ghost use Rattle.jq_words.specs.Words.{place};
-ghost use Rattle.jq_words.specs.Results.{Finds, Turns, IsBehind};
+ghost use Rattle.jq_words.specs.Results.{Finds};
 ghost use Rattle.jq_words.specs.declared.faults.ScriptFault.TheVariants.{Memory};
 ghost use Rattle.jq_words.specs.declared.faults.TheConstants.{MOST_FOREST_NODES};
 ghost use Rattle.jq_parts.specs.Markup.{grown};
 ghost use Rattle.jq_parts.specs.Arguments as spec;
 
-use crate::cursors::Cursor;
-use crate::keywords::{begins_jquery, is_jquery_call};
 use crate::markup::forest;
-use jq_words::{
-    ScriptFault, Words, argument_len, closed_texts, is_markup, joined_texts, place, want_open,
-};
+use jq_cursor::{begins_jquery, is_jquery_call};
+use jq_words::{ScriptFault, Words, closed_texts, is_markup, joined_texts, place, want_open};
 use std::alloc::Global;
 use tp_base::AtomTable;
 use tree_sem::Forest;
-
-/// Passes Texts that are an argument, and gives their letters. Linear in the argument.
-#[tactic(auto, unfolding(crate::specs::Arguments::text_argument))]
-pub fn text_argument(
-    alloc: Global,
-    size: usize,
-    words: &mut Cursor<'_, '_>,
-) -> Result<Vec<u8>, ScriptFault>
-    ensures gives { Turns (λ l. l.items) (place size words.old) words.new result (spec.text_argument size words.old) }
-    ensures rest { OnOk result (IsBehind words.old words.new) }
-{
-    let count = argument_len(alloc, true, words.words())?;
-    let given = words.words().front(count);
-    if given.first().is_none() {
-        return Err(ScriptFault::UnknownForm(place(size, words.words())));
-    }
-    let Some(letters) = joined_texts(alloc, &given)? else {
-        return Err(ScriptFault::ComplexArgument(place(size, words.words())));
-    };
-    words.pass_all(count);
-    Ok(letters)
-}
 
 /// The letters of markup in the brackets of J, where that is all there is.
 #[tactic(auto, unfolding(crate::specs::Arguments::wrapped))]

@@ -4,8 +4,8 @@ ghost use Rattle.jq_parts.specs.Bindings as spec;
 ghost use Rattle.jq_parts.specs.Views.{declaration_of, declarations_of};
 
 use crate::entries::Entry;
-use crate::last_places::LastPlaces;
 use crate::values::Declaration;
+use jq_cursor::LastPlaces;
 use std::alloc::Global;
 use std::marker::Model;
 use tp_base::NoMemory;
@@ -20,7 +20,8 @@ pub struct Declarations<'a> {
 impl<'a> Model for Declarations<'a> {
     ghost use Rattle.std.specs.Prelude.{List, map};
     ghost use Rattle.jq_parts.specs.declared.values.Declaration.{Declaration};
-    ghost use Rattle.jq_parts.specs.Places.{place_in, IsIndexed};
+    ghost use Rattle.jq_cursor.specs.LastPlaces.{place_in};
+    ghost use Rattle.jq_parts.specs.Places.{IsIndexed};
     ghost use Rattle.jq_parts.specs.contracts.values.Value as e;
     ghost use Rattle.std.specs.Coded.{codes};
 

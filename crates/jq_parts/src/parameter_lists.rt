@@ -5,9 +5,9 @@ ghost use Rattle.jq_words.specs.declared.faults.ScriptFault.TheVariants.{Memory}
 ghost use Rattle.jq_parts.specs.Parameters as spec;
 ghost use Rattle.jq_parts.specs.Views.{declarations_of};
 
-use crate::cursors::Cursor;
 use crate::declarations::Declarations;
 use crate::values::Declaration;
+use jq_cursor::Cursor;
 use jq_words::{ScriptFault, begins};
 
 /// A parameter hides what its name was bound to.

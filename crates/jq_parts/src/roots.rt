@@ -1,7 +1,6 @@
 //! What a chain begins with.
-ghost use Rattle.std.specs.Prelude.{◌≡◌, ◌≤◌, map, OnOk};
+ghost use Rattle.std.specs.Prelude.{◌≤◌, OnOk};
 ghost use Rattle.sel_core.specs.Results.{IsFront};
-ghost use Rattle.sel_core.specs.Views.{selector_of};
 ghost use Rattle.jq_words.specs.Results.{Gives, Finds, Turns, IsBehind};
 ghost use Rattle.jq_words.specs.declared.faults.TheConstants.{MOST_FOREST_NODES};
 ghost use Rattle.jq_parts.specs.Markup.{grown};
@@ -9,12 +8,10 @@ ghost use Rattle.jq_parts.specs.Roots as spec;
 ghost use Rattle.jq_parts.specs.Views.{value_of};
 ghost use Rattle.jq_parts.specs.ScopeViews.{scope_of};
 
-use crate::cursors::Cursor;
-use crate::keywords::{PAGES, is_jquery_call, spelled};
 use crate::markup::forest;
 use crate::scopes::{Scope, used};
-use crate::selections::selectors;
 use crate::values::{Value, matched, this_chain};
+use jq_cursor::{Cursor, PAGES, is_jquery_call, selectors, spelled};
 use jq_words::{ScriptFault, Words, argument_len, is_markup, joined_texts, only, place};
 use std::alloc::Global;
 use tp_base::AtomTable;

@@ -1,5 +1,5 @@
 //! What is seen at a place of a script.
-ghost use Rattle.std.specs.Prelude.{◌≡◌, map, bytes_eq, is_some};
+ghost use Rattle.std.specs.Prelude.{◌≡◌, bytes_eq, is_some};
 ghost use Rattle.jq_words.specs.Results.{Gives};
 ghost use Rattle.jq_parts.specs.Bindings.{bound};
 ghost use Rattle.jq_parts.specs.Scopes as spec;

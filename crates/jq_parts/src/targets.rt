@@ -3,7 +3,7 @@ ghost use Rattle.std.specs.Prelude.{◌≡◌, [], ◌∷◌, Bool, false, codes
 ghost use Rattle.sel_core.specs.Results.{IsFront};
 ghost use Rattle.jq_words.specs.Words.{Word, is_mark, is_name_among, is_form, spelled};
 ghost use Rattle.jq_words.specs.Results.{Gives, Finds};
-ghost use Rattle.jq_parts.specs.Keywords.{jquery, is_name_besides};
+ghost use Rattle.jq_cursor.specs.Keywords.{jquery};
 ghost use Rattle.jq_parts.specs.Bindings.{bound};
 ghost use Rattle.jq_parts.specs.Arguments as spec;
 ghost use Rattle.jq_parts.specs.SharedChains.{shared_of};
@@ -11,11 +11,10 @@ ghost use Rattle.jq_parts.specs.Views.{declarations_of};
 ghost use Rattle.jq_parts.specs.ScopeViews.{scope_of};
 
 use crate::declarations::Declarations;
-use crate::keywords::{PAGES, is_jquery_call, spelled};
 use crate::scopes::{Scope, used};
-use crate::selections::selectors;
 use crate::shared_chains::SharedChain;
 use crate::values::{Value, matched, this_chain};
+use jq_cursor::{PAGES, is_jquery_call, selectors, spelled};
 use jq_words::{ScriptFault, Word, Words, joined_texts, only, place, want_open};
 use std::alloc::Global;
 use tp_base::AtomTable;
@@ -148,7 +147,7 @@ fn bare_target(
 }
 
 /// `J(this)`, `J(name)` or a bound name.
-#[tactic(auto, using(crate::proofs::TargetSteps::not_wrapped, crate::proofs::TargetSteps::this_wrapped, crate::proofs::TargetSteps::other_wrapped, crate::proofs::TargetSteps::page_wrapped, crate::proofs::TargetSteps::name_wrapped, crate::proofs::KeywordTables::same_pages))]
+#[tactic(auto, using(crate::proofs::TargetSteps::not_wrapped, crate::proofs::TargetSteps::this_wrapped, crate::proofs::TargetSteps::other_wrapped, crate::proofs::TargetSteps::page_wrapped, crate::proofs::TargetSteps::name_wrapped, jq_cursor::proofs::KeywordTables::same_pages))]
 fn other_target(
     alloc: Global,
     size: usize,

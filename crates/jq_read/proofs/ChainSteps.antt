@@ -6,7 +6,8 @@ use Rattle.jq_words.specs.Results.{IsRest, IsBehind}
 use Rattle.jq_parts.specs.Bindings.{Value}
 use Rattle.jq_read.specs.States.{Context, State, size}
 use Rattle.jq_read.specs.Functions.{Block}
-use Rattle.jq_read.specs.Chains.{call, ended, all_read, calls}
+use Rattle.jq_read.specs.Chains.{call, all_read, calls}
+use Rattle.jq_parts.specs.Calls.{ended}
 
 module _ (block : Block) (room : ℕ) (c : Context) where
   -- the words that are left of a call are passed over

@@ -14,22 +14,27 @@ use Rattle.jq_words.specs.Words.{Word, Outcome, is_mark, begins, begins_name, pl
 use Rattle.jq_words.specs.Calls.{Form, moves, takes_first, unites, goes_back, classes, attributes, grows, places, handles, listens, passes}
 use Rattle.jq_parts.specs.Bindings.{Value, Declaration}
 use Rattle.jq_parts.specs.Scopes.{Handler}
-use Rattle.jq_parts.specs.Selections.{selectors, compounds, class_set, is_attribute, with_attribute}
+use Rattle.jq_cursor.specs.Selections.{selectors, compounds, class_set, is_attribute, with_attribute}
 use Rattle.jq_parts.specs.Markup.{Grown}
-use Rattle.jq_parts.specs.Arguments.{text_argument, markup_argument, target}
+use Rattle.jq_cursor.specs.TextArguments.{text_argument, some_argument}
+use Rattle.jq_parts.specs.Arguments.{markup_argument, target}
 use Rattle.jq_parts.specs.Stating.{Effect, stated, calls_in, chains_of, IsCounted}
 use Rattle.jq_parts.specs.Parameters.{parameters}
 use Rattle.jq_parts.specs.Roots.{root}
-use Rattle.jq_parts.specs.Values.{is_chain}
-use Rattle.jq_read.specs.declared.forms.StatementForm.{StatementForm}
-use Rattle.jq_read.specs.declared.forms.StatementForm.TheVariants as form
-use Rattle.jq_read.specs.declared.forms.Between.{Between}
+use Rattle.jq_forms.specs.Values.{is_chain}
+use Rattle.jq_forms.specs.declared.forms.StatementForm.{StatementForm}
+use Rattle.jq_forms.specs.declared.forms.StatementForm.TheVariants as form
+use Rattle.jq_forms.specs.declared.forms.Between.{Between}
 use Rattle.jq_read.specs.States.{Context, State, size, scope_in}
-use Rattle.jq_read.specs.Functions.{Block, function_body, behind_name, want_function, function, elements_in, handler_at, with_handler, in_handler, handed_other, handed}
-use Rattle.jq_read.specs.CallArguments.{compounds_argument, move_arguments, unite_arguments, and_list, class_arguments, value_argument, attribute_arguments, some_argument, grow_arguments, place_arguments}
-use Rattle.jq_read.specs.Chains.{behind_one, several, listened, listening, listen_arguments, unchanged, at_least, arguments_of, dot_name, admitted, and_stated, call, ended, all_read, calls, chain}
-use Rattle.jq_read.specs.Openings.{form_of}
-use Rattle.jq_read.specs.Statements.{Blocks, plain_list, and_end, condition, bracketed, start, behind_document, ready, called_with, once, delay, timer, named_function, declared_value, value_behind, one, more_ones, declaration, chain_statement, with_state, statement_as, is_branch, begin, is_over, turn, at_file_end, sequence, no_block, braces, block}
+use Rattle.jq_read.specs.Functions.{Block, function_body, function, handler_at, with_handler, in_handler, handed, rules_in}
+use Rattle.jq_forms.specs.Heads.{behind_name, want_function, handed_other, behind_one, behind_document}
+use Rattle.jq_parts.specs.Calls.{elements_in, dot_name, admitted, ended}
+use Rattle.jq_read.specs.CallArguments.{compounds_argument, move_arguments, unite_arguments, class_arguments, value_argument, attribute_arguments, grow_arguments, place_arguments}
+use Rattle.jq_forms.specs.ListParts.{and_list, condition, called_with}
+use Rattle.jq_read.specs.Chains.{several, listened, listening, listen_arguments, unchanged, at_least, arguments_of, and_stated, call, all_read, calls, chain}
+use Rattle.jq_forms.specs.Openings.{form_of}
+use Rattle.jq_read.specs.Statements.{Blocks, and_end, bracketed, start, ready, once, timer, named_function, declared_value, value_behind, one, more_ones, declaration, chain_statement, with_state, statement_as, is_branch, begin, is_over, turn, at_file_end, sequence, no_block, braces, block, is_bound}
+use Rattle.jq_words.specs.FreeLists.{free}
 use Rattle.jq_read.specs.Script.{at_top, nothing_read}
 use Rattle.jq_read.proofs.ReadingLaws.{and_then, any_then, either, all_push}
 use Rattle.jq_read.proofs.LimitLaws.{length_of, IsIn, sequence_in, blocks_in, nothing_in}
@@ -71,7 +76,7 @@ unfolding class_arguments
 class_nested room c v s ws here =
     any_then _ (text_argument (size c) ws) _ (λ t.
     any_then _ (class_set t.1 t.0 s.grown.names) _ (λ r.
-    any_then _ (and_list c room t.2) _ (λ rest. here)))
+    any_then _ (and_list (size c) (rules_in c room true) t.2) _ (λ rest. here)))
 
 given_nested : (c : Context) (v : Value) (s : State) (name : List ℕ) (at : ℕ) (ws : List Word) → AreNested s → IfOk (value_argument c v s name at ws) DoneNested
 unfolding value_argument
@@ -126,7 +131,7 @@ module _ (n : ℕ) (most : n ≤ suc MOST_OPEN) (block : Block) (leaves : Leaves
   handed_nested lists room c chain s ws few here =
       let inner = handler_at (place (size c) ws) chain in
       either _ (begins_name (codes "function") ws) _ _ (function_nested room (in_handler c inner) s ws (one_deeper n c.handlers inner few) here)
-      (any_then _ (handed_other lists room c ws) _ (λ rest. here))
+      (any_then _ (handed_other lists (size c) (rules_in c room true) ws) _ (λ rest. here))
 
   several_nested : (lists : Bool) (room : ℕ) (c : Context) (chain : Option ExactChain) (m : ℕ) (s : State) (ws : List Word) → length c.handlers < n → AreNested s
       → IfOk (several lists block room c chain m s ws) (λ r. AreNested r.0)
@@ -233,7 +238,7 @@ module _ (n : ℕ) (most : n ≤ MOST_OPEN) (blocks : Blocks) (here_leaves : Lea
   unfolding once
   once_nested room c s ws few here =
       and_then _ _ (bracketed blocks room c s ws) _ (bracketed_nested room c s ws few here) (λ f known.
-      any_then _ (called_with room c f.1) _ (λ rest. end_nested c f.0 rest known))
+      any_then _ (called_with (size c) (rules_in c room false) f.1) _ (λ rest. end_nested c f.0 rest known))
 
   timer_nested : (room : ℕ) (c : Context) (s : State) (ws : List Word) → length c.handlers ≤ n → AreNested s → IfOk (timer blocks room c s ws) StateNested
   unfolding timer
@@ -241,7 +246,7 @@ module _ (n : ℕ) (most : n ≤ MOST_OPEN) (blocks : Blocks) (here_leaves : Lea
       any_then _ (want_open (size c) room (codes "(") ws) _ (λ inside.
       and_then _ _ (handed false (blocks 1) (room - 1) c None s inside) _
       (handed_nested (suc n) deep (blocks 1) deeper_leaves false (room - 1) c None s inside (omega (arith, few)) here) (λ f known.
-      any_then _ (delay (room - 1) c f.1) _ (λ rest.
+      any_then _ (and_list (size c) (rules_in c (room - 1) false) f.1) _ (λ rest.
       any_then _ (want (size c) (codes ")") rest) _ (λ behind. end_nested c f.0 behind known))))
 
   named_function_nested : (room : ℕ) (c : Context) (s : State) (ws : List Word) → length c.handlers ≤ n → AreNested s → IfOk (named_function blocks room c s ws) StateNested
@@ -257,9 +262,9 @@ module _ (n : ℕ) (most : n ≤ MOST_OPEN) (blocks : Blocks) (here_leaves : Lea
   declared_nested room c s ws few here =
       either _ (begins_name (codes "function") ws) _ _
       (and_then _ _ (function (blocks 0) room (in_handler c None) s ws) _ (function_nested n wider (blocks 0) here_leaves room (in_handler c None) s ws few here) (λ f known. known))
-      (either _ (is_chain c.exact s.declarations ws) _ _
+      (either _ (is_chain c.exact (is_bound s ws) ws) _ _
       (and_then _ _ (chain (blocks 1) room c s ws) _ (chain_nested (suc n) deep (blocks 1) deeper_leaves room c s ws (omega (arith, few)) here) (λ r known. known))
-      (any_then _ (plain_list c room ws) _ (λ rest. here)))
+      (any_then _ (free (size c) (rules_in c room false) ws) _ (λ rest. here)))
 
   value_nested : (room : ℕ) (c : Context) (s : State) (ws : List Word) → length c.handlers ≤ n → AreNested s → IfOk (value_behind blocks room c s ws) ValueNested
   unfolding value_behind
@@ -314,8 +319,8 @@ module _ (n : ℕ) (most : n ≤ MOST_OPEN) (blocks : Blocks) (here_leaves : Lea
   turn_nested : (room : ℕ) (c : Context) (b : Between) (s : State) (ws : List Word) → length c.handlers ≤ n → AreNested s → IfOk (turn blocks room c b s ws) (λ t. AreNested t.1)
   unfolding turn
   turn_nested room c b s ws few here =
-      either _ (is_branch (form_of s.declarations ws)) _ _ (any_then _ (condition room c ws) _ (λ rest. here))
-      (and_then _ _ (statement_as (form_of s.declarations ws) blocks room c s ws) _ (statement_nested (form_of s.declarations ws) room c s ws few here) (λ r known. known))
+      either _ (is_branch (form_of (is_bound s ws) ws)) _ _ (any_then _ (condition (size c) (rules_in c room false) ws) _ (λ rest. here))
+      (and_then _ _ (statement_as (form_of (is_bound s ws) ws) blocks room c s ws) _ (statement_nested (form_of (is_bound s ws) ws) room c s ws few here) (λ r known. known))
 
   file_end_nested : (in_block : Bool) (b : Between) (c : Context) (s : State) → AreNested s → IfOk (at_file_end in_block b c s) StateNested
   unfolding at_file_end

@@ -3,7 +3,6 @@ pub mod DeclarationSteps
 pub mod HandlerSteps
 pub mod SequenceSteps
 pub mod SeveralSteps
-pub mod Tables
 pub mod ReadingLaws
 pub mod LimitLaws
 pub mod HandlerLaws

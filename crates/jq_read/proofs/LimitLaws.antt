@@ -1,5 +1,5 @@
 -- What the statements of a script stay within, rule by rule. Nodes of markup that was read and is in no statement yet are counted too.
-use Rattle.std.proofs.Common.{◌≡◌, ℕ, zero, suc, ◌+◌, ◌-◌, ◌<◌, ◌≤◌, ◌==◌, Bool, true, false, not, ◌&&◌, ◌||◌, if◌then◌else◌, List, [], ◌∷◌, ◌++◌, length, map, sum, take, drop, Option, Some, None, refl, sym, ap, ◌∙◌, subst, codes, arith, length-append}
+use Rattle.std.proofs.Common.{◌≡◌, ℕ, zero, suc, ◌+◌, ◌-◌, ◌<◌, ◌≤◌, ◌==◌, Bool, true, false, not, ◌&&◌, ◌||◌, if◌then◌else◌, List, [], ◌∷◌, ◌++◌, length, map, sum, take, drop, Option, Some, None, refl, sym, ap, ◌∙◌, codes, arith, length-append}
 use Rattle.std.specs.Prelude.{Result, Ok, Err, IfOk, IfSome, nat_le, nat_lt, bytes_eq, option_and_then}
 use Rattle.std.specs.List.{AllByRecursion, sum_by}
 use Rattle.std.proofs.lemmas.Bool.{leb-false, ltb-false}
@@ -23,25 +23,30 @@ use Rattle.jq_words.specs.Words.{Word, words, Outcome, ◌>>=◌, is_mark, is_na
 use Rattle.jq_words.specs.Brackets.{is_empty, arguments, behind_arguments}
 use Rattle.jq_words.specs.Texts.{texts, is_markup}
 use Rattle.jq_words.specs.Calls.{Form, moves, takes_first, unites, goes_back, classes, attributes, grows, places, handles, listens, passes}
-use Rattle.jq_parts.specs.Keywords.{jquery, pages}
+use Rattle.jq_cursor.specs.Keywords.{jquery, pages}
 use Rattle.jq_parts.specs.Bindings.{Value, elements, everywhere, markup, placed, Declaration, bound, latest, if_chain, under_bound}
 use Rattle.jq_parts.specs.Scopes.{Handler, Scope, used, if_bound, is_this, places_of, this_at}
-use Rattle.jq_parts.specs.Selections.{selectors, compounds, class_set, is_attribute, with_attribute}
+use Rattle.jq_cursor.specs.Selections.{selectors, compounds, class_set, is_attribute, with_attribute}
 use Rattle.jq_parts.specs.Markup.{Grown, grown, forest, with_forest, nodes_in}
-use Rattle.jq_parts.specs.Arguments.{text_argument, markup_argument, forest_or, wrapped, wrapped_forest, target}
+use Rattle.jq_cursor.specs.TextArguments.{text_argument, some_argument}
+use Rattle.jq_parts.specs.Arguments.{markup_argument, forest_or, wrapped, wrapped_forest, target}
 use Rattle.jq_parts.specs.Stating.{Effect, stated, calls_in, chains_of}
 use Rattle.jq_parts.specs.Parameters.{hidden, parameters, named_parameters, more_parameters}
 use Rattle.jq_parts.specs.Roots.{root, wrapped_root, root_of, jquery_argument, lettered_root, named_root}
-use Rattle.jq_parts.specs.Values.{is_chain}
-use Rattle.jq_read.specs.declared.forms.StatementForm.{StatementForm}
-use Rattle.jq_read.specs.declared.forms.StatementForm.TheVariants as form
-use Rattle.jq_read.specs.declared.forms.Between.{Between}
+use Rattle.jq_forms.specs.Values.{is_chain}
+use Rattle.jq_forms.specs.declared.forms.StatementForm.{StatementForm}
+use Rattle.jq_forms.specs.declared.forms.StatementForm.TheVariants as form
+use Rattle.jq_forms.specs.declared.forms.Between.{Between}
 use Rattle.jq_read.specs.States.{Context, State, size, with_names, scope_in}
-use Rattle.jq_read.specs.Functions.{Block, function_body, behind_name, want_function, function, elements_in, handler_at, in_handler, handed_other, handed}
-use Rattle.jq_read.specs.CallArguments.{made, and_call, compounds_argument, move_arguments, unite_arguments, acting, and_list, class_arguments, value_argument, attribute_arguments, added, some_argument, grow_arguments, trees_in, place_arguments}
-use Rattle.jq_read.specs.Chains.{behind_one, several, listened, listening, listen_arguments, unchanged, at_least, arguments_of, dot_name, admitted, and_stated, call, ended, all_read, calls, chain}
-use Rattle.jq_read.specs.Openings.{form_of}
-use Rattle.jq_read.specs.Statements.{Blocks, plain_list, and_end, condition, bracketed, start, behind_document, ready, called_with, once, delay, timer, named_function, declared_value, value_behind, one, more_ones, declaration, chain_statement, with_state, statement_as, is_branch, begin, is_over, turn, at_file_end, sequence, no_block, braces, block}
+use Rattle.jq_read.specs.Functions.{Block, function_body, function, handler_at, in_handler, handed, rules_in}
+use Rattle.jq_forms.specs.Heads.{behind_name, want_function, handed_other, behind_one, behind_document}
+use Rattle.jq_parts.specs.Calls.{elements_in, made, and_call, dot_name, admitted, ended}
+use Rattle.jq_read.specs.CallArguments.{compounds_argument, move_arguments, unite_arguments, acting, class_arguments, value_argument, attribute_arguments, added, grow_arguments, trees_in, place_arguments}
+use Rattle.jq_forms.specs.ListParts.{and_list, condition, called_with}
+use Rattle.jq_read.specs.Chains.{several, listened, listening, listen_arguments, unchanged, at_least, arguments_of, and_stated, call, all_read, calls, chain}
+use Rattle.jq_forms.specs.Openings.{form_of}
+use Rattle.jq_read.specs.Statements.{Blocks, and_end, bracketed, start, ready, once, timer, named_function, declared_value, value_behind, one, more_ones, declaration, chain_statement, with_state, statement_as, is_branch, begin, is_over, turn, at_file_end, sequence, no_block, braces, block, is_bound}
+use Rattle.jq_words.specs.FreeLists.{free}
 use Rattle.jq_read.specs.Script.{from_scan, at_top, nothing_read, script_of, script_with, script}
 use Rattle.jq_read.proofs.ReadingLaws.{and_then, any_then, either, all_push, all_take, first_some, this_one}
 use Rattle.jq_read.specs.Limits.{trees_added, nodes_added, calls_of_chains, calls_of, AreWithin}
@@ -242,7 +247,7 @@ unfolding class_arguments
 class_in k room c v s ws here =
     any_then _ (text_argument (size c) ws) _ (λ t.
     any_then _ (class_set t.1 t.0 s.grown.names) _ (λ r.
-    any_then _ (and_list c room t.2) _ (λ rest.
+    any_then _ (and_list (size c) (rules_in c room true) t.2) _ (λ rest.
     acted_in k v (elements_in v) (Classes r.0) (with_names r.1 s) (less (pending v + 0 + k) (pending v + k) (with_names r.1 s) (omega arith) (renamed (pending v + k) r.1 s here)))))
 
 given_in : (k : ℕ) (c : Context) (v : Value) (s : State) (name : List ℕ) (at : ℕ) (ws : List Word) → IsIn (pending v + k) s → IfOk (value_argument c v s name at ws) (DoneIn k)
@@ -335,7 +340,7 @@ module _ (block : Block) (keeps : Keeps block) where
   unfolding handed
   handed_in k lists room c chain s ws here =
       either _ (begins_name (codes "function") ws) _ _ (function_in k room (in_handler c (handler_at (place (size c) ws) chain)) s ws here)
-      (any_then _ (handed_other lists room c ws) _ (λ rest. here))
+      (any_then _ (handed_other lists (size c) (rules_in c room true) ws) _ (λ rest. here))
 
   several_in : (k : ℕ) (lists : Bool) (room : ℕ) (c : Context) (chain : Option ExactChain) (n : ℕ) (s : State) (ws : List Word) → IsIn k s → IfOk (several lists block room c chain n s ws) (λ r. IsIn k r.0)
   unfolding several
@@ -442,14 +447,14 @@ module _ (blocks : Blocks) (keeps : (opened : ℕ) → Keeps (blocks opened)) wh
   unfolding once
   once_in k room c s ws here =
       and_then _ _ (bracketed blocks room c s ws) _ (bracketed_in k room c s ws here) (λ f known.
-      any_then _ (called_with room c f.1) _ (λ rest. end_in k c f.0 rest known))
+      any_then _ (called_with (size c) (rules_in c room false) f.1) _ (λ rest. end_in k c f.0 rest known))
 
   timer_in : (k room : ℕ) (c : Context) (s : State) (ws : List Word) → IsIn k s → IfOk (timer blocks room c s ws) (StateIn k)
   unfolding timer
   timer_in k room c s ws here =
       any_then _ (want_open (size c) room (codes "(") ws) _ (λ inside.
       and_then _ _ (handed false (blocks 1) (room - 1) c None s inside) _ (handed_in (blocks 1) (keeps 1) k false (room - 1) c None s inside here) (λ f known.
-      any_then _ (delay (room - 1) c f.1) _ (λ rest.
+      any_then _ (and_list (size c) (rules_in c (room - 1) false) f.1) _ (λ rest.
       any_then _ (want (size c) (codes ")") rest) _ (λ behind. end_in k c f.0 behind known))))
 
   named_function_in : (k room : ℕ) (c : Context) (s : State) (ws : List Word) → IsIn k s → IfOk (named_function blocks room c s ws) (StateIn k)
@@ -465,9 +470,9 @@ module _ (blocks : Blocks) (keeps : (opened : ℕ) → Keeps (blocks opened)) wh
   declared_in k room c s ws here =
       either _ (begins_name (codes "function") ws) _ _
       (and_then _ _ (function (blocks 0) room (in_handler c None) s ws) _ (function_in (blocks 0) (keeps 0) k room (in_handler c None) s ws here) (λ f known. (refl, known)))
-      (either _ (is_chain c.exact s.declarations ws) _ _
+      (either _ (is_chain c.exact (is_bound s ws) ws) _ _
       (and_then _ _ (chain (blocks 1) room c s ws) _ (chain_in (blocks 1) (keeps 1) k room c s ws here) (λ r known. known))
-      (any_then _ (plain_list c room ws) _ (λ rest. (refl, here))))
+      (any_then _ (free (size c) (rules_in c room false) ws) _ (λ rest. (refl, here))))
 
   value_in : (k room : ℕ) (c : Context) (s : State) (ws : List Word) → IsIn k s → IfOk (value_behind blocks room c s ws) (ValueIn k)
   unfolding value_behind
@@ -523,8 +528,8 @@ module _ (blocks : Blocks) (keeps : (opened : ℕ) → Keeps (blocks opened)) wh
   turn_in : (k room : ℕ) (c : Context) (b : Between) (s : State) (ws : List Word) → IsIn k s → IfOk (turn blocks room c b s ws) (λ t. IsIn k t.1)
   unfolding turn
   turn_in k room c b s ws here =
-      either _ (is_branch (form_of s.declarations ws)) _ _ (any_then _ (condition room c ws) _ (λ rest. here))
-      (and_then _ _ (statement_as (form_of s.declarations ws) blocks room c s ws) _ (statement_in (form_of s.declarations ws) k room c s ws here) (λ r known. known))
+      either _ (is_branch (form_of (is_bound s ws) ws)) _ _ (any_then _ (condition (size c) (rules_in c room false) ws) _ (λ rest. here))
+      (and_then _ _ (statement_as (form_of (is_bound s ws) ws) blocks room c s ws) _ (statement_in (form_of (is_bound s ws) ws) k room c s ws here) (λ r known. known))
 
   file_end_in : (k : ℕ) (in_block : Bool) (b : Between) (c : Context) (s : State) → IsIn k s → IfOk (at_file_end in_block b c s) (StateIn k)
   unfolding at_file_end

@@ -1,7 +1,7 @@
 -- A sequence of statements, turn by turn, and blocks.
 use Rattle.std.proofs.Common.{◌≡◌, ℕ, zero, suc, ◌-◌, ◌<◌, Bool, true, false, List, [], ◌∷◌, length, drop, Ok, Err, refl, sym, ap, ◌∙◌, codes, arith}
 use Rattle.jq_words.specs.declared.faults.ScriptFault.{ScriptFault}
-use Rattle.jq_read.specs.declared.forms.Between.{Between}
+use Rattle.jq_forms.specs.declared.forms.Between.{Between}
 use Rattle.jq_words.specs.Words.{Word, want_open}
 use Rattle.jq_words.specs.Results.{IsRest, IsBehind}
 use Rattle.jq_read.specs.States.{Context, State, size}

@@ -5,7 +5,8 @@ use Rattle.jq_words.specs.declared.faults.ScriptFault.{ScriptFault}
 use Rattle.jq_words.specs.Words.{Word}
 use Rattle.jq_read.specs.States.{Context, State, size}
 use Rattle.jq_read.specs.Functions.{Block, handed}
-use Rattle.jq_read.specs.Chains.{behind_one, several}
+use Rattle.jq_forms.specs.Heads.{behind_one}
+use Rattle.jq_read.specs.Chains.{several}
 
 module _ (lists : Bool) (block : Block) (room : ℕ) (c : Context) (chain : Option ExactChain) where
   pub goes_on : (n left : ℕ) (s t : State) (ws middle rest : List Word)

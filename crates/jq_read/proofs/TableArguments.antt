@@ -12,17 +12,20 @@ use Rattle.jq_sem.specs.Statements.{add}
 use Rattle.jq_words.specs.Words.{Word, is_name_among, first_is, begins, place, want_open}
 use Rattle.jq_words.specs.Texts.{texts}
 use Rattle.jq_words.specs.Calls.{Form, moves, finding, to_children, to_parent, to_parents, filtering, having, to_closest, to_siblings, takes_first, unites, goes_back, classes, attributes, grows, places, handles, listens, passes}
-use Rattle.jq_parts.specs.Keywords.{jquery}
+use Rattle.jq_cursor.specs.Keywords.{jquery}
 use Rattle.jq_parts.specs.Bindings.{Value, elements, everywhere, markup, placed}
-use Rattle.jq_parts.specs.Selections.{selectors, compounds, class_set, is_attribute, with_attribute}
+use Rattle.jq_cursor.specs.Selections.{selectors, compounds, class_set, is_attribute, with_attribute}
 use Rattle.jq_parts.specs.Markup.{Grown}
-use Rattle.jq_parts.specs.Arguments.{text_argument, markup_argument, forest_or, wrapped, wrapped_forest, target}
+use Rattle.jq_cursor.specs.TextArguments.{text_argument, some_argument}
+use Rattle.jq_parts.specs.Arguments.{markup_argument, forest_or, wrapped, wrapped_forest, target}
 use Rattle.jq_parts.specs.Stating.{Effect}
 use Rattle.jq_sem.specs.Tables.{AreCompoundsOver, IsCallOver, AreCallsOver, AreTreesOver, IsActionOver}
 use Rattle.jq_parts.proofs.TableLaws.{selectors_over, compounds_over, classes_over, attribute_over}
 use Rattle.jq_read.specs.States.{Context, State, size, scope_in}
-use Rattle.jq_read.specs.Functions.{elements_in}
-use Rattle.jq_read.specs.CallArguments.{made, and_call, compounds_argument, move_arguments, unite_arguments, acting, and_list, class_arguments, value_argument, attribute_arguments, added, some_argument, grow_arguments, trees_in, place_arguments}
+use Rattle.jq_parts.specs.Calls.{elements_in, made, and_call}
+use Rattle.jq_read.specs.Functions.{rules_in}
+use Rattle.jq_read.specs.CallArguments.{compounds_argument, move_arguments, unite_arguments, acting, class_arguments, value_argument, attribute_arguments, added, grow_arguments, trees_in, place_arguments}
+use Rattle.jq_forms.specs.ListParts.{and_list}
 use Rattle.jq_read.proofs.ReadingLaws.{and_then, any_then, either}
 use Rattle.jq_read.proofs.TableStates.{IsValueOver, IsEffectOver, count, AreOver, IsLater, value_more, same, grown_over, renamed_over}
 use Rattle.jq_read.proofs.TableRoots.{ForestOver, forest_over, target_over}
@@ -97,7 +100,7 @@ unfolding class_arguments
 class_over c room v s ws over of =
     any_then _ (text_argument (size c) ws) _ (λ t.
     and_then _ _ (class_set t.1 t.0 s.grown.names) _ (classes_over t.1 t.0 s.grown.names) (λ r known.
-    any_then _ (and_list c room t.2) _ (λ rest.
+    any_then _ (and_list (size c) (rules_in c room true) t.2) _ (λ rest.
     let more = value_more (count s) (length r.1) known.0 v of in
     (renamed_over c s r.1 known.0 over, more, acting_over (length r.1) v (Classes r.0) more known.1))))
 

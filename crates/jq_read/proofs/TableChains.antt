@@ -10,8 +10,8 @@ use Rattle.jq_words.specs.Words.{Word, Outcome, is_mark, is_any_name, begins, be
 use Rattle.jq_words.specs.Calls.{Form, moves, takes_first, unites, goes_back, classes, attributes, grows, places, handles, listens, passes}
 use Rattle.jq_parts.specs.Bindings.{Value, elements, everywhere, markup, placed, Declaration}
 use Rattle.jq_parts.specs.Scopes.{Handler}
-use Rattle.jq_parts.specs.Selections.{compounds}
-use Rattle.jq_parts.specs.Arguments.{text_argument}
+use Rattle.jq_cursor.specs.Selections.{compounds}
+use Rattle.jq_cursor.specs.TextArguments.{text_argument}
 use Rattle.jq_parts.specs.Stating.{chains_of}
 use Rattle.jq_parts.specs.Parameters.{hidden, parameters, named_parameters, more_parameters}
 use Rattle.jq_parts.specs.Roots.{root}
@@ -19,8 +19,10 @@ use Rattle.jq_sem.specs.Tables.{AreCompoundsOver, AreSelectorsOver, AreChainsOve
 use Rattle.jq_parts.proofs.TableLaws.{compounds_over}
 use Rattle.jq_parts.proofs.SelectorLaws.{AreChainsOver-more}
 use Rattle.jq_read.specs.States.{Context, State, size, scope_in}
-use Rattle.jq_read.specs.Functions.{Block, function_body, behind_name, want_function, function, elements_in, handler_at, in_handler, handed_other, handed}
-use Rattle.jq_read.specs.Chains.{behind_one, several, below, listened, listening, listen_arguments, unchanged, at_least, arguments_of, dot_name, admitted, and_stated, call, ended, all_read, calls, chain}
+use Rattle.jq_read.specs.Functions.{Block, function_body, function, handler_at, in_handler, handed, rules_in}
+use Rattle.jq_forms.specs.Heads.{behind_name, want_function, handed_other, behind_one}
+use Rattle.jq_parts.specs.Calls.{elements_in, below, dot_name, admitted, ended}
+use Rattle.jq_read.specs.Chains.{several, listened, listening, listen_arguments, unchanged, at_least, arguments_of, and_stated, call, all_read, calls, chain}
 use Rattle.jq_read.proofs.ReadingLaws.{and_then, any_then, either, all_push, all_take}
 use Rattle.jq_read.proofs.TableStates.{IsExactOver, IsValueOver, IsBoundOver, AreBoundOver, IsElementsOver, count, AreOver, IsLater, value_more, elements_more, same, further, grown_over, renamed_over, stated_over}
 use Rattle.jq_read.proofs.TableRoots.{root_over}
@@ -144,7 +146,7 @@ module _ (block : Block) (keeps : KeepsOver block) where
   handed_over lists room c chain s ws of over =
       either _ (begins_name (codes "function") ws) _ _
       (in_handler_over room c (handler_at (place (size c) ws) chain) s ws (handler_over (count s) (place (size c) ws) chain of) over)
-      (any_then _ (handed_other lists room c ws) _ (λ rest. same c s over))
+      (any_then _ (handed_other lists (size c) (rules_in c room true) ws) _ (λ rest. same c s over))
 
   several_over : (lists : Bool) (room : ℕ) (c : Context) (chain : Option ExactChain) (n : ℕ) (s : State) (ws : List Word) → IsElementsOver (count s) chain → AreOver c s
       → IfOk (several lists block room c chain n s ws) (λ r. IsLater c s r.0)

@@ -13,10 +13,10 @@ use Rattle.jq_words.specs.declared.faults.TheConstants.{MOST_FOREST_NODES}
 use Rattle.jq_words.specs.Words.{Word, is_mark, is_name, is_any_name, is_name_among, fits, is_form, spelled, place, unexpected, want, want_open}
 use Rattle.jq_words.specs.Brackets.{is_empty, arguments, behind_arguments}
 use Rattle.jq_words.specs.Texts.{texts, is_markup}
-use Rattle.jq_parts.specs.Keywords.{jquery, pages, is_name_besides}
+use Rattle.jq_cursor.specs.Keywords.{jquery, pages, is_name_besides}
 use Rattle.jq_parts.specs.Bindings.{Value, elements, everywhere, markup, placed, bound}
 use Rattle.jq_parts.specs.Scopes.{Scope, used, this_at}
-use Rattle.jq_parts.specs.Selections.{selectors}
+use Rattle.jq_cursor.specs.Selections.{selectors}
 use Rattle.jq_parts.specs.Markup.{Grown, forest, with_forest, nodes_in}
 use Rattle.jq_parts.specs.Arguments.{elements_of, is_apart, named_target, wrapped_target, wrapped_this, bare_target, other_target, target_or, target}
 use Rattle.jq_parts.specs.Roots.{root, wrapped_root, root_of, jquery_argument, lettered_root, named_root}

@@ -10,16 +10,19 @@ use Rattle.jq_words.specs.declared.faults.TheConstants.{MOST_OPEN}
 use Rattle.jq_words.specs.Words.{Word, words, Outcome, is_mark, begins, begins_name, want, want_name, want_open, end}
 use Rattle.jq_parts.specs.Bindings.{Value, Declaration, under_bound}
 use Rattle.jq_parts.specs.Scopes.{places_of}
-use Rattle.jq_parts.specs.Values.{is_chain}
+use Rattle.jq_forms.specs.Values.{is_chain}
 use Rattle.jq_sem.specs.Tables.{AreStatementsOver}
-use Rattle.jq_read.specs.declared.forms.StatementForm.{StatementForm}
-use Rattle.jq_read.specs.declared.forms.StatementForm.TheVariants as form
-use Rattle.jq_read.specs.declared.forms.Between.{Between}
+use Rattle.jq_forms.specs.declared.forms.StatementForm.{StatementForm}
+use Rattle.jq_forms.specs.declared.forms.StatementForm.TheVariants as form
+use Rattle.jq_forms.specs.declared.forms.Between.{Between}
 use Rattle.jq_read.specs.States.{Context, State, size}
-use Rattle.jq_read.specs.Functions.{function_body, function, in_handler, handed}
+use Rattle.jq_read.specs.Functions.{function_body, function, in_handler, handed, rules_in}
 use Rattle.jq_read.specs.Chains.{chain}
-use Rattle.jq_read.specs.Openings.{form_of}
-use Rattle.jq_read.specs.Statements.{Blocks, plain_list, and_end, condition, bracketed, start, behind_document, ready, called_with, once, delay, timer, named_function, declared_value, value_behind, one, more_ones, declaration, chain_statement, with_state, statement_as, is_branch, begin, is_over, turn, at_file_end, sequence, no_block, braces, block}
+use Rattle.jq_forms.specs.Openings.{form_of}
+use Rattle.jq_read.specs.Statements.{Blocks, and_end, bracketed, start, ready, once, timer, named_function, declared_value, value_behind, one, more_ones, declaration, chain_statement, with_state, statement_as, is_branch, begin, is_over, turn, at_file_end, sequence, no_block, braces, block, is_bound}
+use Rattle.jq_words.specs.FreeLists.{free}
+use Rattle.jq_forms.specs.ListParts.{condition, called_with, and_list}
+use Rattle.jq_forms.specs.Heads.{behind_document}
 use Rattle.jq_read.specs.Script.{from_scan, at_top, nothing_read, script_of, script_with, script}
 use Rattle.jq_read.proofs.ReadingLaws.{and_then, any_then, either, all_push}
 use Rattle.jq_read.proofs.TableStates.{IsBoundOver, count, AreOver, IsLater, same, further}
@@ -56,14 +59,14 @@ module _ (blocks : Blocks) (keeps : (opened : ℕ) → KeepsOver (blocks opened)
   unfolding once
   once_over room c s ws over =
       and_then _ _ (bracketed blocks room c s ws) _ (bracketed_over room c s ws over) (λ f later.
-      any_then _ (called_with room c f.1) _ (λ rest. end_over c s f.0 rest later))
+      any_then _ (called_with (size c) (rules_in c room false) f.1) _ (λ rest. end_over c s f.0 rest later))
 
   timer_over : (room : ℕ) (c : Context) (s : State) (ws : List Word) → AreOver c s → IfOk (timer blocks room c s ws) (StateOver c s)
   unfolding timer
   timer_over room c s ws over =
       any_then _ (want_open (size c) room (codes "(") ws) _ (λ inside.
       and_then _ _ (handed false (blocks 1) (room - 1) c None s inside) _ (handed_over (blocks 1) (keeps 1) false (room - 1) c None s inside tt over) (λ f later.
-      any_then _ (delay (room - 1) c f.1) _ (λ rest.
+      any_then _ (and_list (size c) (rules_in c (room - 1) false) f.1) _ (λ rest.
       any_then _ (want (size c) (codes ")") rest) _ (λ behind. end_over c s f.0 behind later))))
 
   named_function_over : (room : ℕ) (c : Context) (s : State) (ws : List Word) → AreOver c s → IfOk (named_function blocks room c s ws) (StateOver c s)
@@ -82,9 +85,9 @@ module _ (blocks : Blocks) (keeps : (opened : ℕ) → KeepsOver (blocks opened)
   declared_over room c s ws over =
       either _ (begins_name (codes "function") ws) _ _
       (and_then _ _ (function (blocks 0) room (in_handler c None) s ws) _ (in_handler_over (blocks 0) (keeps 0) room c None s ws tt over) (λ f later. (later, tt)))
-      (either _ (is_chain c.exact s.declarations ws) _ _
+      (either _ (is_chain c.exact (is_bound s ws) ws) _ _
       (and_then _ _ (chain (blocks 1) room c s ws) _ (chain_is_over (blocks 1) (keeps 1) room c s ws over) (λ r known. known))
-      (any_then _ (plain_list c room ws) _ (λ rest. (same c s over, tt))))
+      (any_then _ (free (size c) (rules_in c room false) ws) _ (λ rest. (same c s over, tt))))
 
   value_over : (room : ℕ) (c : Context) (s : State) (ws : List Word) → AreOver c s → IfOk (value_behind blocks room c s ws) (DeclaredOver c s)
   unfolding value_behind
@@ -142,8 +145,8 @@ module _ (blocks : Blocks) (keeps : (opened : ℕ) → KeepsOver (blocks opened)
   turn_over : (room : ℕ) (c : Context) (b : Between) (s : State) (ws : List Word) → AreOver c s → IfOk (turn blocks room c b s ws) (λ t. IsLater c s t.1)
   unfolding turn
   turn_over room c b s ws over =
-      either _ (is_branch (form_of s.declarations ws)) _ _ (any_then _ (condition room c ws) _ (λ rest. same c s over))
-      (and_then _ _ (statement_as (form_of s.declarations ws) blocks room c s ws) _ (statement_over (form_of s.declarations ws) room c s ws over) (λ r later. later))
+      either _ (is_branch (form_of (is_bound s ws) ws)) _ _ (any_then _ (condition (size c) (rules_in c room false) ws) _ (λ rest. same c s over))
+      (and_then _ _ (statement_as (form_of (is_bound s ws) ws) blocks room c s ws) _ (statement_over (form_of (is_bound s ws) ws) room c s ws over) (λ r later. later))
 
   file_end_over : (in_block : Bool) (b : Between) (c : Context) (s : State) → AreOver c s → IfOk (at_file_end in_block b c s) (StateOver c s)
   unfolding at_file_end

@@ -1,12 +1,10 @@
--- The statements that are judged, one more at a time, and the first node among others.
-use Rattle.std.proofs.Common.{◌≡◌, ℕ, List, [], ◌∷◌, ◌++◌, map, Some, refl, sym, ap, ◌∙◌}
+-- The statements that are judged, one more at a time.
+use Rattle.std.proofs.Common.{◌≡◌, List, [], ◌∷◌, ◌++◌, sym, ap, ◌∙◌}
 use Rattle.std.proofs.lemmas.List.{map-append, append_assoc, append-nil}
 use Rattle.jq_sem.specs.declared.stmts.Stmt.{Stmt}
 use Rattle.jq_sem.specs.declared.sharp.ExactStmt.{ExactStmt}
-use Rattle.jq_sem.specs.declared.sharp.SharpKind.TheVariants.{First}
-use Rattle.jq_sem.specs.Statements.{filter}
-use Rattle.jq_sem.specs.Sharp.{first, wides}
-use Rattle.jq_sem.specs.SharpViews.{with_kind, exacts_of}
+use Rattle.jq_sem.specs.Sharp.{wides}
+use Rattle.jq_sem.specs.SharpViews.{exacts_of}
 use Rattle.jq_sem.specs.Views.{statement_of, statements_of}
 use Rattle.jq_sem.proofs.SharpLemmas.{wide-exact_of}
 
@@ -22,6 +20,3 @@ one_wide found s left all before =
 
 pub all_wide : (found : List Stmt) (all : List ExactStmt) → AreWide found [] all → wides (exacts_of all) ≡ statements_of found
 all_wide found all before = sym before ∙ append-nil (statements_of found)
-
-pub first_marked : (cs : List (List ℕ)) → cs ≡ [] ∷ [] → with_kind (filter cs) (Some First) ≡ first
-first_marked cs is = rw is refl

@@ -1,24 +1,25 @@
 -- The arguments of a call that takes no function.
 --     move_arguments, unite_arguments, class_arguments, attribute_arguments, grow_arguments, place_arguments
-use Rattle.std.specs.Prelude.{ℕ, Bool, true, false, not, if◌then◌else◌, List, [], ◌∷◌, ◌++◌, drop, codes, Option, Some, None, Ok, Err}
+use Rattle.std.specs.Prelude.{ℕ, Bool, true, false, not, if◌then◌else◌, List, [], drop, codes, Option, Some, None, Ok, Err}
 use Rattle.text_bytes.specs.Attributes.{with_value}
 use Rattle.tp_base.specs.Names.{Named}
 use Rattle.tree_sem.specs.Trees.{LabelTree}
 use Rattle.tree_sem.specs.declared.actions.Action.{Action}
 use Rattle.tree_sem.specs.declared.actions.Action.TheVariants.{Classes, Inside, Beside}
-use Rattle.jq_sem.specs.Sharp.{ExactCall, plain, closest, siblings, ExactChain}
-use Rattle.jq_sem.specs.Statements.{find, children, parent, parents, filter, has, add, back}
+use Rattle.jq_sem.specs.Sharp.{plain, ExactChain}
+use Rattle.jq_sem.specs.Statements.{add}
 use Rattle.jq_words.specs.declared.faults.ScriptFault.TheVariants.{ComplexArgument}
-use Rattle.jq_words.specs.Words.{Word, begins, Outcome, ◌>>=◌, unexpected}
-use Rattle.jq_words.specs.Brackets.{is_empty, argument, behind_argument}
-use Rattle.jq_words.specs.FreeLists.{free}
-use Rattle.jq_words.specs.Calls.{Form, moves, finding, to_children, to_parent, to_parents, filtering, having, to_closest, to_siblings}
-use Rattle.jq_parts.specs.Bindings.{Value, elements, markup, placed}
-use Rattle.jq_parts.specs.Selections.{selectors, compounds, class_set, is_attribute, with_attribute}
-use Rattle.jq_parts.specs.Arguments.{text_argument, markup_argument, target}
+use Rattle.jq_words.specs.Words.{Word, begins, Outcome, ◌>>=◌}
+use Rattle.jq_words.specs.Calls.{Form}
+use Rattle.jq_parts.specs.Bindings.{Value, markup, placed}
+use Rattle.jq_cursor.specs.Selections.{selectors, compounds, class_set, is_attribute, with_attribute}
+use Rattle.jq_cursor.specs.TextArguments.{some_argument, text_argument}
+use Rattle.jq_forms.specs.ListParts.{and_list}
+use Rattle.jq_parts.specs.Arguments.{markup_argument, target}
 use Rattle.jq_parts.specs.Stating.{Effect}
 use Rattle.jq_read.specs.States.{Context, State, size, with_names, scope_in}
-use Rattle.jq_read.specs.Functions.{rules_in, elements_in}
+use Rattle.jq_read.specs.Functions.{rules_in}
+use Rattle.jq_parts.specs.Calls.{elements_in, and_call, made}
 
 -- What the arguments of a call leave: the chain's value, what the call does, the state, and the words from the closing bracket on.
 abbrev pub Done : Type 0
@@ -28,23 +29,6 @@ abbrev pub done : Value → Effect → State → List Word → Done
 done v e s ws = Ok ((v, e), s, ws)
 
 -- ---- calls that make a set
-
--- the call of a form that makes a set, by a list of compounds or by going back
-abbrev pub made : Form → List (List ℕ) → ExactCall
-made (moves finding) cs = plain (find cs)
-made (moves to_children) cs = plain (children cs)
-made (moves to_parent) cs = plain (parent cs)
-made (moves to_parents) cs = plain (parents cs)
-made (moves filtering) cs = plain (filter cs)
-made (moves having) cs = plain (has cs)
-made (moves to_closest) cs = closest cs
-made (moves to_siblings) cs = siblings cs
-made f cs = plain back
-
--- the chain of a value that is a set of elements, with one call more; no other value gets a call that makes a set
-abbrev pub and_call : Value → ExactCall → Value
-and_call (elements chain) call = elements (record chain { calls = chain.calls ++ call ∷ [] })
-and_call v call = v
 
 -- a list of compounds, or no argument where there may be none
 unfoldable pub compounds_argument : ℕ → Bool → List Named → List Word → Outcome (List (List ℕ) × List Named × List Word)
@@ -70,16 +54,12 @@ abbrev pub acting : Option ExactChain → Action → Effect
 acting (Some chain) action = Some (chain, action)
 acting None action = None
 
--- a comma and a list, where there is a comma
-unfoldable pub and_list : Context → ℕ → List Word → Outcome (List Word)
-and_list c room ws = if begins (codes ",") ws then free (size c) (rules_in c room true) (drop 1 ws) else Ok ws
-
 -- classes, and then a list where there is a comma
 unfoldable pub class_arguments : Context → ℕ → Value → State → List Word → Done
 class_arguments c room v s ws = do
   t ← text_argument (size c) ws
   r ← class_set t.1 t.0 s.grown.names
-  rest ← and_list c room t.2
+  rest ← and_list (size c) (rules_in c room true) t.2
   done v (acting (elements_in v) (Classes r.0)) (with_names r.1 s) rest
 
 -- The value that an attribute gets, from the comma on, with the letters of its name and the offset of the first Text of them. The name's
@@ -101,10 +81,6 @@ attribute_arguments c v s ws = do
 abbrev pub added : Bool → List LabelTree → Action
 added true trees = Beside (record { tops = trees })
 added false trees = Inside (record { tops = trees })
-
--- an argument, of which there has to be something, and what is behind it
-unfoldable pub some_argument : ℕ → List Word → Outcome (List Word × List Word)
-some_argument size ws = if is_empty (argument ws) then unexpected size ws else Ok (argument ws, behind_argument ws)
 
 -- markup that is added
 unfoldable pub grow_arguments : Context → ℕ → Bool → Value → State → List Word → Done

@@ -2,7 +2,6 @@ pub mod States
 pub mod Functions
 pub mod CallArguments
 pub mod Chains
-pub mod Openings
 pub mod Statements
 pub mod Script
 pub mod Views

@@ -4,7 +4,7 @@ use Rattle.tp_base.specs.Names.{Named}
 use Rattle.jq_parts.specs.Markup.{grown}
 use Rattle.jq_parts.specs.Views.{declarations_of}
 use Rattle.jq_parts.specs.ScopeViews.{handlers_of, stated_in}
-use Rattle.jq_read.specs.declared.states.Reader.{Reader}
+use Rattle.jq_cursor.specs.declared.readers.Reader.{Reader}
 use Rattle.jq_read.specs.declared.states.State as code
 use Rattle.jq_read.specs.States.{Context, State}
 

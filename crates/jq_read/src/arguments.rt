@@ -1,59 +1,34 @@
 //! The arguments of a call that takes no function.
-ghost use Rattle.std.specs.Prelude.{◌≡◌, ◌≤◌, ◌==◌, true, false, [], ◌∷◌, length, take, drop, map, option_map, Some, None, Ok, IfOk, IfErr, OnOk};
+ghost use Rattle.std.specs.Prelude.{◌≡◌, true, length, Some, None, Ok, IfOk, IfErr, OnOk};
 ghost use Rattle.sel_core.specs.Results.{IsFront};
-ghost use Rattle.sel_core.specs.Views.{selector_of};
 ghost use Rattle.jq_sem.specs.Sharp.{plain, first};
 ghost use Rattle.jq_sem.specs.Statements.{back};
 ghost use Rattle.jq_sem.specs.Views as sem;
-ghost use Rattle.jq_words.specs.Brackets.{argument, behind_argument, is_empty};
 ghost use Rattle.jq_words.specs.CallViews.{form_of};
-ghost use Rattle.jq_words.specs.Results.{Gives, Finds, Leaves, Turns, IsRest, IsBehind};
+ghost use Rattle.jq_words.specs.Results.{Turns, IsRest};
 ghost use Rattle.jq_words.specs.declared.faults.ScriptFault.TheVariants.{Memory};
-ghost use Rattle.jq_parts.specs.MarkedCalls.{marked_of};
 ghost use Rattle.jq_parts.specs.ScopeViews.{effect_of};
 ghost use Rattle.jq_read.specs.CallArguments as spec;
-ghost use Rattle.jq_read.specs.Functions.{elements_in};
+ghost use Rattle.jq_parts.specs.Calls.{elements_in, and_call};
 ghost use Rattle.jq_read.specs.Readers.{context_of, state_of};
-ghost use Rattle.jq_read.specs.Views.{reached_of, done_of};
+ghost use Rattle.jq_parts.specs.Views.{value_of};
+ghost use Rattle.jq_read.specs.Views.{done_of};
 
-use crate::functions::list_in;
-use crate::states::{Reader, State};
-use crate::values::{Done, Reached, elements, with_call};
-use jq_parts::{
-    Cursor, MarkedCall, add_attribute, class_set, compounds, is_attribute, markup_argument,
-    selectors, target, text_argument,
+use crate::states::State;
+use crate::values::Done;
+use jq_cursor::{
+    Cursor, Reader, add_attribute, class_set, compounds, is_attribute, selectors, some_argument,
+    text_argument,
 };
-use jq_sem::{Call, Selectors, SharedCompounds, SharpKind};
-use jq_words::{Form, ScriptFault, Words, argument_len, begins, place};
-use sel_core::{Atoms, Compound};
+use jq_forms::and_list;
+use jq_parts::{MarkedCall, Value, elements, first_call, made, markup_argument, target, with_call};
+use jq_sem::{Call, Selectors};
+use jq_words::{Form, ScriptFault, begins, place};
+use sel_core::Compound;
 use std::alloc::Global;
 use text_bytes::with_value;
-use tp_base::{AtomTable, ClassSet, NoMemory};
+use tp_base::{AtomTable, ClassSet};
 use tree_sem::{Action, Forest, Trees};
-
-/// The call of a form that makes a set, by a list of compounds or by going back.
-fn made(form: Form, compounds: Vec<Compound>) -> Result<MarkedCall, NoMemory>
-    ensures { IfOk result (λ c. marked_of c ≡ spec.made (form_of form) (sem.atoms_of compounds.items)) }
-{
-    let compounds = SharedCompounds::new(compounds)?;
-    Ok(match form {
-        Form::Find => MarkedCall::plain(Call::Find(compounds)),
-        Form::Children => MarkedCall::plain(Call::Children(compounds)),
-        Form::Parent => MarkedCall::plain(Call::Parent(compounds)),
-        Form::Parents => MarkedCall::plain(Call::Parents(compounds)),
-        Form::Filter => MarkedCall::plain(Call::Filter(compounds)),
-        Form::Has => MarkedCall::plain(Call::Has(compounds)),
-        Form::Closest => MarkedCall {
-            call: Call::Around(compounds),
-            kind: Some(SharpKind::Closest),
-        },
-        Form::Siblings => MarkedCall {
-            call: Call::Near(compounds),
-            kind: Some(SharpKind::Siblings),
-        },
-        _ => MarkedCall::plain(Call::End),
-    })
-}
 
 /// A list of compounds, or no argument where there may be none.
 #[tactic(auto, unfolding(crate::specs::CallArguments::compounds_argument), using(sel_core::proofs::Fronts::front_itself, jq_words::proofs::Rests::itself, jq_words::proofs::Rests::is_rest))]
@@ -82,12 +57,12 @@ pub(crate) fn move_arguments(
     reader: Reader<'_>,
     form: Form,
     none: bool,
-    reached: Reached,
+    reached: Value,
     state: &State<'_>,
     atoms: &mut AtomTable,
     words: &mut Cursor<'_, '_>,
 ) -> Result<Done, ScriptFault>
-    ensures gives { Turns done_of (state_of reader.entry state.now atoms.new) words.new result (spec.move_arguments (context_of reader.entry state.now) (form_of form) none (reached_of reached) (state_of reader.entry state.now atoms.old) words.old) }
+    ensures gives { Turns done_of (state_of reader.entry state.now atoms.new) words.new result (spec.move_arguments (context_of reader.entry state.now) (form_of form) none (value_of reached) (state_of reader.entry state.now atoms.old) words.old) }
     ensures rest { OnOk result (IsRest words.old words.new) }
     ensures front { IsFront atoms.old atoms.new }
 {
@@ -100,8 +75,8 @@ pub(crate) fn move_arguments(
 }
 
 /// A call that goes back one set.
-pub(crate) fn go_back(alloc: Global, reached: Reached) -> Result<Done, ScriptFault>
-    ensures gives { IfOk result (λ d. done_of d ≡ (spec.and_call (reached_of reached) (plain back), None)) }
+pub(crate) fn go_back(alloc: Global, reached: Value) -> Result<Done, ScriptFault>
+    ensures gives { IfOk result (λ d. done_of d ≡ (and_call (value_of reached) (plain back), None)) }
     ensures only_memory { IfErr result (λ e. e ≡ Memory) }
 {
     let reached = with_call(alloc, reached, MarkedCall::plain(Call::End))?;
@@ -111,32 +86,9 @@ pub(crate) fn go_back(alloc: Global, reached: Reached) -> Result<Done, ScriptFau
     })
 }
 
-/// The compound that fits every node.
-fn any(alloc: Global) -> Result<SharedCompounds, NoMemory>
-    ensures { IfOk result (λ s. sem.atoms_of s ≡ [] ∷ []) }
-{
-    let mut compounds = Vec::new(alloc);
-    compounds.push(Compound {
-        atoms: Atoms::new(Vec::new(alloc)),
-    })?;
-    SharedCompounds::new(compounds)
-}
-
-/// The first node, in whose place every node is judged.
-#[tactic(auto, using(crate::proofs::WideSteps::first_marked))]
-fn first_call(alloc: Global) -> Result<MarkedCall, NoMemory>
-    ensures { IfOk result (λ c. marked_of c ≡ first) }
-{
-    let compounds = any(alloc)?;
-    Ok(MarkedCall {
-        call: Call::Filter(compounds),
-        kind: Some(SharpKind::First),
-    })
-}
-
 /// A call that keeps the first node.
-pub(crate) fn take_first(alloc: Global, reached: Reached) -> Result<Done, ScriptFault>
-    ensures gives { IfOk result (λ d. done_of d ≡ (spec.and_call (reached_of reached) first, None)) }
+pub(crate) fn take_first(alloc: Global, reached: Value) -> Result<Done, ScriptFault>
+    ensures gives { IfOk result (λ d. done_of d ≡ (and_call (value_of reached) first, None)) }
     ensures only_memory { IfErr result (λ e. e ≡ Memory) }
 {
     let reached = with_call(alloc, reached, first_call(alloc)?)?;
@@ -150,12 +102,12 @@ pub(crate) fn take_first(alloc: Global, reached: Reached) -> Result<Done, Script
 #[tactic(auto, unfolding(crate::specs::CallArguments::unite_arguments), using(sel_core::proofs::Fronts::front_itself, jq_words::proofs::Rests::is_rest))]
 pub(crate) fn unite_arguments(
     reader: Reader<'_>,
-    reached: Reached,
+    reached: Value,
     state: &State<'_>,
     atoms: &mut AtomTable,
     words: &mut Cursor<'_, '_>,
 ) -> Result<Done, ScriptFault>
-    ensures gives { Turns done_of (state_of reader.entry state.now atoms.new) words.new result (spec.unite_arguments (context_of reader.entry state.now) (reached_of reached) (state_of reader.entry state.now atoms.old) words.old) }
+    ensures gives { Turns done_of (state_of reader.entry state.now atoms.new) words.new result (spec.unite_arguments (context_of reader.entry state.now) (value_of reached) (state_of reader.entry state.now atoms.old) words.old) }
     ensures rest { OnOk result (IsRest words.old words.new) }
     ensures front { IsFront atoms.old atoms.new }
 {
@@ -170,29 +122,10 @@ pub(crate) fn unite_arguments(
     })
 }
 
-/// Passes a comma and a list, where a comma stands.
-#[tactic(auto, unfolding(crate::specs::CallArguments::and_list), using(jq_words::proofs::Rests::itself, jq_words::proofs::Rests::passed_behind))]
-fn and_list(
-    reader: Reader<'_>,
-    room: usize,
-    state: &State<'_>,
-    words: &mut Cursor<'_, '_>,
-) -> Result<(), ScriptFault>
-    ensures gives { Leaves words.new result (spec.and_list (context_of reader.entry state.now) room words.old) }
-    ensures rest { OnOk result (IsRest words.old words.new) }
-{
-    if !begins(words.words(), b",") {
-        return Ok(());
-    }
-    words.pass();
-    list_in(reader, room, true, state, words)?;
-    Ok(())
-}
-
 /// What a call does to the elements of a value.
-fn acting(reached: Reached, action: Action) -> Result<Done, ScriptFault>
-    ensures reached { IfOk result (λ d. reached_of d.reached ≡ reached_of reached) }
-    ensures effect { IfOk result (λ d. spec.acting (elements_in (reached_of reached)) action ≡ effect_of d.effect) }
+fn acting(reached: Value, action: Action) -> Result<Done, ScriptFault>
+    ensures reached { IfOk result (λ d. value_of d.reached ≡ value_of reached) }
+    ensures effect { IfOk result (λ d. spec.acting (elements_in (value_of reached)) action ≡ effect_of d.effect) }
     ensures only_memory { IfErr result (λ e. e ≡ Memory) }
 {
     match elements(&reached)? {
@@ -212,19 +145,19 @@ fn acting(reached: Reached, action: Action) -> Result<Done, ScriptFault>
 pub(crate) fn class_arguments(
     reader: Reader<'_>,
     room: usize,
-    reached: Reached,
+    reached: Value,
     state: &State<'_>,
     atoms: &mut AtomTable,
     words: &mut Cursor<'_, '_>,
 ) -> Result<Done, ScriptFault>
-    ensures gives { Turns done_of (state_of reader.entry state.now atoms.new) words.new result (spec.class_arguments (context_of reader.entry state.now) room (reached_of reached) (state_of reader.entry state.now atoms.old) words.old) }
+    ensures gives { Turns done_of (state_of reader.entry state.now atoms.new) words.new result (spec.class_arguments (context_of reader.entry state.now) room (value_of reached) (state_of reader.entry state.now atoms.old) words.old) }
     ensures rest { OnOk result (IsRest words.old words.new) }
     ensures front { IsFront atoms.old atoms.new }
 {
     let at = place(reader.text.len(), words.words());
     let letters = text_argument(reader.alloc, reader.text.len(), words)?;
     let classes = class_set(reader.alloc, at, &letters, atoms)?;
-    and_list(reader, room, state, words)?;
+    and_list(reader, state.scope.has_this, true, room, words)?;
     let done = acting(reached, Action::Classes(classes))?;
     Ok(done)
 }
@@ -233,14 +166,14 @@ pub(crate) fn class_arguments(
 #[tactic(auto, unfolding(crate::specs::CallArguments::value_argument), using(sel_core::proofs::Fronts::front_itself, sel_core::proofs::Fronts::front_of_front, jq_words::proofs::Rests::passed_behind))]
 fn value_argument(
     reader: Reader<'_>,
-    reached: Reached,
+    reached: Value,
     name: &[u8],
     at: usize,
     state: &State<'_>,
     atoms: &mut AtomTable,
     words: &mut Cursor<'_, '_>,
 ) -> Result<Done, ScriptFault>
-    ensures gives { Turns done_of (state_of reader.entry state.now atoms.new) words.new result (spec.value_argument (context_of reader.entry state.now) (reached_of reached) (state_of reader.entry state.now atoms.old) name.now at words.old) }
+    ensures gives { Turns done_of (state_of reader.entry state.now atoms.new) words.new result (spec.value_argument (context_of reader.entry state.now) (value_of reached) (state_of reader.entry state.now atoms.old) name.now at words.old) }
     ensures rest { OnOk result (IsRest words.old words.new) }
     ensures front { IsFront atoms.old atoms.new }
 {
@@ -262,12 +195,12 @@ fn value_argument(
 #[tactic(auto, unfolding(crate::specs::CallArguments::attribute_arguments), using(sel_core::proofs::Fronts::front_itself, jq_words::proofs::Rests::behind_rest, jq_words::proofs::Rests::is_rest, jq_words::proofs::Rests::of_rest))]
 pub(crate) fn attribute_arguments(
     reader: Reader<'_>,
-    reached: Reached,
+    reached: Value,
     state: &State<'_>,
     atoms: &mut AtomTable,
     words: &mut Cursor<'_, '_>,
 ) -> Result<Done, ScriptFault>
-    ensures gives { Turns done_of (state_of reader.entry state.now atoms.new) words.new result (spec.attribute_arguments (context_of reader.entry state.now) (reached_of reached) (state_of reader.entry state.now atoms.old) words.old) }
+    ensures gives { Turns done_of (state_of reader.entry state.now atoms.new) words.new result (spec.attribute_arguments (context_of reader.entry state.now) (value_of reached) (state_of reader.entry state.now atoms.old) words.old) }
     ensures rest { OnOk result (IsRest words.old words.new) }
     ensures front { IsFront atoms.old atoms.new }
 {
@@ -281,24 +214,6 @@ pub(crate) fn attribute_arguments(
         reached,
         effect: None,
     })
-}
-
-/// Lends the words of an argument, of which there has to be something, and passes them.
-#[tactic(auto, unfolding(crate::specs::CallArguments::some_argument), using(jq_words::proofs::ArgumentSteps::none_given, jq_words::proofs::ArgumentSteps::some_given, jq_words::proofs::Rests::itself))]
-fn some_argument<'a>(
-    reader: Reader<'_>,
-    words: &mut Cursor<'_, 'a>,
-) -> Result<Words<'a>, ScriptFault>
-    ensures gives { Finds (λ w. w) words.new result (spec.some_argument (length reader.entry.text.now) words.old) }
-    ensures rest { OnOk result (IsBehind words.old words.new) }
-{
-    let count = argument_len(reader.alloc, true, words.words())?;
-    if count == 0 {
-        return Err(ScriptFault::UnknownForm(place(reader.text.len(), words.words())));
-    }
-    let given = words.words().front(count);
-    words.pass_all(count);
-    Ok(given)
 }
 
 fn added(beside: bool, forest: Forest) -> Action
@@ -317,17 +232,17 @@ pub(crate) fn grow_arguments(
     reader: Reader<'_>,
     room: usize,
     beside: bool,
-    reached: Reached,
+    reached: Value,
     state: &mut State<'_>,
     atoms: &mut AtomTable,
     words: &mut Cursor<'_, '_>,
 ) -> Result<Done, ScriptFault>
-    ensures gives { Turns done_of (state_of reader.entry state.new atoms.new) words.new result (spec.grow_arguments (context_of reader.entry state.old) room beside (reached_of reached) (state_of reader.entry state.old atoms.old) words.old) }
+    ensures gives { Turns done_of (state_of reader.entry state.new atoms.new) words.new result (spec.grow_arguments (context_of reader.entry state.old) room beside (value_of reached) (state_of reader.entry state.old atoms.old) words.old) }
     ensures rest { OnOk result (IsRest words.old words.new) }
     ensures kept { OnOk result (context_of reader.entry state.new ≡ context_of reader.entry state.old) }
     ensures front { IsFront atoms.old atoms.new }
 {
-    let given = some_argument(reader, words)?;
+    let given = some_argument(reader.alloc, reader.text.len(), words)?;
     let forest = markup_argument(
         reader.alloc,
         reader.text.len(),
@@ -341,11 +256,11 @@ pub(crate) fn grow_arguments(
 }
 
 /// The trees of markup that is still to be placed.
-fn trees_in(reader: Reader<'_>, reached: Reached) -> Trees
-    ensures { result ≡ spec.trees_in (reached_of reached) }
+fn trees_in(reader: Reader<'_>, reached: Value) -> Trees
+    ensures { result ≡ spec.trees_in (value_of reached) }
 {
     match reached {
-        Reached::Markup(forest) => forest.tops,
+        Value::Markup(forest) => forest.tops,
         _ => Trees::new(Vec::new(reader.alloc)),
     }
 }
@@ -355,16 +270,16 @@ fn trees_in(reader: Reader<'_>, reached: Reached) -> Trees
 pub(crate) fn place_arguments(
     reader: Reader<'_>,
     room: usize,
-    reached: Reached,
+    reached: Value,
     state: &State<'_>,
     atoms: &mut AtomTable,
     words: &mut Cursor<'_, '_>,
 ) -> Result<Done, ScriptFault>
-    ensures gives { Turns done_of (state_of reader.entry state.now atoms.new) words.new result (spec.place_arguments (context_of reader.entry state.now) room (reached_of reached) (state_of reader.entry state.now atoms.old) words.old) }
+    ensures gives { Turns done_of (state_of reader.entry state.now atoms.new) words.new result (spec.place_arguments (context_of reader.entry state.now) room (value_of reached) (state_of reader.entry state.now atoms.old) words.old) }
     ensures rest { OnOk result (IsRest words.old words.new) }
     ensures front { IsFront atoms.old atoms.new }
 {
-    let given = some_argument(reader, words)?;
+    let given = some_argument(reader.alloc, reader.text.len(), words)?;
     let chain = target(
         reader.alloc,
         reader.text.len(),
@@ -377,7 +292,7 @@ pub(crate) fn place_arguments(
         tops: trees_in(reader, reached),
     };
     Ok(Done {
-        reached: Reached::Placed,
+        reached: Value::Placed,
         effect: Some((chain, Action::Inside(forest))),
     })
 }

@@ -1,20 +1,21 @@
 //! Functions, where they stand and where they are handed over.
-ghost use Rattle.std.specs.Prelude.{◌≡◌, true, false, length, option_map, None, OnOk, IfOk, IfErr};
+ghost use Rattle.std.specs.Prelude.{◌≡◌, false, option_map, None, OnOk, IfOk, IfErr};
 ghost use Rattle.sel_core.specs.Results.{IsFront};
-ghost use Rattle.jq_words.specs.Results.{Leaves, IsRest, IsBehind};
+ghost use Rattle.jq_words.specs.Results.{Leaves, IsBehind};
 ghost use Rattle.jq_words.specs.declared.faults.ScriptFault.TheVariants.{Memory};
 ghost use Rattle.jq_parts.specs.ScopeViews.{handler_of};
 ghost use Rattle.jq_read.specs.Functions as functions;
 ghost use Rattle.jq_read.specs.Statements as spec;
 ghost use Rattle.jq_read.specs.Readers.{context_of, state_of};
-ghost use Rattle.jq_read.specs.Views.{reached_of};
+ghost use Rattle.jq_parts.specs.Views.{value_of};
+ghost use Rattle.jq_parts.specs.Calls.{elements_in};
 
-use crate::functions::{count_seen, enter, handed_other, leave, pass_name, want_function};
-use crate::lists::{called_with, delay};
+use crate::functions::{count_seen, enter, leave};
 use crate::sequences::block;
-use crate::states::{Reader, State};
-use crate::values::{Reached, elements};
-use jq_parts::{Cursor, Handler, parameters};
+use crate::states::State;
+use jq_cursor::{Cursor, Reader};
+use jq_forms::{and_list, called_with, handed_other, pass_name, want_function};
+use jq_parts::{Handler, Value, elements, parameters};
 use jq_words::{ScriptFault, begins_name, place};
 use tp_base::AtomTable;
 
@@ -92,8 +93,8 @@ pub(crate) fn named_function<'a>(
 }
 
 /// The handler that a function is which is handed to a call with these elements, and begins at an offset.
-pub(crate) fn handler_at(at: usize, reached: &Reached) -> Result<Option<Handler>, ScriptFault>
-    ensures gives { IfOk result (λ h. functions.handler_at at (functions.elements_in (reached_of reached.now)) ≡ option_map handler_of h) }
+pub(crate) fn handler_at(at: usize, reached: &Value) -> Result<Option<Handler>, ScriptFault>
+    ensures gives { IfOk result (λ h. functions.handler_at at (elements_in (value_of reached.now)) ≡ option_map handler_of h) }
     ensures only_memory { IfErr result (λ e. e ≡ Memory) }
 {
     match elements(reached)? {
@@ -108,13 +109,13 @@ pub(crate) fn handler_at(at: usize, reached: &Reached) -> Result<Option<Handler>
 pub(crate) fn handed<'a>(
     reader: Reader<'_>,
     lists: bool,
-    reached: &Reached,
+    reached: &Value,
     room: usize,
     state: &mut State<'a>,
     atoms: &mut AtomTable,
     words: &mut Cursor<'_, 'a>,
 ) -> Result<(), ScriptFault>
-    ensures gives { Leaves (state_of reader.entry state.new atoms.new, words.new) result (functions.handed lists (spec.block room 0) room (context_of reader.entry state.old) (functions.elements_in (reached_of reached.now)) (state_of reader.entry state.old atoms.old) words.old) }
+    ensures gives { Leaves (state_of reader.entry state.new atoms.new, words.new) result (functions.handed lists (spec.block room 0) room (context_of reader.entry state.old) (elements_in (value_of reached.now)) (state_of reader.entry state.old atoms.old) words.old) }
     ensures rest { OnOk result (IsBehind words.old words.new) }
     ensures kept { OnOk result (context_of reader.entry state.new ≡ context_of reader.entry state.old) }
     ensures front { IsFront atoms.old atoms.new }
@@ -125,7 +126,7 @@ pub(crate) fn handed<'a>(
         function(reader, handler, room, state, atoms, words)?;
         return Ok(());
     }
-    handed_other(reader, lists, room, state, words)?;
+    handed_other(reader, lists, state.scope.has_this, room, words)?;
     Ok(())
 }
 
@@ -185,8 +186,9 @@ pub(crate) fn once<'a>(
     ensures kept { OnOk result (context_of reader.entry state.new ≡ context_of reader.entry state.old) }
     ensures front { IsFront atoms.old atoms.new }
 {
+    let has_this = state.scope.has_this;
     bracketed(reader, room, state, atoms, words)?;
-    called_with(reader, room, state, words)?;
+    called_with(reader, has_this, room, words)?;
     words.end(reader.text.len())?;
     Ok(())
 }
@@ -206,17 +208,18 @@ pub(crate) fn timer<'a>(
     ensures kept { OnOk result (context_of reader.entry state.new ≡ context_of reader.entry state.old) }
     ensures front { IsFront atoms.old atoms.new }
 {
+    let has_this = state.scope.has_this;
     words.want_open(reader.text.len(), room, b"(")?;
     handed(
         reader,
         false,
-        &Reached::Everywhere,
+        &Value::Everywhere,
         room - 1,
         state,
         atoms,
         words,
     )?;
-    delay(reader, room - 1, state, words)?;
+    and_list(reader, has_this, false, room - 1, words)?;
     words.want(reader.text.len(), b")")?;
     words.end(reader.text.len())?;
     Ok(())

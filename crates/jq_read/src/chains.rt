@@ -1,26 +1,26 @@
 //! Chains of calls.
-ghost use Rattle.std.specs.Prelude.{◌≡◌, ◌==◌, ◌&&◌, true, false, length, option_map, Some, None, OnOk};
-ghost use Rattle.jq_sem.specs.Views.{chain_of};
+ghost use Rattle.std.specs.Prelude.{◌≡◌, ◌==◌, ◌&&◌, true, false, None, OnOk};
 ghost use Rattle.jq_words.specs.CallViews.{row_from};
 ghost use Rattle.sel_core.specs.Results.{IsFront};
 ghost use Rattle.jq_words.specs.Results.{Leaves, Turns, IsRest, IsBehind};
 ghost use Rattle.jq_parts.specs.Views.{value_of};
-ghost use Rattle.jq_parts.specs.ScopeViews.{effect_of};
-ghost use Rattle.jq_read.specs.Functions as functions;
+ghost use Rattle.jq_parts.specs.Calls.{elements_in};
 ghost use Rattle.jq_read.specs.Chains as spec;
 ghost use Rattle.jq_read.specs.Statements as statements;
 ghost use Rattle.jq_read.specs.Readers.{context_of, state_of};
-ghost use Rattle.jq_read.specs.Views.{reached_of, done_of};
+ghost use Rattle.jq_read.specs.Views.{done_of};
 
 use crate::arguments::{
     attribute_arguments, class_arguments, go_back, grow_arguments, move_arguments, place_arguments,
     take_first, unite_arguments,
 };
 use crate::bodies::handed;
-use crate::calls::{admitted, and_stated, dot_name, ended, listening, pass_comma};
-use crate::states::{Reader, State};
-use crate::values::{Done, Reached, begin, finish};
-use jq_parts::{Cursor, Value, root};
+use crate::calls::{and_stated, listening};
+use crate::states::State;
+use crate::values::Done;
+use jq_cursor::{Cursor, Reader};
+use jq_forms::pass_comma;
+use jq_parts::{Value, admitted, dot_name, ended, root};
 use jq_words::{Form, Row, ScriptFault, begins};
 use tp_base::AtomTable;
 
@@ -39,8 +39,8 @@ fn is_left_out(fewest: usize, count: usize) -> bool
 }
 
 /// With the value as it is, and nothing done.
-fn unchanged(reached: Reached) -> Done
-    ensures { done_of result ≡ (reached_of reached, None) }
+fn unchanged(reached: Value) -> Done
+    ensures { done_of result ≡ (value_of reached, None) }
 {
     Done {
         reached,
@@ -54,14 +54,14 @@ fn unchanged(reached: Reached) -> Done
 pub(crate) fn several<'a>(
     reader: Reader<'_>,
     lists: bool,
-    reached: &Reached,
+    reached: &Value,
     count: usize,
     room: usize,
     state: &mut State<'a>,
     atoms: &mut AtomTable,
     words: &mut Cursor<'_, 'a>,
 ) -> Result<(), ScriptFault>
-    ensures gives { Leaves (state_of reader.entry state.new atoms.new, words.new) result (spec.several lists (statements.block room 0) room (context_of reader.entry state.old) (functions.elements_in (reached_of reached.now)) count (state_of reader.entry state.old atoms.old) words.old) }
+    ensures gives { Leaves (state_of reader.entry state.new atoms.new, words.new) result (spec.several lists (statements.block room 0) room (context_of reader.entry state.old) (elements_in (value_of reached.now)) count (state_of reader.entry state.old atoms.old) words.old) }
     ensures rest { OnOk result (IsRest words.old words.new) }
     ensures kept { OnOk result (context_of reader.entry state.new ≡ context_of reader.entry state.old) }
     ensures front { IsFront atoms.old atoms.new }
@@ -80,14 +80,14 @@ pub(crate) fn several<'a>(
 #[tactic(auto, unfolding(crate::specs::Chains::listen_arguments), using(sel_core::proofs::Fronts::front_itself, sel_core::proofs::Fronts::front_of_front, jq_words::proofs::Rests::behind_behind))]
 pub(crate) fn listen_arguments<'a>(
     reader: Reader<'_>,
-    reached: &Reached,
+    reached: &Value,
     narrowed: bool,
     room: usize,
     state: &mut State<'a>,
     atoms: &mut AtomTable,
     words: &mut Cursor<'_, 'a>,
 ) -> Result<(), ScriptFault>
-    ensures gives { Leaves (state_of reader.entry state.new atoms.new, words.new) result (spec.listen_arguments (statements.block room 0) room (context_of reader.entry state.old) (reached_of reached.now) narrowed (state_of reader.entry state.old atoms.old) words.old) }
+    ensures gives { Leaves (state_of reader.entry state.new atoms.new, words.new) result (spec.listen_arguments (statements.block room 0) room (context_of reader.entry state.old) (value_of reached.now) narrowed (state_of reader.entry state.old atoms.old) words.old) }
     ensures rest { OnOk result (IsBehind words.old words.new) }
     ensures kept { OnOk result (context_of reader.entry state.new ≡ context_of reader.entry state.old) }
     ensures front { IsFront atoms.old atoms.new }
@@ -102,7 +102,7 @@ pub(crate) fn listen_arguments<'a>(
 #[tactic(auto, unfolding(crate::specs::Chains::arguments_of), using(sel_core::proofs::Fronts::front_itself, jq_words::proofs::Rests::itself, jq_words::proofs::Rests::is_rest))]
 pub(crate) fn call_arguments<'a>(
     reader: Reader<'_>,
-    reached: Reached,
+    reached: Value,
     row: Row<'static>,
     count: usize,
     room: usize,
@@ -110,7 +110,7 @@ pub(crate) fn call_arguments<'a>(
     atoms: &mut AtomTable,
     words: &mut Cursor<'_, 'a>,
 ) -> Result<Done, ScriptFault>
-    ensures gives { Turns done_of (state_of reader.entry state.new atoms.new) words.new result (spec.arguments_of (statements.block room 0) room (context_of reader.entry state.old) (reached_of reached) (row_from row.entry.0.now row.entry.1 row.entry.2 row.entry.3) count (state_of reader.entry state.old atoms.old) words.old) }
+    ensures gives { Turns done_of (state_of reader.entry state.new atoms.new) words.new result (spec.arguments_of (statements.block room 0) room (context_of reader.entry state.old) (value_of reached) (row_from row.entry.0.now row.entry.1 row.entry.2 row.entry.3) count (state_of reader.entry state.old atoms.old) words.old) }
     ensures rest { OnOk result (IsRest words.old words.new) }
     ensures kept { OnOk result (context_of reader.entry state.new ≡ context_of reader.entry state.old) }
     ensures front { IsFront atoms.old atoms.new }
@@ -162,13 +162,13 @@ pub(crate) fn call_arguments<'a>(
 #[tactic(auto, unfolding(crate::specs::Chains::call), using(sel_core::proofs::Fronts::front_itself, crate::proofs::SequenceSteps::deeper))]
 pub(crate) fn call<'a>(
     reader: Reader<'_>,
-    reached: Reached,
+    reached: Value,
     room: usize,
     state: &mut State<'a>,
     atoms: &mut AtomTable,
     words: &mut Cursor<'_, 'a>,
-) -> Result<Reached, ScriptFault>
-    ensures gives { Turns reached_of (state_of reader.entry state.new atoms.new) words.new result (spec.call (statements.block room 1) room (context_of reader.entry state.old) (reached_of reached) (state_of reader.entry state.old atoms.old) words.old) }
+) -> Result<Value, ScriptFault>
+    ensures gives { Turns value_of (state_of reader.entry state.new atoms.new) words.new result (spec.call (statements.block room 1) room (context_of reader.entry state.old) (value_of reached) (state_of reader.entry state.old atoms.old) words.old) }
     ensures rest { OnOk result (IsBehind words.old words.new) }
     ensures kept { OnOk result (context_of reader.entry state.new ≡ context_of reader.entry state.old) }
     ensures front { IsFront atoms.old atoms.new }
@@ -187,13 +187,13 @@ pub(crate) fn call<'a>(
 #[tactic(auto, using(sel_core::proofs::Fronts::front_itself, sel_core::proofs::Fronts::front_of_front, crate::proofs::ChainSteps::goes_on, crate::proofs::ChainSteps::fails, crate::proofs::ChainSteps::ends, jq_words::proofs::Rests::itself, jq_words::proofs::Rests::is_rest, jq_words::proofs::Rests::of_rest))]
 pub(crate) fn calls<'a>(
     reader: Reader<'_>,
-    reached: Reached,
+    reached: Value,
     room: usize,
     state: &mut State<'a>,
     atoms: &mut AtomTable,
     words: &mut Cursor<'_, 'a>,
-) -> Result<Reached, ScriptFault>
-    ensures gives { Turns reached_of (state_of reader.entry state.new atoms.new) words.new result (spec.calls (statements.block room 1) room (context_of reader.entry state.old) (reached_of reached) (state_of reader.entry state.old atoms.old) 0 words.old) }
+) -> Result<Value, ScriptFault>
+    ensures gives { Turns value_of (state_of reader.entry state.new atoms.new) words.new result (spec.calls (statements.block room 1) room (context_of reader.entry state.old) (value_of reached) (state_of reader.entry state.old atoms.old) 0 words.old) }
     ensures rest { OnOk result (IsRest words.old words.new) }
     ensures kept { OnOk result (context_of reader.entry state.new ≡ context_of reader.entry state.old) }
     ensures front { IsFront atoms.old atoms.new }
@@ -230,7 +230,6 @@ pub(crate) fn chain<'a>(
         atoms,
         words,
     )?;
-    let reached = begin(value);
-    let reached = calls(reader, reached, room, state, atoms, words)?;
-    Ok(finish(reached))
+    let whole = calls(reader, value, room, state, atoms, words)?;
+    Ok(whole)
 }

@@ -11,10 +11,12 @@ ghost use Rattle.jq_read.specs.Statements as spec;
 ghost use Rattle.jq_read.specs.Readers.{context_of, state_of};
 
 use crate::bodies::function;
+use crate::bound_names::is_chain_here;
 use crate::chains::chain;
-use crate::functions::list_in;
-use crate::states::{Reader, State};
-use jq_parts::{Bound, Cursor, Declaration, Handler, Value, is_chain, same_places};
+use crate::states::State;
+use jq_cursor::{Cursor, Reader};
+use jq_forms::list_in;
+use jq_parts::{Bound, Declaration, Handler, Value, same_places};
 use jq_words::{ScriptFault, begins, begins_name};
 use std::alloc::Global;
 use std::rc::Rc;
@@ -90,7 +92,7 @@ fn declare<'a>(
 
 /// The value behind a name that is declared, where there is one: the chain, if it is one.
 #[cycle(grammar)]
-#[tactic(auto, unfolding(crate::specs::Statements::value_behind, crate::specs::Statements::declared_value, crate::specs::Statements::plain_list), using(sel_core::proofs::Fronts::front_itself, jq_words::proofs::Rests::itself, jq_words::proofs::Rests::passed_behind))]
+#[tactic(auto, unfolding(crate::specs::Statements::value_behind, crate::specs::Statements::declared_value), using(sel_core::proofs::Fronts::front_itself, jq_words::proofs::Rests::itself, jq_words::proofs::Rests::passed_behind))]
 fn value_behind<'a>(
     reader: Reader<'_>,
     room: usize,
@@ -111,11 +113,11 @@ fn value_behind<'a>(
         function(reader, None, room, state, atoms, words)?;
         return Ok(None);
     }
-    if is_chain(reader.alloc, reader.exact, &state.scope.declarations, words)? {
+    if is_chain_here(reader, state, words)? {
         let value = chain(reader, room, state, atoms, words)?;
         return Ok(Some(value));
     }
-    list_in(reader, room, false, state, words)?;
+    list_in(reader, state.scope.has_this, false, room, words)?;
     Ok(None)
 }
 

@@ -1,40 +1,12 @@
-//! Functions: the handlers that they are, what is seen in them, and what stands where one may stand.
-ghost use Rattle.std.specs.Prelude.{◌≡◌, true, length, take, drop, map, option_map, is_some, OnOk, IfErr};
-ghost use Rattle.jq_words.specs.FreeLists.{free};
-ghost use Rattle.jq_words.specs.Results.{Leaves, IsRest, IsBehind};
+//! Functions: the handlers that they are, and what is seen in them.
+ghost use Rattle.std.specs.Prelude.{◌≡◌, true, length, take, option_map, is_some, OnOk, IfErr};
 ghost use Rattle.jq_words.specs.declared.faults.ScriptFault.TheVariants.{Memory};
 ghost use Rattle.jq_parts.specs.Views.{declarations_of};
 ghost use Rattle.jq_parts.specs.ScopeViews.{handler_of, handlers_of};
 ghost use Rattle.jq_read.specs.Functions as spec;
-ghost use Rattle.jq_read.specs.Readers.{context_of};
 
-use crate::states::{Reader, State};
-use jq_parts::{Cursor, Handler, Scope};
-use jq_words::{Rules, ScriptFault, begins_any_name, begins_name, begins_name_among, place};
-
-/// Passes `function`, which is wanted.
-#[tactic(auto, unfolding(crate::specs::Functions::want_function))]
-pub(crate) fn want_function(size: usize, words: &mut Cursor<'_, '_>) -> Result<(), ScriptFault>
-    ensures gives { Leaves words.new result (spec.want_function size words.old) }
-    ensures rest { OnOk result (IsBehind words.old words.new) }
-{
-    if !begins_name(words.words(), b"function") {
-        return Err(ScriptFault::UnknownForm(place(size, words.words())));
-    }
-    words.pass();
-    Ok(())
-}
-
-/// Passes the name of a function, where it has one.
-#[tactic(auto, unfolding(crate::specs::Functions::behind_name), using(jq_words::proofs::Rests::itself, jq_words::proofs::Rests::is_rest))]
-pub(crate) fn pass_name(words: &mut Cursor<'_, '_>)
-    ensures gives { words.new ≡ spec.behind_name words.old }
-    ensures rest { IsRest words.old words.new }
-{
-    if begins_any_name(words.words()) {
-        words.pass();
-    }
-}
+use jq_parts::{Handler, Scope};
+use jq_words::ScriptFault;
 
 /// In a function, which may be a handler.
 #[tactic(auto, using(crate::proofs::HandlerSteps::pushed))]
@@ -75,47 +47,4 @@ pub(crate) fn leave(seen: usize, outer: usize, had_this: bool, scope: &mut Scope
     scope.declarations.cut(seen);
     scope.handlers.truncate(outer);
     scope.has_this = had_this;
-}
-
-/// Passes a list of any expressions, in which so many brackets may be opened.
-pub(crate) fn list_in(
-    reader: Reader<'_>,
-    room: usize,
-    braces: bool,
-    state: &State<'_>,
-    words: &mut Cursor<'_, '_>,
-) -> Result<(), ScriptFault>
-    ensures gives { Leaves words.new result (free (length reader.entry.text.now) (spec.rules_in (context_of reader.entry state.now) room braces) words.old) }
-    ensures rest { OnOk result (IsBehind words.old words.new) }
-{
-    let rules = Rules {
-        exact: reader.exact,
-        declared: reader.declared,
-        has_this: state.scope.has_this,
-        braces,
-        room,
-    };
-    words.free(reader.alloc, reader.text.len(), rules)
-}
-
-/// Passes what is handed over that is no function.
-#[tactic(auto, unfolding(crate::specs::Functions::handed_other))]
-pub(crate) fn handed_other(
-    reader: Reader<'_>,
-    lists: bool,
-    room: usize,
-    state: &State<'_>,
-    words: &mut Cursor<'_, '_>,
-) -> Result<(), ScriptFault>
-    ensures gives { Leaves words.new result (spec.handed_other lists room (context_of reader.entry state.now) words.old) }
-    ensures rest { OnOk result (IsBehind words.old words.new) }
-{
-    if lists {
-        return list_in(reader, room, true, state, words);
-    }
-    if !begins_name_among(words.words(), reader.declared) {
-        return Err(ScriptFault::UnknownForm(place(reader.text.len(), words.words())));
-    }
-    words.pass();
-    Ok(())
 }

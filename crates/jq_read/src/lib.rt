@@ -3,13 +3,11 @@
 
 mod arguments;
 mod bodies;
+mod bound_names;
 mod calls;
 mod chains;
 mod declarations;
-mod forms;
 mod functions;
-mod lists;
-mod openings;
 mod script;
 mod sequences;
 mod statements;

@@ -14,8 +14,9 @@ ghost use Rattle.jq_read.specs.Script as spec;
 ghost use Rattle.jq_read.specs.Limits.{AreWithin};
 
 use crate::sequences::sequence;
-use crate::states::{Reader, State};
-use jq_parts::{Cursor, Declarations, Lists, Scope, placed};
+use crate::states::State;
+use jq_cursor::{Cursor, Lists, Reader};
+use jq_parts::{Declarations, Scope, placed};
 use jq_sem::{ExactStmt, Stmt};
 use jq_words::{MOST_OPEN, ScriptFault, declared_in};
 use js_scan::{ScanFault, Token, scan};

@@ -1,5 +1,5 @@
 //! Statements, one after another, and in blocks.
-ghost use Rattle.std.specs.Prelude.{◌≡◌, ◌+◌, true, false, [], length, codes, IfOk, IfErr, OnOk};
+ghost use Rattle.std.specs.Prelude.{◌≡◌, true, false, [], length, IfOk, IfErr, OnOk};
 ghost use Rattle.jq_words.specs.Words.{begins_name};
 ghost use Rattle.sel_core.specs.Results.{IsFront};
 ghost use Rattle.jq_words.specs.Results.{Leaves, Turns, IsRest, IsBehind};
@@ -8,12 +8,11 @@ ghost use Rattle.jq_read.specs.Statements as spec;
 ghost use Rattle.jq_read.specs.States.{size};
 ghost use Rattle.jq_read.specs.Readers.{context_of, state_of};
 
-use crate::forms::{Between, StatementForm};
-use crate::lists::condition;
-use crate::openings::form_of;
+use crate::bound_names::form_here;
 use crate::statements::statement;
-use crate::states::{Reader, State};
-use jq_parts::Cursor;
+use crate::states::State;
+use jq_cursor::{Cursor, Reader};
+use jq_forms::{Between, StatementForm, condition};
 use jq_words::{ScriptFault, Word, begins_name};
 use tp_base::AtomTable;
 
@@ -86,9 +85,9 @@ fn turn<'a>(
     ensures kept { OnOk result (context_of reader.entry state.new ≡ context_of reader.entry state.old) }
     ensures front { IsFront atoms.old atoms.new }
 {
-    let form = form_of(&state.scope.declarations, words.words());
+    let form = form_here(state, words);
     if is_branch(form) {
-        condition(reader, room, state, words)?;
+        condition(reader, state.scope.has_this, room, words)?;
         return behind_condition(between);
     }
     statement(reader, form, room, state, atoms, words)?;

@@ -2,19 +2,19 @@
 ghost use Rattle.std.specs.Prelude.{◌≡◌, ◌≢◌, length, drop, OnOk};
 ghost use Rattle.jq_words.specs.Words.{place, spelled};
 ghost use Rattle.sel_core.specs.Results.{IsFront};
-ghost use Rattle.jq_words.specs.Results.{Leaves, IsRest, IsBehind};
+ghost use Rattle.jq_words.specs.Results.{Leaves, IsBehind};
 ghost use Rattle.jq_words.specs.declared.faults.ScriptFault.TheVariants.{Memory, UnknownCall};
 ghost use Rattle.jq_read.specs.Statements as spec;
 ghost use Rattle.jq_read.specs.Readers.{context_of, state_of};
 
 use crate::bodies::{named_function, once, start, timer};
+use crate::bound_names::set_here;
 use crate::chains::chain;
 use crate::declarations::declaration;
-use crate::forms::StatementForm;
-use crate::lists::{list_statement, pass_document, returned, set};
 use crate::sequences::block;
-use crate::states::{Reader, State};
-use jq_parts::{Cursor, spelled};
+use crate::states::State;
+use jq_cursor::{Cursor, Reader, spelled};
+use jq_forms::{StatementForm, list_statement, pass_document, returned};
 use jq_words::{ScriptFault, letters, place};
 use tp_base::AtomTable;
 
@@ -82,7 +82,7 @@ pub(crate) fn statement<'a>(
         }
         StatementForm::Return => {
             words.pass();
-            returned(reader, room, state, words)
+            returned(reader, state.scope.has_this, room, words)
         }
         StatementForm::Start => {
             words.pass();
@@ -98,8 +98,10 @@ pub(crate) fn statement<'a>(
             words.pass();
             timer(reader, room, state, atoms, words)
         }
-        StatementForm::Set => set(reader, room, state, words),
+        StatementForm::Set => set_here(reader, room, state, words),
         StatementForm::Once => once(reader, room, state, atoms, words),
-        StatementForm::Free | StatementForm::Branch => list_statement(reader, room, state, words),
+        StatementForm::Free | StatementForm::Branch => {
+            list_statement(reader, state.scope.has_this, room, words)
+        }
     }
 }

@@ -5,7 +5,8 @@ ghost use Rattle.jq_parts.specs.ScopeViews.{stated_in};
 ghost use Rattle.jq_parts.specs.Stating.{IsCounted};
 
 use crate::places::exact_places;
-use jq_parts::{MarkedChain, Stated, class_set, compounds, placed, selectors};
+use jq_cursor::{class_set, compounds, selectors};
+use jq_parts::{MarkedChain, Stated, placed};
 use jq_sem::Root;
 use jq_words::ScriptFault;
 use std::alloc::{AllocError, Global};

@@ -3,9 +3,11 @@ ghost use Rattle.std.specs.Prelude.{length};
 ghost use Rattle.js_scan.specs.Tokens.{InOrder};
 
 use crate::words::{lettered, tokens_of};
+use jq_cursor::{Cursor, Lists, spelled, text_argument};
+use jq_forms::is_chain;
 use jq_parts::{
-    Bound, Cursor, Declaration, Declarations, Lists, MarkedChain, Scope, SharedChain, Value,
-    is_chain, markup_argument, parameters, root, target, text_argument,
+    Bound, Declaration, Declarations, MarkedChain, Scope, SharedChain, Value, is_bound,
+    markup_argument, parameters, root, target,
 };
 use jq_sem::Root;
 use jq_words::{ScriptFault, Words, place};
@@ -207,7 +209,8 @@ fn chained(
     scope: &Scope<'_>,
     words: &Cursor<'_, '_>,
 ) -> Result<String, ScriptFault> {
-    let answer = is_chain(alloc, false, &scope.declarations, words)?;
+    let bound = is_bound(&scope.declarations, spelled(words.words()));
+    let answer = is_chain(alloc, false, bound, words)?;
     Ok(format!(in alloc; "{answer}")?)
 }
 
@@ -217,7 +220,7 @@ fn behind_parameters<'a>(
     mut words: Cursor<'_, 'a>,
 ) -> Result<(usize, bool), ScriptFault> {
     parameters(size, 1, declarations, &mut words)?;
-    let bound = jq_parts::is_bound(declarations, b"a");
+    let bound = is_bound(declarations, b"a");
     Ok((declarations.len(), bound))
 }
 

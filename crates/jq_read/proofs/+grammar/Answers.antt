@@ -112,7 +112,7 @@ bodies::once-returns-clause-rest t c = behind_behind _ _ _ c.in_ok-bracketed.ens
 
 pub bodies::timer-returns-clause-rest : goal.bodies::timer-returns-clause-rest
 bodies::timer-returns-clause-rest t c =
-    behind_behind _ _ _ c.in_ok-want_open.ensures.rest (behind_behind _ _ _ c.in_ok-handed.ensures.rest (rest_behind _ _ _ c.in_ok-delay.ensures.rest (behind_rest _ _ _ c.in_ok-want.ensures.rest c.in_ok-end.ensures.rest)))
+    behind_behind _ _ _ c.in_ok-want_open.ensures.rest (behind_behind _ _ _ c.in_ok-handed.ensures.rest (rest_behind _ _ _ c.in_ok-and_list.ensures.rest (behind_rest _ _ _ c.in_ok-want.ensures.rest c.in_ok-end.ensures.rest)))
 
 pub declarations::declaration-returns-clause-rest : goal.declarations::declaration-returns-clause-rest
 declarations::declaration-returns-clause-rest t c = behind_rest _ _ _ c.in_ok-one.ensures.rest (of_rest _ _ _ c.in_ok-more_ones.ensures.rest c.in_ok-end.ensures.rest)

@@ -1,11 +1,11 @@
 use Rattle.std.proofs.Common.{◌≡◌, ◌+◌, ◌*◌, length}
 use Rattle.sel_core.specs.Results.{IsFront}
 use Rattle.jq_words.specs.Results.{IsRest}
-use Rattle.jq_read.specs.Functions.{elements_in}
+use Rattle.jq_parts.specs.Calls.{elements_in}
 use Rattle.jq_read.specs.Chains.{several, calls}
 use Rattle.jq_read.specs.Statements.{more_ones, sequence, block, begin}
 use Rattle.jq_read.specs.Readers.{context_of, state_of}
-use Rattle.jq_read.specs.Views.{reached_of}
+use Rattle.jq_parts.specs.Views.{value_of}
 use Rattle.jq_read.proofs.+grammar.Given as goal
 
 abbrev pub decreases-sequences::block : goal.decreases-sequences::block
@@ -94,8 +94,8 @@ invariant-chains::several-arguments l = record {
   rest : IsRest l.fn.words l.words;
   kept : context_of l.reader l.state ≡ context_of l.reader l.fn.state;
   front : IsFront l.fn.atoms l.atoms;
-  reads : several l.lists (block l.room 0) l.room (context_of l.reader l.fn.state) (elements_in (reached_of l.reached)) l.left (state_of l.reader l.state l.atoms) l.words
-      ≡ several l.lists (block l.room 0) l.room (context_of l.reader l.fn.state) (elements_in (reached_of l.reached)) l.count (state_of l.reader l.fn.state l.fn.atoms) l.fn.words;
+  reads : several l.lists (block l.room 0) l.room (context_of l.reader l.fn.state) (elements_in (value_of l.reached)) l.left (state_of l.reader l.state l.atoms) l.words
+      ≡ several l.lists (block l.room 0) l.room (context_of l.reader l.fn.state) (elements_in (value_of l.reached)) l.count (state_of l.reader l.fn.state l.fn.atoms) l.fn.words;
 }
 
 abbrev pub decreases-chains::several-arguments : goal.decreases-chains::several-arguments
@@ -106,8 +106,8 @@ invariant-chains::calls-calls l = record {
   rest : IsRest l.fn.words l.words;
   kept : context_of l.reader l.state ≡ context_of l.reader l.fn.state;
   front : IsFront l.fn.atoms l.atoms;
-  reads : calls (block l.room 1) l.room (context_of l.reader l.fn.state) (reached_of l.so_far) (state_of l.reader l.state l.atoms) 0 l.words
-      ≡ calls (block l.room 1) l.room (context_of l.reader l.fn.state) (reached_of l.fn.reached) (state_of l.reader l.fn.state l.fn.atoms) 0 l.fn.words;
+  reads : calls (block l.room 1) l.room (context_of l.reader l.fn.state) (value_of l.so_far) (state_of l.reader l.state l.atoms) 0 l.words
+      ≡ calls (block l.room 1) l.room (context_of l.reader l.fn.state) (value_of l.fn.reached) (state_of l.reader l.fn.state l.fn.atoms) 0 l.fn.words;
 }
 
 abbrev pub decreases-chains::calls-calls : goal.decreases-chains::calls-calls

@@ -1,4 +1,4 @@
-use Rattle.jq_parts.specs.Places.{place_in}
+use Rattle.jq_cursor.specs.LastPlaces.{place_in}
 use Rattle.jq_parts.proofs.PlacesSteps.{last_gone}
 use Rattle.jq_parts.proofs.declarations.Declarations.drop_last.Goals as goal
 

@@ -1,5 +1,5 @@
 use Rattle.std.proofs.Common.{◌∙◌, sym, arith}
-use Rattle.jq_parts.specs.Places.{place_in}
+use Rattle.jq_cursor.specs.LastPlaces.{place_in}
 use Rattle.jq_parts.proofs.PlacesSteps.{none_last, within, is_last}
 use Rattle.jq_parts.proofs.declarations.Declarations.latest.Goals as goal
 

@@ -1,5 +1,5 @@
 use Rattle.std.proofs.Common.{arith}
-use Rattle.jq_parts.specs.Places.{place_in}
+use Rattle.jq_cursor.specs.LastPlaces.{place_in}
 use Rattle.jq_parts.proofs.PlacesSteps.{one_indexed}
 use Rattle.jq_parts.proofs.declarations.Declarations.push.Goals as goal
 

@@ -1,0 +1,14 @@
+use Rattle.std.proofs.Common.{◌≡◌, length}
+use Rattle.jq_words.specs.Results.{IsRest}
+use Rattle.jq_cursor.specs.Notes.{Holds}
+use Rattle.jq_cursor.proofs.lists.Lists.note_all.Given as goal
+
+abbrev pub invariant-words : goal.invariant-words
+invariant-words l = record {
+  kept : l.self ≡ l.fn.self;
+  part : IsRest l.self l.rest;
+  holds : Holds l.self l.opened.items l.rest;
+}
+
+abbrev pub decreases-words : goal.decreases-words
+decreases-words l = length l.rest

@@ -1,0 +1,9 @@
+pub mod Keywords
+pub mod Lists
+pub mod ListViews
+pub mod Spans
+pub mod Commas
+pub mod Notes
+pub mod Selections
+pub mod TextArguments
+pub mod LastPlaces

@@ -1,0 +1,98 @@
+//! The arguments in a bracket, read word by word.
+ghost use Rattle.std.specs.Prelude.{◌≡◌, List, false, IfOk, IfErr};
+ghost use Rattle.jq_words.specs.Brackets as brackets;
+ghost use Rattle.jq_words.specs.declared.brackets.Bracket.{Bracket};
+ghost use Rattle.jq_words.specs.declared.faults.ScriptFault.TheVariants.{Memory};
+ghost use Rattle.jq_cursor.specs.Lists as spec;
+ghost use Rattle.jq_cursor.specs.Spans as spans;
+ghost use Rattle.jq_cursor.specs.Notes.{extent_in};
+
+use jq_words::{OpenBrackets, ScriptFault, Word, Words, closed_by};
+use std::alloc::Global;
+
+/// How many arguments there are, whether all brackets that they open are closed in them, and the words behind them.
+#[derive(Drop)]
+pub(crate) struct ArgumentList<'a> {
+    pub(crate) count: usize,
+    pub(crate) whole: bool,
+    pub(crate) behind: Words<'a>,
+}
+
+/// Whether arguments end before a word.
+#[tactic(auto, unfolding(jq_words::specs::Brackets::ends_argument))]
+fn ends_list(open_brackets: &OpenBrackets, word: &Word<'_>) -> bool
+    ensures { brackets.ends_argument false open_brackets.now word.now ≡ result }
+{
+    open_brackets.closes_outer(word) || (open_brackets.is_empty() && word.is_mark(b";"))
+}
+
+/// One comma more, where a word is one outside brackets.
+fn and_comma(
+    open_brackets: &OpenBrackets,
+    word: &Word<'_>,
+    commas: usize,
+) -> Result<usize, ScriptFault>
+    ensures gives { IfOk result (λ n. n ≡ spans.and_comma open_brackets.now word.now commas) }
+    ensures only_memory { IfErr result (λ e. e ≡ Memory) }
+{
+    if open_brackets.is_empty() && word.is_mark(b",") {
+        return commas.checked_add(1).ok_or(ScriptFault::Memory);
+    }
+    Ok(commas)
+}
+
+/// Whether no argument begins with these words.
+#[tactic(auto, unfolding(jq_words::specs::Brackets::ends_argument, jq_words::specs::Brackets::closes_outer))]
+fn is_bare(words: &Words<'_>) -> bool
+    ensures { spans.is_bare words.now ≡ result }
+{
+    match words.first() {
+        None => true,
+        Some(word) => closed_by(&word).is_some() || word.is_mark(b";"),
+    }
+}
+
+/// Arguments with so many commas, which begin with some words and end before others.
+pub(crate) fn ended<'a>(
+    inside: &Words<'_>,
+    commas: usize,
+    whole: bool,
+    behind: &Words<'a>,
+) -> Result<ArgumentList<'a>, ScriptFault>
+    ensures gives { IfOk result (λ l. (left : List Bracket) → brackets.is_empty left ≡ whole → extent_in l ≡ spans.extent_from inside.now (spans.span_at commas left behind.now)) }
+    ensures only_memory { IfErr result (λ e. e ≡ Memory) }
+{
+    let count = if is_bare(inside) {
+        0
+    } else {
+        commas.checked_add(1).ok_or(ScriptFault::Memory)?
+    };
+    Ok(ArgumentList {
+        count,
+        whole,
+        behind: behind.again(),
+    })
+}
+
+/// The arguments that begin with these words. Linear in them.
+#[tactic(auto, using(crate::proofs::SpanSteps::over, crate::proofs::SpanSteps::ends, crate::proofs::SpanSteps::goes_on, crate::proofs::SpanSteps::from_span))]
+pub(crate) fn read_list<'a>(
+    alloc: Global,
+    words: &Words<'a>,
+) -> Result<ArgumentList<'a>, ScriptFault>
+    ensures gives { IfOk result (λ l. extent_in l ≡ spec.extent words.now) }
+    ensures only_memory { IfErr result (λ e. e ≡ Memory) }
+{
+    let mut open_brackets = OpenBrackets::none(alloc);
+    let mut rest = words.again();
+    let mut commas: usize = 0;
+    'words: while let Some(word) = rest.first() {
+        if ends_list(&open_brackets, &word) {
+            return ended(words, commas, open_brackets.is_empty(), &rest);
+        }
+        commas = and_comma(&open_brackets, &word, commas)?;
+        open_brackets.pass(&word)?;
+        rest.pass();
+    }
+    ended(words, commas, open_brackets.is_empty(), &rest)
+}

@@ -1,0 +1,201 @@
+//! A place among the words of a file.
+ghost use Rattle.std.specs.Prelude.{◌≡◌, ◌<◌, drop, IfOk, IfErr, OnOk};
+ghost use Rattle.jq_words.specs.Words as words;
+ghost use Rattle.jq_words.specs.FreeLists as lists;
+ghost use Rattle.jq_words.specs.Views.{rules_of};
+ghost use Rattle.jq_words.specs.CallViews.{row_from};
+ghost use Rattle.jq_words.specs.Results.{Finds, Leaves, IsRest, IsBehind};
+ghost use Rattle.jq_words.specs.declared.faults.ScriptFault.TheVariants.{Memory};
+ghost use Rattle.jq_cursor.specs.Lists as spec;
+ghost use Rattle.jq_cursor.specs.Notes.{extent_in};
+ghost use Rattle.jq_cursor.specs.ListViews.{extent_of};
+
+use crate::argument_lists::{ArgumentList, read_list};
+use crate::lists::Lists;
+use jq_words::{Row, Rules, ScriptFault, Words, begins, end, free, want, want_name, want_open};
+use std::alloc::Global;
+use std::marker::Model;
+
+/// The words of a file from a place on. A contract sees the list of them.
+#[derive(Drop)]
+pub struct Cursor<'l, 'a> {
+    words: Words<'a>,
+    lists: &'l Lists<'a>,
+}
+
+impl<'l, 'a> Model for Cursor<'l, 'a> {
+    ghost use Rattle.std.specs.Prelude.{List};
+    ghost use Rattle.jq_words.specs.Words.{Word};
+    ghost use Rattle.jq_words.specs.Results.{IsRest};
+
+    ghost Value = { List Word };
+
+    ghost view = { λ c. c.words };
+
+    ghost invariant = { λ c. IsRest c.lists.now c.words };
+}
+
+/// How many arguments a call has, whether all brackets that they open are closed in them, and the words behind them.
+#[derive(Drop)]
+pub struct Enclosed<'l, 'a> {
+    pub count: usize,
+    pub whole: bool,
+    pub behind: Cursor<'l, 'a>,
+}
+
+impl<'l, 'a> Cursor<'l, 'a> {
+    /// The file's first word. Constant.
+    #[tactic(auto, using(jq_words::proofs::Rests::itself))]
+    pub fn new(lists: &'l Lists<'a>) -> Self
+        ensures { result ≡ lists.now }
+    {
+        Cursor {
+            words: lists.words(),
+            lists,
+        }
+    }
+
+    /// The same place again, to look ahead. Constant.
+    pub fn again(&self) -> Cursor<'l, 'a>
+        ensures { result ≡ self.now }
+    {
+        Cursor {
+            words: self.words.again(),
+            lists: self.lists,
+        }
+    }
+
+    /// The words from here on. Constant.
+    pub fn words(&self) -> &Words<'a>
+        ensures { result.now ≡ self.now }
+    {
+        &self.words
+    }
+
+    /// Passes the first word. Constant.
+    #[tactic(auto, using(jq_words::proofs::Rests::is_rest, jq_words::proofs::Rests::of_rest))]
+    pub fn pass(&mut self)
+        ensures passed { self.new ≡ drop 1 self.old }
+        ensures rest { IsBehind self.old self.new }
+    {
+        self.words.pass();
+    }
+
+    /// Passes so many words. Linear in their number.
+    #[tactic(auto, using(jq_words::proofs::Rests::of_rest))]
+    pub fn pass_all(&mut self, count: usize)
+        ensures passed { self.new ≡ drop count self.old }
+        ensures rest { IsRest self.old self.new }
+        ensures behind { 0 < count → IsBehind self.old self.new }
+    {
+        self.words.pass_all(count);
+    }
+
+    /// Passes a mark that is wanted. Constant. After a refusal the place is as it was.
+    #[tactic(auto, using(crate::proofs::PlaceSteps::kept))]
+    pub fn want(&mut self, size: usize, spelling: &[u8]) -> Result<(), ScriptFault>
+        ensures gives { Leaves self.new result (words.want size spelling.now self.old) }
+        ensures rest { OnOk result (IsBehind self.old self.new) }
+    {
+        let mut rest = self.words.again();
+        want(size, spelling, &mut rest)?;
+        self.words = rest;
+        Ok(())
+    }
+
+    /// Passes an opening bracket that is wanted, where so many may still be opened. Constant. After a refusal the place is as it was.
+    #[tactic(auto, using(crate::proofs::PlaceSteps::kept))]
+    pub fn want_open(
+        &mut self,
+        size: usize,
+        room: usize,
+        spelling: &[u8],
+    ) -> Result<(), ScriptFault>
+        ensures gives { Leaves self.new result (words.want_open size room spelling.now self.old) }
+        ensures rest { OnOk result (IsBehind self.old self.new) }
+        ensures opened { OnOk result (0 < room) }
+    {
+        let mut rest = self.words.again();
+        want_open(size, room, spelling, &mut rest)?;
+        self.words = rest;
+        Ok(())
+    }
+
+    /// Passes a name that is wanted, whichever it is. Constant. After a refusal the place is as it was.
+    #[tactic(auto, using(crate::proofs::PlaceSteps::kept))]
+    pub fn want_name(&mut self, size: usize) -> Result<&'a [u8], ScriptFault>
+        ensures gives { Finds (λ n. n.now) self.new result (words.want_name size self.old) }
+        ensures rest { OnOk result (IsBehind self.old self.new) }
+    {
+        let mut rest = self.words.again();
+        let name = want_name(size, &mut rest)?;
+        self.words = rest;
+        Ok(name)
+    }
+
+    /// Passes the end of a statement. Constant. After a refusal the place is as it was.
+    #[tactic(auto, using(jq_words::proofs::Rests::of_rest))]
+    pub fn end(&mut self, size: usize) -> Result<(), ScriptFault>
+        ensures gives { Leaves self.new result (words.end size self.old) }
+        ensures rest { OnOk result (IsRest self.old self.new) }
+    {
+        let mut rest = self.words.again();
+        end(size, &mut rest)?;
+        self.words = rest;
+        Ok(())
+    }
+
+    /// Passes a list of any expressions. Linear in it but for look-ups. After a refusal the place is as it was.
+    #[tactic(auto, using(crate::proofs::PlaceSteps::kept))]
+    pub fn free(&mut self, alloc: Global, size: usize, rules: Rules<'_>) -> Result<(), ScriptFault>
+        ensures gives { Leaves self.new result (lists.free size (rules_of rules.entry) self.old) }
+        ensures rest { OnOk result (IsBehind self.old self.new) }
+    {
+        let mut rest = self.words.again();
+        free(alloc, size, rules, &mut rest)?;
+        self.words = rest;
+        Ok(())
+    }
+
+    /// The arguments behind the first word, which is a call's bracket. Constant on average: they were noted when the file was begun.
+    pub fn enclosed(&self, alloc: Global) -> Result<Enclosed<'l, 'a>, ScriptFault>
+        ensures gives { IfOk result (λ e. extent_of e ≡ spec.extent (drop 1 self.now)) }
+        ensures only_memory { IfErr result (λ e. e ≡ Memory) }
+    {
+        match self.lists.get(&self.words) {
+            Some(list) => Ok(self.with_place(list)),
+            None => {
+                let list = read_list(alloc, &self.words.behind())?;
+                Ok(self.with_place(&list))
+            }
+        }
+    }
+
+    /// A list of arguments behind the first word, with its place.
+    #[tactic(auto, using(crate::proofs::NoteSteps::behind_part))]
+    fn with_place(&self, list: &ArgumentList<'a>) -> Enclosed<'l, 'a>
+        requires { extent_in list.now ≡ spec.extent (drop 1 self.now) }
+        ensures { extent_of result ≡ extent_in list.now }
+    {
+        Enclosed {
+            count: list.count,
+            whole: list.whole,
+            behind: Cursor {
+                words: list.behind.again(),
+                lists: self.lists,
+            },
+        }
+    }
+}
+
+/// Whether a call has as many arguments as there are. Constant.
+#[tactic(auto, unfolding(crate::specs::Lists::counts))]
+pub fn counts(row: &Row<'_>, enclosed: &Enclosed<'_, '_>) -> bool
+    ensures { result ≡ spec.counts (row_from row.now.0.now row.now.1 row.now.2 row.now.3) (extent_of enclosed.now) }
+{
+    let few = enclosed.count < row.1 && begins(&enclosed.behind.words, b")");
+    match row.2 {
+        None => !few,
+        Some(most) => enclosed.count <= most && !few,
+    }
+}

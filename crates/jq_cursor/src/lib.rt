@@ -1,0 +1,20 @@
+//! A place among the words of a script, how far arguments reach there, and what their letters are.
+#![tactic(auto)]
+
+mod argument_lists;
+mod cursors;
+mod keywords;
+mod last_places;
+mod lists;
+mod open_lists;
+mod readers;
+mod selections;
+mod text_arguments;
+
+pub use cursors::{Cursor, Enclosed, counts};
+pub use keywords::{JQUERY, PAGES, begins_jquery, is_jquery_call, spelled};
+pub use last_places::LastPlaces;
+pub use lists::Lists;
+pub use readers::Reader;
+pub use selections::{add_attribute, class_set, compounds, is_attribute, selectors};
+pub use text_arguments::{some_argument, text_argument};

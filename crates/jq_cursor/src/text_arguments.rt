@@ -1,0 +1,50 @@
+//! Arguments as words, and those that are Texts.
+ghost use Rattle.std.specs.Prelude.{OnOk};
+ghost use Rattle.jq_words.specs.Words.{place};
+ghost use Rattle.jq_words.specs.Results.{Finds, Turns, IsBehind};
+ghost use Rattle.jq_cursor.specs.TextArguments as spec;
+
+use crate::cursors::Cursor;
+use jq_words::{ScriptFault, Words, argument_len, joined_texts, place};
+use std::alloc::Global;
+
+/// Lends the words of an argument, of which there has to be something, and passes them. Linear in them.
+#[tactic(auto, unfolding(crate::specs::TextArguments::some_argument), using(jq_words::proofs::ArgumentSteps::none_given, jq_words::proofs::ArgumentSteps::some_given, jq_words::proofs::Rests::itself))]
+pub fn some_argument<'a>(
+    alloc: Global,
+    size: usize,
+    words: &mut Cursor<'_, 'a>,
+) -> Result<Words<'a>, ScriptFault>
+    ensures gives { Finds (λ w. w) words.new result (spec.some_argument size words.old) }
+    ensures rest { OnOk result (IsBehind words.old words.new) }
+{
+    let count = argument_len(alloc, true, words.words())?;
+    if count == 0 {
+        return Err(ScriptFault::UnknownForm(place(size, words.words())));
+    }
+    let given = words.words().front(count);
+    words.pass_all(count);
+    Ok(given)
+}
+
+/// Passes Texts that are an argument, and gives their letters. Linear in the argument.
+#[tactic(auto, unfolding(crate::specs::TextArguments::text_argument))]
+pub fn text_argument(
+    alloc: Global,
+    size: usize,
+    words: &mut Cursor<'_, '_>,
+) -> Result<Vec<u8>, ScriptFault>
+    ensures gives { Turns (λ l. l.items) (place size words.old) words.new result (spec.text_argument size words.old) }
+    ensures rest { OnOk result (IsBehind words.old words.new) }
+{
+    let count = argument_len(alloc, true, words.words())?;
+    let given = words.words().front(count);
+    if given.first().is_none() {
+        return Err(ScriptFault::UnknownForm(place(size, words.words())));
+    }
+    let Some(letters) = joined_texts(alloc, &given)? else {
+        return Err(ScriptFault::ComplexArgument(place(size, words.words())));
+    };
+    words.pass_all(count);
+    Ok(letters)
+}

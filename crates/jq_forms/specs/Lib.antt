@@ -1,0 +1,5 @@
+pub mod Openings
+pub mod Values
+pub mod ListParts
+pub mod Heads
+pub mod Readers

@@ -1,0 +1,85 @@
+//! What stands before the blocks of functions, and between the arguments of a call.
+ghost use Rattle.std.specs.Prelude.{◌≡◌, true, length, drop, OnOk};
+ghost use Rattle.jq_words.specs.Results.{Leaves, IsRest, IsBehind};
+ghost use Rattle.jq_forms.specs.Heads as spec;
+ghost use Rattle.jq_forms.specs.Readers.{rules_from};
+
+use crate::list_parts::list_in;
+use jq_cursor::{Cursor, Reader};
+use jq_words::{ScriptFault, begins_any_name, begins_name, begins_name_among, place};
+
+/// Passes `function`, which is wanted. Constant.
+#[tactic(auto, unfolding(crate::specs::Heads::want_function))]
+pub fn want_function(size: usize, words: &mut Cursor<'_, '_>) -> Result<(), ScriptFault>
+    ensures gives { Leaves words.new result (spec.want_function size words.old) }
+    ensures rest { OnOk result (IsBehind words.old words.new) }
+{
+    if !begins_name(words.words(), b"function") {
+        return Err(ScriptFault::UnknownForm(place(size, words.words())));
+    }
+    words.pass();
+    Ok(())
+}
+
+/// Passes the name of a function, where it has one. Constant.
+#[tactic(auto, unfolding(crate::specs::Heads::behind_name), using(jq_words::proofs::Rests::itself, jq_words::proofs::Rests::is_rest))]
+pub fn pass_name(words: &mut Cursor<'_, '_>)
+    ensures gives { words.new ≡ spec.behind_name words.old }
+    ensures rest { IsRest words.old words.new }
+{
+    if begins_any_name(words.words()) {
+        words.pass();
+    }
+}
+
+/// Passes what is handed over that is no function: a list, where one may stand, or else the name of a function of the script. Linear in
+/// it but for look-ups.
+#[tactic(auto, unfolding(crate::specs::Heads::handed_other))]
+pub fn handed_other(
+    reader: Reader<'_>,
+    lists: bool,
+    has_this: bool,
+    room: usize,
+    words: &mut Cursor<'_, '_>,
+) -> Result<(), ScriptFault>
+    ensures gives { Leaves words.new result (spec.handed_other lists (length reader.entry.text.now) (rules_from reader.entry has_this true room) words.old) }
+    ensures rest { OnOk result (IsBehind words.old words.new) }
+{
+    if lists {
+        return list_in(reader, has_this, true, room, words);
+    }
+    if !begins_name_among(words.words(), reader.declared) {
+        return Err(ScriptFault::UnknownForm(place(reader.text.len(), words.words())));
+    }
+    words.pass();
+    Ok(())
+}
+
+/// Passes a comma behind one of several arguments, where others follow. Constant.
+#[tactic(auto, unfolding(crate::specs::Heads::behind_one), using(jq_words::proofs::Rests::itself, jq_words::proofs::Rests::is_rest))]
+pub fn pass_comma(size: usize, others: usize, words: &mut Cursor<'_, '_>) -> Result<(), ScriptFault>
+    ensures gives { Leaves words.new result (spec.behind_one size others words.old) }
+    ensures rest { OnOk result (IsRest words.old words.new) }
+{
+    if others == 0 {
+        return Ok(());
+    }
+    words.want(size, b",")?;
+    Ok(())
+}
+
+/// Passes J and `(document).ready`. Constant.
+#[tactic(auto, unfolding(crate::specs::Heads::behind_document), using(jq_words::proofs::Rests::behind_rest))]
+pub fn pass_document(
+    size: usize,
+    room: usize,
+    words: &mut Cursor<'_, '_>,
+) -> Result<(), ScriptFault>
+    ensures gives { Leaves words.new result (spec.behind_document size room (drop 1 words.old)) }
+    ensures rest { OnOk result (IsBehind words.old words.new) }
+{
+    words.pass();
+    words.want_open(size, room, b"(")?;
+    words.pass_all(4);
+    Ok(())
+}

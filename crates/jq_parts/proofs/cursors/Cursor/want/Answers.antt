@@ -1,5 +1,0 @@
-use Rattle.jq_parts.proofs.PlaceSteps.{kept}
-use Rattle.jq_parts.proofs.cursors.Cursor.want.Goals as goal
-
-pub invariant_of-self : goal.invariant_of-self
-invariant_of-self c = kept _ _ _ c.self.invariant (rw c.again-rest.ensures at c.in_ok-want.ensures.rest)

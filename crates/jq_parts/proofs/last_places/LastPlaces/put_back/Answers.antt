@@ -1,5 +1,0 @@
-use Rattle.jq_parts.proofs.NameSteps.{put_known}
-use Rattle.jq_parts.proofs.last_places.LastPlaces.put_back.Goals as goal
-
-pub returns : goal.returns
-returns c = put_known (λ k. k.now) c.insert-put.result _ _ c.args.name _ c.insert-put.ensures.entries c.insert-put.ensures.absent c.requires

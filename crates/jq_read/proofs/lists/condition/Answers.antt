@@ -1,5 +1,0 @@
-use Rattle.jq_words.proofs.Rests.{behind_behind}
-use Rattle.jq_read.proofs.lists.condition.Goals as goal
-
-pub returns-clause-rest : goal.returns-clause-rest
-returns-clause-rest c = behind_behind _ _ _ c.pass.ensures.rest (behind_behind _ _ _ c.in_ok-want_open.ensures.rest (behind_behind _ _ _ c.in_ok-plain_list.ensures.rest c.in_ok-want.ensures.rest))

@@ -1,5 +1,0 @@
-use Rattle.jq_words.proofs.Rests.{is_rest, behind_behind}
-use Rattle.jq_read.proofs.lists.delay.Goals as goal
-
-pub returns-clause-rest : goal.returns-clause-rest
-returns-clause-rest c = is_rest _ _ (behind_behind _ _ _ c.pass.ensures.rest c.in_ok-plain_list.ensures.rest)

@@ -1,5 +1,0 @@
-use Rattle.jq_words.proofs.Rests.{behind_behind, behind_rest}
-use Rattle.jq_read.proofs.lists.pass_document.Goals as goal
-
-pub returns-clause-rest : goal.returns-clause-rest
-returns-clause-rest c = behind_behind _ _ _ c.pass.ensures.rest (behind_rest _ _ _ c.in_ok-want_open.ensures.rest c.pass_all.ensures.rest)
