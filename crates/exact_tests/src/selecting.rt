@@ -9,7 +9,7 @@ use tree_sem::{Tree, TreeFault, go_on};
 // The pieces of a handler, or none, those of a chain, and the numbers of the nodes that are selected.
 type Row = (&'static [Piece], &'static [Piece], &'static [u32]);
 
-static ROWS: [Row; 15] = [
+static ROWS: [Row; 24] = [
     (&[], &[Piece::Matched(C), Piece::Closest(B)], &[2, 7]),
     (&[], &[Piece::Matched(C), Piece::Closest(A)], &[1, 8]),
     (&[], &[Piece::Matched(B), Piece::Closest(B)], &[2, 4, 7]),
@@ -61,6 +61,68 @@ static ROWS: [Row; 15] = [
     (
         &[Piece::Matched(B), Piece::First],
         &[Piece::Matched(C), Piece::First],
+        &[3],
+    ),
+    (
+        &[Piece::Matched(B)],
+        &[Piece::This, Piece::SiblingsOf(C), Piece::First],
+        &[3, 5],
+    ),
+    (
+        &[Piece::Matched(A)],
+        &[Piece::This, Piece::Siblings, Piece::First],
+        &[3, 7, 10],
+    ),
+    (
+        &[Piece::Matched(B)],
+        &[Piece::This, Piece::Siblings, Piece::Siblings, Piece::First],
+        &[1, 2, 4],
+    ),
+    (
+        &[Piece::Matched(A), Piece::Siblings],
+        &[Piece::This, Piece::Children, Piece::Siblings, Piece::First],
+        &[8],
+    ),
+    (
+        &[Piece::Matched(C)],
+        &[Piece::This, Piece::Add(B), Piece::First],
+        &[2],
+    ),
+    (
+        &[Piece::Matched(A)],
+        &[Piece::This, Piece::Add(B), Piece::First],
+        &[1, 2],
+    ),
+    (
+        &[Piece::Matched(B)],
+        &[
+            Piece::This,
+            Piece::SiblingsOf(C),
+            Piece::Add(D),
+            Piece::First,
+        ],
+        &[3, 5, 11],
+    ),
+    (
+        &[Piece::Matched(B)],
+        &[
+            Piece::This,
+            Piece::SiblingsOf(C),
+            Piece::First,
+            Piece::Add(D),
+            Piece::First,
+            Piece::Siblings,
+        ],
+        &[1, 2, 4, 7],
+    ),
+    (
+        &[Piece::Matched(A)],
+        &[
+            Piece::This,
+            Piece::Add(B),
+            Piece::ChildrenOf(C),
+            Piece::First,
+        ],
         &[3],
     ),
 ];

@@ -1,23 +1,28 @@
 -- From which nodes a call leads to a node, by numbers.
-use Rattle.std.proofs.Common.{◌≡◌, ◌↔◌, ℕ, zero, suc, ◌<◌, ◌≤◌, List, [], ◌∷◌, ◌++◌, length, take, true, Option, Some, None, Result, Ok, Err, IfOk, refl, sym, ap, ◌∙◌, subst, arith, length-append}
+use Rattle.std.proofs.Common.{◌≡◌, ◌↔◌, ℕ, zero, suc, ◌<◌, ◌≤◌, List, [], ◌∷◌, ◌++◌, ◌⊎◌, length, take, map, true, Option, Some, None, Result, Ok, Err, IfOk, inl, inr, refl, sym, ap, ◌∙◌, subst, arith, length-append}
 use Rattle.tp_base.specs.declared.no_memory.NoMemory.{NoMemory}
 use Rattle.tree_sem.specs.Trees.{LabelTree}
 use Rattle.tree_sem.specs.Nodes.{IsNode}
 use Rattle.tree_sem.proofs.NodeLemmas.{IsNode-front}
-use Rattle.node_marks.specs.Marks.{IsFree, HasParentIn, HasAncestorIn, HasChildIn, HasDescendantIn}
+use Rattle.node_marks.specs.Marks.{IsFree, HasParentIn, HasAncestorIn, HasChildIn, HasDescendantIn, HasOtherIn}
 use Rattle.node_marks.specs.Ranks.{under, IsUnder, AreRanked, HasNearestIn}
 use Rattle.sel_core.specs.declared.selectors.Compound.{Compound}
-use Rattle.sel_core.specs.declared.selectors.Selector.{Selector}
+use Rattle.sel_core.specs.declared.selectors.Selector as code_selector
+use Rattle.sel_core.specs.Selectors.{Selector}
+use Rattle.std.proofs.lemmas.Bool.{or_cases}
 use Rattle.jq_sem.specs.declared.chains.Call as code
 use Rattle.jq_sem.specs.declared.chains.Call.TheVariants.{Find, Children, Parent, Parents, Filter, Has, Around, Near, Add, End}
 use Rattle.jq_sem.specs.declared.sharp.SharpKind.{SharpKind}
 use Rattle.jq_sem.specs.declared.sharp.SharpKind.TheVariants as sharp
 use Rattle.jq_sem.specs.SharpViews.{with_kind}
+use Rattle.sel_core.specs.Views.{selector_of}
 use Rattle.jq_sem.specs.Views.{atoms_of, call_of}
-use Rattle.jq_sem.specs.Statements.{find, children, parent, parents, filter, has, around, FitsOne, MayFit}
-use Rattle.jq_sem.specs.Sharp.{plain, closest}
+use Rattle.jq_sem.specs.Statements.{find, children, parent, parents, filter, has, around, near, add, FitsOne, MayFit}
+use Rattle.jq_sem.specs.Sharp.{plain, closest, siblings, wide_call}
 use Rattle.jq_sem.proofs.MarkLemmas.{IsMarked-node}
-use Rattle.jq_exact.specs.Firsts.{leads_back, from_some, IsBefore}
+use Rattle.jq_sem.proofs.SharpLemmas.{wide-with_kind}
+use Rattle.jq_exact.specs.Firsts.{leads_back, adds, is_parted, parted_or_first, IsBefore}
+use Rattle.jq_exact.proofs.FirstLemmas.{added_by}
 
 -- a list, cut before an element
 cut : (x : List ℕ) (m : ℕ) → m < length x → (j : ℕ) × (q : List ℕ) × (x ≡ take m x ++ j ∷ q)
@@ -93,9 +98,22 @@ module _ (t : LabelTree) (ranks made : List ℕ) (cs : List (List ℕ)) where
   )
 
   pub before_closest : AreRanked t made (λ k v. IsNode t v × HasNearestIn (FitsOne t cs) (IsUnder t k ranks) v) → IsBefore t (closest cs) ranks made
-  before_closest near k low w = (
-    λ on. let h = (near k low w).0 on in (h.0, h.1.0, (h.1.3, h.1.1, sym h.1.2, h.1.4), h.1.5),
-    λ h. (near k low w).1 (h.0, (h.1, h.2.1, sym h.2.2, h.2.0, h.2.3, h.3)),
+  before_closest nearest k low w = (
+    λ on. let h = (nearest k low w).0 on in (h.0, h.1.0, (h.1.3, h.1.1, sym h.1.2, h.1.4), h.1.5),
+    λ h. (nearest k low w).1 (h.0, (h.1, h.2.1, sym h.2.2, h.2.0, h.2.3, h.3)),
+  )
+
+  pub before_siblings : (chosen : List ℕ) → AreRanked t chosen (λ k v. MayFit t cs v × IsUnder t k ranks v) → AreRanked t made (λ k v. IsNode t v × HasOtherIn (IsUnder t k chosen) v) → IsBefore t (siblings cs) ranks made
+  before_siblings chosen fit beside k low w = (
+    λ on.
+        let h = (beside k low w).0 on in
+        let o = h.1 in
+        let x = o.1 ++ o.3 ∷ [] in
+        let both = (fit k low x).0 o.5 in
+        (h.0, x, (both.0, (o.3, o.1, refl, o.0, (λ same. o.4 (sym same)), sym o.2)), both.1),
+    λ h.
+        let o = h.2.1 in
+        (beside k low w).1 (h.0, (o.3, o.1, sym o.5, o.0, (λ same. o.4 (sym same)), subst (IsUnder t k chosen) o.2 ((fit k low h.1).1 (h.2.0, h.3)))),
   )
 
 -- ---- a set by what says the same of its nodes
@@ -128,38 +146,38 @@ over_same A B C D over same v = (
   λ h. let d = h.0 in ((over v).1 (d.0, d.1, (same (v ++ d.0 ∷ d.1)).1 d.2), h.1),
 )
 
--- ---- a call that leads back is what it says, or `closest`
+-- ---- a call that leads back is what it says, or `closest` or `siblings`
 
-pub plain_back : (c : code.Call) (kind : Option SharpKind) → ((cs : List Compound) → c ≡ Around cs → ⊥) → leads_back (with_kind (call_of c) kind) ≡ true → with_kind (call_of c) kind ≡ plain (call_of c)
-plain_back c None other lead = refl
-plain_back (Around cs) kind other lead = absurd (other cs refl)
-plain_back (Find cs) (Some sharp.Closest) other lead = refl
-plain_back (Children cs) (Some sharp.Closest) other lead = refl
-plain_back (Parent cs) (Some sharp.Closest) other lead = refl
-plain_back (Parents cs) (Some sharp.Closest) other lead = refl
-plain_back (Has cs) (Some sharp.Closest) other lead = refl
-plain_back (Near cs) (Some sharp.Closest) other lead = refl
-plain_back (Add ss) (Some sharp.Closest) other lead = refl
-plain_back End (Some sharp.Closest) other lead = refl
-plain_back (Filter cs) (Some sharp.Closest) other lead = refl
-plain_back (Find cs) (Some sharp.Siblings) other lead = refl
-plain_back (Children cs) (Some sharp.Siblings) other lead = refl
-plain_back (Parent cs) (Some sharp.Siblings) other lead = refl
-plain_back (Parents cs) (Some sharp.Siblings) other lead = refl
-plain_back (Has cs) (Some sharp.Siblings) other lead = refl
-plain_back (Near cs) (Some sharp.Siblings) other lead = cc
-plain_back (Add ss) (Some sharp.Siblings) other lead = refl
-plain_back End (Some sharp.Siblings) other lead = refl
-plain_back (Filter cs) (Some sharp.Siblings) other lead = refl
-plain_back (Find cs) (Some sharp.First) other lead = refl
-plain_back (Children cs) (Some sharp.First) other lead = refl
-plain_back (Parent cs) (Some sharp.First) other lead = refl
-plain_back (Parents cs) (Some sharp.First) other lead = refl
-plain_back (Has cs) (Some sharp.First) other lead = refl
-plain_back (Near cs) (Some sharp.First) other lead = refl
-plain_back (Add ss) (Some sharp.First) other lead = refl
-plain_back End (Some sharp.First) other lead = refl
-plain_back (Filter cs) (Some sharp.First) other lead = by_atoms (atoms_of cs) lead
+pub plain_back : (c : code.Call) (kind : Option SharpKind) → ((cs : List Compound) → c ≡ Around cs → ⊥) → ((cs : List Compound) → c ≡ Near cs → ⊥) → leads_back (with_kind (call_of c) kind) ≡ true → with_kind (call_of c) kind ≡ plain (call_of c)
+plain_back c None other beside lead = refl
+plain_back (Around cs) kind other beside lead = absurd (other cs refl)
+plain_back (Find cs) (Some sharp.Closest) other beside lead = refl
+plain_back (Children cs) (Some sharp.Closest) other beside lead = refl
+plain_back (Parent cs) (Some sharp.Closest) other beside lead = refl
+plain_back (Parents cs) (Some sharp.Closest) other beside lead = refl
+plain_back (Has cs) (Some sharp.Closest) other beside lead = refl
+plain_back (Near cs) (Some sharp.Closest) other beside lead = refl
+plain_back (Add ss) (Some sharp.Closest) other beside lead = refl
+plain_back End (Some sharp.Closest) other beside lead = refl
+plain_back (Filter cs) (Some sharp.Closest) other beside lead = refl
+plain_back (Find cs) (Some sharp.Siblings) other beside lead = refl
+plain_back (Children cs) (Some sharp.Siblings) other beside lead = refl
+plain_back (Parent cs) (Some sharp.Siblings) other beside lead = refl
+plain_back (Parents cs) (Some sharp.Siblings) other beside lead = refl
+plain_back (Has cs) (Some sharp.Siblings) other beside lead = refl
+plain_back (Near cs) (Some sharp.Siblings) other beside lead = absurd (beside cs refl)
+plain_back (Add ss) (Some sharp.Siblings) other beside lead = refl
+plain_back End (Some sharp.Siblings) other beside lead = refl
+plain_back (Filter cs) (Some sharp.Siblings) other beside lead = refl
+plain_back (Find cs) (Some sharp.First) other beside lead = refl
+plain_back (Children cs) (Some sharp.First) other beside lead = refl
+plain_back (Parent cs) (Some sharp.First) other beside lead = refl
+plain_back (Parents cs) (Some sharp.First) other beside lead = refl
+plain_back (Has cs) (Some sharp.First) other beside lead = refl
+plain_back (Near cs) (Some sharp.First) other beside lead = refl
+plain_back (Add ss) (Some sharp.First) other beside lead = refl
+plain_back End (Some sharp.First) other beside lead = refl
+plain_back (Filter cs) (Some sharp.First) other beside lead = by_atoms (atoms_of cs) lead
   where
     by_atoms : (all : List (List ℕ)) → leads_back (with_kind (filter all) (Some sharp.First)) ≡ true → with_kind (filter all) (Some sharp.First) ≡ plain (filter all)
     by_atoms [] lead = refl
@@ -179,39 +197,86 @@ around_back t c cs cs' same is kind ranks r lead made =
     by_kind (Some sharp.Siblings) lead made = cc
     by_kind (Some sharp.First) lead made = cc
 
--- every other call leads back, or asks for a first node
-pub leads_by : (c : code.Call) (kind : Option SharpKind) → ((cs : List Compound) → c ≡ Around cs → ⊥) → ((cs : List Compound) → c ≡ Near cs → ⊥) → ((ss : List Selector) → c ≡ Add ss → ⊥) → (c ≡ End → ⊥)
-    → from_some (with_kind (call_of c) kind ∷ []) ≡ true
-leads_by (Around cs) kind a n d e = absurd (a cs refl)
-leads_by (Near cs) kind a n d e = absurd (n cs refl)
-leads_by (Add ss) kind a n d e = absurd (d ss refl)
-leads_by End kind a n d e = absurd (e refl)
-leads_by (Find cs) None a n d e = refl
-leads_by (Find cs) (Some sharp.Closest) a n d e = refl
-leads_by (Find cs) (Some sharp.Siblings) a n d e = refl
-leads_by (Find cs) (Some sharp.First) a n d e = refl
-leads_by (Children cs) None a n d e = refl
-leads_by (Children cs) (Some sharp.Closest) a n d e = refl
-leads_by (Children cs) (Some sharp.Siblings) a n d e = refl
-leads_by (Children cs) (Some sharp.First) a n d e = refl
-leads_by (Parent cs) None a n d e = refl
-leads_by (Parent cs) (Some sharp.Closest) a n d e = refl
-leads_by (Parent cs) (Some sharp.Siblings) a n d e = refl
-leads_by (Parent cs) (Some sharp.First) a n d e = refl
-leads_by (Parents cs) None a n d e = refl
-leads_by (Parents cs) (Some sharp.Closest) a n d e = refl
-leads_by (Parents cs) (Some sharp.Siblings) a n d e = refl
-leads_by (Parents cs) (Some sharp.First) a n d e = refl
-leads_by (Has cs) None a n d e = refl
-leads_by (Has cs) (Some sharp.Closest) a n d e = refl
-leads_by (Has cs) (Some sharp.Siblings) a n d e = refl
-leads_by (Has cs) (Some sharp.First) a n d e = refl
-leads_by (Filter cs) None a n d e = refl
-leads_by (Filter cs) (Some sharp.Closest) a n d e = refl
-leads_by (Filter cs) (Some sharp.Siblings) a n d e = refl
-leads_by (Filter cs) (Some sharp.First) a n d e = by_atoms (atoms_of cs)
+pub near_back : (t : LabelTree) (c : code.Call) (cs cs' : List Compound) → cs' ≡ cs → c ≡ Near cs → (kind : Option SharpKind) (ranks : List ℕ) (r : Result (List ℕ) NoMemory) → leads_back (with_kind (call_of c) kind) ≡ true
+    → IfOk r (λ m. IsBefore t (siblings (atoms_of cs')) ranks m) → IfOk r (λ m. IsBefore t (with_kind (call_of c) kind) ranks m)
+near_back t c cs cs' same is kind ranks r lead made =
+    subst (λ (x : code.Call). IfOk r (λ m. IsBefore t (with_kind (call_of x) kind) ranks m)) (sym is)
+    (by_kind kind (subst (λ (x : code.Call). leads_back (with_kind (call_of x) kind) ≡ true) is lead) (subst (λ z. IfOk r (λ m. IsBefore t (siblings (atoms_of z)) ranks m)) same made))
   where
-    by_atoms : (all : List (List ℕ)) → from_some (with_kind (filter all) (Some sharp.First) ∷ []) ≡ true
+    by_kind : (kind : Option SharpKind) → leads_back (with_kind (near (atoms_of cs)) kind) ≡ true → IfOk r (λ m. IsBefore t (siblings (atoms_of cs)) ranks m) → IfOk r (λ m. IsBefore t (with_kind (near (atoms_of cs)) kind) ranks m)
+    by_kind None lead made = cc
+    by_kind (Some sharp.Closest) lead made = cc
+    by_kind (Some sharp.Siblings) lead made = made
+    by_kind (Some sharp.First) lead made = cc
+
+-- ---- a call that adds, and the others
+
+pub add_kind : (c : code.Call) (ss ss' : List code_selector.Selector) → ss' ≡ ss → c ≡ Add ss → (kind : Option SharpKind) → plain (add (map selector_of ss')) ≡ with_kind (call_of c) kind
+add_kind c ss ss' same is kind = ap (λ z. plain (add (map selector_of z))) same ∙ sym (ap (λ (x : code.Call). with_kind (call_of x) kind) is ∙ by_kind kind)
+  where
+    by_kind : (kind : Option SharpKind) → with_kind (add (map selector_of ss)) kind ≡ plain (add (map selector_of ss))
+    by_kind None = refl
+    by_kind (Some sharp.Closest) = refl
+    by_kind (Some sharp.Siblings) = refl
+    by_kind (Some sharp.First) = refl
+
+is_add : (c : code.Call) (ss : List Selector) → call_of c ≡ add ss → (all : List code_selector.Selector) × (c ≡ Add all)
+is_add (Add all) ss e = (all, refl)
+is_add (Find cs) ss e = cc
+is_add (Children cs) ss e = cc
+is_add (Parent cs) ss e = cc
+is_add (Parents cs) ss e = cc
+is_add (Filter cs) ss e = cc
+is_add (Has cs) ss e = cc
+is_add (Around cs) ss e = cc
+is_add (Near cs) ss e = cc
+is_add End ss e = cc
+
+pub parted_back : (c : code.Call) (kind : Option SharpKind) → ((ss : List code_selector.Selector) → c ≡ Add ss → ⊥) → is_parted (with_kind (call_of c) kind) ≡ true → leads_back (with_kind (call_of c) kind) ≡ true
+parted_back c kind other parted = elim (or_cases (leads_back (with_kind (call_of c) kind)) (adds (with_kind (call_of c) kind)) parted) [
+  | inl lead ↦ lead
+  | inr more ↦
+      let by = added_by (with_kind (call_of c) kind) more in
+      let is = is_add c by.0 (sym (wide-with_kind (call_of c) kind) ∙ ap wide_call by.1) in
+      absurd (other is.0 is.1)
+]
+
+-- every other call leads back, adds, or asks for a first node
+pub leads_by : (c : code.Call) (kind : Option SharpKind) → ((cs : List Compound) → c ≡ Around cs → ⊥) → ((cs : List Compound) → c ≡ Near cs → ⊥) → (c ≡ End → ⊥)
+    → parted_or_first (with_kind (call_of c) kind ∷ []) ≡ true
+leads_by (Around cs) kind a n e = absurd (a cs refl)
+leads_by (Near cs) kind a n e = absurd (n cs refl)
+leads_by (Add ss) None a n e = refl
+leads_by (Add ss) (Some sharp.Closest) a n e = refl
+leads_by (Add ss) (Some sharp.Siblings) a n e = refl
+leads_by (Add ss) (Some sharp.First) a n e = refl
+leads_by End kind a n e = absurd (e refl)
+leads_by (Find cs) None a n e = refl
+leads_by (Find cs) (Some sharp.Closest) a n e = refl
+leads_by (Find cs) (Some sharp.Siblings) a n e = refl
+leads_by (Find cs) (Some sharp.First) a n e = refl
+leads_by (Children cs) None a n e = refl
+leads_by (Children cs) (Some sharp.Closest) a n e = refl
+leads_by (Children cs) (Some sharp.Siblings) a n e = refl
+leads_by (Children cs) (Some sharp.First) a n e = refl
+leads_by (Parent cs) None a n e = refl
+leads_by (Parent cs) (Some sharp.Closest) a n e = refl
+leads_by (Parent cs) (Some sharp.Siblings) a n e = refl
+leads_by (Parent cs) (Some sharp.First) a n e = refl
+leads_by (Parents cs) None a n e = refl
+leads_by (Parents cs) (Some sharp.Closest) a n e = refl
+leads_by (Parents cs) (Some sharp.Siblings) a n e = refl
+leads_by (Parents cs) (Some sharp.First) a n e = refl
+leads_by (Has cs) None a n e = refl
+leads_by (Has cs) (Some sharp.Closest) a n e = refl
+leads_by (Has cs) (Some sharp.Siblings) a n e = refl
+leads_by (Has cs) (Some sharp.First) a n e = refl
+leads_by (Filter cs) None a n e = refl
+leads_by (Filter cs) (Some sharp.Closest) a n e = refl
+leads_by (Filter cs) (Some sharp.Siblings) a n e = refl
+leads_by (Filter cs) (Some sharp.First) a n e = by_atoms (atoms_of cs)
+  where
+    by_atoms : (all : List (List ℕ)) → parted_or_first (with_kind (filter all) (Some sharp.First) ∷ []) ≡ true
     by_atoms [] = refl
     by_atoms ([] ∷ []) = refl
     by_atoms ([] ∷ b ∷ more) = refl

@@ -174,12 +174,12 @@ pub none_in_chain : (t : LabelTree) (named : Named) (b : Bool) → IsTrue b ↔ 
 none_in_chain t named b test is chain r none =
     on_ok r _ _ (λ m empty v. (λ on. absurd ((empty v).0 on), λ one. let yes : b ≡ true = test.1 (one.0, one.1) in cc)) none
 
+pub named_some : (t : LabelTree) (marks : List Bool) → ((u : Option (List ℕ)) × NamedBy t (Nodes marks) u) → (w : List ℕ) × IsMarked t marks w
+named_some t marks (None, named) = absurd named
+named_some t marks (Some w, named) = (w, named)
+
 pub some_named : (t : LabelTree) (marks : List Bool) (b : Bool) → IsTrue b ↔ ((w : List ℕ) × IsMarked t marks w) → IsTrue b ↔ ((u : Option (List ℕ)) × NamedBy t (Nodes marks) u)
-some_named t marks b any = (λ on. let found = any.0 on in (Some found.0, found.1), λ named. any.1 (from named))
-  where
-    from : ((u : Option (List ℕ)) × NamedBy t (Nodes marks) u) → (w : List ℕ) × IsMarked t marks w
-    from (None, named) = absurd named
-    from (Some w, named) = (w, named)
+some_named t marks b any = (λ on. let found = any.0 on in (Some found.0, found.1), λ named. any.1 (named_some t marks named))
 
 -- ---- statements
 

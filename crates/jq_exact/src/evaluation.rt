@@ -10,7 +10,7 @@ ghost use Rattle.jq_exact.specs.Standing.{after};
 ghost use Rattle.jq_exact.specs.Together as spec;
 ghost use Rattle.jq_exact.specs.Together.{NamedBy, InOne};
 
-use crate::firsts::{first_ask, lead_back, least_made};
+use crate::firsts::{first_ask, firsts_of, is_none_made, lead_back, least_made};
 use crate::sets::of_exact_call;
 use crate::standing_calls::standing;
 use jq_sem::{Call, Chain, ExactStmt, Root, Sharp, SharpKind, kind_at, matching};
@@ -160,24 +160,28 @@ fn of_this(
 }
 
 // The same, where a first node is asked for: each time for all nodes at once, by a number for each, and behind the last as one
-// set. Where a call doesn't lead back, it is by each node.
+// set. Where nothing was made of some nodes, a call that adds makes something of it. Where a call isn't parted, it is by each node.
 fn with_firsts(
     tree: &NumberedTree,
     named: &Marks,
     calls: &MarkedCalls,
     numbers: &[usize],
 ) -> Result<Marks, NoMemory>
+    requires { (w : List ℕ) × IsMarked tree.now named.now w }
     ensures { IfOk result (λ m. (v : List ℕ) → IsMarked tree.now m v ↔ spec.FromNodes tree.now named.now (spec.stood calls.now.sharp.now calls.now.handler calls.now.calls.now numbers.now) (count_of tree.now) v) }
 {
     if !lead_back(calls, numbers) {
         return of_each(tree, named, calls, numbers);
     }
     let mut marks = named.copy()?;
+    let mut none = false;
     let mut rest = numbers;
     'firsts: while let Some(place) = first_ask(calls, rest) {
         let block = up_to(rest, place);
         let least = least_made(tree, calls, block)?;
-        marks = tree.reached(&marks, &least)?;
+        let firsts = firsts_of(tree, &marks, none, &least)?;
+        none = is_none_made(tree, &marks, none, &least);
+        marks = firsts;
         rest = behind(rest, place);
     }
     of_calls(tree, marks, calls, rest)

@@ -1,26 +1,35 @@
 //! Calls from each of several nodes that ask for a first node, for all these nodes at once: of each node the least number in the
 //! set that the calls make of it.
-ghost use Rattle.std.specs.Prelude.{◌≡◌, ◌<◌, ℕ, [], ◌∷◌, Some, true, false, length, take, get_or, IsTrue, IsNone, IfSome, IfOk};
+ghost use Rattle.std.specs.Prelude.{◌≡◌, ◌↔◌, ◌<◌, ◌≤◌, ℕ, [], ◌∷◌, Some, true, false, length, take, map, get_or, IsTrue, IsNone, IfSome, IfOk};
+ghost use Rattle.tree_sem.specs.Trees.{count_of};
 ghost use Rattle.tree_sem.specs.Nodes.{IsNode};
-ghost use Rattle.node_marks.specs.Marks.{HasDescendantIn};
+ghost use Rattle.node_marks.specs.Marks.{IsSetOf, HasDescendantIn};
 ghost use Rattle.node_marks.specs.Ranks.{IsUnder, AreRanked, HasNearestIn};
 ghost use Rattle.jq_sem.specs.Statements as call;
 ghost use Rattle.jq_sem.specs.Statements.{FitsOne, MayFit};
-ghost use Rattle.jq_sem.specs.Sharp.{plain, closest, first};
+ghost use Rattle.jq_sem.specs.Sharp.{plain, closest, siblings, first};
 ghost use Rattle.jq_sem.specs.declared.sharp.SharpKind.TheVariants as sharp;
 ghost use Rattle.jq_sem.specs.SharpViews.{with_kind};
+ghost use Rattle.sel_core.specs.Views.{selector_of};
 ghost use Rattle.jq_sem.specs.Views.{atoms_of, call_of};
 ghost use Rattle.jq_exact.specs.Firsts as spec;
-ghost use Rattle.jq_exact.specs.Firsts.{IsBefore, IsLeastMade};
+ghost use Rattle.jq_exact.specs.Firsts.{IsBefore, AreBefore, AreLeastMade, IsFirstMade, IsNoneMade};
 ghost use Rattle.jq_exact.specs.Together as together;
 ghost use Rattle.jq_exact.specs.Together.{asks_first, numbered, stood};
 
 use crate::evaluation::{MarkedCalls, is_first};
 use crate::sets::takes_all;
-use jq_sem::{Call, SharpKind, fitting, kind_at, may_fit};
-use node_marks::{NumberedTree, Ranks};
-use sel_core::Compound;
+use jq_sem::{Call, SharpKind, fitting, kind_at, matching, may_fit};
+use node_marks::{Marks, NumberedTree, Ranks};
+use sel_core::{Compound, Selector};
 use tp_base::NoMemory;
+
+/// The least numbers of the nodes in sets that calls make: of each node, and of no node.
+#[derive(Drop)]
+pub struct Least {
+    pub ranks: Ranks,
+    pub of_none: usize,
+}
 
 /// The place of the first of the calls that asks for the first node of a set.
 pub fn first_ask(calls: &MarkedCalls, numbers: &[usize]) -> Option<usize>
@@ -61,10 +70,10 @@ fn asks_by(call: &Call, kind: Option<SharpKind>) -> bool
     takes_all(call)
 }
 
-/// Whether of each of the calls it is known from which nodes it leads where, or it asks for a first node: not of `add`, which makes
-/// something of nothing, nor of what is judged in the place of `closest` and `siblings`.
+/// Whether of each of the calls it is known from which nodes it leads where, or it asks for a first node: not of what is judged in
+/// the place of `closest` and `siblings`.
 pub fn lead_back(calls: &MarkedCalls, numbers: &[usize]) -> bool
-    ensures { IsTrue result → spec.from_some (stood calls.now.sharp.now calls.now.handler calls.now.calls.now numbers.now) ≡ true }
+    ensures { IsTrue result → spec.parted_or_first (stood calls.now.sharp.now calls.now.handler calls.now.calls.now numbers.now) ≡ true }
 {
     'calls: for number in numbers {
         if !leads_back(calls, *number) {
@@ -75,7 +84,7 @@ pub fn lead_back(calls: &MarkedCalls, numbers: &[usize]) -> bool
 }
 
 fn leads_back(calls: &MarkedCalls, number: usize) -> bool
-    ensures { IsTrue result → spec.from_some (numbered calls.now.sharp.now calls.now.handler calls.now.calls.now number ∷ []) ≡ true }
+    ensures { IsTrue result → spec.parted_or_first (numbered calls.now.sharp.now calls.now.handler calls.now.calls.now number ∷ []) ≡ true }
 {
     match calls.calls.get(number) {
         None => false,
@@ -87,12 +96,11 @@ fn leads_back(calls: &MarkedCalls, number: usize) -> bool
 }
 
 fn leads_back_by(call: &Call, kind: Option<SharpKind>) -> bool
-    ensures { IsTrue result → spec.from_some (with_kind (call_of call.now) kind ∷ []) ≡ true }
+    ensures { IsTrue result → spec.parted_or_first (with_kind (call_of call.now) kind ∷ []) ≡ true }
 {
     match call {
         Call::Around(_) => is_closest(kind),
-        Call::Near(_) => false,
-        Call::Add(_) => false,
+        Call::Near(_) => is_siblings(kind),
         Call::End => false,
         _ => true,
     }
@@ -104,38 +112,55 @@ fn is_closest(kind: Option<SharpKind>) -> bool
     matches!(kind, Some(SharpKind::Closest))
 }
 
-/// Of each node the least number in the set that the calls make of it. It costs a few steps for each node and each call.
+fn is_siblings(kind: Option<SharpKind>) -> bool
+    ensures { IsTrue result → kind ≡ Some sharp.Siblings }
+{
+    matches!(kind, Some(SharpKind::Siblings))
+}
+
+/// Of each node, and of no node, the least number in the set that the calls make of it. It costs a few steps for each node and
+/// each call.
 pub fn least_made(
     tree: &NumberedTree,
     calls: &MarkedCalls,
     numbers: &[usize],
-) -> Result<Ranks, NoMemory>
-    requires { spec.lead_back (stood calls.now.sharp.now calls.now.handler calls.now.calls.now numbers.now) ≡ true }
-    ensures { IfOk result (λ m. IsLeastMade tree.now (stood calls.now.sharp.now calls.now.handler calls.now.calls.now numbers.now) m) }
+) -> Result<Least, NoMemory>
+    requires { spec.are_parted (stood calls.now.sharp.now calls.now.handler calls.now.calls.now numbers.now) ≡ true }
+    ensures { IfOk result (λ m. AreLeastMade tree.now (stood calls.now.sharp.now calls.now.handler calls.now.calls.now numbers.now) m.ranks m.of_none) }
 {
-    let mut ranks = tree.own_ranks()?;
+    let mut least = own(tree)?;
     let mut left = numbers.len();
     'calls: while left > 0 {
         left -= 1;
-        ranks = before_number(tree, calls, numbers[left], &ranks)?;
+        let before = before_number(tree, calls, numbers[left], &least)?;
+        least = before;
     }
-    Ok(ranks)
+    Ok(least)
 }
 
-// Of each node the least of the numbers that nodes have in the set that the call of a number makes of it.
+// Before the first call.
+fn own(tree: &NumberedTree) -> Result<Least, NoMemory>
+    ensures { IfOk result (λ m. AreLeastMade tree.now [] m.ranks m.of_none) }
+{
+    let ranks = tree.own_ranks()?;
+    let of_none = tree.count();
+    Ok(Least { ranks, of_none })
+}
+
+// The least numbers before the call of a number, where these are those behind it.
 fn before_number(
     tree: &NumberedTree,
     calls: &MarkedCalls,
     number: usize,
-    ranks: &Ranks,
-) -> Result<Ranks, NoMemory>
-    requires { spec.leads_back (numbered calls.now.sharp.now calls.now.handler calls.now.calls.now number) ≡ true }
-    ensures { IfOk result (λ m. IsBefore tree.now (numbered calls.now.sharp.now calls.now.handler calls.now.calls.now number) ranks.now m) }
+    least: &Least,
+) -> Result<Least, NoMemory>
+    requires { spec.is_parted (numbered calls.now.sharp.now calls.now.handler calls.now.calls.now number) ≡ true }
+    ensures { IfOk result (λ m. AreBefore tree.now (numbered calls.now.sharp.now calls.now.handler calls.now.calls.now number) least.now.ranks least.now.of_none m.ranks m.of_none) }
 {
     match calls.calls.get(number) {
         Some(call) => {
             let kind = kind_at(calls.sharp, calls.handler, number);
-            before_call(tree, call, kind, ranks)
+            before_call(tree, call, kind, least)
         }
         // Nothing leads back from what isn't there.
         None => unreachable!(),
@@ -147,6 +172,49 @@ fn before_call(
     tree: &NumberedTree,
     call: &Call,
     kind: Option<SharpKind>,
+    least: &Least,
+) -> Result<Least, NoMemory>
+    requires { spec.is_parted (with_kind (call_of call.now) kind) ≡ true }
+    ensures { IfOk result (λ m. AreBefore tree.now (with_kind (call_of call.now) kind) least.now.ranks least.now.of_none m.ranks m.of_none) }
+{
+    match call {
+        Call::Add(selectors) => before_add(tree, selectors.items(), least),
+        _ => before_back(tree, call, kind, least),
+    }
+}
+
+// What is added is in each set.
+fn before_add(tree: &NumberedTree, selectors: &[Selector], least: &Least) -> Result<Least, NoMemory>
+    ensures { IfOk result (λ m. AreBefore tree.now (plain (call.add (map selector_of selectors.now))) least.now.ranks least.now.of_none m.ranks m.of_none) }
+{
+    let matched = matching(tree, selectors)?;
+    let added = tree.ranks_in(&matched, &least.ranks)?;
+    let of_none = tree.least_rank(&added).min(least.of_none);
+    let ranks = tree.ranks_up_to(&least.ranks, of_none)?;
+    Ok(Least { ranks, of_none })
+}
+
+// Of no node nothing is made.
+fn before_back(
+    tree: &NumberedTree,
+    call: &Call,
+    kind: Option<SharpKind>,
+    least: &Least,
+) -> Result<Least, NoMemory>
+    requires { spec.leads_back (with_kind (call_of call.now) kind) ≡ true }
+    ensures { IfOk result (λ m. AreBefore tree.now (with_kind (call_of call.now) kind) least.now.ranks least.now.of_none m.ranks m.of_none) }
+{
+    let made = ranks_before(tree, call, kind, &least.ranks)?;
+    let of_none = least.of_none;
+    let ranks = tree.ranks_up_to(&made, of_none)?;
+    Ok(Least { ranks, of_none })
+}
+
+// Of each node the least of the numbers that nodes have in the set that the call makes of it.
+fn ranks_before(
+    tree: &NumberedTree,
+    call: &Call,
+    kind: Option<SharpKind>,
     ranks: &Ranks,
 ) -> Result<Ranks, NoMemory>
     requires { spec.leads_back (with_kind (call_of call.now) kind) ≡ true }
@@ -154,6 +222,7 @@ fn before_call(
 {
     match call {
         Call::Around(cs) => before_closest(tree, cs.items(), ranks),
+        Call::Near(cs) => before_siblings(tree, cs.items(), ranks),
         _ => before_plain(tree, call, ranks),
     }
 }
@@ -245,6 +314,17 @@ fn before_closest(
     nearest(tree, compounds, ranks)
 }
 
+fn before_siblings(
+    tree: &NumberedTree,
+    compounds: &[Compound],
+    ranks: &Ranks,
+) -> Result<Ranks, NoMemory>
+    ensures { IfOk result (λ m. IsBefore tree.now (siblings (atoms_of compounds.now)) ranks.now m) }
+{
+    let fit = narrowed(tree, compounds, ranks)?;
+    tree.ranks_beside(&fit)
+}
+
 // The numbers of nodes that one of the compounds fits.
 fn chosen(tree: &NumberedTree, compounds: &[Compound], ranks: &Ranks) -> Result<Ranks, NoMemory>
     ensures { IfOk result (λ m. AreRanked tree.now m (λ k v. FitsOne tree.now (atoms_of compounds.now) v × IsUnder tree.now k ranks.now v)) }
@@ -276,4 +356,44 @@ fn nearest(tree: &NumberedTree, compounds: &[Compound], ranks: &Ranks) -> Result
 {
     let fit = fitting(tree, compounds)?;
     tree.nearest_ranks(ranks, &fit)
+}
+
+/// The first nodes of what the calls make of each marked node, and of no node, where one of the sets is so.
+pub fn firsts_of(
+    tree: &NumberedTree,
+    marks: &Marks,
+    none: bool,
+    least: &Least,
+) -> Result<Marks, NoMemory>
+    ensures { IfOk result (λ m. IsSetOf tree.now m (IsFirstMade tree.now least.now.ranks least.now.of_none marks.now none)) }
+{
+    let reached = tree.reached(marks, &least.ranks)?;
+    if is_node(tree, none, least.of_none) {
+        let one = tree.node(least.of_none)?;
+        return tree.in_either(&reached, &one);
+    }
+    Ok(reached)
+}
+
+/// Whether nothing is made of one of them.
+pub fn is_none_made(tree: &NumberedTree, marks: &Marks, none: bool, least: &Least) -> bool
+    ensures { IsTrue result ↔ IsNoneMade tree.now least.now.ranks least.now.of_none marks.now none }
+{
+    if tree.has_unranked(marks, &least.ranks) {
+        return true;
+    }
+    is_no_node(tree, none, least.of_none)
+}
+
+// Whether one of the sets is empty, and a number is that of a node, or that of none.
+fn is_node(tree: &NumberedTree, none: bool, number: usize) -> bool
+    ensures { IsTrue result ↔ ((none ≡ true) × (number < count_of tree.now)) }
+{
+    none && number < tree.count()
+}
+
+fn is_no_node(tree: &NumberedTree, none: bool, number: usize) -> bool
+    ensures { IsTrue result ↔ ((none ≡ true) × (count_of tree.now ≤ number)) }
+{
+    none && number >= tree.count()
 }

@@ -1,14 +1,13 @@
-use Rattle.std.proofs.Common.{◌≡◌, true, subst}
+use Rattle.std.proofs.Common.{IfOk, subst}
 use Rattle.jq_sem.specs.Sharp.{ExactCall}
-use Rattle.jq_exact.specs.Firsts.{leads_back}
-use Rattle.jq_exact.proofs.BackLemmas.{around_back, plain_back}
+use Rattle.jq_exact.specs.Firsts.{AreBefore}
+use Rattle.jq_exact.proofs.BackLemmas.{add_kind, parted_back}
 use Rattle.jq_exact.proofs.firsts.before_call.Goals as goal
 
-pub returns-in-Around : goal.returns-in-Around
-returns-in-Around c = around_back c.args.tree.now c.args.call.now c.in-Around.cs c.items.result.now c.items.ensures c.in-Around.is c.args.kind c.args.ranks.now c.before_closest.result c.requires c.before_closest.ensures
+pub returns-in-Add : goal.returns-in-Add
+returns-in-Add c =
+    subst (λ (x : ExactCall). IfOk c.before_add.result (λ m. AreBefore c.args.tree.now x c.args.least.now.ranks c.args.least.now.of_none m.ranks m.of_none))
+    (add_kind c.args.call.now c.in-Add.selectors c.items.result.now c.items.ensures c.in-Add.is c.args.kind) c.before_add.ensures
 
-pub before_plain-requires : goal.before_plain-requires
-before_plain-requires c = subst (λ (x : ExactCall). leads_back x ≡ true) (plain_back c.args.call.now c.args.kind c.in_default.not-Around c.requires) c.requires
-
-pub returns-in_default : goal.returns-in_default
-returns-in_default c = rw (plain_back c.args.call.now c.args.kind c.in_default.not-Around c.requires) c.before_plain.ensures
+pub before_back-requires : goal.before_back-requires
+before_back-requires c = parted_back c.args.call.now c.args.kind c.in_default.not-Add c.requires

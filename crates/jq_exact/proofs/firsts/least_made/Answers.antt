@@ -1,16 +1,17 @@
-use Rattle.std.proofs.Common.{◌≡◌, ◌+◌, ◌-◌, ◌<◌, drop, length, sym, ap, subst, arith}
+use Rattle.std.proofs.Common.{◌≡◌, ◌+◌, ◌-◌, ◌<◌, drop, length, sym, subst, arith}
 use Rattle.std.proofs.lemmas.List.{drop_all}
-use Rattle.jq_exact.specs.Firsts.{IsLeastMade}
+use Rattle.jq_exact.specs.Firsts.{AreLeastMade}
 use Rattle.jq_exact.specs.Together.{stood}
-use Rattle.jq_exact.proofs.FirstLemmas.{least_none, least_before, each_leads}
+use Rattle.jq_exact.proofs.FirstLemmas.{least_before, each_leads}
 use Rattle.jq_exact.proofs.firsts.least_made.Goals as goal
 
 pub calls-init : goal.calls-init
 calls-init c =
     let numbers = c.args.numbers.now in
+    let least = c.in_ok-least.least in
     record {
       within = omega arith;
-      made = subst (λ z. IsLeastMade c.args.tree.now (stood c.args.calls.now.sharp.now c.args.calls.now.handler c.args.calls.now.calls.now z) c.in_ok-ranks.ranks) (sym (drop_all (length numbers) numbers (omega arith))) (least_none c.args.tree.now c.in_ok-ranks.ranks c.in_ok-ranks.ensures);
+      made = subst (λ z. AreLeastMade c.args.tree.now (stood c.args.calls.now.sharp.now c.args.calls.now.handler c.args.calls.now.calls.now z) least.ranks least.of_none) (sym (drop_all (length numbers) numbers (omega arith))) c.in_ok-least.ensures;
     }
 
 pub before_number-requires : goal.before_number-requires
@@ -26,15 +27,18 @@ calls-preserved c =
     let some = c.calls-test.true in
     let within = c.calls.invariant.within in
     let next : c.calls.left ≡ n + 1 = omega (arith, some) in
+    let least = c.calls.least in
+    let before = c.in_ok-before.before in
     record {
       within = omega (arith, within);
       made =
-          least_before c.args.calls.now.sharp.now c.args.calls.now.handler c.args.calls.now.calls.now c.args.tree.now c.args.numbers.now n c.calls.ranks c.in_ok-ranks-2.ranks (omega (arith, some, within)) c.requires
-          (subst (λ z. IsLeastMade c.args.tree.now (stood c.args.calls.now.sharp.now c.args.calls.now.handler c.args.calls.now.calls.now (drop z c.args.numbers.now)) c.calls.ranks) next c.calls.invariant.made) c.in_ok-ranks-2.ensures;
+          least_before c.args.calls.now.sharp.now c.args.calls.now.handler c.args.calls.now.calls.now c.args.tree.now c.args.numbers.now n least.ranks least.of_none before.ranks before.of_none (omega (arith, some, within)) c.requires
+          (subst (λ z. AreLeastMade c.args.tree.now (stood c.args.calls.now.sharp.now c.args.calls.now.handler c.args.calls.now.calls.now (drop z c.args.numbers.now)) least.ranks least.of_none) next c.calls.invariant.made) c.in_ok-before.ensures;
     }
 
 pub returns : goal.returns
 returns c =
     let over = c.calls-test.false in
     let none : c.calls.left ≡ 0 = omega (arith, over) in
-    subst (λ z. IsLeastMade c.args.tree.now (stood c.args.calls.now.sharp.now c.args.calls.now.handler c.args.calls.now.calls.now (drop z c.args.numbers.now)) c.calls.ranks) none c.calls.invariant.made
+    let least = c.calls.least in
+    subst (λ z. AreLeastMade c.args.tree.now (stood c.args.calls.now.sharp.now c.args.calls.now.handler c.args.calls.now.calls.now (drop z c.args.numbers.now)) least.ranks least.of_none) none c.calls.invariant.made
