@@ -89,8 +89,8 @@ static FAMILY: [NodeRow; 6] = [
     (&[1, 0], &[7]),
 ];
 
-// A tree of seven nodes, each with a class or two: the root with 1, its children with 2, with 3 and 13 and with 4,
-// those of the second with 5 and 6, and one of 5 with 7.
+/// A tree of seven nodes, each with a class or two: the root with 1, its children with 2, with 3 and 13 and with 4,
+/// those of the second with 5 and 6, and one of 5 with 7.
 pub(crate) fn family(alloc: Global) -> Result<Tree, TreeFault> {
     tree_of(alloc, &[1], &FAMILY)
 }
@@ -242,7 +242,7 @@ fn push_nodes(
     Ok(())
 }
 
-// Whether the nodes of a tree are as the rows have them.
+/// Whether the nodes of a tree are as the rows have them.
 pub(crate) fn has_shape(
     alloc: Global,
     tree: &Tree,

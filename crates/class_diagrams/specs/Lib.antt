@@ -1,10 +1,12 @@
+-- What public contracts cite.
 pub mod Answers
 pub mod Arena
-pub mod Memo
 pub mod Numbers
-pub mod Pairs
 pub mod References
-pub mod Starts
 pub mod Table
 pub mod TreeCode
 pub mod Trees
+-- Invariants, and the states of the code.
+pub mod Memo
+pub mod Pairs
+pub mod Starts

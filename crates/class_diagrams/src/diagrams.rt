@@ -17,7 +17,7 @@ use std::alloc::Global;
 use std::marker::Model;
 use tp_base::{Atom, ClassSet, NoMemory};
 
-/// A diagram that is known, or the atom and the pairs of diagrams that it is to be made of.
+// A diagram that is known, or the atom and the pairs of diagrams that it is to be made of.
 enum Start {
     Known(Ref),
     Parts {

@@ -8,7 +8,7 @@ use std::marker::Model;
 #[derive(Clone, Copy, Debug, PartialEq, Eq, Hash)]
 pub struct Ref(u32);
 
-// What a reference stands for. The leaves are the first two references, so that one fits a `u32`.
+/// What a reference stands for. The leaves are the first two references, so that one fits a `u32`.
 #[derive(Clone, Copy, Debug, PartialEq, Eq)]
 pub(crate) enum Place {
     Leaf(bool),

@@ -77,7 +77,7 @@ impl BranchTable {
         self.nodes.len() as u32
     }
 
-    // The atom, the low and the high part of a branch, or nothing at a leaf.
+    /// The atom, the low and the high part of a branch, or nothing at a leaf.
     pub(crate) fn branch(&self, f: Ref) -> Option<(Atom, Ref, Ref)>
         requires { IsIn self.now.branches f }
         ensures leaf { IsNone result ↔ IsLeaf (tree_at self.now.branches f) }
@@ -94,7 +94,7 @@ impl BranchTable {
         }
     }
 
-    // What two diagrams are for an operation.
+    /// What two diagrams are for an operation.
     pub(crate) fn pair(&self, f: Ref, g: Ref) -> Pair
         requires first { IsIn self.now.branches f }
         requires second { IsIn self.now.branches g }
@@ -136,7 +136,7 @@ impl BranchTable {
         }
     }
 
-    // The branch on an atom, or its one part where both are the same.
+    /// The branch on an atom, or its one part where both are the same.
     pub(crate) fn join(&mut self, atom: Atom, low: Ref, high: Ref) -> Result<Ref, DiagramFault>
         requires low_in { IsIn self.old.branches low }
         requires high_in { IsIn self.old.branches high }

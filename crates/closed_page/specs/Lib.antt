@@ -1,3 +1,4 @@
+-- What public contracts cite.
 pub mod ClosedPages
 pub mod Firsts
 pub mod Labelled

@@ -9,7 +9,7 @@ use css_read::Range;
 use std::alloc::{AllocError, Global};
 use tp_base::NoMemory;
 
-/// Puts ranges in the order of their first bytes. They come as a few runs that are in order, and these are joined.
+// Puts ranges in the order of their first bytes. They come as a few runs that are in order, and these are joined.
 fn sort(ranges: &mut Vec<Range>) -> Result<(), AllocError>
     ensures same { OnOk result ((at : ℕ) → list_any (spec.is_in at) ranges.new.items ≡ list_any (spec.is_in at) ranges.old.items) }
     ensures order { OnOk result (RiseFrom 0 ranges.new.items) }
@@ -18,7 +18,7 @@ fn sort(ranges: &mut Vec<Range>) -> Result<(), AllocError>
     Ok(())
 }
 
-/// Copies what stands between two offsets behind another text.
+// Copies what stands between two offsets behind another text.
 fn copy(kept: &mut Vec<u8>, text: &[u8], from: usize, to: usize) -> Result<(), NoMemory>
     ensures { OnOk result (kept.new.items ≡ kept.old.items ++ slice_range text.now from to) }
 {
@@ -26,7 +26,7 @@ fn copy(kept: &mut Vec<u8>, text: &[u8], from: usize, to: usize) -> Result<(), N
     Ok(())
 }
 
-/// Copies what stands behind an offset.
+// Copies what stands behind an offset.
 fn copy_rest(kept: &mut Vec<u8>, text: &[u8], from: usize) -> Result<(), NoMemory>
     ensures { OnOk result (kept.new.items ≡ kept.old.items ++ drop from text.now) }
 {
@@ -34,14 +34,14 @@ fn copy_rest(kept: &mut Vec<u8>, text: &[u8], from: usize) -> Result<(), NoMemor
     Ok(())
 }
 
-/// Where to go on behind a range: not before the place that was reached.
+// Where to go on behind a range: not before the place that was reached.
 fn behind(at: usize, range: Range) -> usize
     ensures { result ≡ max (max at range.from) range.to }
 {
     at.max(range.from).max(range.to)
 }
 
-/// A text without ranges in their order.
+// A text without ranges in their order.
 fn without_risen(alloc: Global, text: &[u8], ranges: &[Range]) -> Result<Vec<u8>, NoMemory>
     requires { RiseFrom 0 ranges.now }
     ensures { IfOk result (λ v. v.items ≡ spec.without ranges.now 0 text.now) }

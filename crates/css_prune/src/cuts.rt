@@ -15,7 +15,7 @@ use css_read::{Holder, Range, Sheet, read_holders};
 use std::alloc::Global;
 use tp_base::NoMemory;
 
-/// Puts the rules that go behind some ranges.
+// Puts the rules that go behind some ranges.
 fn push_rules(rules: &[Range], gone: &[bool], ranges: &mut Vec<Range>) -> Result<(), NoMemory>
     ensures { OnOk result (ranges.new.items ≡ ranges.old.items ++ spec.gone_ranges rules.now gone.now) }
 {
@@ -34,7 +34,7 @@ fn push_rules(rules: &[Range], gone: &[bool], ranges: &mut Vec<Range>) -> Result
     Ok(())
 }
 
-/// Puts the holders that go behind some ranges.
+// Puts the holders that go behind some ranges.
 fn push_holders(holders: &[Holder], gone: &[bool], ranges: &mut Vec<Range>) -> Result<(), NoMemory>
     ensures { OnOk result (ranges.new.items ≡ ranges.old.items ++ spec.gone_ranges (spec.wholes holders.now) gone.now) }
 {
@@ -56,14 +56,14 @@ fn push_holders(holders: &[Holder], gone: &[bool], ranges: &mut Vec<Range>) -> R
     Ok(())
 }
 
-/// Whether surely no holder goes: where no rule goes none does, and without an `@` there is none.
+// Whether surely no holder goes: where no rule goes none does, and without an `@` there is none.
 fn none_can_go(text: &[u8], rules: &[bool]) -> bool
     ensures { result ≡ (not (list_any (λ g. g) rules.now) || length (parts.from_byte 64 text.now) == 0) }
 {
     !any_goes(rules) || from_byte(b'@', text).is_empty()
 }
 
-/// Puts the holders of a text that go behind some ranges, by which rules go. The text is read once more, unless none can.
+// Puts the holders of a text that go behind some ranges, by which rules go. The text is read once more, unless none can.
 fn push_gone_holders(
     alloc: Global,
     text: &[u8],

@@ -11,28 +11,28 @@ use crate::parts::{between, first_bytes, from_byte, from_offset};
 use css_read::{Outcome, Range, SheetItem};
 use sel_core::is_word;
 
-/// The bytes of a selector.
+// The bytes of a selector.
 fn bytes_of<'a>(text: &'a [u8], item: &SheetItem) -> &'a [u8]
     ensures { result.now ≡ flags.bytes_at text.now (item_of item.now) }
 {
     between(text, item.from, item.to)
 }
 
-/// Whether a text begins with a word, without regard to ASCII case.
+// Whether a text begins with a word, without regard to ASCII case.
 fn begins_with_word(word: &[u8], text: &[u8]) -> bool
     ensures { result ≡ flags.begins_word (map to_ascii_lowercase word.now) text.now }
 {
     is_word(first_bytes(text, word.len()), word)
 }
 
-/// Whether a text begins with `@import` or `@namespace`, without regard to ASCII case.
+// Whether a text begins with `@import` or `@namespace`, without regard to ASCII case.
 fn begins_early_rule(text: &[u8]) -> bool
     ensures { result ≡ flags.begins_early_rule text.now }
 {
     begins_with_word(b"@import", text) || begins_with_word(b"@namespace", text)
 }
 
-/// Whether such a rule stands anywhere in a text. Linear in it, and nothing is compared but where an `@` stands.
+// Whether such a rule stands anywhere in a text. Linear in it, and nothing is compared but where an `@` stands.
 fn has_early_rule(text: &[u8]) -> bool
     ensures { result ≡ flags.has_early_rule text.now }
 {
@@ -47,14 +47,14 @@ fn has_early_rule(text: &[u8]) -> bool
     false
 }
 
-/// Whether a text begins with a byte order mark.
+// Whether a text begins with a byte order mark.
 fn begins_order_mark(text: &[u8]) -> bool
     ensures { result ≡ flags.begins_order_mark text.now }
 {
     text.starts_with(b"\xEF\xBB\xBF")
 }
 
-/// Whether one stands anywhere in a text.
+// Whether one stands anywhere in a text.
 fn has_order_mark(text: &[u8]) -> bool
     ensures { result ≡ spec.has_order_mark text.now }
 {
@@ -69,7 +69,7 @@ fn has_order_mark(text: &[u8]) -> bool
     false
 }
 
-/// Whether what follows a rule would be read otherwise if it came first.
+// Whether what follows a rule would be read otherwise if it came first.
 #[tactic(auto, unfolding(css_read::specs::Pruned::holds_back))]
 fn holds_back(text: &[u8], range: Range) -> bool
     ensures { result ≡ spec.holds_back text.now range }
@@ -77,7 +77,7 @@ fn holds_back(text: &[u8], range: Range) -> bool
     has_early_rule(from_offset(text, range.to)) || has_order_mark(from_offset(text, range.from))
 }
 
-/// Whether a selector that isn't judged has a quote.
+// Whether a selector that isn't judged has a quote.
 fn has_quote(text: &[u8], item: &SheetItem) -> bool
     ensures { result ≡ flags.has_string text.now (item_of item.now) }
 {

@@ -37,14 +37,14 @@ fn is_gone(held: Held) -> bool
     }
 }
 
-/// Whether a holder goes, by what stands in its block.
+// Whether a holder goes, by what stands in its block.
 fn can_go(holder: &Holder, held: Held) -> bool
     ensures { result ≡ (holder.now.loose && holder.now.bare && all_go held) }
 {
     holder.loose && holder.bare && is_gone(held)
 }
 
-/// Tells an owner, if there is one, that something stands in its block which goes or stays.
+// Tells an owner, if there is one, that something stands in its block which goes or stays.
 fn tell(held: &mut Vec<Held>, owner: Option<u32>, goes: bool)
     ensures { AreTold owner goes held.old.items held.new.items }
 {
@@ -57,7 +57,7 @@ fn tell(held: &mut Vec<Held>, owner: Option<u32>, goes: bool)
     }
 }
 
-/// Tells the owners of rules which rules go.
+// Tells the owners of rules which rules go.
 fn tell_rules(held: &mut Vec<Held>, owners: &[Option<u32>], gone: &[bool])
     ensures count { length held.new.items ≡ length held.old.items }
     ensures each { (n : ℕ) → n < length held.old.items → get_or held.new.items n Nothing ≡ and_all (get_or held.old.items n Nothing) (spec.held_by n owners.now gone.now) }

@@ -8,7 +8,7 @@ ghost use Rattle.css_prune.specs.Lists.{item_cut, end_cut};
 use css_read::{Range, SheetItem};
 use tp_base::NoMemory;
 
-/// How many selectors stay.
+// How many selectors stay.
 fn count_staying(unused: &[bool]) -> usize
     ensures { result ≡ staying unused.now }
 {
@@ -23,7 +23,7 @@ fn count_staying(unused: &[bool]) -> usize
     count
 }
 
-/// Where the last of some selectors ends.
+// Where the last of some selectors ends.
 fn last_end(to: usize, items: &[SheetItem]) -> usize
     ensures { result ≡ end_of to (map item_of items.now) }
 {
@@ -36,7 +36,7 @@ fn last_end(to: usize, items: &[SheetItem]) -> usize
     end
 }
 
-/// Puts what goes behind the last selector that stays behind some ranges.
+// Puts what goes behind the last selector that stays behind some ranges.
 fn push_end(
     item: &SheetItem,
     goes: bool,
@@ -53,7 +53,7 @@ fn push_end(
     Ok(())
 }
 
-/// Puts what goes with a selector before one that stays behind some ranges.
+// Puts what goes with a selector before one that stays behind some ranges.
 fn push_item(
     item: &SheetItem,
     goes: bool,
@@ -71,7 +71,7 @@ fn push_item(
     Ok(())
 }
 
-/// How many stay behind a selector, by how many stay from it on.
+// How many stay behind a selector, by how many stay from it on.
 fn left_behind(left: usize, goes: bool) -> usize
     ensures { result ≡ (if goes then left else left - 1) }
 {

@@ -12,7 +12,7 @@ use css_read::{Range, Sheet, SheetItem};
 use std::alloc::Global;
 use tp_base::NoMemory;
 
-/// How many of the first selectors are of a rule.
+// How many of the first selectors are of a rule.
 fn leading_count(rule: usize, items: &[SheetItem]) -> usize
     ensures gives { result ≡ leading rule (map item_of items.now) }
     ensures within { result ≤ length items.now }
@@ -29,7 +29,7 @@ fn leading_count(rule: usize, items: &[SheetItem]) -> usize
     count
 }
 
-/// Whether each selector goes.
+// Whether each selector goes.
 fn all_unused(unused: &[bool]) -> bool
     ensures { result ≡ list_all (λ g. g) unused.now }
 {
@@ -43,7 +43,7 @@ pub(crate) fn any_goes(flags: &[bool]) -> bool
     flags.iter().any(|goes| *goes)
 }
 
-/// Whether there are selectors, and each of them stays.
+// Whether there are selectors, and each of them stays.
 fn all_stay(unused: &[bool]) -> bool
     ensures { result ≡ (not (length unused.now == 0) && not (list_any (λ g. g) unused.now)) }
 {
@@ -60,7 +60,7 @@ pub(crate) struct Fates {
 }
 
 impl Fates {
-    /// Adds a rule of which nothing goes.
+    // Adds a rule of which nothing goes.
     fn keep_rule(&mut self) -> Result<(), NoMemory>
         ensures gone { OnOk result (self.new.gone.items ≡ self.old.gone.items ++ false ∷ []) }
         ensures cuts { OnOk result (self.new.cuts.items ≡ self.old.cuts.items) }
@@ -69,7 +69,7 @@ impl Fates {
         Ok(())
     }
 
-    /// Adds the next rule, by its range and its selectors. Where none of them goes, nothing else is looked at.
+    // Adds the next rule, by its range and its selectors. Where none of them goes, nothing else is looked at.
     fn add_rule(
         &mut self,
         text: &[u8],

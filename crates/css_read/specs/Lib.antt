@@ -1,8 +1,5 @@
-pub mod Drafts
+-- What public contracts cite.
 pub mod Effects
-pub mod FoundHolders
-pub mod FoundViews
-pub mod Fronts
 pub mod Held
 pub mod Holders
 pub mod Order
@@ -17,3 +14,8 @@ pub mod Shapes
 pub mod Sheets
 pub mod Units
 pub mod Views
+-- Invariants, and the states of the code.
+pub mod Drafts
+pub mod FoundHolders
+pub mod FoundViews
+pub mod Fronts

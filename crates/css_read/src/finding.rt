@@ -18,7 +18,7 @@ use std::alloc::{AllocError, Global};
 use text_bytes::behind_order_mark;
 use tp_base::NoMemory;
 
-/// Whether the at-rule that begins at an offset says nothing where it holds no rule.
+// Whether the at-rule that begins at an offset says nothing where it holds no rule.
 fn is_loose(text: &[u8], from: usize) -> bool
     requires { from < length text.now }
     ensures { result ≡ not (grammar.is_word (spec.at_name text.now from) (codes "layer")) }
@@ -37,7 +37,7 @@ pub(crate) struct Found {
 }
 
 impl Found {
-    /// Whether one is open.
+    // Whether one is open.
     #[tactic(auto, using(crate::proofs::FoundLemmas::inside_is))]
     fn is_inside(&self) -> bool
         ensures { result ≡ nat_lt 0 (length (found_of self.now).opened) }
@@ -45,7 +45,7 @@ impl Found {
         !self.opened.is_empty()
     }
 
-    /// The number of the innermost one that is open.
+    // The number of the innermost one that is open.
     #[tactic(auto, using(crate::proofs::FoundLemmas::last_is))]
     fn innermost(&self) -> Option<u32>
         ensures { result ≡ spec.innermost (found_of self.now).opened }
@@ -56,7 +56,7 @@ impl Found {
         }
     }
 
-    /// Passes over white space or a comment, or over something else.
+    // Passes over white space or a comment, or over something else.
     #[tactic(auto, using(crate::proofs::FoundLemmas::none_innermost, crate::proofs::FoundLemmas::innermost_within))]
     fn pass(&mut self, is_gap: bool)
         requires { All (λ n. n < length self.old.holders.items) self.old.opened.items }
@@ -77,7 +77,7 @@ impl Found {
         };
     }
 
-    /// Begins a block. What is found of it holds where nothing ends it.
+    // Begins a block. What is found of it holds where nothing ends it.
     #[tactic(auto, using(crate::proofs::FoundLemmas::pushed, crate::proofs::FoundLemmas::below_more))]
     fn open(&mut self, text: &[u8], place: Range) -> Result<(), AllocError>
         requires from { place.from < length text.now }
@@ -102,7 +102,7 @@ impl Found {
         Ok(())
     }
 
-    /// Ends the innermost block that is open.
+    // Ends the innermost block that is open.
     #[tactic(auto, using(crate::proofs::FoundLemmas::popped))]
     fn close(&mut self, to: usize)
         requires { All (λ n. n < length self.old.holders.items) self.old.opened.items }
@@ -117,7 +117,7 @@ impl Found {
         self.holders[number as usize] = Holder { to, ..holder };
     }
 
-    /// Adds a rule, with the innermost one that is open.
+    // Adds a rule, with the innermost one that is open.
     fn add_rule(&mut self) -> Result<(), AllocError>
         ensures found { OnOk result (found_of self.new ≡ found.with_rule (found_of self.old)) }
         ensures holders { self.new.holders ≡ self.old.holders }
@@ -128,7 +128,7 @@ impl Found {
         Ok(())
     }
 
-    /// Goes over what stands where a rule may begin.
+    // Goes over what stands where a rule may begin.
     fn step(&mut self, text: &[u8], front: Front, place: Range) -> Result<(), AllocError>
         requires from { place.from < length text.now }
         requires to { place.from < place.to }
@@ -148,7 +148,7 @@ impl Found {
     }
 }
 
-/// Finds them in a text. Linear in it.
+// Finds them in a text. Linear in it.
 #[tactic(auto, using(crate::proofs::HolderSteps::begins, crate::proofs::HolderSteps::goes_on, crate::proofs::HolderSteps::ends, text_bytes::proofs::Rests::of_rest))]
 fn find(alloc: Global, text: &[u8]) -> Result<Found, AllocError>
     requires { length text.now ≤ MOST_BYTES }

@@ -33,7 +33,7 @@ fn prelude_ends(inside: bool) -> &'static [u8]
     if inside { b";{}" } else { b";{" }
 }
 
-/// The text behind a block, from behind its `{` on.
+// The text behind a block, from behind its `{` on.
 #[tactic(auto, unfolding(crate::specs::Rules::behind_block), using(text_bytes::proofs::Rests::of_rest))]
 fn behind_block(alloc: Global, text: &[u8]) -> Result<&[u8], AllocError>
     ensures gives { IfOk result (λ r. r.now ≡ spec.behind_block text.now) }
@@ -43,7 +43,7 @@ fn behind_block(alloc: Global, text: &[u8]) -> Result<&[u8], AllocError>
     Ok(behind_byte(end))
 }
 
-/// The text without its first byte.
+// The text without its first byte.
 #[tactic(auto, using(text_bytes::proofs::Rests::behind_first, text_bytes::proofs::Rests::itself))]
 fn behind_byte(text: &[u8]) -> &[u8]
     ensures gives { result.now ≡ drop 1 text.now }
@@ -55,7 +55,7 @@ fn behind_byte(text: &[u8]) -> &[u8]
     }
 }
 
-/// Whether the at-rules of a name have blocks that hold rules.
+// Whether the at-rules of a name have blocks that hold rules.
 #[tactic(auto, unfolding(crate::specs::Rules::holds_rules))]
 fn holds_rules(name: &[u8]) -> bool
     ensures { result ≡ spec.holds_rules name.now }
@@ -66,7 +66,7 @@ fn holds_rules(name: &[u8]) -> bool
         || is_word(name, b"container")
 }
 
-/// An at-rule from behind its `{` on.
+// An at-rule from behind its `{` on.
 fn at_block(alloc: Global, holds: bool, text: &[u8]) -> Result<(Front, &[u8]), AllocError>
     ensures gives { IfOk result (λ f. front_view f ≡ spec.at_block holds text.now) }
     ensures rest { IfOk result (λ f. IsRest text.now f.1.now) }
@@ -79,7 +79,7 @@ fn at_block(alloc: Global, holds: bool, text: &[u8]) -> Result<(Front, &[u8]), A
     Ok((Front::Passed, rest))
 }
 
-/// An at-rule from behind its `@` on.
+// An at-rule from behind its `@` on.
 #[tactic(auto, unfolding(crate::specs::Rules::at_rule), using(text_bytes::proofs::Rests::of_rest))]
 fn at_rule(alloc: Global, inside: bool, text: &[u8]) -> Result<(Front, &[u8]), AllocError>
     ensures gives { IfOk result (λ f. front_view f ≡ spec.at_rule inside text.now) }
@@ -98,7 +98,7 @@ fn at_rule(alloc: Global, inside: bool, text: &[u8]) -> Result<(Front, &[u8]), A
     }
 }
 
-/// A list of selectors with its block. Without a block it is passed over.
+// A list of selectors with its block. Without a block it is passed over.
 #[tactic(auto, unfolding(crate::specs::Rules::style_rule), using(crate::proofs::Lists::shorter, text_bytes::proofs::Rests::of_rest))]
 fn style_rule(alloc: Global, inside: bool, text: &[u8]) -> Result<(Front, &[u8]), AllocError>
     requires { IsStart inside text.now }

@@ -8,7 +8,7 @@ use crate::units::{begins_gap, behind_unit, from_first};
 use sel_core::behind_gap;
 use std::alloc::{AllocError, Global};
 
-/// How many bytes there are up to the white space and the comments at the end. Linear.
+// How many bytes there are up to the white space and the comments at the end. Linear.
 #[tactic(auto, using(crate::proofs::Solids::begins, crate::proofs::Solids::passes_gap, crate::proofs::Solids::passes_solid, crate::proofs::Solids::ends, text_bytes::proofs::Rests::of_rest, text_bytes::proofs::Rests::itself))]
 fn solid_len(text: &[u8]) -> usize
     ensures gives { result ≡ spec.solid_len 0 text.now }
@@ -26,7 +26,7 @@ fn solid_len(text: &[u8]) -> usize
     len
 }
 
-/// Where a selector stands whose text ends at an offset, without white space and comments at both ends.
+// Where a selector stands whose text ends at an offset, without white space and comments at both ends.
 #[tactic(auto, unfolding(crate::specs::Pieces::piece_of))]
 fn piece_of(to: usize, text: &[u8]) -> Range
     requires { length text.now ≤ to }

@@ -23,7 +23,7 @@ use std::alloc::Global;
 use text_bytes::behind_order_mark;
 use tp_base::AtomTable;
 
-/// Reads the selector at a piece of a rule.
+// Reads the selector at a piece of a rule.
 #[tactic(auto, unfolding(crate::specs::Reading::read_item))]
 fn read_item(
     alloc: Global,
@@ -54,7 +54,7 @@ fn read_item(
     })
 }
 
-/// Reads the selector at a piece of a rule, if there may be one more.
+// Reads the selector at a piece of a rule, if there may be one more.
 #[tactic(auto, unfolding(crate::specs::Reading::add_item), using(sel_core::proofs::Fronts::front_itself))]
 fn add_item(
     alloc: Global,
@@ -83,7 +83,7 @@ fn add_item(
     Ok(())
 }
 
-/// Reads the selectors of a rule's list.
+// Reads the selectors of a rule's list.
 #[tactic(auto, using(crate::proofs::ItemSteps::begins, crate::proofs::ItemSteps::first_fails, crate::proofs::ItemSteps::goes_on, crate::proofs::ItemSteps::fails, crate::proofs::ItemSteps::ends, sel_core::proofs::Fronts::front_of_front, text_bytes::proofs::Rests::of_rest))]
 fn add_items(
     alloc: Global,
@@ -123,7 +123,7 @@ pub(crate) struct Draft {
 }
 
 impl Draft {
-    /// Reads the rule that goes from one offset to another, if it is one.
+    // Reads the rule that goes from one offset to another, if it is one.
     #[tactic(auto, unfolding(crate::specs::Reading::add_rules, crate::specs::Reading::add_rule), using(sel_core::proofs::Fronts::front_itself))]
     fn add_front(
         &mut self,
@@ -159,7 +159,7 @@ impl Draft {
     }
 }
 
-/// Reads the rules of a text.
+// Reads the rules of a text.
 #[tactic(auto, using(crate::proofs::RuleSteps::begins, crate::proofs::RuleSteps::goes_on, crate::proofs::RuleSteps::fails, crate::proofs::RuleSteps::ends, sel_core::proofs::Fronts::front_itself, sel_core::proofs::Fronts::front_of_front, text_bytes::proofs::Rests::of_rest))]
 fn add_rules(alloc: Global, text: &[u8], atoms: &mut AtomTable) -> Result<Draft, SheetFault>
     ensures reads { Reads draft_of result atoms.new (spec.add_rules text.now spec.empty_sheet atoms.old (rules.rules_of text.now)) }

@@ -8,7 +8,7 @@ use sel_core::behind_close;
 use std::alloc::{AllocError, Global};
 use text_bytes::is_blank;
 
-/// The text behind a string, from behind its opening quote on.
+// The text behind a string, from behind its opening quote on.
 #[tactic(auto, unfolding(crate::specs::Units::behind_string), using(text_bytes::proofs::Rests::of_rest, text_bytes::proofs::Rests::behind_first, text_bytes::proofs::Rests::itself))]
 fn behind_string(quote: u8, text: &[u8]) -> &[u8]
     ensures gives { result.now ≡ spec.behind_string quote false text.now }

@@ -1,5 +1,7 @@
+-- What public contracts cite.
 pub mod Compositions
+pub mod Steps
+-- Invariants, and the states of the code.
 pub mod Memo
 pub mod Starts
-pub mod Steps
 pub mod Walks

@@ -12,7 +12,7 @@ use indexmap::IndexSet;
 use std::alloc::Global;
 use tp_base::NoMemory;
 
-// Each different branch of a diagram once. Linear in their number, on average.
+/// Each different branch of a diagram once. Linear in their number, on average.
 pub(crate) fn branches_of(alloc: Global, d: &Diagrams, f: Ref) -> Result<IndexSet<Ref>, NoMemory>
     requires { IsIn d.now.branches f }
     ensures branches { IfOk result (λ seen. AreBranches d.now.branches f seen.keys) }

@@ -14,7 +14,7 @@ use class_diagrams::{DiagramFault, Diagrams, Ref};
 use std::alloc::Global;
 use tp_base::Atom;
 
-/// A composition that is known, or the atom and the two diagrams of a branch.
+// A composition that is known, or the atom and the two diagrams of a branch.
 enum Start {
     Known(Ref),
     Parts { atom: Atom, low: Ref, high: Ref },

@@ -1,12 +1,14 @@
-pub mod Firsts
+-- What public contracts cite.
+pub mod AtomNumbers
 pub mod Auxiliaries
-pub mod Simplified
-pub mod Law
-pub mod Outcome
-pub mod Keys
-pub mod Numbered
+pub mod Firsts
 pub mod KeyRules
+pub mod Keys
+pub mod Law
+pub mod Numbered
+pub mod Outcome
+pub mod Simplified
+-- Invariants, and the states of the code.
+pub mod Counted
 pub mod ForestRules
 pub mod SeenRules
-pub mod Counted
-pub mod AtomNumbers

@@ -12,7 +12,7 @@ use simple_core::{Link, Local};
 use std::alloc::Global;
 use tp_base::{Atom, ClassSet, NoMemory};
 
-// The atom of a number.
+/// The atom of a number.
 pub(crate) fn atom_of(number: usize) -> Atom
     requires { IsAtom number }
     ensures { result ≡ number }
@@ -32,7 +32,7 @@ fn set_of_parts(alloc: Global, parts: &[usize]) -> Result<ClassSet, NoMemory>
     Ok(set)
 }
 
-// The set of one atom.
+/// The set of one atom.
 pub(crate) fn set_of_one(alloc: Global, atom: Atom) -> Result<ClassSet, NoMemory>
     ensures { IfOk result (λ s. s ≡ set_of (atom ∷ [])) }
 {

@@ -23,7 +23,7 @@ use std::alloc::Global;
 use text_bytes::{is_blank, is_set_apart, with_value};
 use tp_base::{AtomFault, AtomKind, AtomTable, ClassSet, NoMemory};
 
-/// Adds the atom of a name to the label, for a tag at `at`.
+// Adds the atom of a name to the label, for a tag at `at`.
 #[tactic(auto, using(crate::proofs::Fronts::front_grown, crate::proofs::Fronts::front_itself))]
 fn add_name(
     label: &mut Gathered,
@@ -46,7 +46,7 @@ fn add_name(
     }
 }
 
-/// Adds the class that the text begins with, and lends the text behind it.
+// Adds the class that the text begins with, and lends the text behind it.
 #[tactic(auto)]
 fn add_class<'a>(
     label: &mut Gathered,
@@ -66,7 +66,7 @@ fn add_class<'a>(
     Ok(rest)
 }
 
-/// Adds the classes of an attribute's value, which white space parts. Linear in the value.
+// Adds the classes of an attribute's value, which white space parts. Linear in the value.
 #[tactic(auto, using(crate::proofs::ClassSteps::blank, crate::proofs::ClassSteps::goes_on, crate::proofs::ClassSteps::fails, crate::proofs::ClassSteps::ends, html_tokens::proofs::WordLemmas::some_word, crate::proofs::ClassSteps::opened, crate::proofs::Fronts::front_of_front, crate::proofs::Fronts::front_itself))]
 fn add_classes(
     label: &mut Gathered,
@@ -88,7 +88,7 @@ fn add_classes(
     Ok(())
 }
 
-/// Adds an id, unless it is empty.
+// Adds an id, unless it is empty.
 #[tactic(auto, using(crate::proofs::LabelLemmas::one_name, crate::proofs::LabelLemmas::no_name, crate::proofs::Fronts::front_itself))]
 fn add_id(
     label: &mut Gathered,
@@ -139,7 +139,7 @@ impl NamesGiven {
         }
     }
 
-    /// Enters a name in lower case, and tells whether it is new. Linear in the name, on average.
+    // Enters a name in lower case, and tells whether it is new. Linear in the name, on average.
     fn enter(&mut self, name: Vec<u8>) -> Result<bool, NoMemory>
         ensures is_new { IfOk result (λ b. b ≡ not (is_among (names_in self.old) name.items)) }
         ensures entered { IfOk result (λ b. names_in self.new ≡ (if b then names_in self.old ++ name.items ∷ [] else names_in self.old)) }
@@ -149,7 +149,7 @@ impl NamesGiven {
     }
 }
 
-/// Adds the two atoms of an attribute, whose name is in lower case.
+// Adds the two atoms of an attribute, whose name is in lower case.
 #[tactic(auto, using(crate::proofs::LabelLemmas::two_names, crate::proofs::Fronts::front_of_front, crate::proofs::Fronts::front_itself))]
 fn add_both(
     alloc: Global,
@@ -169,7 +169,7 @@ fn add_both(
     add_name(label, AtomKind::Attr, pair.as_slice(), at, atoms)
 }
 
-/// Adds the atoms of an attribute, unless it is set apart or its name came before.
+// Adds the atoms of an attribute, unless it is set apart or its name came before.
 #[tactic(auto, using(crate::proofs::AttributeLemmas::skips_apart, crate::proofs::AttributeLemmas::names_apart, crate::proofs::AttributeLemmas::skips_known, crate::proofs::AttributeLemmas::names_known, crate::proofs::AttributeLemmas::takes_new, crate::proofs::AttributeLemmas::names_new, crate::proofs::Fronts::front_itself))]
 fn add_attribute(
     alloc: Global,
@@ -219,7 +219,7 @@ pub(crate) fn add_attributes(
     Ok(())
 }
 
-/// Adds the atom of an element's name.
+// Adds the atom of an element's name.
 #[tactic(auto, using(crate::proofs::LabelLemmas::one_name, crate::proofs::Fronts::front_itself))]
 fn add_element(
     alloc: Global,

@@ -19,7 +19,7 @@ use text_bytes::behind_order_mark;
 use tp_base::AtomTable;
 use tree_sem::{Forest, Tree};
 
-/// Goes on by a token, where there is one.
+// Goes on by a token, where there is one.
 #[tactic(auto, unfolding(crate::specs::Machine::any_token), using(crate::proofs::Fronts::front_itself))]
 fn take<'a>(
     builder: &mut Builder<'a>,
@@ -37,7 +37,7 @@ fn take<'a>(
     }
 }
 
-/// Goes on by the tokens of the last bytes of a file of `size` bytes.
+// Goes on by the tokens of the last bytes of a file of `size` bytes.
 #[tactic(auto, using(crate::proofs::ReadingSteps::adds, crate::proofs::ReadingSteps::fails, crate::proofs::ReadingSteps::ends, crate::proofs::Fronts::front_itself, crate::proofs::Fronts::front_of_front))]
 fn take_all<'a>(
     builder: &mut Builder<'a>,

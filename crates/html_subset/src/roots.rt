@@ -25,7 +25,7 @@ pub(crate) struct Root {
     others: NamesGiven,
 }
 
-/// An attribute of a tag, where no tag gave it before.
+// An attribute of a tag, where no tag gave it before.
 fn unless_given<'a>(given: bool, value: Option<&'a [u8]>) -> Option<&'a [u8]>
     ensures { bytes_of result ≡ unless_given given (bytes_of value.entry) }
 {
@@ -45,7 +45,7 @@ impl Root {
         }
     }
 
-    /// The atoms of what a tag gives that no tag gave before.
+    // The atoms of what a tag gives that no tag gave before.
     #[tactic(auto, using(crate::proofs::AttributeLemmas::given_in_turn, crate::proofs::AttributeLemmas::others_then, crate::proofs::Fronts::front_of_front))]
     fn take_names(
         &mut self,

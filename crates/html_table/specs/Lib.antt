@@ -1,5 +1,6 @@
-pub mod Views
+-- What public contracts cite.
 pub mod Elements
-pub mod TreeTable
 pub mod NamePlaces
 pub mod Outward
+pub mod TreeTable
+pub mod Views

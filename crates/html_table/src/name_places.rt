@@ -25,7 +25,7 @@ pub(crate) struct NamePlaces {
     places: Vec<usize>,
 }
 
-/// Begins the places up to this number.
+// Begins the places up to this number.
 fn begin(places: &mut Vec<usize>, number: usize) -> Result<(), NoMemory>
     ensures begun { OnOk result (number < length places.new.items) }
     ensures same { (i : ℕ) → get_or places.new.items i 0 ≡ get_or places.old.items i 0 }

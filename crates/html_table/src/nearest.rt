@@ -31,7 +31,7 @@ pub(crate) struct Nearest {
     pub(crate) foreign: bool,
 }
 
-/// How many stay open where the nearest element of a kind is closed, given how many did before the last one was opened.
+// How many stay open where the nearest element of a kind is closed, given how many did before the last one was opened.
 fn left_behind(
     sought: Kind,
     scope: Scope,
@@ -50,7 +50,7 @@ fn left_behind(
     }
 }
 
-/// Whether an element of the first kind is added in one of the second.
+// Whether an element of the first kind is added in one of the second.
 fn is_held_by(kind: Kind, holder: Kind) -> bool
     ensures { result ≡ spec.is_held_by kind holder }
 {
@@ -62,7 +62,7 @@ fn is_held_by(kind: Kind, holder: Kind) -> bool
     }
 }
 
-/// How many there are up to the nearest that holds one of a kind, given how many there were before the last one was opened.
+// How many there are up to the nearest that holds one of a kind, given how many there were before the last one was opened.
 fn up_to_holder(sought: Kind, kind: Kind, outside: usize, before: usize) -> usize
     requires small { outside < 9223372036854775808 }
     ensures { result ≡ (if spec.is_held_by sought kind then outside + 1 else before) }
@@ -74,7 +74,7 @@ fn up_to_holder(sought: Kind, kind: Kind, outside: usize, before: usize) -> usiz
     }
 }
 
-/// How many there are up to the nearest past which nothing is closed, given how many there were before the last one was opened.
+// How many there are up to the nearest past which nothing is closed, given how many there were before the last one was opened.
 fn up_to_stop(scope: Scope, kind: Kind, outside: usize, before: usize) -> usize
     requires small { outside < 9223372036854775808 }
     ensures { result ≡ (if spec.stops scope kind then outside + 1 else before) }
@@ -86,7 +86,7 @@ fn up_to_stop(scope: Scope, kind: Kind, outside: usize, before: usize) -> usize
     }
 }
 
-/// Whether one of them is svg or math, given whether one was before the last one was opened.
+// Whether one of them is svg or math, given whether one was before the last one was opened.
 fn is_foreign(kind: Kind, before: bool) -> bool
     ensures { result ≡ (is kind k.Foreign || before) }
 {

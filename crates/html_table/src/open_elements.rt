@@ -29,7 +29,7 @@ pub struct Place {
     pub implied: Implied,
 }
 
-/// How many of the first so many elements stay open where the innermost paragraph is closed with all in it, if the walls leave one.
+// How many of the first so many elements stay open where the innermost paragraph is closed with all in it, if the walls leave one.
 fn without_paragraph(open: &OpenElements<'_>, left: usize) -> usize
     requires within { left ≤ length open.now }
     ensures gives { outward result open.now ≡ spec.without_paragraph (outward left open.now) }
@@ -38,7 +38,7 @@ fn without_paragraph(open: &OpenElements<'_>, left: usize) -> usize
     open.nearest(left).paragraph.unwrap_or(left)
 }
 
-/// The same for the innermost item of a list.
+// The same for the innermost item of a list.
 fn without_item(open: &OpenElements<'_>, left: usize) -> usize
     requires within { left ≤ length open.now }
     ensures gives { outward result open.now ≡ spec.without (spec.has_kind k.Item) within.Items (outward left open.now) }
@@ -47,7 +47,7 @@ fn without_item(open: &OpenElements<'_>, left: usize) -> usize
     open.nearest(left).item.unwrap_or(left)
 }
 
-/// The same for the innermost term.
+// The same for the innermost term.
 fn without_term(open: &OpenElements<'_>, left: usize) -> usize
     requires within { left ≤ length open.now }
     ensures gives { outward result open.now ≡ spec.without (spec.has_kind k.Term) within.Terms (outward left open.now) }
@@ -56,7 +56,7 @@ fn without_term(open: &OpenElements<'_>, left: usize) -> usize
     open.nearest(left).term.unwrap_or(left)
 }
 
-/// How many stay open where the innermost of the first so many is closed, if it is of the kind.
+// How many stay open where the innermost of the first so many is closed, if it is of the kind.
 fn without_current(open: &OpenElements<'_>, left: usize, kind: Kind) -> usize
     requires within { left ≤ length open.now }
     ensures gives { outward result open.now ≡ spec.without_current kind (outward left open.now) }
@@ -68,7 +68,7 @@ fn without_current(open: &OpenElements<'_>, left: usize, kind: Kind) -> usize
     }
 }
 
-/// How many stay open before an element is added that stands anywhere.
+// How many stay open before an element is added that stands anywhere.
 #[tactic(auto, unfolding(crate::specs::TreeTable::closed_by), using(crate::proofs::OutwardLemmas::whole))]
 fn closed_by(open: &OpenElements<'_>, kind: Kind) -> usize
     ensures gives { outward result open.now ≡ spec.closed_by kind (reverse open.now) }
@@ -102,7 +102,7 @@ pub fn closed_at_end(open: &OpenElements<'_>, ended: Element<'_>) -> Result<usiz
     }
 }
 
-/// Whether nothing is open, or the outermost element is one that stands in a table.
+// Whether nothing is open, or the outermost element is one that stands in a table.
 #[tactic(auto, using(crate::proofs::OutwardLemmas::bare_first, crate::proofs::OutwardLemmas::bare_nothing))]
 fn is_bare(open: &OpenElements<'_>) -> bool
     ensures { result ≡ spec.is_bare (reverse open.now) }
@@ -136,7 +136,7 @@ fn implied_between(kind: Kind, holder: Kind) -> Implied
     }
 }
 
-/// How many elements there are up to the innermost that holds one of the kind; none where there is no such one.
+// How many elements there are up to the innermost that holds one of the kind; none where there is no such one.
 fn holders(open: &OpenElements<'_>, kind: Kind) -> usize
     ensures gives { outward result open.now ≡ spec.holder kind (reverse open.now) }
     ensures within { result ≤ length open.now }
@@ -144,7 +144,7 @@ fn holders(open: &OpenElements<'_>, kind: Kind) -> usize
     open.nearest(open.len()).holding(kind)
 }
 
-/// Where an element goes that stands in a table only.
+// Where an element goes that stands in a table only.
 #[tactic(auto, using(crate::proofs::OutwardLemmas::held, crate::proofs::OutwardLemmas::held_by_none))]
 fn place_in_table(open: &OpenElements<'_>, kind: Kind, in_forest: bool) -> Option<Place>
     ensures { option_map place_of result ≡ option_map counted (spec.in_table in_forest kind (reverse open.now) (spec.holder kind (reverse open.now))) }

@@ -11,7 +11,7 @@ use std::alloc::Global;
 use std::marker::Model;
 use tp_base::NoMemory;
 
-/// An element that is open, and what is nearest to it.
+// An element that is open, and what is nearest to it.
 #[derive(Clone, Copy)]
 struct Open<'a> {
     element: Element<'a>,
@@ -41,7 +41,7 @@ impl<'a> Model for OpenElements<'a> {
     ghost invariant = { λ o. IsStack o.names o.items.items };
 }
 
-/// How many stay open where the element at a place is closed, unless there is none, or the search stops further in.
+// How many stay open where the element at a place is closed, unless there is none, or the search stops further in.
 fn behind_place(place: usize, stop: usize) -> Option<usize>
     ensures { result ≡ behind_place place stop }
 {
@@ -145,7 +145,7 @@ impl<'a> OpenElements<'a> {
         Ok(())
     }
 
-    /// Closes the innermost. Constant.
+    // Closes the innermost. Constant.
     fn close(&mut self)
         ensures { self.new ≡ take (length self.old - 1) self.old }
     {

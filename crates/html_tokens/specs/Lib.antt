@@ -1,7 +1,8 @@
-pub mod Bytes
-pub mod Words
-pub mod Names
+-- What public contracts cite.
 pub mod Attributes
+pub mod Bytes
 pub mod Markup
+pub mod Names
 pub mod Tokens
 pub mod Views
+pub mod Words

@@ -49,7 +49,7 @@ fn is_ended(text: &[u8]) -> bool
     }
 }
 
-/// An end tag of this name begins here, without regard to ASCII case.
+// An end tag of this name begins here, without regard to ASCII case.
 #[tactic(auto, unfolding(crate::specs::Markup::begins_end_of))]
 fn begins_end_of(name: &[u8], text: &[u8]) -> bool
     ensures { result ≡ spec.begins_end_of name.now text.now }

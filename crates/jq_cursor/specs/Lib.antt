@@ -1,9 +1,11 @@
+-- What public contracts cite.
 pub mod Keywords
-pub mod Lists
+pub mod LastPlaces
 pub mod ListViews
-pub mod Spans
-pub mod Commas
-pub mod Notes
+pub mod Lists
 pub mod Selections
 pub mod TextArguments
-pub mod LastPlaces
+-- Invariants, and the states of the code.
+pub mod Commas
+pub mod Notes
+pub mod Spans

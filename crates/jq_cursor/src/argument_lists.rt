@@ -18,7 +18,7 @@ pub(crate) struct ArgumentList<'a> {
     pub(crate) behind: Words<'a>,
 }
 
-/// Whether arguments end before a word.
+// Whether arguments end before a word.
 #[tactic(auto, unfolding(jq_words::specs::Brackets::ends_argument))]
 fn ends_list(open_brackets: &OpenBrackets, word: &Word<'_>) -> bool
     ensures { brackets.ends_argument false open_brackets.now word.now ≡ result }
@@ -26,7 +26,7 @@ fn ends_list(open_brackets: &OpenBrackets, word: &Word<'_>) -> bool
     open_brackets.closes_outer(word) || (open_brackets.is_empty() && word.is_mark(b";"))
 }
 
-/// One comma more, where a word is one outside brackets.
+// One comma more, where a word is one outside brackets.
 fn and_comma(
     open_brackets: &OpenBrackets,
     word: &Word<'_>,
@@ -41,7 +41,7 @@ fn and_comma(
     Ok(commas)
 }
 
-/// Whether no argument begins with these words.
+// Whether no argument begins with these words.
 #[tactic(auto, unfolding(jq_words::specs::Brackets::ends_argument, jq_words::specs::Brackets::closes_outer))]
 fn is_bare(words: &Words<'_>) -> bool
     ensures { spans.is_bare words.now ≡ result }

@@ -171,7 +171,7 @@ impl<'l, 'a> Cursor<'l, 'a> {
         }
     }
 
-    /// A list of arguments behind the first word, with its place.
+    // A list of arguments behind the first word, with its place.
     #[tactic(auto, using(crate::proofs::NoteSteps::behind_part))]
     fn with_place(&self, list: &ArgumentList<'a>) -> Enclosed<'l, 'a>
         requires { extent_in list.now ≡ spec.extent (drop 1 self.now) }

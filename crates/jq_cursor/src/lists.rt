@@ -72,7 +72,7 @@ impl<'a> Lists<'a> {
         self.notes.get(&word.at())
     }
 
-    /// Notes the arguments of all calls.
+    // Notes the arguments of all calls.
     #[tactic(auto, using(jq_words::proofs::Rests::itself, jq_words::proofs::Rests::is_rest, jq_words::proofs::Rests::of_rest, jq_words::proofs::Rests::behind_first))]
     fn note_all(&mut self, alloc: Global) -> Result<(), ScriptFault>
         ensures kept { OnOk result (self.new ≡ self.old) }
@@ -89,7 +89,7 @@ impl<'a> Lists<'a> {
         self.finish(&mut opened, &rest)
     }
 
-    /// Passes the first word. Where more brackets are open than may be, what is in one is noted no more: the file is refused there.
+    // Passes the first word. Where more brackets are open than may be, what is in one is noted no more: the file is refused there.
     #[tactic(auto, using(crate::proofs::NoteSteps::opens, crate::proofs::NoteSteps::opens_call, crate::proofs::NoteSteps::plain, crate::proofs::NoteSteps::no_words))]
     fn pass(
         &mut self,
@@ -135,7 +135,7 @@ impl<'a> Lists<'a> {
         Ok(())
     }
 
-    /// A word closes the innermost bracket, or ends the arguments in all that are open.
+    // A word closes the innermost bracket, or ends the arguments in all that are open.
     #[tactic(auto, using(crate::proofs::NoteSteps::closes_last, crate::proofs::NoteSteps::closes, crate::proofs::NoteSteps::all_end, crate::proofs::NoteSteps::none_open))]
     fn close(
         &mut self,
@@ -162,7 +162,7 @@ impl<'a> Lists<'a> {
         self.end_all(opened, words)
     }
 
-    /// A `;` ends the arguments in the innermost bracket.
+    // A `;` ends the arguments in the innermost bracket.
     #[tactic(auto, using(crate::proofs::NoteSteps::semicolon_last, crate::proofs::NoteSteps::semicolon, crate::proofs::NoteSteps::none_open))]
     fn end_innermost(
         &mut self,
@@ -190,7 +190,7 @@ impl<'a> Lists<'a> {
         Ok(())
     }
 
-    /// A `,` parts the arguments in the innermost bracket.
+    // A `,` parts the arguments in the innermost bracket.
     #[tactic(auto, using(crate::proofs::NoteSteps::comma, crate::proofs::NoteSteps::none_open))]
     fn count_comma(
         &self,
@@ -215,7 +215,7 @@ impl<'a> Lists<'a> {
         Ok(())
     }
 
-    /// The file's end ends the arguments in all brackets that are open.
+    // The file's end ends the arguments in all brackets that are open.
     #[tactic(auto, using(crate::proofs::NoteSteps::over_last, crate::proofs::NoteSteps::all_over))]
     fn finish(&mut self, opened: &mut Vec<Open<'a>>, words: &Words<'a>) -> Result<(), ScriptFault>
         requires over { words.now ≡ [] }
@@ -230,7 +230,7 @@ impl<'a> Lists<'a> {
         self.end_all(opened, words)
     }
 
-    /// The arguments in all brackets that are open end before some words.
+    // The arguments in all brackets that are open end before some words.
     #[tactic(auto, using(crate::proofs::NoteSteps::one_less_ends, crate::proofs::NoteSteps::last_ends, crate::proofs::NoteSteps::fewer))]
     fn end_all(&mut self, opened: &mut Vec<Open<'a>>, words: &Words<'a>) -> Result<(), ScriptFault>
         requires { AllEnd self.old opened.old.items words.now }
@@ -244,7 +244,7 @@ impl<'a> Lists<'a> {
         Ok(())
     }
 
-    /// Notes the arguments in a bracket, which end before some words.
+    // Notes the arguments in a bracket, which end before some words.
     #[tactic(auto, using(crate::proofs::NoteSteps::one_noted, crate::proofs::NoteSteps::same_noted))]
     fn note(
         &mut self,
@@ -268,7 +268,7 @@ impl<'a> Lists<'a> {
     }
 }
 
-/// Takes the innermost bracket.
+// Takes the innermost bracket.
 #[tactic(auto, using(crate::proofs::NoteSteps::nothing_popped, crate::proofs::NoteSteps::none_left))]
 fn pop<'a>(opened: &mut Vec<Open<'a>>) -> Option<Open<'a>>
     ensures some { IfSome result (λ o. opened.old.items ≡ opened.new.items ++ o ∷ []) }

@@ -39,7 +39,7 @@ pub fn selectors(
     }
 }
 
-/// The compound that a selector is, where it is one alone.
+// The compound that a selector is, where it is one alone.
 #[tactic(auto, using(crate::proofs::SelectionSteps::alone, crate::proofs::SelectionSteps::joined))]
 fn only_compound(selector: &Selector) -> Result<Option<Compound>, NoMemory>
     ensures alone { IfOk result (λ r. IfSome r (λ c. selector_of selector.now ≡ simple c.atoms)) }
@@ -51,7 +51,7 @@ fn only_compound(selector: &Selector) -> Result<Option<Compound>, NoMemory>
     Ok(Some(selector.parts.items()[0].copy()?))
 }
 
-/// The compounds that selectors are, where each is one alone.
+// The compounds that selectors are, where each is one alone.
 #[tactic(auto, using(crate::proofs::SelectionSteps::all_more, crate::proofs::SelectionSteps::all_fail, crate::proofs::SelectionSteps::subjects_more, crate::proofs::SelectionSteps::all_end))]
 fn only_compounds(
     alloc: Global,
@@ -90,7 +90,7 @@ pub fn compounds(
     only_compounds(alloc, at, &found)
 }
 
-/// Adds the class that the text begins with, and lends the text behind it.
+// Adds the class that the text begins with, and lends the text behind it.
 #[tactic(auto, using(tp_base::proofs::Fronts::front_grown, tp_base::proofs::Fronts::front_itself))]
 fn add_class<'t>(
     at: usize,

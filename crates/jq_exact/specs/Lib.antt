@@ -1,3 +1,4 @@
+-- What public contracts cite.
 pub mod Events
 pub mod Exact
 pub mod Firsts

@@ -1,5 +1,6 @@
-pub mod Openings
-pub mod Values
-pub mod ListParts
+-- What public contracts cite.
 pub mod Heads
+pub mod ListParts
+pub mod Openings
 pub mod Readers
+pub mod Values

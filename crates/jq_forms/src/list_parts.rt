@@ -109,7 +109,7 @@ pub fn condition(
     Ok(())
 }
 
-/// Passes a list, unless a closing bracket stands there.
+// Passes a list, unless a closing bracket stands there.
 #[tactic(auto, unfolding(crate::specs::ListParts::given), using(jq_words::proofs::Rests::itself, jq_words::proofs::Rests::is_rest))]
 fn given(
     reader: Reader<'_>,

@@ -16,7 +16,7 @@ const SETTING: [&[u8]; 3] = [b"=", b"+=", b"-="];
 
 const STEPPING: [&[u8]; 2] = [b"++", b"--"];
 
-/// Whether one of these names is called.
+// Whether one of these names is called.
 #[tactic(auto, using(jq_words::proofs::FitSteps::fits_no, jq_words::proofs::FitSteps::fits_then, jq_words::proofs::FitSteps::fits_one))]
 fn is_call_of(words: &Words<'_>, names: &[&[u8]]) -> bool
     ensures { fits (is_name_among (map (λ k. k.now) names.now) ∷ is_mark (codes "(") ∷ []) words.now ≡ result }

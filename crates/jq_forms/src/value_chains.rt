@@ -16,7 +16,7 @@ pub const READ_ONE: [&[u8]; 2] = [b"css", b"data"];
 
 pub const READ_SINGLE: [&[u8]; 1] = [b"attr"];
 
-/// Whether a call reads a value with so many arguments, which begin with these words.
+// Whether a call reads a value with so many arguments, which begin with these words.
 #[tactic(auto, using(crate::proofs::ValueSteps::same_bare, crate::proofs::ValueSteps::same_one, crate::proofs::ValueSteps::same_single))]
 fn reads_with(name: &[u8], count: usize, inside: &Words<'_>) -> bool
     ensures { spec.reads_with name.now count inside.now ≡ result }
@@ -26,7 +26,7 @@ fn reads_with(name: &[u8], count: usize, inside: &Words<'_>) -> bool
         || (is_one_of(&READ_ONE, name) && (count == 0 || (count == 1 && !begins(inside, b"{"))))
 }
 
-/// The words behind a list and its closing bracket, where it is closed.
+// The words behind a list and its closing bracket, where it is closed.
 fn behind_list<'l, 'a>(enclosed: &Enclosed<'l, 'a>) -> Option<Cursor<'l, 'a>>
     ensures some { IfSome result (λ c. spec.behind_extent (extent_of enclosed.now) ≡ c) }
     ensures none { IfNone result (spec.behind_extent (extent_of enclosed.now) ≡ []) }
@@ -39,7 +39,7 @@ fn behind_list<'l, 'a>(enclosed: &Enclosed<'l, 'a>) -> Option<Cursor<'l, 'a>>
     Some(rest)
 }
 
-/// Whether a name is called.
+// Whether a name is called.
 #[tactic(auto, using(jq_words::proofs::FitSteps::fits_no, jq_words::proofs::FitSteps::fits_then, jq_words::proofs::FitSteps::fits_one))]
 fn begins_call(words: &Words<'_>) -> bool
     ensures { fits (is_any_name ∷ is_mark (codes "(") ∷ []) words.now ≡ result }
@@ -50,7 +50,7 @@ fn begins_call(words: &Words<'_>) -> bool
     begins(&words.behind(), b"(")
 }
 
-/// Whether a `.` and a name stand first.
+// Whether a `.` and a name stand first.
 #[tactic(auto, using(jq_words::proofs::FitSteps::fits_no, jq_words::proofs::FitSteps::fits_then, jq_words::proofs::FitSteps::fits_one))]
 fn begins_member(words: &Words<'_>) -> bool
     ensures { fits (is_mark (codes ".") ∷ is_any_name ∷ []) words.now ≡ result }
@@ -61,14 +61,14 @@ fn begins_member(words: &Words<'_>) -> bool
     begins_any_name(&words.behind())
 }
 
-/// Whether a script may have a call.
+// Whether a script may have a call.
 fn is_known(exact: bool, name: &[u8]) -> bool
     ensures { spec.is_known exact name.now ≡ result }
 {
     row_of(exact, name).is_some()
 }
 
-/// The arguments of a name behind a `.`, where it is a call that a script may have and that reads no value.
+// The arguments of a name behind a `.`, where it is a call that a script may have and that reads no value.
 #[tactic(auto, using(crate::proofs::ValueSteps::no_call, crate::proofs::ValueSteps::unknown_call))]
 fn chain_call<'l, 'a>(
     alloc: Global,
@@ -93,7 +93,7 @@ fn chain_call<'l, 'a>(
     Ok(Some(enclosed))
 }
 
-/// Whether the calls of a value, each with its `.`, are those of a chain.
+// Whether the calls of a value, each with its `.`, are those of a chain.
 #[tactic(auto, using(crate::proofs::ValueSteps::goes_on, crate::proofs::ValueSteps::ends, crate::proofs::ValueSteps::fails, crate::proofs::ValueSteps::over, crate::proofs::ValueSteps::shorter))]
 fn are_chain_calls(alloc: Global, exact: bool, words: Cursor<'_, '_>) -> Result<bool, ScriptFault>
     ensures gives { IfOk result (λ b. spec.are_chain_calls exact 0 words.entry ≡ b) }
@@ -113,7 +113,7 @@ fn are_chain_calls(alloc: Global, exact: bool, words: Cursor<'_, '_>) -> Result<
     Ok(true)
 }
 
-/// Whether a value that begins with J and a bracket is a chain.
+// Whether a value that begins with J and a bracket is a chain.
 #[tactic(auto, using(crate::proofs::ValueSteps::behind_it, crate::proofs::ValueSteps::none_behind))]
 fn is_jquery_chain(alloc: Global, exact: bool, words: &Cursor<'_, '_>) -> Result<bool, ScriptFault>
     ensures gives { IfOk result (λ b. spec.are_chain_calls exact 0 (spec.behind_list (drop 1 (drop 1 words.now))) ≡ b) }
@@ -128,7 +128,7 @@ fn is_jquery_chain(alloc: Global, exact: bool, words: &Cursor<'_, '_>) -> Result
     are_chain_calls(alloc, exact, behind)
 }
 
-/// Whether a name stands first, which may be bound to a chain, and isn't J.
+// Whether a name stands first, which may be bound to a chain, and isn't J.
 #[tactic(auto, using(jq_cursor::proofs::KeywordTables::same_jquery, crate::proofs::ValueSteps::no_first, crate::proofs::ValueSteps::other_first, crate::proofs::ValueSteps::jquery_first, crate::proofs::ValueSteps::bound_first))]
 fn begins_bound(bound: bool, words: &Words<'_>) -> bool
     ensures { spec.begins_bound bound words.now ≡ result }

@@ -1,16 +1,18 @@
+-- What public contracts cite.
+pub mod Arguments
 pub mod Bindings
-pub mod Scopes
-pub mod Markup
-pub mod Roots
-pub mod Places
-pub mod MarkedCalls
-pub mod Marks
+pub mod Calls
 pub mod Links
+pub mod MarkedCalls
+pub mod Markup
+pub mod Parameters
+pub mod Roots
+pub mod ScopeViews
+pub mod Scopes
 pub mod SharedCalls
 pub mod SharedChains
-pub mod Arguments
-pub mod Parameters
-pub mod Calls
 pub mod Stating
 pub mod Views
-pub mod ScopeViews
+-- Invariants, and the states of the code.
+pub mod Marks
+pub mod Places

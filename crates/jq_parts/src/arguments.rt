@@ -15,7 +15,7 @@ use std::alloc::Global;
 use tp_base::AtomTable;
 use tree_sem::Forest;
 
-/// The letters of markup in the brackets of J, where that is all there is.
+// The letters of markup in the brackets of J, where that is all there is.
 #[tactic(auto, unfolding(crate::specs::Arguments::wrapped))]
 fn wrapped(alloc: Global, words: &Words<'_>) -> Result<Option<Vec<u8>>, ScriptFault>
     ensures gives { IfOk result (λ v. spec.wrapped words.now ≡ option_map (λ l. l.items) v) }
@@ -33,7 +33,7 @@ fn wrapped(alloc: Global, words: &Words<'_>) -> Result<Option<Vec<u8>>, ScriptFa
     Ok(Some(letters))
 }
 
-/// The trees of markup in the brackets of J, of which so many may still be opened.
+// The trees of markup in the brackets of J, of which so many may still be opened.
 fn wrapped_forest(
     alloc: Global,
     size: usize,

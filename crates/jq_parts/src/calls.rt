@@ -76,7 +76,7 @@ pub fn made(form: Form, compounds: Vec<Compound>) -> Result<MarkedCall, NoMemory
     })
 }
 
-/// The compound that fits every node.
+// The compound that fits every node.
 fn any(alloc: Global) -> Result<SharedCompounds, NoMemory>
     ensures { IfOk result (λ s. sem.atoms_of s ≡ [] ∷ []) }
 {
@@ -111,7 +111,7 @@ fn is_listening(form: Form) -> bool
     matches!(form, Form::Listens)
 }
 
-/// Whether a call may stand behind a value. Constant.
+// Whether a call may stand behind a value. Constant.
 #[tactic(auto, unfolding(crate::specs::Calls::may_stand))]
 fn may_stand(form: Form, reached: &Value) -> bool
     ensures { spec.may_stand (form_of form) (value_of reached.now) ≡ result }
@@ -140,7 +140,7 @@ fn is_first(form: Form) -> bool
     matches!(form, Form::First)
 }
 
-/// Whether a call takes the first of nodes whose order isn't known. Constant.
+// Whether a call takes the first of nodes whose order isn't known. Constant.
 fn is_unordered(form: Form, reached: &Value) -> bool
     ensures { spec.is_unordered (form_of form) (value_of reached.now) ≡ result }
 {
@@ -150,7 +150,7 @@ fn is_unordered(form: Form, reached: &Value) -> bool
     }
 }
 
-/// Passes the name of a call that a script may have, and gives its row and where it stands.
+// Passes the name of a call that a script may have, and gives its row and where it stands.
 #[tactic(auto, unfolding(crate::specs::Calls::call_name))]
 fn call_name(
     reader: Reader<'_>,
@@ -233,7 +233,7 @@ pub fn ended(
     }
 }
 
-/// The selector that a compound is by itself.
+// The selector that a compound is by itself.
 fn simple_selector(alloc: Global, compound: &Compound) -> Result<Selector, NoMemory>
     ensures { IfOk result (λ s. simple compound.now.atoms ≡ selector_of s) }
 {
@@ -245,7 +245,7 @@ fn simple_selector(alloc: Global, compound: &Compound) -> Result<Selector, NoMem
     })
 }
 
-/// The selectors that compounds are.
+// The selectors that compounds are.
 fn simple_selectors(alloc: Global, compounds: &[Compound]) -> Result<Vec<Selector>, NoMemory>
     ensures { IfOk result (λ v. map simple (sem.atoms_of compounds.now) ≡ map selector_of v.items) }
 {

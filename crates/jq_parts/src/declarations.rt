@@ -72,7 +72,7 @@ impl<'a> Declarations<'a> {
         Ok(())
     }
 
-    /// Leaves all but the last.
+    // Leaves all but the last.
     #[tactic(auto, using(crate::proofs::PlacesSteps::last_less, crate::proofs::PlacesSteps::none_less, crate::proofs::PlacesSteps::last_known, crate::proofs::PlacesSteps::last_gone, crate::proofs::PlacesSteps::none_gone))]
     fn drop_last(&mut self)
         ensures { self.new ≡ take (length self.old - 1) self.old }

@@ -19,7 +19,7 @@ pub(crate) struct Unmarked {
     pub(crate) sharp: Sharps,
 }
 
-/// Adds the mark of a call of a handler's chain, or of the statement's own, where not all of its set is kept.
+// Adds the mark of a call of a handler's chain, or of the statement's own, where not all of its set is kept.
 fn mark(
     handler: Option<u32>,
     call: usize,
@@ -40,7 +40,7 @@ fn mark(
     Ok(())
 }
 
-/// The calls that are judged; their marks are added. Linear in the calls.
+// The calls that are judged; their marks are added. Linear in the calls.
 #[tactic(auto, using(crate::proofs::MarkSteps::one_parted, crate::proofs::MarkSteps::one_judged, crate::proofs::MarkSteps::none_marked, crate::proofs::MarkSteps::none_judged))]
 fn parted_calls(
     alloc: Global,
@@ -60,7 +60,7 @@ fn parted_calls(
     Ok(judged)
 }
 
-/// The chain that is judged; the marks of its calls are added. Linear in the calls.
+// The chain that is judged; the marks of its calls are added. Linear in the calls.
 fn parted_chain(
     alloc: Global,
     handler: Option<u32>,
@@ -78,7 +78,7 @@ fn parted_chain(
     })
 }
 
-/// The same of the chains of handlers, outermost first. Linear in the calls.
+// The same of the chains of handlers, outermost first. Linear in the calls.
 #[tactic(auto, using(crate::proofs::MarkSteps::handler_parted, crate::proofs::MarkSteps::handler_judged, crate::proofs::MarkSteps::no_handler_marked, crate::proofs::MarkSteps::no_handler_judged, crate::proofs::MarkSteps::first_short, crate::proofs::MarkSteps::others_short))]
 fn parted_chains(
     alloc: Global,

@@ -12,7 +12,7 @@ use std::alloc::Global;
 use tp_base::AtomTable;
 use tree_sem::{Forest, Tree};
 
-/// How many nodes some trees have.
+// How many nodes some trees have.
 fn count_nodes(trees: &[Tree]) -> Result<usize, ScriptFault>
     ensures count { IfOk result (λ n. n ≡ spec.nodes_in trees.now) }
     ensures only_memory { IfErr result (λ e. e ≡ Memory) }

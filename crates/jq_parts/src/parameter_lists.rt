@@ -10,7 +10,7 @@ use crate::values::Declaration;
 use jq_cursor::Cursor;
 use jq_words::{ScriptFault, begins};
 
-/// A parameter hides what its name was bound to.
+// A parameter hides what its name was bound to.
 #[tactic(auto, using(crate::proofs::ParameterSteps::one_hidden))]
 fn hide<'a>(name: &'a [u8], declarations: &mut Declarations<'a>) -> Result<(), ScriptFault>
     ensures hidden { OnOk result (declarations_of declarations.new ≡ declarations_of declarations.old ++ spec.hidden name.now ∷ []) }
@@ -21,7 +21,7 @@ fn hide<'a>(name: &'a [u8], declarations: &mut Declarations<'a>) -> Result<(), S
     Ok(())
 }
 
-/// Further parameters, each behind a comma.
+// Further parameters, each behind a comma.
 #[tactic(auto, using(crate::proofs::ParameterSteps::goes_on, crate::proofs::ParameterSteps::fails, crate::proofs::ParameterSteps::ends, jq_words::proofs::Rests::itself, jq_words::proofs::Rests::behind_first, jq_words::proofs::Rests::is_rest, jq_words::proofs::Rests::of_rest))]
 fn more_parameters<'a>(
     size: usize,

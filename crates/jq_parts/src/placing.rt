@@ -27,7 +27,7 @@ pub struct Stated {
     pub action: Action,
 }
 
-/// A statement at a place, with its marks apart. Linear in its calls.
+// A statement at a place, with its marks apart. Linear in its calls.
 #[tactic(auto, using(crate::proofs::MarkSteps::told_at))]
 fn at_place(alloc: Global, place: Place, statement: Stated) -> Result<ExactStmt, NoMemory>
     requires few { length statement.handlers.items ≤ MOST_OPEN }

@@ -16,7 +16,7 @@ use jq_words::{ScriptFault, Words, argument_len, is_markup, joined_texts, only, 
 use std::alloc::Global;
 use tp_base::AtomTable;
 
-/// `this`, document or window, or a bound name. A look-up, and a copy where its value is markup.
+// `this`, document or window, or a bound name. A look-up, and a copy where its value is markup.
 #[tactic(auto, using(crate::proofs::RootSteps::no_root, crate::proofs::RootSteps::this_root, crate::proofs::RootSteps::this_refused, crate::proofs::RootSteps::page_root, crate::proofs::RootSteps::name_root, crate::proofs::RootSteps::other_root))]
 fn named_root(
     alloc: Global,
@@ -45,7 +45,7 @@ fn named_root(
     used(alloc, scope, word.spelling(), at)
 }
 
-/// The letters of Texts: markup, or a list of selectors.
+// The letters of Texts: markup, or a list of selectors.
 #[tactic(auto, unfolding(crate::specs::Roots::lettered_root))]
 fn lettered_root(
     alloc: Global,
@@ -86,7 +86,7 @@ pub fn jquery_argument(
     }
 }
 
-/// The argument of J behind it, in brackets, of which so many may still be opened.
+// The argument of J behind it, in brackets, of which so many may still be opened.
 #[tactic(auto, unfolding(crate::specs::Roots::wrapped_root))]
 fn wrapped_root(
     alloc: Global,

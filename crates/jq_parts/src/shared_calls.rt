@@ -14,7 +14,7 @@ use std::marker::Model;
 use std::rc::Rc;
 use tp_base::NoMemory;
 
-/// The last of some calls, and those before it.
+// The last of some calls, and those before it.
 enum Link {
     Start,
     After(MarkedCall, Rc<Link>),
@@ -35,7 +35,7 @@ impl Drop for Link {
     }
 }
 
-/// How many calls stand, with one call more.
+// How many calls stand, with one call more.
 fn and_one(standing: usize, call: &Call) -> Result<usize, NoMemory>
     ensures { IfOk result (λ n. n ≡ spec.and_standing standing (call_of call.now)) }
 {
@@ -45,7 +45,7 @@ fn and_one(standing: usize, call: &Call) -> Result<usize, NoMemory>
     }
 }
 
-/// Whether there is a call of `parents`, with one call more.
+// Whether there is a call of `parents`, with one call more.
 fn and_parents(before: bool, call: &Call) -> bool
     ensures { result ≡ (before || spec.is_parents (call_of call.now)) }
 {

@@ -16,7 +16,7 @@ use std::alloc::Global;
 use tp_base::NoMemory;
 use tree_sem::Action;
 
-/// How many calls some chains have together.
+// How many calls some chains have together.
 fn calls_in(chains: &[MarkedChain]) -> Result<usize, ScriptFault>
     ensures count { IfOk result (λ n. n ≡ spec.calls_in (map marked_chain_of chains.now)) }
     ensures only_memory { IfErr result (λ e. e ≡ Memory) }
@@ -30,7 +30,7 @@ fn calls_in(chains: &[MarkedChain]) -> Result<usize, ScriptFault>
     Ok(count)
 }
 
-/// The chains of handlers, outermost first.
+// The chains of handlers, outermost first.
 fn chains_of(alloc: Global, handlers: &[Handler]) -> Result<Vec<MarkedChain>, NoMemory>
     ensures { IfOk result (λ v. map marked_chain_of v.items ≡ spec.chains_of (handlers_of handlers.now)) }
 {

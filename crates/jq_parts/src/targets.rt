@@ -19,7 +19,7 @@ use jq_words::{ScriptFault, Word, Words, joined_texts, only, place, want_open};
 use std::alloc::Global;
 use tp_base::AtomTable;
 
-/// Whether a name is bound to a chain without elements.
+// Whether a name is bound to a chain without elements.
 #[tactic(auto, unfolding(crate::specs::Bindings::bound))]
 fn is_apart(declarations: &Declarations<'_>, name: &[u8]) -> bool
     ensures { spec.is_apart (bound name.now (declarations_of declarations.now)) ≡ result }
@@ -33,7 +33,7 @@ fn is_apart(declarations: &Declarations<'_>, name: &[u8]) -> bool
     }
 }
 
-/// The elements of a bound name that stands at an offset, in an argument that begins at another.
+// The elements of a bound name that stands at an offset, in an argument that begins at another.
 #[tactic(auto, unfolding(crate::specs::Arguments::named_target))]
 fn named_target(
     alloc: Global,
@@ -53,7 +53,7 @@ fn named_target(
     }
 }
 
-/// The word that stands before a closing bracket, where these two are all.
+// The word that stands before a closing bracket, where these two are all.
 #[tactic(auto, using(crate::proofs::TargetSteps::closed, crate::proofs::TargetSteps::none_closed, crate::proofs::TargetSteps::other_closed, crate::proofs::TargetSteps::more_closed))]
 fn closed_word<'a>(words: &Words<'a>) -> Option<Word<'a>>
     ensures first { IfSome result (λ w. words.now ≡ w ∷ drop 1 words.now) }
@@ -72,7 +72,7 @@ fn closed_word<'a>(words: &Words<'a>) -> Option<Word<'a>>
     Some(word)
 }
 
-/// The word in the brackets of J, where that is all there is.
+// The word in the brackets of J, where that is all there is.
 #[tactic(auto, using(jq_words::proofs::FitSteps::form_then_two, jq_words::proofs::FitSteps::form_no_two))]
 fn wrapped_word<'a>(words: &Words<'a>) -> Option<Word<'a>>
     ensures first { IfSome result (λ w. drop 1 (drop 1 words.now) ≡ w ∷ drop 1 (drop 1 (drop 1 words.now))) }
@@ -85,7 +85,7 @@ fn wrapped_word<'a>(words: &Words<'a>) -> Option<Word<'a>>
     closed_word(&words.behind().behind())
 }
 
-/// The elements of a name in the brackets of J, which begin these words.
+// The elements of a name in the brackets of J, which begin these words.
 #[tactic(auto, unfolding(crate::specs::Arguments::wrapped_target))]
 fn wrapped_target(
     alloc: Global,
@@ -105,7 +105,7 @@ fn wrapped_target(
     named_target(alloc, scope, at, spelled(&inside), place(size, &inside))
 }
 
-/// `this` in the brackets of J.
+// `this` in the brackets of J.
 #[tactic(auto, unfolding(crate::specs::Arguments::wrapped_this))]
 fn wrapped_this(
     alloc: Global,
@@ -124,7 +124,7 @@ fn wrapped_this(
     Ok(this_chain(alloc)?)
 }
 
-/// A bound name alone, in an argument that begins at an offset.
+// A bound name alone, in an argument that begins at an offset.
 #[tactic(auto, using(crate::proofs::TargetSteps::no_bare, crate::proofs::TargetSteps::other_bare, crate::proofs::TargetSteps::this_bare, crate::proofs::TargetSteps::bare))]
 fn bare_target(
     alloc: Global,
@@ -146,7 +146,7 @@ fn bare_target(
     named_target(alloc, scope, at, word.spelling(), at)
 }
 
-/// `J(this)`, `J(name)` or a bound name.
+// `J(this)`, `J(name)` or a bound name.
 #[tactic(auto, using(crate::proofs::TargetSteps::not_wrapped, crate::proofs::TargetSteps::this_wrapped, crate::proofs::TargetSteps::other_wrapped, crate::proofs::TargetSteps::page_wrapped, crate::proofs::TargetSteps::name_wrapped, jq_cursor::proofs::KeywordTables::same_pages))]
 fn other_target(
     alloc: Global,

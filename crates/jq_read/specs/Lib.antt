@@ -1,9 +1,11 @@
-pub mod States
-pub mod Functions
+-- What public contracts cite.
 pub mod CallArguments
 pub mod Chains
-pub mod Statements
-pub mod Script
-pub mod Views
-pub mod Readers
+pub mod Functions
 pub mod Limits
+pub mod Script
+pub mod Statements
+pub mod States
+-- Invariants, and the states of the code.
+pub mod Readers
+pub mod Views

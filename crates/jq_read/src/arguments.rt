@@ -30,7 +30,7 @@ use text_bytes::with_value;
 use tp_base::{AtomTable, ClassSet};
 use tree_sem::{Action, Forest, Trees};
 
-/// A list of compounds, or no argument where there may be none.
+// A list of compounds, or no argument where there may be none.
 #[tactic(auto, unfolding(crate::specs::CallArguments::compounds_argument), using(sel_core::proofs::Fronts::front_itself, jq_words::proofs::Rests::itself, jq_words::proofs::Rests::is_rest))]
 fn compounds_argument(
     reader: Reader<'_>,
@@ -122,7 +122,7 @@ pub(crate) fn unite_arguments(
     })
 }
 
-/// What a call does to the elements of a value.
+// What a call does to the elements of a value.
 fn acting(reached: Value, action: Action) -> Result<Done, ScriptFault>
     ensures reached { IfOk result (λ d. value_of d.reached ≡ value_of reached) }
     ensures effect { IfOk result (λ d. spec.acting (elements_in (value_of reached)) action ≡ effect_of d.effect) }
@@ -162,7 +162,7 @@ pub(crate) fn class_arguments(
     Ok(done)
 }
 
-/// The value that an attribute of this name gets, behind the comma.
+// The value that an attribute of this name gets, behind the comma.
 #[tactic(auto, unfolding(crate::specs::CallArguments::value_argument), using(sel_core::proofs::Fronts::front_itself, sel_core::proofs::Fronts::front_of_front, jq_words::proofs::Rests::passed_behind))]
 fn value_argument(
     reader: Reader<'_>,
@@ -255,7 +255,7 @@ pub(crate) fn grow_arguments(
     Ok(done)
 }
 
-/// The trees of markup that is still to be placed.
+// The trees of markup that is still to be placed.
 fn trees_in(reader: Reader<'_>, reached: Value) -> Trees
     ensures { result ≡ spec.trees_in (value_of reached) }
 {

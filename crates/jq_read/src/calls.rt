@@ -35,7 +35,7 @@ pub(crate) fn and_stated(
     Ok(())
 }
 
-/// Passes the second list of `on`, where there is one, and its comma; gives the elements that are listened to.
+// Passes the second list of `on`, where there is one, and its comma; gives the elements that are listened to.
 #[tactic(auto, unfolding(crate::specs::Chains::listened), using(sel_core::proofs::Fronts::front_itself, jq_words::proofs::Rests::itself, jq_words::proofs::Rests::is_rest, jq_words::proofs::Rests::behind_behind))]
 fn listened(
     reader: Reader<'_>,

@@ -24,21 +24,21 @@ use jq_parts::{Value, admitted, dot_name, ended, root};
 use jq_words::{Form, Row, ScriptFault, begins};
 use tp_base::AtomTable;
 
-/// How many functions a call has.
+// How many functions a call has.
 fn at_least(fewest: usize, count: usize) -> usize
     ensures { result ≡ spec.at_least fewest count }
 {
     if count == 0 { fewest } else { count }
 }
 
-/// Whether a call's only argument is left out, as it may be.
+// Whether a call's only argument is left out, as it may be.
 fn is_left_out(fewest: usize, count: usize) -> bool
     ensures { result ≡ (count == 0 && fewest == 0) }
 {
     count == 0 && fewest == 0
 }
 
-/// With the value as it is, and nothing done.
+// With the value as it is, and nothing done.
 fn unchanged(reached: Value) -> Done
     ensures { done_of result ≡ (value_of reached, None) }
 {

@@ -22,7 +22,7 @@ use std::alloc::Global;
 use std::rc::Rc;
 use tp_base::{AtomTable, NoMemory};
 
-/// The places of handlers, outermost first.
+// The places of handlers, outermost first.
 fn places(alloc: Global, handlers: &[Handler]) -> Result<Vec<usize>, NoMemory>
     ensures { IfOk result (λ v. v.items ≡ places_of (handlers_of handlers.now)) }
 {
@@ -33,7 +33,7 @@ fn places(alloc: Global, handlers: &[Handler]) -> Result<Vec<usize>, NoMemory>
     Ok(found)
 }
 
-/// The places of handlers, shared with the last declaration where it stands under the same ones. Linear in them.
+// The places of handlers, shared with the last declaration where it stands under the same ones. Linear in them.
 #[tactic(auto, using(crate::proofs::HandlerSteps::same_places))]
 fn shared_places(
     alloc: Global,
@@ -50,7 +50,7 @@ fn shared_places(
     Ok(found)
 }
 
-/// What a value binds a name to, under the handlers round it.
+// What a value binds a name to, under the handlers round it.
 fn bound_to(
     alloc: Global,
     value: Option<Value>,
@@ -67,7 +67,7 @@ fn bound_to(
     Ok(Some(Box::new(alloc, Bound { value, under })?))
 }
 
-/// One declaration more, under the handlers round it.
+// One declaration more, under the handlers round it.
 #[tactic(auto, using(crate::proofs::HandlerSteps::declared))]
 fn declare<'a>(
     reader: Reader<'_>,
@@ -90,7 +90,7 @@ fn declare<'a>(
     Ok(())
 }
 
-/// The value behind a name that is declared, where there is one: the chain, if it is one.
+// The value behind a name that is declared, where there is one: the chain, if it is one.
 #[cycle(grammar)]
 #[tactic(auto, unfolding(crate::specs::Statements::value_behind, crate::specs::Statements::declared_value), using(sel_core::proofs::Fronts::front_itself, jq_words::proofs::Rests::itself, jq_words::proofs::Rests::passed_behind))]
 fn value_behind<'a>(
@@ -121,7 +121,7 @@ fn value_behind<'a>(
     Ok(None)
 }
 
-/// A name, and its value where there is one.
+// A name, and its value where there is one.
 #[cycle(grammar)]
 #[tactic(auto, unfolding(crate::specs::Statements::one), using(sel_core::proofs::Fronts::front_itself, jq_words::proofs::Rests::behind_rest))]
 fn one<'a>(
@@ -142,7 +142,7 @@ fn one<'a>(
     Ok(())
 }
 
-/// Further ones, each behind a comma.
+// Further ones, each behind a comma.
 #[cycle(grammar)]
 #[tactic(auto, using(sel_core::proofs::Fronts::front_itself, sel_core::proofs::Fronts::front_of_front, crate::proofs::DeclarationSteps::goes_on, crate::proofs::DeclarationSteps::fails, crate::proofs::DeclarationSteps::ends, jq_words::proofs::Rests::itself, jq_words::proofs::Rests::is_rest, jq_words::proofs::Rests::of_rest))]
 fn more_ones<'a>(

@@ -24,7 +24,7 @@ use std::alloc::Global;
 use std::rc::Rc;
 use tp_base::AtomTable;
 
-/// The tokens of a file.
+// The tokens of a file.
 fn tokens_of(alloc: Global, text: &[u8]) -> Result<Vec<Token>, ScriptFault>
     ensures gives { Gives (λ v. v.items) result (spec.from_scan (script_tokens text.now)) }
     ensures in_order { IfOk result (λ v. InOrder 0 (length text.now) v.items) }
@@ -36,7 +36,7 @@ fn tokens_of(alloc: Global, text: &[u8]) -> Result<Vec<Token>, ScriptFault>
     }
 }
 
-/// A fault, in which want of memory has one name.
+// A fault, in which want of memory has one name.
 fn one_memory(fault: ScriptFault) -> ScriptFault
     ensures same { result ≢ Memory → result ≡ fault }
     ensures named { result ≢ Scan scan.Memory }
@@ -50,7 +50,7 @@ fn one_memory(fault: ScriptFault) -> ScriptFault
     }
 }
 
-/// Reads a file whose words are known.
+// Reads a file whose words are known.
 #[tactic(auto, unfolding(crate::specs::Script::script_of), using(sel_core::proofs::Fronts::front_itself, crate::proofs::HandlerLaws::all_counted))]
 fn read_words(
     alloc: Global,
@@ -86,7 +86,7 @@ fn read_words(
     Ok(statements)
 }
 
-/// Reads a file, with the calls that are sharper than what is judged in their place, or without.
+// Reads a file, with the calls that are sharper than what is judged in their place, or without.
 #[tactic(auto, unfolding(crate::specs::Script::script_with), using(sel_core::proofs::Fronts::front_itself))]
 fn read_with(
     alloc: Global,
@@ -104,7 +104,7 @@ fn read_with(
     Ok(statements)
 }
 
-/// The statements that are judged. Linear in them.
+// The statements that are judged. Linear in them.
 #[tactic(auto, using(crate::proofs::WideSteps::one_wide, crate::proofs::WideSteps::all_wide))]
 fn wide(alloc: Global, statements: Vec<ExactStmt>) -> Result<Vec<Stmt>, ScriptFault>
     ensures wide { IfOk result (λ v. wides (exacts_of statements.items) ≡ statements_of v.items) }
@@ -117,7 +117,7 @@ fn wide(alloc: Global, statements: Vec<ExactStmt>) -> Result<Vec<Stmt>, ScriptFa
     Ok(found)
 }
 
-/// Reads a file without the sharp calls.
+// Reads a file without the sharp calls.
 #[tactic(auto, unfolding(crate::specs::Script::script), using(sel_core::proofs::Fronts::front_itself))]
 fn read_file(alloc: Global, text: &[u8], atoms: &mut AtomTable) -> Result<Vec<Stmt>, ScriptFault>
     requires in_limit { length text.now ≤ MOST_BYTES }

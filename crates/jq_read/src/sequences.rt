@@ -29,7 +29,7 @@ fn is_branch(form: StatementForm) -> bool
     matches!(form, StatementForm::Branch)
 }
 
-/// Behind a condition a statement is wanted, which may get an `else`.
+// Behind a condition a statement is wanted, which may get an `else`.
 fn behind_condition(between: Between) -> Result<Between, ScriptFault>
     ensures behind { IfOk result (λ b. b ≡ spec.behind_condition between) }
     ensures only_memory { IfErr result (λ e. e ≡ Memory) }
@@ -38,7 +38,7 @@ fn behind_condition(between: Between) -> Result<Between, ScriptFault>
     Ok(Between { wanted: true, ifs })
 }
 
-/// What is behind a statement; passes its `else`.
+// What is behind a statement; passes its `else`.
 #[tactic(auto, using(jq_words::proofs::Rests::behind_first, jq_words::proofs::Rests::itself))]
 fn behind_statement(between: Between, words: &mut Cursor<'_, '_>) -> Between
     ensures between { result ≡ spec.behind_statement between words.old }
@@ -69,7 +69,7 @@ fn at_file_end(reader: Reader<'_>, in_block: bool, between: Between) -> Result<(
     }
 }
 
-/// One turn of a sequence: a statement, or a condition.
+// One turn of a sequence: a statement, or a condition.
 #[cycle(grammar)]
 #[tactic(auto, unfolding(crate::specs::Statements::turn), using(sel_core::proofs::Fronts::front_itself, jq_words::proofs::Rests::behind_rest))]
 fn turn<'a>(

@@ -18,7 +18,7 @@ use jq_forms::{StatementForm, list_statement, pass_document, returned};
 use jq_words::{ScriptFault, letters, place};
 use tp_base::AtomTable;
 
-/// Why a call of J's own is refused.
+// Why a call of J's own is refused.
 fn foreign(reader: Reader<'_>, words: &Cursor<'_, '_>) -> ScriptFault
     ensures { result ≢ Memory → result ≡ UnknownCall (spelled (drop 2 words.now)) (place (length reader.entry.text.now) (drop 2 words.now)) }
 {
@@ -30,7 +30,7 @@ fn foreign(reader: Reader<'_>, words: &Cursor<'_, '_>) -> ScriptFault
     }
 }
 
-/// A chain, as a statement.
+// A chain, as a statement.
 #[cycle(grammar)]
 #[tactic(auto, unfolding(crate::specs::Statements::chain_statement), using(sel_core::proofs::Fronts::front_itself, jq_words::proofs::Rests::behind_rest))]
 fn chain_statement<'a>(

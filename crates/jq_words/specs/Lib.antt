@@ -1,9 +1,10 @@
-pub mod Words
-pub mod Results
+-- What public contracts cite.
 pub mod Brackets
-pub mod Texts
+pub mod CallViews
+pub mod Calls
 pub mod FreeLists
 pub mod Functions
-pub mod Calls
-pub mod CallViews
+pub mod Results
+pub mod Texts
 pub mod Views
+pub mod Words

@@ -8,7 +8,7 @@ use crate::faults::ScriptFault;
 use crate::words::{Words, begins, begins_name};
 use std::alloc::Global;
 
-/// The name that stands behind `function`, where the words begin so.
+// The name that stands behind `function`, where the words begin so.
 #[tactic(auto, using(crate::proofs::NameSteps::no_function, crate::proofs::NameSteps::no_second, crate::proofs::NameSteps::no_name, crate::proofs::NameSteps::behind))]
 fn behind_function<'a>(words: &Words<'a>) -> Option<&'a [u8]>
     ensures { spec.behind_function words.now ≡ listed result }
@@ -25,7 +25,7 @@ fn behind_function<'a>(words: &Words<'a>) -> Option<&'a [u8]>
     Some(name.spelling())
 }
 
-/// The name that stands before `=` and `function`, where the words begin so.
+// The name that stands before `=` and `function`, where the words begin so.
 #[tactic(auto, using(crate::proofs::NameSteps::none_before, crate::proofs::NameSteps::other_before, crate::proofs::NameSteps::other_mark, crate::proofs::NameSteps::other_function, crate::proofs::NameSteps::before))]
 fn before_function<'a>(words: &Words<'a>) -> Option<&'a [u8]>
     ensures { spec.before_function words.now ≡ listed result }
@@ -46,7 +46,7 @@ fn before_function<'a>(words: &Words<'a>) -> Option<&'a [u8]>
     Some(name.spelling())
 }
 
-/// Adds a name, if there is one.
+// Adds a name, if there is one.
 #[tactic(auto, using(crate::proofs::NameSteps::pushed, crate::proofs::NameSteps::not_pushed))]
 fn note<'a>(found: &mut Vec<&'a [u8]>, name: Option<&'a [u8]>) -> Result<(), ScriptFault>
     ensures noted { OnOk result (map (λ k. k.now) found.new.items ≡ map (λ k. k.now) found.old.items ++ listed name.entry) }

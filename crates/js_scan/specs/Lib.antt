@@ -1,8 +1,10 @@
+-- What public contracts cite.
 pub mod Bytes
-pub mod Escapes
-pub mod Texts
-pub mod Marks
 pub mod Comments
+pub mod Escapes
+pub mod Marks
+pub mod Texts
 pub mod Tokens
-pub mod Utf8
 pub mod Views
+-- Invariants, and the states of the code.
+pub mod Utf8

@@ -19,14 +19,14 @@ use usage_report::Answer;
 
 const AMPLE: Budget = (50_000, 100_000, 1_000);
 
-/// Where summaries are held: in a table of pairs, or in so many branches of diagrams.
+// Where summaries are held: in a table of pairs, or in so many branches of diagrams.
 #[derive(Clone, Copy)]
 enum Engine {
     Table,
     Diagrams(u32),
 }
 
-/// Diagrams with room enough.
+// Diagrams with room enough.
 const ROOMY: Engine = Engine::Diagrams(4_194_304);
 
 fn nodes_of(engine: Engine) -> u32

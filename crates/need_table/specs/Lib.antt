@@ -1,6 +1,8 @@
+-- What public contracts cite.
+pub mod PlainTables
+-- Invariants, and the states of the code.
 pub mod Agendas
 pub mod Places
-pub mod PlainTables
 pub mod PlainViews
 pub mod Rows
 pub mod Tables

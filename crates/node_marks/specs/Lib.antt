@@ -1,3 +1,4 @@
+-- What public contracts cite.
 pub mod Marks
 pub mod Numbering
 pub mod Passes

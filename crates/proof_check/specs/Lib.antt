@@ -1,7 +1,8 @@
-pub mod Validity
-pub mod Unfolding
+-- What public contracts cite.
 pub mod Checks
-pub mod Kept
 pub mod Firsts
+pub mod Kept
 pub mod NodePaths
 pub mod Nodes
+pub mod Unfolding
+pub mod Validity

@@ -1,11 +1,13 @@
-pub mod Needs
+-- What public contracts cite.
 pub mod Forests
+pub mod Needs
 pub mod Rules
-pub mod Worlds
-pub mod Reasons
-pub mod Worklist
+-- Invariants, and the states of the code.
 pub mod Glances
-pub mod Working
-pub mod Numbering
 pub mod Items
 pub mod Making
+pub mod Numbering
+pub mod Reasons
+pub mod Working
+pub mod Worklist
+pub mod Worlds

@@ -46,7 +46,7 @@ fn glance_in<S: Summaries>(
     })
 }
 
-// Looks at an atom that comes at the node of this number.
+/// Looks at an atom that comes at the node of this number.
 pub(crate) fn glance_node<S: Summaries>(
     alloc: Global,
     nodes: &IndexSet<Vec<u32>>,
@@ -64,7 +64,7 @@ pub(crate) fn glance_node<S: Summaries>(
     glance_in(alloc, world, sums, &Place::Node(&at), atom)
 }
 
-// Looks at an atom that comes at the added node of this number.
+/// Looks at an atom that comes at the added node of this number.
 pub(crate) fn glance_added<S: Summaries>(
     alloc: Global,
     triples: &IndexSet<TripleKey>,

@@ -40,7 +40,7 @@ fn glance_at<S: Summaries>(
     }
 }
 
-/// The kind that a spawn rule adds.
+// The kind that a spawn rule adds.
 fn kind_at(spawns: &[Spawn], spawn: u64) -> u32
     ensures { result ≡ unwrap_or (option_map (λ c. c.kind) (slice_get spawns.now spawn)) 0 }
 {

@@ -52,7 +52,7 @@ pub(crate) fn first<S: Summaries>(
     }
 }
 
-// Whether a node of the page has the atom by the round.
+/// Whether a node of the page has the atom by the round.
 pub(crate) fn node_has(world: &World<'_>, at: &Path, atom: Atom, round: u64) -> bool
     requires closed { IsClosedPage world.now.system.now world.now.page.now world.now.closed.now }
     requires node { IsSome (node_at at.now world.now.page.now) }
@@ -64,7 +64,7 @@ pub(crate) fn node_has(world: &World<'_>, at: &Path, atom: Atom, round: u64) -> 
     }
 }
 
-// Whether an added node has the atom by the round.
+/// Whether an added node has the atom by the round.
 pub(crate) fn added_has<S: Summaries>(
     system: &System,
     sums: &S,

@@ -1,11 +1,12 @@
+-- What public contracts cite.
 pub mod Choices
-pub mod Triples
-pub mod Sets
-pub mod Spots
-pub mod Wants
-pub mod Ties
+pub mod Dealing
 pub mod Following
 pub mod Names
 pub mod Numbers
-pub mod Dealing
 pub mod Orders
+pub mod Sets
+pub mod Spots
+pub mod Ties
+pub mod Triples
+pub mod Wants

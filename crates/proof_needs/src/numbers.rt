@@ -7,7 +7,7 @@ use indexmap::IndexSet;
 use std::alloc::Global;
 use tp_base::NoMemory;
 
-/// What comes next in the walk: a triple is walked to, or one that was entered gets its number.
+// What comes next in the walk: a triple is walked to, or one that was entered gets its number.
 #[derive(Clone, Copy, Debug)]
 enum Task {
     Visit(usize),

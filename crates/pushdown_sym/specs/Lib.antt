@@ -1,8 +1,10 @@
-pub mod Terms
-pub mod Rounds
-pub mod CellMap
+-- What public contracts cite.
 pub mod Adding
-pub mod Children
-pub mod Reads
-pub mod Givers
+pub mod CellMap
 pub mod Laws
+pub mod Rounds
+pub mod Terms
+-- Invariants, and the states of the code.
+pub mod Children
+pub mod Givers
+pub mod Reads

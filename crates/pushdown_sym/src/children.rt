@@ -100,7 +100,7 @@ fn add_one(
     }
 }
 
-// The disjunction so far and the terms of these children.
+/// The disjunction so far and the terms of these children.
 pub(crate) fn add_children(
     alloc: Global,
     d: &mut Diagrams,

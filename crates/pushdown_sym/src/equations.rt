@@ -105,7 +105,7 @@ impl Equations {
         }
     }
 
-    // The different children that the links that give the atom look at, without those that can't be there.
+    /// The different children that the links that give the atom look at, without those that can't be there.
     pub(crate) fn children(
         &self,
         alloc: Global,
@@ -125,7 +125,7 @@ impl Equations {
         )
     }
 
-    // The cell, where these are the different children.
+    /// The cell, where these are the different children.
     pub(crate) fn next_by(
         &self,
         alloc: Global,

@@ -42,7 +42,7 @@ fn add_up_at(
     }
 }
 
-// The disjunction so far and the terms of the links at these places.
+/// The disjunction so far and the terms of the links at these places.
 pub(crate) fn add_ups(
     d: &mut Diagrams,
     atom: Atom,

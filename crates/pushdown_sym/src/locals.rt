@@ -14,7 +14,7 @@ use class_diagrams::{DiagramFault, Diagrams, Ref};
 use simple_core::Local;
 use tp_base::{Atom, ClassSet};
 
-// The diagram of the labels of the parent under which a node has all these atoms.
+/// The diagram of the labels of the parent under which a node has all these atoms.
 pub(crate) fn all_of(
     d: &mut Diagrams,
     now: &Cells,
@@ -76,7 +76,7 @@ fn add_local_at(
     }
 }
 
-// The disjunction so far and the terms of the rules at these places.
+/// The disjunction so far and the terms of the rules at these places.
 pub(crate) fn add_locals(
     d: &mut Diagrams,
     now: &Cells,

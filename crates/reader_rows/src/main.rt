@@ -12,7 +12,7 @@ use row_text::bytes_of;
 use std::alloc::{AllocError, Global};
 use std::io;
 
-/// What a line of the table is.
+// What a line of the table is.
 #[derive(Clone, Copy)]
 enum Kind {
     Page,

@@ -1,3 +1,4 @@
+-- What public contracts cite.
 pub mod Readings
-pub mod RingWords
 pub mod RingScripts
+pub mod RingWords

@@ -11,7 +11,7 @@ use jq_sem::{Call, Chain, Root, standing};
 use std::alloc::Global;
 use tp_base::NoMemory;
 
-// The guard of a chain, where the handler has this guard.
+/// The guard of a chain, where the handler has this guard.
 pub(crate) fn of_chain(alloc: Global, handler: Option<Guard>, c: &Chain) -> Result<Guard, NoMemory>
     ensures { IfOk result (λ z. z ≡ spec.of_chain handler (chain_of c.now)) }
 {

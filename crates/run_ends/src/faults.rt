@@ -78,7 +78,7 @@ pub fn script_stop(page: Option<u32>, text: &[u8], fault: ScriptFault) -> Stop
     }
 }
 
-/// The same where the tokens of the script can't be told.
+// The same where the tokens of the script can't be told.
 fn scan_stop(page: Option<u32>, text: &[u8], fault: ScanFault) -> Stop
     requires { length text.now ≤ MOST_BYTES }
     ensures { result ≡ refusal.scan_stop page text.now fault }

@@ -40,7 +40,7 @@ impl Stop {
     }
 }
 
-/// `treeped: page: too deep at 1:2556`, say.
+// `treeped: page: too deep at 1:2556`, say.
 #[tactic(auto, using(std::proofs::Common::append_assoc))]
 fn refusal_line(alloc: Global, refusal: &Refusal) -> Result<Vec<u8>, NoMemory>
     ensures { IfOk result (λ line. line.items ≡ spec.refusal_line refusal.now) }
@@ -67,7 +67,7 @@ fn put_number(line: &mut Vec<u8>, number: u32) -> Result<(), NoMemory>
     Ok(())
 }
 
-/// `treeped: page 2: too large`, say.
+// `treeped: page 2: too large`, say.
 #[tactic(auto, using(std::proofs::Common::append_assoc))]
 fn part_line(alloc: Global, part: Part, what: &[u8]) -> Result<Vec<u8>, NoMemory>
     ensures { IfOk result (λ line. line.items ≡ codes "treeped: " ++ spec.part_text part ++ what.now) }
@@ -112,7 +112,7 @@ fn number_in(part: Part) -> Option<u32>
     }
 }
 
-/// What is wrong, up to a name.
+// What is wrong, up to a name.
 fn fault_text(fault: &Fault) -> &'static [u8]
     ensures { result.now ≡ spec.fault_text fault.now }
 {
@@ -138,7 +138,7 @@ fn fault_text(fault: &Fault) -> &'static [u8]
     }
 }
 
-/// The name that it has.
+// The name that it has.
 fn name_in(fault: &Fault) -> &[u8]
     ensures { result.now ≡ spec.name_in fault.now }
 {

@@ -21,7 +21,7 @@ pub fn tell<E: Sink>(alloc: Global, stop: &Stop, err: &mut E) -> Status
     }
 }
 
-/// Says the line of a stop, or why it can't.
+// Says the line of a stop, or why it can't.
 fn say<E: Sink>(alloc: Global, stop: &Stop, err: &mut E) -> Status
     ensures says { Says stop.now (put_of (E.written err.old) (E.written err.new) (E.faults err.old) (E.faults err.new)) result }
     ensures why { SaysWhy E.wants_memory (put_of (E.written err.old) (E.written err.new) (E.faults err.old) (E.faults err.new)) result }
@@ -36,7 +36,7 @@ fn say<E: Sink>(alloc: Global, stop: &Stop, err: &mut E) -> Status
     }
 }
 
-/// Says what it can of a line without a place: a fault changes nothing any more.
+// Says what it can of a line without a place: a fault changes nothing any more.
 fn say_last<E: Sink>(stop: &Stop, err: &mut E) -> Status
     requires { spec.IsFixed stop.now }
     ensures status { result ≡ spec.status_of_stop stop.now }

@@ -4,7 +4,7 @@ use std::test::Fail;
 use tp_io::{MemFiles, SureSink};
 use treeped_app::treeped;
 
-/// A page of a shop, as a team might write it.
+// A page of a shop, as a team might write it.
 const PAGE: &str =
     "<!DOCTYPE html>\n<html lang=\"en\">\n<head><title>Shop</title><link rel=\"stylesheet\" href=\"shop.css\"></head>\n<body class=\"home\">\n<nav id=\"top\"><ul class=\"menu\"><li class=\"tab\"><a href=\"#a\">A</a></li></ul></nav>\n<div id=\"a\" class=\"panel\"><p>One<p>Two</div>\n<form class=\"login\"><input class=\"field\" type=\"text\"><button class=\"send\">Go</button></form>\n<div class=\"modal\"><div class=\"body\"></div></div>\n</body>\n</html>\n";
 
@@ -14,7 +14,7 @@ const SHEET: &str =
 const SCRIPT: &str =
     "$(function () {\n  var tabs = $('.menu .tab');\n  tabs.find('a').click(function (e) {\n    e.preventDefault();\n    tabs.removeClass('active');\n    $(this).parent().addClass('active');\n  });\n  $('.login').on('submit', function () {\n    if ($('.field').val() === '') {\n      $(this).append('<div class=\"error\"><b class=\"text\">Empty</b></div>');\n      return false;\n    }\n    $('.modal').addClass('open').find('.body').html('<p class=\"hello\">Hi</p>');\n    $('.modal').fadeIn(200);\n  });\n  $('.login').on('click', '.error', function () {\n    $(this).fadeOut(200, function () { $(this).remove(); });\n  });\n  $('.error').parents('form').addClass('invalid');\n});\n";
 
-/// The words of each mode. On a site the shop stands behind a page without a script.
+// The words of each mode. On a site the shop stands behind a page without a script.
 const MODES: [&str; 6] = [
     "page sheet script",
     "--dead page sheet script",
@@ -24,7 +24,7 @@ const MODES: [&str; 6] = [
     "--site --prune sheet other none page script",
 ];
 
-/// A file, the whole of which is its text, and with which status a run ends from how many bytes of it on.
+// A file, the whole of which is its text, and with which status a run ends from how many bytes of it on.
 struct Cut {
     name: &'static str,
     text: &'static str,
@@ -67,7 +67,7 @@ fn entry(alloc: Global, name: &str, text: &[u8]) -> Result<(String, Vec<u8>), Al
     ))
 }
 
-/// The files of the shop and of the other page. The one that is cut stands first: of two with one name that one counts.
+// The files of the shop and of the other page. The one that is cut stands first: of two with one name that one counts.
 fn files_of(alloc: Global, cut: &Cut, len: usize) -> Result<MemFiles, AllocError> {
     let mut entries = Vec::new(alloc);
     let part = cut.text.as_bytes().get(..len).unwrap_or(b"");
@@ -88,7 +88,7 @@ fn code_of(alloc: Global, words: &str, cut: &Cut, len: usize) -> Result<u8, Allo
     Ok(treeped(alloc, &words, &mut files, &mut out, &mut err).code())
 }
 
-/// The status that stands for so many bytes.
+// The status that stands for so many bytes.
 fn told(statuses: &[(usize, u8)], len: usize) -> u8 {
     let mut code = 0;
     for (from, next) in statuses {
@@ -99,7 +99,7 @@ fn told(statuses: &[(usize, u8)], len: usize) -> u8 {
     code
 }
 
-/// At how many bytes a run with these words first ends otherwise, and how.
+// At how many bytes a run with these words first ends otherwise, and how.
 fn other_len(alloc: Global, words: &str, cut: &Cut) -> Result<Option<(usize, u8)>, AllocError> {
     for len in 0..=cut.text.len() {
         let code = code_of(alloc, words, cut, len)?;
@@ -110,7 +110,7 @@ fn other_len(alloc: Global, words: &str, cut: &Cut) -> Result<Option<(usize, u8)
     Ok(None)
 }
 
-/// The first mode in which one does.
+// The first mode in which one does.
 fn other_mode(alloc: Global, cut: &Cut) -> Result<Option<(&'static str, usize, u8)>, AllocError> {
     for words in MODES {
         if let Some((len, code)) = other_len(alloc, words, cut)? {

@@ -27,7 +27,7 @@ fn entries(alloc: Global, texts: &[&[u8]; 3]) -> Result<Vec<(String, Vec<u8>)>, 
     Ok(entries)
 }
 
-/// Each ring that can be asked for is read, and then there isn't room enough to judge it, unless it is empty.
+// Each ring that can be asked for is read, and then there isn't room enough to judge it, unless it is empty.
 #[test]
 fn each_ring_is_read(rt: HostRuntime) -> Result<(), Fail> {
     let alloc = rt.alloc();
@@ -45,7 +45,7 @@ fn each_ring_is_read(rt: HostRuntime) -> Result<(), Fail> {
     Ok(())
 }
 
-/// A page whose element has the sheet's class.
+// A page whose element has the sheet's class.
 const OWN: [&[u8]; 3] = [b"<p class=\"a\"></p>", b".a{}", b""];
 
 const OWN_REPORT: &[u8] = b"treeped 2\n1:1 used 0 .a\n  match /1/0\n";
@@ -64,7 +64,7 @@ fn runs_where_nothing_fails(rt: HostRuntime) -> Result<(), Fail> {
     Ok(())
 }
 
-/// Standard output takes nothing of the report.
+// Standard output takes nothing of the report.
 #[test]
 fn a_failed_write_is_heard(rt: HostRuntime) -> Result<(), Fail> {
     let alloc = rt.alloc();
@@ -77,7 +77,7 @@ fn a_failed_write_is_heard(rt: HostRuntime) -> Result<(), Fail> {
     Ok(())
 }
 
-/// The line would name a call whose name is longer than the room.
+// The line would name a call whose name is longer than the room.
 #[test]
 fn a_full_sink_takes_no_more(rt: HostRuntime) -> Result<(), Fail> {
     let alloc = rt.alloc();

@@ -1,9 +1,11 @@
-pub mod Histories
-pub mod HistoryMap
+-- What public contracts cite.
 pub mod Budgets
 pub mod Held
+pub mod Histories
+pub mod HistoryMap
 pub mod Reads
-pub mod Tables
-pub mod Waking
 pub mod Saturation
 pub mod Shared
+pub mod Waking
+-- Invariants, and the states of the code.
+pub mod Tables

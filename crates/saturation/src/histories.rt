@@ -16,8 +16,8 @@ pub(crate) struct CellKey {
     atom: Atom,
 }
 
-// The first change whose diagram holds under the label, by its round. As each holds where an earlier one does, half of
-// them are left after each look.
+/// The first change whose diagram holds under the label, by its round. As each holds where an earlier one does, half of
+/// them are left after each look.
 pub(crate) fn first_round_under(
     changes: &[(u64, Ref)],
     d: &Diagrams,
@@ -61,7 +61,7 @@ impl Model for Histories {
 }
 
 impl Histories {
-    // No changes yet.
+    /// No changes yet.
     pub(crate) fn new(alloc: Global) -> Self
         ensures { result ≡ [] }
     {
@@ -70,7 +70,7 @@ impl Histories {
         }
     }
 
-    // One change more.
+    /// One change more.
     pub(crate) fn push(
         &mut self,
         kind: u32,
@@ -88,7 +88,7 @@ impl Histories {
         self.map.allocator()
     }
 
-    // The history of a cell.
+    /// The history of a cell.
     pub(crate) fn of(&self, kind: u32, atom: Atom) -> &[(u64, Ref)]
         ensures { result.now ≡ history_in self.now kind atom }
     {

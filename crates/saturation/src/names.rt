@@ -43,7 +43,7 @@ pub(crate) fn add_ends(links: &[Link], atoms: &mut Gathered) -> Result<(), NoMem
     Ok(())
 }
 
-// The atoms that some kind or rule gives.
+/// The atoms that some kind or rule gives.
 pub(crate) fn given(alloc: Global, system: &System) -> Result<ClassSet, NoMemory>
     ensures { IfOk result (λ atoms. atoms ≡ given_atoms system.now) }
 {
@@ -55,7 +55,7 @@ pub(crate) fn given(alloc: Global, system: &System) -> Result<ClassSet, NoMemory
     atoms.into_set()
 }
 
-// So many kinds, each with each atom that some kind or rule gives.
+/// So many kinds, each with each atom that some kind or rule gives.
 pub(crate) fn first_cells(
     alloc: Global,
     system: &System,

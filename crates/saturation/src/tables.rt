@@ -31,7 +31,7 @@ impl Table {
         }
     }
 
-    // What rules give to a node that has an atom.
+    /// What rules give to a node that has an atom.
     pub(crate) fn of_needs(alloc: Global, rules: &[Local]) -> Result<Self, NoMemory>
         ensures { IfOk result (λ t. OfNeeds rules.now (noted_in t)) }
     {
@@ -43,7 +43,7 @@ impl Table {
         Ok(table)
     }
 
-    // What links give to the node next to one that has an atom.
+    /// What links give to the node next to one that has an atom.
     pub(crate) fn of_links(alloc: Global, links: &[Link]) -> Result<Self, NoMemory>
         ensures { IfOk result (λ t. OfLinks links.now (noted_in t)) }
     {
@@ -55,7 +55,7 @@ impl Table {
         Ok(table)
     }
 
-    // The atoms that make a child of a kind.
+    /// The atoms that make a child of a kind.
     pub(crate) fn of_spawns(alloc: Global, spawns: &[Spawn]) -> Result<Self, NoMemory>
         ensures { IfOk result (λ t. OfSpawns spawns.now (noted_in t)) }
     {

@@ -53,13 +53,13 @@ fn counts(alloc: Global, text: &[u8], atoms: &mut AtomTable) -> Result<String, S
     Ok(format!(in alloc; "{list} {single} {classes}")?)
 }
 
-/// How many selectors, compounds and classes letters have.
+// How many selectors, compounds and classes letters have.
 fn chosen(alloc: Global, text: &[u8]) -> Result<String, ScriptFault> {
     let mut atoms = AtomTable::new(alloc);
     counts(alloc, text, &mut atoms)
 }
 
-/// A statement on `this`, the name of whose action stands at an offset.
+// A statement on `this`, the name of whose action stands at an offset.
 #[tactic(auto, using(crate::proofs::Counts::bare_counted))]
 fn acting(alloc: Global, at: usize) -> Stated
     ensures counted { (text : List ℕ) → IsCounted (stated_in text result) }
@@ -85,7 +85,7 @@ fn statements(alloc: Global, size: usize) -> Result<Vec<Stated>, AllocError>
     Ok(all)
 }
 
-/// The places of statements at the end of a text, at its second byte, and behind its end.
+// The places of statements at the end of a text, at its second byte, and behind its end.
 fn standing(alloc: Global, text: &[u8]) -> Result<String, ScriptFault> {
     if text.len() > MOST_BYTES as usize {
         return Err(ScriptFault::Memory);

@@ -20,7 +20,7 @@ use std::alloc::{AllocError, Global};
 use std::io;
 use words::{OfWords, of_words};
 
-/// What a line of the table is.
+// What a line of the table is.
 #[derive(Clone, Copy)]
 enum Kind {
     Script(OfScript),

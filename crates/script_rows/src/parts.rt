@@ -94,7 +94,7 @@ fn scope<'a>(alloc: Global) -> Result<Scope<'a>, ScriptFault> {
     })
 }
 
-/// The arguments of a call, whose name stands first: how many there are, whether they are whole, and where they end.
+// The arguments of a call, whose name stands first: how many there are, whether they are whole, and where they end.
 fn list(alloc: Global, size: usize, mut words: Cursor<'_, '_>) -> Result<String, ScriptFault> {
     words.pass();
     let list = words.enclosed(alloc)?;
@@ -127,7 +127,7 @@ fn copied_kind(value: &Value) -> Result<&'static str, ScriptFault> {
     Ok(kind_of(&copy))
 }
 
-/// What a chain begins with, the nodes of its markup, and where the words behind it stand.
+// What a chain begins with, the nodes of its markup, and where the words behind it stand.
 fn begun(
     alloc: Global,
     size: usize,
@@ -140,7 +140,7 @@ fn begun(
     Ok(format!(in alloc; "{kind} {nodes} {}", place(size, words.words()))?)
 }
 
-/// The letters of an argument.
+// The letters of an argument.
 fn argument(alloc: Global, size: usize, mut words: Cursor<'_, '_>) -> Result<String, ScriptFault> {
     let letters = text_argument(alloc, size, &mut words)?;
     lettered(alloc, Some(letters))
@@ -157,7 +157,7 @@ fn tops_of(
     Ok(forest.tops.items().len())
 }
 
-/// How many nodes an argument that is markup has.
+// How many nodes an argument that is markup has.
 fn grown(alloc: Global, size: usize, words: &Words<'_>) -> Result<String, ScriptFault> {
     let mut nodes = 0;
     let tops = tops_of(alloc, size, words, &mut nodes)?;
@@ -174,7 +174,7 @@ fn shared(
     target(alloc, size, 1, scope, words, &mut atoms)
 }
 
-/// The chain of a target.
+// The chain of a target.
 fn aim(
     alloc: Global,
     size: usize,
@@ -192,7 +192,7 @@ fn written(alloc: Global, root: &Root) -> Result<String, AllocError> {
     }
 }
 
-/// How many selectors a target has, or `this`.
+// How many selectors a target has, or `this`.
 fn aimed(
     alloc: Global,
     size: usize,
@@ -203,7 +203,7 @@ fn aimed(
     Ok(written(alloc, &chain.root)?)
 }
 
-/// Whether a value is a chain.
+// Whether a value is a chain.
 fn chained(
     alloc: Global,
     scope: &Scope<'_>,
@@ -224,7 +224,7 @@ fn behind_parameters<'a>(
     Ok((declarations.len(), bound))
 }
 
-/// How many declarations are seen behind parameters, and whether `a` is still bound.
+// How many declarations are seen behind parameters, and whether `a` is still bound.
 fn hidden(alloc: Global, size: usize, words: Cursor<'_, '_>) -> Result<String, ScriptFault> {
     let mut scope = scope(alloc)?;
     let (count, bound) = behind_parameters(size, &mut scope.declarations, words)?;

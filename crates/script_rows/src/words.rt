@@ -59,7 +59,7 @@ pub(crate) fn lettered(alloc: Global, letters: Option<Vec<u8>>) -> Result<String
     Ok(String::from_str(alloc, letters_or_none(&letters))?)
 }
 
-/// Where the words behind a list of expressions stand.
+// Where the words behind a list of expressions stand.
 fn behind_list(alloc: Global, size: usize, mut words: Words<'_>) -> Result<String, ScriptFault> {
     let rules = Rules {
         exact: false,
@@ -72,12 +72,12 @@ fn behind_list(alloc: Global, size: usize, mut words: Words<'_>) -> Result<Strin
     Ok(format!(in alloc; "{}", place(size, &words))?)
 }
 
-/// The letters of strings joined.
+// The letters of strings joined.
 fn joined(alloc: Global, words: &Words<'_>) -> Result<String, ScriptFault> {
     lettered(alloc, joined_texts(alloc, words)?)
 }
 
-/// The letters of strings joined before a closing bracket.
+// The letters of strings joined before a closing bracket.
 fn closed(alloc: Global, words: &Words<'_>) -> Result<String, ScriptFault> {
     lettered(alloc, closed_texts(alloc, words)?)
 }
@@ -95,13 +95,13 @@ fn spaced(alloc: Global, names: &[&[u8]]) -> Result<String, AllocError> {
     Ok(out)
 }
 
-/// The functions that a text declares.
+// The functions that a text declares.
 fn declared(alloc: Global, words: &Words<'_>) -> Result<String, ScriptFault> {
     let names = declared_in(alloc, words)?;
     Ok(spaced(alloc, &names)?)
 }
 
-/// How many words the first argument has, and all of them.
+// How many words the first argument has, and all of them.
 fn lengths(alloc: Global, words: &Words<'_>) -> Result<String, ScriptFault> {
     let first = argument_len(alloc, true, words)?;
     let all = argument_len(alloc, false, words)?;

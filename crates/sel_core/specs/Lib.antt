@@ -1,11 +1,8 @@
+-- What public contracts cite.
 pub mod Bytes
-pub mod Drafts
-pub mod Faults
 pub mod Grammar
 pub mod Lists
-pub mod Machine
 pub mod Parts
-pub mod Places
 pub mod Readable
 pub mod Reading
 pub mod Results
@@ -13,3 +10,8 @@ pub mod SelectorText
 pub mod Selectors
 pub mod Syntax
 pub mod Views
+-- Invariants, and the states of the code.
+pub mod Drafts
+pub mod Faults
+pub mod Machine
+pub mod Places

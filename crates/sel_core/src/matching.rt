@@ -33,7 +33,7 @@ pub fn matches(tree: &Tree, at: &Path, s: &Selector) -> bool
     true
 }
 
-/// What of a selector is still to be placed above a node. Without parts it is nothing.
+// What of a selector is still to be placed above a node. Without parts it is nothing.
 #[derive(Drop)]
 struct Left<'t, 'a> {
     node: Node<'t>,

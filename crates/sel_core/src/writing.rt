@@ -80,7 +80,7 @@ fn write_atoms(text: &mut Vec<u8>, items: &[Atom], atoms: &AtomTable) -> Result<
     Ok(())
 }
 
-/// How long the name of an attribute is in the name of its atom, or of a value's atom.
+// How long the name of an attribute is in the name of its atom, or of a value's atom.
 fn attribute_len(text: &[u8]) -> usize
     ensures gives { result ≡ prefix_len (λ b. not (b == 61)) text.now }
     ensures within { result ≤ length text.now }
@@ -94,7 +94,7 @@ fn has_quote(value: &[u8]) -> bool
     value.iter().any(|b| *b == b'"')
 }
 
-/// The quotes in which a value is written.
+// The quotes in which a value is written.
 fn quote_for(value: &[u8]) -> u8
     ensures { result ≡ quote_for value.now }
 {

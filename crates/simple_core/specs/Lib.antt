@@ -1,12 +1,13 @@
-pub mod Systems
+-- What public contracts cite.
+pub mod Forests
+pub mod Givers
+pub mod Growth
+pub mod Knowledge
 pub mod Labels
-pub mod Partly
-pub mod Rounds
 pub mod Pages
 pub mod Pairs
-pub mod Knowledge
-pub mod SimpleSteps
-pub mod Growth
+pub mod Partly
 pub mod Reached
-pub mod Givers
-pub mod Forests
+pub mod Rounds
+pub mod SimpleSteps
+pub mod Systems

@@ -45,7 +45,7 @@ impl Givers {
         Ok(Givers { places })
     }
 
-    // The places of the rules that give the atom.
+    /// The places of the rules that give the atom.
     pub fn of(&self, atom: Atom) -> &[usize]
         ensures { result.now ≡ places_in self.now atom }
     {

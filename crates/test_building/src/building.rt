@@ -89,7 +89,7 @@ fn kinds(alloc: Global, rows: &[KindRow]) -> Result<Kinds, NoMemory> {
     Ok(Kinds::new(items))
 }
 
-// What links from a parent look at.
+/// What links from a parent look at.
 pub(crate) fn visible_of(alloc: Global, links: &[Link]) -> Result<ClassSet, NoMemory>
     ensures { IfOk result (λ v. v ≡ union_of [] (map (λ l. l.from) links.now)) }
 {

@@ -1,3 +1,4 @@
+-- What public contracts cite.
 pub mod Classes
 pub mod Cursor
 pub mod Losses

@@ -24,7 +24,7 @@ pub(crate) fn status_of_site(site: &Site, count: usize) -> Status
     status_by(unsure, unused)
 }
 
-/// Whether it is so of one of the best answers.
+// Whether it is so of one of the best answers.
 fn any_best(question: Question, site: &Site, count: usize) -> bool
     requires many { count ≡ length site.now.items }
     ensures { result ≡ list_any (is_answer_so question) (spec.best_answers site.now) }
@@ -53,7 +53,7 @@ pub(crate) fn unused_on_site(
     Ok(flags)
 }
 
-/// Whether it is so of the best answer for an item.
+// Whether it is so of the best answer for an item.
 fn is_so_at(question: Question, site: &Site, item: usize) -> bool
     ensures { (b : sites.Best) → slice_get site.now.items item ≡ Some b → result ≡ is_answer_so question b.answer }
 {

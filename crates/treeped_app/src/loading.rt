@@ -14,7 +14,7 @@ pub(crate) struct Wanted<'a> {
     pub(crate) name: &'a str,
 }
 
-/// Loads one file.
+// Loads one file.
 fn load<F: Files>(alloc: Global, name: &str, part: Part, files: &mut F) -> Result<Vec<u8>, Stop>
     ensures same_files { F.told files.new ≡ F.told files.old }
     ensures loaded { OneLoaded (F.told files.old) name.now part (F.loads files.old) (F.loads files.new) (loaded_text result) }

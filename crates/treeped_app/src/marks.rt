@@ -46,7 +46,7 @@ pub(crate) fn joined(alloc: Global, script: Script) -> Result<Vec<ExactStmt>, No
     Ok(exact)
 }
 
-/// The next marks, or none where all were given out.
+// The next marks, or none where all were given out.
 fn next_marks(alloc: Global, marks: &mut IntoIter<Sharps>) -> Sharps
     ensures some { (m : List Sharp) (later : List (List Sharp)) → into_iter_items marks.old ≡ m ∷ later → result ≡ m }
     ensures later { (m : List Sharp) (later : List (List Sharp)) → into_iter_items marks.old ≡ m ∷ later → into_iter_items marks.new ≡ later }

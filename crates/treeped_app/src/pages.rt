@@ -61,7 +61,7 @@ pub(crate) fn run_page<F: Files, O: Sink>(
     answer(alloc, mode, limits, &texts, out)
 }
 
-/// Reads and judges the texts of a page, and writes what the mode says of it.
+// Reads and judges the texts of a page, and writes what the mode says of it.
 fn answer<O: Sink>(
     alloc: Global,
     mode: Mode,
@@ -104,7 +104,7 @@ pub(crate) fn run_ring<O: Sink>(
     count(alloc, n, mode, limits, &texts, out)
 }
 
-/// Reads and judges the texts of a ring of n boxes, and writes the line that counts the answers.
+// Reads and judges the texts of a ring of n boxes, and writes the line that counts the answers.
 fn count<O: Sink>(
     alloc: Global,
     n: u32,

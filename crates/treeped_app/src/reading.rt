@@ -75,7 +75,7 @@ pub(crate) fn read_all(
     })
 }
 
-/// What was read of a page, or why the run stops at it.
+// What was read of a page, or why the run stops at it.
 fn open_page(
     alloc: Global,
     number: Option<u32>,
@@ -93,7 +93,7 @@ fn open_page(
     }
 }
 
-/// What was read of a sheet, or why the run stops at it.
+// What was read of a sheet, or why the run stops at it.
 fn open_sheet(alloc: Global, text: &[u8], atoms: &mut AtomTable) -> Result<Sheet, Stop>
     requires { length text.now ≤ MOST_BYTES }
     ensures opened { IsOpened sheet_of (spec.read_as (sheet_stop text.now) (css.read_sheet text.now atoms.old)) result atoms.new }
@@ -107,7 +107,7 @@ fn open_sheet(alloc: Global, text: &[u8], atoms: &mut AtomTable) -> Result<Sheet
     }
 }
 
-/// The statements of a script, or why the run stops at it.
+// The statements of a script, or why the run stops at it.
 fn open_script(
     alloc: Global,
     mode: Mode,
@@ -129,14 +129,14 @@ fn open_script(
     }
 }
 
-/// Whether sharp calls may stand in a script. Whole runs, and statements that may be dead, are those that are judged.
+// Whether sharp calls may stand in a script. Whole runs, and statements that may be dead, are those that are judged.
 fn reads_exactly(mode: Mode) -> bool
     ensures { result ≡ modes.reads_exactly mode }
 {
     !matches!(mode, Mode::Dead | Mode::Runs)
 }
 
-/// The statements of a script in which sharp calls may stand.
+// The statements of a script in which sharp calls may stand.
 #[tactic(auto, using(crate::proofs::ReadingLemmas::not_opened))]
 fn open_exact(
     alloc: Global,
@@ -160,7 +160,7 @@ fn open_exact(
     }
 }
 
-/// Those of a script in which none may.
+// Those of a script in which none may.
 #[tactic(auto, using(crate::proofs::ReadingLemmas::not_opened))]
 fn open_plain(
     alloc: Global,

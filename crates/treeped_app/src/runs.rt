@@ -49,7 +49,7 @@ pub fn treeped<F: Files, O: Sink, E: Sink>(
     }
 }
 
-/// Reads the words, and does what they ask for.
+// Reads the words, and does what they ask for.
 fn run<F: Files, O: Sink>(
     alloc: Global,
     words: &[String],
@@ -66,7 +66,7 @@ fn run<F: Files, O: Sink>(
     }
 }
 
-/// Does a task, by where its texts come from.
+// Does a task, by where its texts come from.
 fn run_task<F: Files, O: Sink>(
     alloc: Global,
     source: &Source<'_>,

@@ -39,7 +39,7 @@ pub(crate) struct Said {
     pub(crate) traces: Vec<Option<RunTrace>>,
 }
 
-/// The guards of what a mode asks besides the sheet's selectors.
+// The guards of what a mode asks besides the sheet's selectors.
 fn extra_guards(alloc: Global, mode: Mode, inputs: &Inputs) -> Result<Vec<Guard>, NoMemory>
     ensures { IfOk result (λ v. v.items ≡ extra_in mode (inputs_of inputs.now)) }
 {
@@ -49,7 +49,7 @@ fn extra_guards(alloc: Global, mode: Mode, inputs: &Inputs) -> Result<Vec<Guard>
     }
 }
 
-/// Why a run stops where there are no answers.
+// Why a run stops where there are no answers.
 fn judging_stop(fault: JudgeFault) -> Stop
     ensures { result ≡ spec.judging_stop fault }
 {
@@ -60,7 +60,7 @@ fn judging_stop(fault: JudgeFault) -> Stop
     }
 }
 
-/// The answers, of what the statements that are judged make of the page. It costs what `judge_more` costs.
+// The answers, of what the statements that are judged make of the page. It costs what `judge_more` costs.
 fn answers_of(alloc: Global, mode: Mode, inputs: &Inputs, limits: &Limits) -> Result<Both, Stop>
     requires given { AreInputs (inputs_of inputs.now) }
     requires limits { IsInRange limits.now }
@@ -83,7 +83,7 @@ fn answers_of(alloc: Global, mode: Mode, inputs: &Inputs, limits: &Limits) -> Re
     }
 }
 
-/// The traces of whole runs, where a mode asks for them.
+// The traces of whole runs, where a mode asks for them.
 fn traces_of(
     alloc: Global,
     mode: Mode,
@@ -107,8 +107,8 @@ pub(crate) struct Settled {
     pub(crate) items: Vec<Answer>,
 }
 
-/// The answers, settled where a call is sharper than what was judged in its place. It costs what `settle` costs, and next to nothing
-/// for a script without sharp calls.
+// The answers, settled where a call is sharper than what was judged in its place. It costs what `settle` costs, and next to nothing
+// for a script without sharp calls.
 fn settle_all(
     alloc: Global,
     page: &Tree,
@@ -130,7 +130,7 @@ fn settle_all(
     Ok(Settled { script, items })
 }
 
-/// What is said of a page by its answers, without traces.
+// What is said of a page by its answers, without traces.
 fn said_by(alloc: Global, inputs: Inputs, both: Both) -> Result<Said, NoMemory>
     requires room { HasRoom (inputs_of inputs).tree (inputs_of inputs).exact }
     requires unfolded { All (λ a. IsUnfolded (inputs_of inputs).tree both.system (answer_of a)) both.items }

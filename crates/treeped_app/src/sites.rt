@@ -97,7 +97,7 @@ pub(crate) fn run_site<F: Files, O: Sink>(
     finished(alloc, mode, &loaded.0, &seen, out)
 }
 
-/// What is known of a site behind its first page.
+// What is known of a site behind its first page.
 fn begun(alloc: Global, mode: Mode, limits: &Limits, texts: &Texts<'_>) -> Result<Seen, Stop>
     requires limits { IsInRange limits.now }
     requires fit { Fit (texts_of texts.now) }
@@ -110,7 +110,7 @@ fn begun(alloc: Global, mode: Mode, limits: &Limits, texts: &Texts<'_>) -> Resul
     Ok(seen)
 }
 
-/// What is known of a site by what is said of its first page.
+// What is known of a site by what is said of its first page.
 fn seen_first(alloc: Global, said: Said) -> Result<Seen, NoMemory>
     ensures first { IfOk result (λ s. IsFirst said s) }
     ensures last { IfOk result (λ s. s.last ≡ said.inputs) }
@@ -126,7 +126,7 @@ fn seen_first(alloc: Global, said: Said) -> Result<Seen, NoMemory>
     })
 }
 
-/// Loads, reads and judges the pages of these names, each with its script, from this number on.
+// Loads, reads and judges the pages of these names, each with its script, from this number on.
 fn more_pages<F: Files>(
     alloc: Global,
     number: u32,
@@ -159,7 +159,7 @@ fn more_pages<F: Files>(
     }
 }
 
-/// Loads, reads and judges one page with its script.
+// Loads, reads and judges one page with its script.
 fn next_page<F: Files>(
     alloc: Global,
     next: &Page<'_>,
@@ -195,7 +195,7 @@ fn next_page<F: Files>(
     Ok(())
 }
 
-/// Adds what is said of a page.
+// Adds what is said of a page.
 fn add(alloc: Global, said: Said, seen: &mut Seen) -> Result<(), NoMemory>
     requires one_length { length said.items.items ≡ length seen.old.site.items }
     requires room { seen.old.site.pages < MOST_PAGES }
@@ -209,7 +209,7 @@ fn add(alloc: Global, said: Said, seen: &mut Seen) -> Result<(), NoMemory>
     Ok(())
 }
 
-/// Writes what the mode says of all pages.
+// Writes what the mode says of all pages.
 fn finished<O: Sink>(
     alloc: Global,
     mode: Mode,
@@ -227,7 +227,7 @@ fn finished<O: Sink>(
     Ok(status_of_site(&seen.site, seen.last.sheet.items.items().len()))
 }
 
-/// The same without a status.
+// The same without a status.
 fn write_all<O: Sink>(
     alloc: Global,
     mode: Mode,

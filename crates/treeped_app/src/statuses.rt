@@ -72,7 +72,7 @@ pub(crate) fn is_unused(answer: &Answer) -> bool
     matches!(answer, Answer::Unused)
 }
 
-/// Whether it is so of a statement's verdict, in a mode that has verdicts.
+// Whether it is so of a statement's verdict, in a mode that has verdicts.
 fn asks(mode: Mode, question: Question, said: &Said) -> bool
     ensures { (x : spec.Texts) → result ≡ list_any (verdict.is_so question) (spec.verdicts_in mode (said_of x said.now ∷ [])) }
 {
@@ -82,7 +82,7 @@ fn asks(mode: Mode, question: Question, said: &Said) -> bool
     }
 }
 
-/// Whether it is so of one of the verdicts of the statements, by an answer for each of their probes. Linear in the statements.
+// Whether it is so of one of the verdicts of the statements, by an answer for each of their probes. Linear in the statements.
 fn any_verdict(question: Question, stmts: &[Stmt], answers: &[Answer]) -> bool
     ensures { result ≡ list_any (verdict.is_so question) (dead.verdicts (statements_of stmts.now) (map answer_of answers.now)) }
 {
@@ -97,7 +97,7 @@ fn any_verdict(question: Question, stmts: &[Stmt], answers: &[Answer]) -> bool
     false
 }
 
-/// The answers behind those of a statement with so many handlers.
+// The answers behind those of a statement with so many handlers.
 fn behind(answers: &[Answer], handlers: usize) -> &[Answer]
     ensures { result.now ≡ drop (handlers + 1) answers.now }
 {
@@ -108,7 +108,7 @@ fn behind(answers: &[Answer], handlers: usize) -> &[Answer]
     }
 }
 
-/// Whether it is so of a statement whose own answer is at that place: it is dead where that is unused, and open where that is.
+// Whether it is so of a statement whose own answer is at that place: it is dead where that is unused, and open where that is.
 fn is_so(question: Question, answers: &[Answer], at: usize) -> bool
     ensures { result ≡ verdict.is_so_of question (option_map answer_of (slice_get answers.now at)) }
 {

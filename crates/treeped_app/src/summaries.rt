@@ -33,7 +33,7 @@ fn is_of(form: Form, answer: &Answer) -> bool
     }
 }
 
-/// How many answers are of a form.
+// How many answers are of a form.
 #[tactic(auto, using(crate::proofs::StopLemmas::count_seen))]
 fn count_of(form: Form, answers: &[Answer]) -> usize
     ensures { result ≡ spec.count_of form (map answer_of answers.now) }
@@ -56,7 +56,7 @@ fn steps_of(answer: &Answer) -> u64
     }
 }
 
-/// The steps of all answers, or the greatest number where they are more.
+// The steps of all answers, or the greatest number where they are more.
 #[tactic(auto, using(crate::proofs::StopLemmas::sum_seen))]
 fn all_steps(answers: &[Answer]) -> u64
     ensures { result ≡ spec.all_steps (map answer_of answers.now) }
@@ -88,7 +88,7 @@ fn put_count(
     put_number(line, words, count_of(form, answers) as u64)
 }
 
-/// How many answers are of each form.
+// How many answers are of each form.
 #[tactic(auto, unfolding(crate::specs::Summary::with_counts))]
 fn put_counts(line: &mut Vec<u8>, answers: &[Answer]) -> Result<(), NoMemory>
     ensures { OnOk result (line.new.items ≡ spec.with_counts line.old.items (map answer_of answers.now)) }
@@ -101,7 +101,7 @@ fn put_counts(line: &mut Vec<u8>, answers: &[Answer]) -> Result<(), NoMemory>
     Ok(())
 }
 
-/// `gen 20: selectors 80, used 60, used-unshown 0, unused 20, skipped 0, spent 0, steps 840`, say.
+// `gen 20: selectors 80, used 60, used-unshown 0, unused 20, skipped 0, spent 0, steps 840`, say.
 #[tactic(auto, unfolding(crate::specs::Summary::summary))]
 fn summary(alloc: Global, n: u32, answers: &[Answer]) -> Result<Vec<u8>, NoMemory>
     ensures { IfOk result (λ line. line.items ≡ spec.summary n (map answer_of answers.now)) }

@@ -49,7 +49,7 @@ pub(crate) fn source_of(order: &Order) -> Option<Source<'_>>
     }
 }
 
-/// The names of a page, a sheet and a script.
+// The names of a page, a sheet and a script.
 fn page_of(names: &[Word]) -> Option<Source<'_>>
     ensures source { option_map source_of result ≡ spec.page_of names.now }
     ensures one { IfSome result (λ s. (m : modes.Mode) → takes_pages m ≡ false → spec.IsOfMode m (source_of s)) }
@@ -65,7 +65,7 @@ fn page_of(names: &[Word]) -> Option<Source<'_>>
     }
 }
 
-/// Those of a sheet, and of pages with their scripts.
+// Those of a sheet, and of pages with their scripts.
 fn site_of(names: &[Word]) -> Option<Source<'_>>
     requires short { length names.now ≤ 2 * MOST_PAGES + 1 }
     ensures source { option_map source_of result ≡ spec.site_of names.now }

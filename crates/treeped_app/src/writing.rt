@@ -74,7 +74,7 @@ pub(crate) fn write_one<O: Sink>(
     }
 }
 
-/// Writes the report on a page.
+// Writes the report on a page.
 fn write_page<O: Sink>(
     alloc: Global,
     texts: &Texts<'_>,

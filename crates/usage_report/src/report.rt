@@ -91,7 +91,7 @@ fn no_traces(alloc: Global, items: &[SheetItem]) -> Result<Vec<Option<RunTrace>>
     Ok(traces)
 }
 
-/// Writes the lines of all items.
+// Writes the lines of all items.
 #[tactic(auto, using(crate::proofs::ReportLemmas::as_many, crate::proofs::ReportLemmas::as_many_traces, crate::proofs::ReportLemmas::reportable_at, crate::proofs::ReportLemmas::traceable_at))]
 fn write_items<O: Sink>(
     alloc: Global,
@@ -130,7 +130,7 @@ fn write_items<O: Sink>(
     Ok(())
 }
 
-/// The lines of one item.
+// The lines of one item.
 fn item_piece(
     alloc: Global,
     cursor: &mut Cursor,
