@@ -1,26 +1,32 @@
 -- A page between its rounds: what is known of it before the first one, and from one to the next.
-use Rattle.std.proofs.Common.{◌≡◌, ◌≢◌, ◌⊎◌, ℕ, suc, ◌+◌, ◌^◌, ◌≤◌, true, List, [], length, is_some, refl, sym, ap, ◌∙◌, arith, subst}
-use Rattle.std.specs.List.{list_any}
+use Rattle.std.proofs.Common.{◌≡◌, ◌≢◌, ◌⊎◌, ℕ, suc, ◌+◌, ◌^◌, ◌<◌, ◌≤◌, List, [], length, get_or, Option, Some, None, IfSome, Contains, refl, sym, ◌∙◌, inl, inr, arith, subst}
 use Rattle.tree_sem.specs.Trees.{LabelTree}
 use Rattle.tree_sem.specs.Order.{paths_of}
 use Rattle.simple_core.specs.declared.system.System.{System}
 use Rattle.simple_core.specs.Pairs.{Pair}
-use Rattle.class_adding.specs.Filling.{RestUnmarked, AreRight, AreNew, AreLooked, AreMarked, AreFresh, IsAfter}
+use Rattle.class_adding.specs.declared.gains.Gain.{Gain}
+use Rattle.class_adding.specs.declared.looking.Look.{Look}
+use Rattle.class_adding.specs.Filling.{AreLooked, AreFresh, IsNews, IsLooked, IsAfter, wake_at}
 use Rattle.class_adding.specs.Fillings.{IsBegun, IsTaken}
 use Rattle.class_adding.specs.Fresh.{AreSettled, AreResting}
+use Rattle.class_adding.specs.Looks.{AreFound, AreSeen, RestUndue}
+use Rattle.class_adding.specs.Work.{IsWorking, IsWritten, AreUntil, nodes_in}
 use Rattle.class_adding.specs.declared.filling.Filling.{Filling}
 use Rattle.class_adding.specs.declared.gift_table.Row.{Row}
 use Rattle.class_adding.specs.declared.rounds.Round.{Round}
-use Rattle.class_adding.proofs.EndLemmas.{IsClosing, closing_start, closing_next, rest_start, rest_next, few_next}
+use Rattle.class_adding.specs.declared.work.Work.{Work}
+use Rattle.class_adding.proofs.EndLemmas.{IsClosing, closing_start, closing_next, rest_next, few_next}
+use Rattle.class_adding.proofs.RoundLemmas.{looked_more, news_rest}
 use Rattle.class_adding.proofs.SettledLemmas.{all_labels_are, settled_start, resting_start, settled_next, resting_next}
+use Rattle.class_adding.proofs.WrittenLemmas.{working_start, working_next, is_due}
 
 -- after k rounds
 pub record IsFilled (s : System) (t : LabelTree) (k : ℕ) (known : Pair → Type 0) (f : Filling) : Type 0 where
   pub closing : IsClosing s t f.labels.labels f.firsts.items k known
-  pub rests : RestUnmarked s f.labels.labels k known f.plan.marks f.plan.wakes.items (paths_of t)
-  pub settled : AreSettled s f.labels.labels f.labels.nodes f.fresh.items
-  pub resting : AreResting s f.labels.labels k known f.labels.nodes f.fresh.items f.plan.wakes.items
-  pub long : length f.fresh.items ≡ length f.labels.nodes
+  pub rests : RestUndue s f.labels.labels k known f.work.due.items f.work.wakes.items f.labels.nodes
+  pub settled : AreSettled s f.labels.labels f.labels.nodes f.work.fresh.items
+  pub resting : AreResting s f.labels.labels k known f.labels.nodes f.work.fresh.items f.work.wakes.items
+  pub working : IsWorking f.labels.nodes f.work
   pub nodes : f.labels.nodes ≡ paths_of t
   pub few : k ≤ 2 ^ 62 + length f.firsts.items
 
@@ -28,53 +34,96 @@ pub filled_start : (s : System) (t : LabelTree) (known : Pair → Type 0) (f : F
 filled_start s t known f b =
     let u = f.labels.labels in
     let nodes = f.labels.nodes in
-    let own = all_labels_are t u nodes nodes f.fresh.items b.labels refl b.fresh in
+    let own = all_labels_are t u nodes nodes f.work.fresh.items b.labels refl b.start.fresh in
     record {
       closing = closing_start s t u f.firsts.items known nodes b.nodes b.labels b.firsts b.rising;
-      rests = rest_start s t u 0 known f.plan.marks f.plan.wakes.items b.marks;
-      settled = settled_start s u nodes f.fresh.items own;
-      resting = resting_start s u nodes f.fresh.items own known f.plan.wakes.items b.wakes;
-      long = own.count;
+      rests = λ i less. inl ((b.start.due i).1 less);
+      settled = settled_start s u nodes f.work.fresh.items own;
+      resting = resting_start s u nodes f.work.fresh.items own known f.work.wakes.items b.start.none;
+      working = working_start t nodes f.work b.start;
       nodes = b.nodes;
       few = omega arith;
     }
 
--- what a round brought, when more is to come
-pub record IsRound (s : System) (u : LabelTree) (nodes : List (List ℕ)) (k : ℕ) (known : Pair → Type 0) (r : Round) : Type 0 where
-  pub right : AreRight s u k r.gains.items
-  pub news : AreNew u r.gains.items
-  pub looked : AreLooked s u k known r.gains.items r.wakes.items nodes
-  pub marked : AreMarked r.gains.items r.changed nodes
-  pub fresh : AreFresh s u k nodes r.fresh.items
-  pub long : length r.fresh.items ≡ length nodes
-  pub times : length r.wakes.items ≡ length nodes
-  pub more : (r.gains.items ≢ []) ⊎ (list_any is_some r.wakes.items ≡ true)
+module _ (s : System) (u : LabelTree) (nodes : List (List ℕ)) (k : ℕ) (known known' : Pair → Type 0) (w : Work) (r : Round) (latest : ℕ)
+    (rests : RestUndue s u k known w.due.items w.wakes.items nodes) (working : IsWorking nodes w) (found : AreFound s u nodes k known' w.due.items r) (more : (q : Pair) → known q → known' q) where
+  -- a node that isn't due stays as it is
+  undue : (i : ℕ) → i < length nodes → (Contains w.due.items i → ⊥) → IsLooked s u k known [] (wake_at w.wakes.items i) (get_or nodes i [])
+  undue i less never = elim (rests i less) [ inl there ↦ absurd (never there) | inr look ↦ look ]
+
+  still : (i : ℕ) → i < length nodes → (Contains w.due.items i → ⊥) → IsLooked s u k known' r.gains.items (wake_at w.wakes.items i) (get_or nodes i [])
+  still i less never = looked_more s u k known known' [] r.gains.items (wake_at w.wakes.items i) (get_or nodes i []) more (λ g none. absurd (no_gain g none)) (undue i less never)
+    where
+      no_gain : (g : Gain) → Contains [] g → ⊥
+      no_gain g (j, less, at) = omega (arith, less)
+
+  pub all_seen : w.latest ≤ latest → AreUntil r.looks.items latest → AreSeen s u k known' r.gains.items latest nodes
+  all_seen before until i less = elim (is_due i w.due.items) [
+    | inl there ↦
+        let l = found.covers i there in
+        let at : IsLooked s u k known' r.gains.items l.0.wake (get_or nodes i []) = subst (λ n. IsLooked s u k known' r.gains.items l.0.wake (get_or nodes n [])) l.2 (found.looks_are l.0 l.1).looked in
+        (l.0.wake, at, until l.0 l.1)
+    | inr never ↦ (wake_at w.wakes.items i, still i less never, sooner (wake_at w.wakes.items i) before (working.until i))
+  ]
+    where
+      sooner : (wake : Option ℕ) → w.latest ≤ latest → IfSome wake (λ r. r ≤ w.latest) → IfSome wake (λ r. r ≤ latest)
+      sooner None le h = tt
+      sooner (Some r) le h = let early : r ≤ w.latest = h in omega (arith, early, le)
+
+  -- what is written of the looks
+  pub all_fresh : (fresh : List (List ℕ)) → IsWritten (λ (l : Look). l.news) [] r.looks.items w.fresh.items fresh → AreFresh s u k nodes fresh
+  all_fresh fresh written i less = elim (written.each i) [
+    | inl kept ↦
+        let never : Contains w.due.items i → ⊥ = λ there. let l = found.covers i there in kept.1 l.0 l.1 l.2 in
+        let none : get_or w.fresh.items i [] ≡ [] = elim (working.quiet i less) [ inl is ↦ is | inr there ↦ absurd (never there) ] in
+        subst (λ (z : List ℕ). IsNews s u k (get_or nodes i []) z) (sym (kept.0 ∙ none)) (news_rest s u k known (wake_at w.wakes.items i) (get_or nodes i []) (undue i less never))
+    | inr l ↦
+        subst (λ (z : List ℕ). IsNews s u k (get_or nodes i []) z) (sym l.3) (subst (λ n. IsNews s u k (get_or nodes n []) l.0.news) l.2 (found.looks_are l.0 l.1).is_news)
+  ]
+
+  pub all_looked : (wakes : List (Option ℕ)) → IsWritten (λ (l : Look). l.wake) None r.looks.items w.wakes.items wakes → AreLooked s u k known' r.gains.items wakes nodes
+  all_looked wakes written i less = elim (written.each i) [
+    | inl kept ↦
+        let never : Contains w.due.items i → ⊥ = λ there. let l = found.covers i there in kept.1 l.0 l.1 l.2 in
+        subst (λ (z : Option ℕ). IsLooked s u k known' r.gains.items z (get_or nodes i [])) (sym kept.0) (still i less never)
+    | inr l ↦
+        subst (λ (z : Option ℕ). IsLooked s u k known' r.gains.items z (get_or nodes i [])) (sym l.3)
+        (subst (λ n. IsLooked s u k known' r.gains.items l.0.wake (get_or nodes n [])) l.2 (found.looks_are l.0 l.1).looked)
+  ]
 
 -- the round may remember more of what added children give
-pub filled_next : (s : System) (t : LabelTree) (k k' : ℕ) (known known' : Pair → Type 0) (f f' : Filling) (r : Round) (remembered : List Row) → IsFilled s t k known f → ((q : Pair) → known q → known' q)
-    → IsRound s f.labels.labels f.labels.nodes k known' r → IsTaken t (record { labels = f.labels; firsts = f.firsts; fresh = f.fresh; plan = f.plan; remembered = remembered }) r k' f' → k' ≡ suc k → IsFilled s t k' known' f'
-filled_next s t k k' known known' f f' r remembered filled more round taken next =
+pub filled_next : (s : System) (t : LabelTree) (k k' latest : ℕ) (known known' : Pair → Type 0) (f f' : Filling) (r : Round) (remembered : List Row) → IsFilled s t k known f → ((q : Pair) → known q → known' q)
+    → AreFound s f.labels.labels f.labels.nodes k known' f.work.due.items r → f.work.latest ≤ latest → AreUntil r.looks.items latest → latest < 2 ^ 62 → (r.gains.items ≢ []) ⊎ (k < latest)
+    → IsTaken (record { labels = f.labels; firsts = f.firsts; work = f.work; remembered = remembered }) r latest k' f' → k' ≡ suc k → IsFilled s t k' known' f'
+filled_next s t k k' latest known known' f f' r remembered filled more found before until bound cases taken next =
     let u = f.labels.labels in
     let u' = f'.labels.labels in
+    let nodes = f.labels.nodes in
     let nodes' = f'.labels.nodes in
     let gains = r.gains.items in
-    let wakes = r.wakes.items in
+    let looks = r.looks.items in
+    let wakes = f'.work.wakes.items in
+    let fresh = f'.work.fresh.items in
+    let due = f'.work.due.items in
+    let seen = all_seen s u nodes k known known' f.work r latest filled.rests filled.working found more before until in
+    let is_fresh : AreFresh s u k nodes fresh = all_fresh s u nodes k known known' f.work r latest filled.rests filled.working found more fresh taken.next.fresh in
+    let looked : AreLooked s u k known' gains wakes nodes = all_looked s u nodes k known known' f.work r latest filled.rests filled.working found more wakes taken.next.wakes in
     let closing : IsClosing s t u' f'.firsts.items k' known' =
-    closing_next s t u f.firsts.items k known known' f.labels.nodes gains wakes filled.nodes filled.closing round.right round.looked more k' u' f'.firsts.items next taken.labels taken.firsts in
+    closing_next s t u f.firsts.items k known known' nodes gains latest filled.nodes filled.closing found.right seen more k' u' f'.firsts.items next taken.labels taken.firsts in
     let after' : IsAfter s t (suc k) u' = subst (λ z. IsAfter s t z u') next closing.after in
-    let all : nodes' ≡ paths_of t = taken.nodes ∙ filled.nodes in
-    let fresh : AreFresh s u k nodes' f'.fresh.items =
-    subst (λ (z : List (List ℕ)). AreFresh s u k nodes' z) (sym taken.fresh) (subst (λ (z : List (List ℕ)). AreFresh s u k z r.fresh.items) (sym taken.nodes) round.fresh) in
-    let looked : AreLooked s u k known' gains wakes nodes' = subst (λ (z : List (List ℕ)). AreLooked s u k known' gains wakes z) (sym taken.nodes) round.looked in
+    let working : IsWorking nodes f'.work = working_next nodes f.work looks latest k' f'.work filled.working (λ l there. (found.looks_are l there).within) (λ l there. (found.looks_are l there).same) found.covers before until bound taken.next in
+    let woken : (i : ℕ) → wake_at wakes i ≡ Some k' → Contains due i = λ i at. taken.next.woken i (subst (λ (z : Option ℕ). IfSome z (λ n. Contains (nodes_in f'.work.awaited n) i)) at (working.awaited i)) in
+    let rests : RestUndue s u' k' known' due wakes nodes =
+    rest_next s t u f.firsts.items k known known' nodes gains latest filled.nodes filled.closing found.right seen more k' u' f'.firsts.items looks due wakes next closing found.noted
+    (λ l there. (found.looks_are l there).within) taken.next.near looked woken in
+    let same : nodes' ≡ nodes = taken.nodes in
     record {
       closing = closing;
-      rests = rest_next s t u f.firsts.items k known known' f.labels.nodes gains wakes filled.nodes filled.closing round.right round.looked more
-          k' u' f'.firsts.items r.changed f'.plan.marks f'.plan.wakes.items next closing round.marked taken.marks taken.wakes;
-      settled = settled_next s t u u' k nodes' f'.fresh.items all filled.closing.after after' fresh;
-      resting = subst (λ z. AreResting s u' z known' nodes' f'.fresh.items f'.plan.wakes.items) (sym next)
-          (resting_next s t u u' k nodes' f'.fresh.items all filled.closing.after after' fresh known' gains wakes f'.plan.wakes.items taken.wakes looked);
-      long = ap (λ (z : List (List ℕ)). length z) taken.fresh ∙ round.long ∙ ap (λ (z : List (List ℕ)). length z) (sym taken.nodes);
-      nodes = all;
-      few = few_next s t u f.firsts.items k known known' f.labels.nodes gains wakes filled.nodes filled.closing round.right round.looked more round.times round.news round.more filled.few
-          k' f'.firsts.items next taken.firsts;
+      rests = subst (λ (z : List (List ℕ)). RestUndue s u' k' known' due wakes z) (sym same) rests;
+      settled = subst (λ (z : List (List ℕ)). AreSettled s u' z fresh) (sym same) (settled_next s t u u' k nodes fresh filled.nodes filled.closing.after after' is_fresh);
+      resting = subst (λ (z : List (List ℕ)). AreResting s u' k' known' z fresh wakes) (sym same) (subst (λ z. AreResting s u' z known' nodes fresh wakes) (sym next)
+          (resting_next s t u u' k nodes fresh filled.nodes filled.closing.after after' is_fresh known' gains wakes wakes refl looked));
+      working = subst (λ (z : List (List ℕ)). IsWorking z f'.work) (sym same) working;
+      nodes = same ∙ filled.nodes;
+      few = few_next s t u f.firsts.items k known known' nodes gains latest filled.nodes filled.closing found.right seen more found.news cases bound filled.few k' f'.firsts.items next taken.firsts;
     }

@@ -19,7 +19,7 @@ use Rattle.simple_core.proofs.Members.{flat_map-Contains, Contains-flat_map, Con
 use Rattle.simple_core.proofs.LabelLemmas.{given_by_links-is, is-given_by_links}
 use Rattle.simple_core.proofs.PageRest.{counted_child}
 use Rattle.class_adding.specs.Filling.{label_in, above_in, real_in, within_page, label_next, IsNews}
-use Rattle.closed_page.specs.Labelled.{IsAbove, AreKids}
+use Rattle.closed_page.specs.Labelled.{IsAbove}
 use Rattle.class_adding.specs.Fresh.{IsMore, AreNewIn, IsAddedIfNew, AreFollowed, set_at, IsSettled, given_at}
 use Rattle.closed_page.proofs.LabelledLemmas.{child_number}
 use Rattle.class_adding.proofs.IndexLemmas.{take_next}
@@ -111,7 +111,12 @@ module _ (s : System) (u : LabelTree) (nodes fresh : List (List ℕ)) (i : ℕ) 
       (more_of own_i (given_by_links s.up (label_in u p)) (given_by_links s.up new_there) old new is (links_right s.up (label_in u p) new_there (settled.right j above.0))
       (links_whole s.up own_i (label_in u p) new_there (settled.above j above.1 above.0 above.2)))
 
-  pub more_below : (row old new : List ℕ) → AreKids nodes i row → new ≡ union_of old (given_at s fresh row) → IsMore own_i (flat_map (given_by_links s.down) (real_in u vi)) old new
+  -- the row has children alone, and each at which something is fresh
+  pub record AreCallers (row : List ℕ) : Type 0 where
+    pub only : (c : ℕ) → Contains row c → (c < length nodes) × (n : ℕ) × (get_or nodes c [] ≡ get_or nodes i [] ++ n ∷ [])
+    pub heard : (c n a : ℕ) → c < length nodes → get_or nodes c [] ≡ get_or nodes i [] ++ n ∷ [] → Contains (get_or fresh c []) a → Contains row c
+
+  pub more_below : (row old new : List ℕ) → AreCallers row → new ≡ union_of old (given_at s fresh row) → IsMore own_i (flat_map (given_by_links s.down) (real_in u vi)) old new
   more_below row old new kids is =
       let give = given_by_links s.down in
       let count = unwrap_or (children_at vi u) 0 in
@@ -135,7 +140,9 @@ module _ (s : System) (u : LabelTree) (nodes fresh : List (List ℕ)) (i : ℕ) 
       let given : Contains (give (label_in u (get_or nodes place.0 []))) y = subst (λ (z : List ℕ). Contains (give z) y) (n.2 ∙ ap (label_in u) (sym at)) of.2 in
       elim (links_whole s.down own_i (label_in u (get_or nodes place.0 [])) (get_or fresh place.0 []) (settled.below place.0 n.0 place.1 at) y given) [
         | inl known ↦ inl known
-        | inr new_one ↦ inr (Contains-flat_map (λ c. give (get_or fresh c [])) row place.0 y (kids.whole place.0 n.0 place.1 at) new_one)
+        | inr new_one ↦
+            let by = given_by_links-is s.down (get_or fresh place.0 []) y new_one in
+            inr (Contains-flat_map (λ c. give (get_or fresh c [])) row place.0 y (kids.heard place.0 n.0 by.link.from place.1 at by.from) new_one)
       ])
     where
       labelled : (w : List ℕ) (u : LabelTree) (a : ℕ) → Contains (label_in u w) a → IsSome (node_at w u)
@@ -144,13 +151,13 @@ module _ (s : System) (u : LabelTree) (nodes fresh : List (List ℕ)) (i : ℕ) 
       child_within : (w : List ℕ) (n a : ℕ) → Contains (label_in u (w ++ n ∷ [])) a → n < unwrap_or (children_at w u) 0
       child_within w n a in_label = child_number w n u (labelled (w ++ n ∷ []) u a in_label)
 
-  pub more_within : (o : Option ℕ) (row first second third : List ℕ) → IsAbove nodes vi o → AreKids nodes i row → IsMore own_i (given_by_rules s.local own_i) [] first → second ≡ union_of first (given_by_links s.up (set_at fresh o))
+  pub more_within : (o : Option ℕ) (row first second third : List ℕ) → IsAbove nodes vi o → AreCallers row → IsMore own_i (given_by_rules s.local own_i) [] first → second ≡ union_of first (given_by_links s.up (set_at fresh o))
       → third ≡ union_of second (given_at s fresh row) → IsMore own_i (within_page s u vi) [] third
   more_within o row first second third above kids local is_second is_third =
       let both = more_then own_i (given_by_rules s.local own_i) (given_by_links s.up (above_in u vi)) [] first second local (more_above o first second above is_second) in
       more_then own_i (given_by_rules s.local own_i ++ given_by_links s.up (above_in u vi)) (flat_map (given_by_links s.down) (real_in u vi)) [] second third both (more_below row second third kids is_third)
 
-  pub given_more : (own : List ℕ) → label_in u vi ≡ own → (o : Option ℕ) (row start first second third : List ℕ) → start ≡ [] → IsAbove nodes vi o → AreKids nodes i row → IsMore own (given_by_rules s.local own) start first
+  pub given_more : (own : List ℕ) → label_in u vi ≡ own → (o : Option ℕ) (row start first second third : List ℕ) → start ≡ [] → IsAbove nodes vi o → AreCallers row → IsMore own (given_by_rules s.local own) start first
       → second ≡ union_of first (given_by_links s.up (set_at fresh o)) → third ≡ union_of second (given_at s fresh row) → IsMore own (within_page s u vi) [] third
   given_more own same o row start first second third empty above kids local is_second is_third =
       let local' : IsMore own (given_by_rules s.local own) [] first = subst (λ (z : List ℕ). IsMore own (given_by_rules s.local own) z first) empty local in

@@ -3,7 +3,6 @@ use Rattle.std.proofs.Common.{◌≡◌, ◌⊎◌, ℕ, suc, ◌<◌, ◌^◌, 
 use Rattle.std.specs.List.{flat_map, range_with_len}
 use Rattle.std.specs.List.Sorted.{IsStrictlyIncreasing}
 use Rattle.std.proofs.lemmas.Bool.{cases_Bool, both_ways, eq-eqb}
-use Rattle.std.proofs.lemmas.List.{get_or_past}
 use Rattle.std.proofs.lemmas.List.Elements.{Contains-append_left, Contains-append_right, Contains-get_or}
 use Rattle.tp_base.specs.Classes.{has_class, all_among}
 use Rattle.tp_base.proofs.ClassLemmas.{same_members, has_class-Contains, all_among-All, Contains-cut_to, IsStrictlyIncreasing-cut_to}
@@ -167,10 +166,10 @@ module _ (s : System) (u : LabelTree) (nodes fresh : List (List ℕ)) (labels : 
     below = λ j n in_j at l listed from. inr (subst (λ (z : List ℕ). Contains z l.from) (label_is j in_j) from);
   }
 
-  pub resting_start : (known : Pair → Type 0) (wakes : List (Option ℕ)) → wakes ≡ [] → AreResting s u 0 known nodes fresh wakes
+  pub resting_start : (known : Pair → Type 0) (wakes : List (Option ℕ)) → ((i : ℕ) → wake_at wakes i ≡ None) → AreResting s u 0 known nodes fresh wakes
   resting_start known wakes none i less =
       let own = label_in u (get_or nodes i []) in
-      let no_wake : wake_at wakes i ≡ None = ap (λ z. wake_at z i) none ∙ get_or_past [] i None (omega arith) in
+      let no_wake : wake_at wakes i ≡ None = none i in
       subst (λ (z : Option ℕ). IsResting s 0 known own (get_or fresh i []) z) (sym no_wake) (λ quiet same.
       let no_kind : (j : ℕ) → Contains (kinds_at s own) j → ⊥ = λ j there.
       let by = kinds_at-is s own j there in

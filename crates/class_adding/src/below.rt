@@ -12,9 +12,9 @@ ghost use Rattle.class_adding.specs.Filling.{wakes_in};
 ghost use Rattle.class_adding.specs.Fresh.{IsMore, AsksAnew, IsAsleep, IsResting};
 
 use crate::added::add_added;
+use crate::due::is_round;
 use crate::gift_table::GiftTable;
 use crate::indexed_system::IndexedSystem;
-use crate::plans::is_round;
 use gathered::Gathered;
 use simple_core::{GainFault, Summaries};
 use tp_base::ClassSet;

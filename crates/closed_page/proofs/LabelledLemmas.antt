@@ -156,7 +156,7 @@ related_more u nodes parents kids own i more longer is less longer_is =
 
 -- ---- what is next to a node
 
-same_parent : (p q : List ℕ) (n m : ℕ) → p ++ n ∷ [] ≡ q ++ m ∷ [] → p ≡ q
+pub same_parent : (p q : List ℕ) (n m : ℕ) → p ++ n ∷ [] ≡ q ++ m ∷ [] → p ≡ q
 same_parent p q n m same =
     let both : Some p ≡ Some q = sym (parent_of-child p n) ∙ ap parent_of same ∙ parent_of-child q m in
     cc

@@ -1,5 +1,5 @@
 //! Places in a list, by a key that stands there.
-ghost use Rattle.std.specs.Prelude.{◌≡◌, ◌<◌, ℕ, [], None, length, get_or, IfOk, OnOk};
+ghost use Rattle.std.specs.Prelude.{◌≡◌, ◌≢◌, ◌<◌, ℕ, [], None, length, get_or, IfOk, OnOk};
 ghost use Rattle.closed_page.specs.Rows.{row_of, IsNoted, IsNotedIf, AreByNumber};
 
 use std::alloc::Global;
@@ -102,5 +102,16 @@ impl Index {
         let row = &mut self.rows[key];
         row.items.push(place)?;
         Ok(())
+    }
+
+    /// Takes the places of a key away. Linear in them.
+    pub fn clear(&mut self, key: usize)
+        ensures here { row_of self.new key ≡ [] }
+        ensures others { (k : ℕ) → k ≢ key → row_of self.new k ≡ row_of self.old k }
+    {
+        if key < self.rows.len() {
+            let row = &mut self.rows[key];
+            row.items.clear();
+        }
     }
 }

@@ -93,7 +93,9 @@ impl PageLabels {
     /// The number of a node's parent.
     pub fn parent(&self, number: usize) -> Option<usize>
         requires { number < length self.now.nodes }
-        ensures { IsAbove self.now.nodes (node_of self.now number) result }
+        ensures above { IsAbove self.now.nodes (node_of self.now number) result }
+        ensures whole { (v : List ℕ) → IsSome (node_at v self.now.labels) → Contains self.now.nodes v }
+        ensures once { (i j : ℕ) → i < length self.now.nodes → j < length self.now.nodes → node_of self.now i ≡ node_of self.now j → i ≡ j }
     {
         self.parents[number]
     }

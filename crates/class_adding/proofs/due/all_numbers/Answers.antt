@@ -1,0 +1,16 @@
+use Rattle.std.proofs.Common.{List, ℕ, Contains, subst, arith}
+use Rattle.tp_base.proofs.Rising.{Contains-none}
+use Rattle.class_adding.proofs.DueLemmas.{number_within, number_more}
+use Rattle.class_adding.proofs.due.all_numbers.Goals as goal
+
+pub loop-i-init : goal.loop-i-init
+loop-i-init c = record { within = λ j there. absurd (Contains-none j (subst (λ (z : List ℕ). Contains z j) c.new-numbers.ensures.items there)); whole = λ j less. absurd (omega arith) }
+
+pub loop-i-preserved : goal.loop-i-preserved
+loop-i-preserved c = record {
+  within = number_within c.loop-i.numbers.items c.push.new.self.items c.loop-i.i c.args.count c.in_ok-push.ensures.items c.loop-i-test.true c.loop-i.invariant.within;
+  whole = number_more c.loop-i.numbers.items c.push.new.self.items c.loop-i.i c.in_ok-push.ensures.items c.loop-i.invariant.whole;
+}
+
+pub returns : goal.returns
+returns c = λ j. (c.loop-i.invariant.within j, λ less. c.loop-i.invariant.whole j (omega (arith, less, c.loop-i-test.false)))

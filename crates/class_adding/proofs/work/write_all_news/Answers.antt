@@ -1,0 +1,24 @@
+use Rattle.std.proofs.Common.{◌≡◌, ◌<◌, [], length, arith}
+use Rattle.class_adding.specs.declared.looking.Look.{Look}
+use Rattle.class_adding.proofs.AddedLemmas.{first_rest}
+use Rattle.class_adding.proofs.WrittenLemmas.{writing_start, writing_next, writing_all, left_first}
+use Rattle.class_adding.proofs.work.write_all_news.Goals as goal
+
+pub looks-init : goal.looks-init
+looks-init c = writing_start (λ (m : Look). m.news) [] c.args.looks.now c.args.fresh.now.items
+
+pub write_news-requires : goal.write_news-requires
+write_news-requires c =
+    let split = first_rest c.looks.rest.now c.in-Some.look.now c.in-Some.others.now c.in-Some.ensures.cases in
+    let count : length c.looks.fresh.items ≡ length c.args.fresh.now.items = c.looks.invariant.count in
+    let less : c.in-Some.look.now.number < length c.args.fresh.now.items = c.requires c.in-Some.look.now (left_first c.args.looks.now c.looks.rest.now c.in-Some.look.now c.in-Some.others.now split c.looks.invariant.left) in
+    omega (arith, less, count)
+
+pub looks-preserved : goal.looks-preserved
+looks-preserved c =
+    let split = first_rest c.looks.rest.now c.in-Some.look.now c.in-Some.others.now c.in-Some.ensures.cases in
+    writing_next (λ (m : Look). m.news) [] c.args.looks.now c.looks.rest.now c.args.fresh.now.items c.looks.fresh.items c.write_news.new.fresh.items c.in-Some.look.now c.in-Some.others.now split
+    (c.requires c.in-Some.look.now (left_first c.args.looks.now c.looks.rest.now c.in-Some.look.now c.in-Some.others.now split c.looks.invariant.left)) c.in_ok-write_news.ensures c.looks.invariant
+
+pub returns : goal.returns
+returns c = writing_all (λ (m : Look). m.news) [] c.args.looks.now c.looks.rest.now c.args.fresh.now.items c.looks.fresh.items c.in_default.ensures.cases c.looks.invariant

@@ -1,0 +1,41 @@
+-- What a round found at the nodes that were due.
+--     IsLook .. nodes l      the look l says what is new at its node, and when it wakes
+--     AreNoted gains looks nodes   each gain is of a node at which some look found something
+--     AreSeen .. latest nodes   each node was looked at or need not be, and wakes in no round after `latest`
+--     AreFound .. due r      the round r found what is new at each node that was due
+--     RestUndue .. due wakes nodes   a node that isn't due need not be looked at
+use Rattle.std.specs.Prelude.{◌≡◌, ◌⊎◌, ◌≤◌, ◌<◌, ℕ, List, [], Option, length, get_or, Contains, IsTrue, IsFalse, IfSome}
+use Rattle.tree_sem.specs.Trees.{LabelTree}
+use Rattle.simple_core.specs.declared.system.System.{System}
+use Rattle.simple_core.specs.Pairs.{Pair}
+use Rattle.class_adding.specs.declared.gains.Gain.{Gain}
+use Rattle.class_adding.specs.declared.looking.Look.{Look}
+use Rattle.class_adding.specs.declared.rounds.Round.{Round}
+use Rattle.class_adding.specs.Filling.{IsLooked, IsNews, AreRight, AreNew, wake_at}
+use Rattle.class_adding.specs.Work.{IsSeen}
+
+pub record IsLook (s : System) (u : LabelTree) (k : ℕ) (known : Pair → Type 0) (gains : List Gain) (nodes : List (List ℕ)) (l : Look) : Type 0 where
+  pub within : l.number < length nodes
+  pub looked : IsLooked s u k known gains l.wake (get_or nodes l.number [])
+  pub is_news : IsNews s u k (get_or nodes l.number []) l.news
+  pub same : IsFalse l.grew → l.news ≡ []
+
+abbrev pub AreLooks : System → LabelTree → ℕ → (Pair → Type 0) → List Gain → List (List ℕ) → List Look → Type 0
+AreLooks s u k known gains nodes looks = (l : Look) → Contains looks l → IsLook s u k known gains nodes l
+
+abbrev pub AreNoted : List Gain → List Look → List (List ℕ) → Type 0
+AreNoted gains looks nodes = (g : Gain) → Contains gains g → (l : Look) × Contains looks l × (get_or nodes l.number [] ≡ g.at) × IsTrue l.grew
+
+abbrev pub AreSeen : System → LabelTree → ℕ → (Pair → Type 0) → List Gain → ℕ → List (List ℕ) → Type 0
+AreSeen s u k known gains latest nodes = (i : ℕ) → i < length nodes → (wake : Option ℕ) × IsLooked s u k known gains wake (get_or nodes i []) × IfSome wake (λ r. r ≤ latest)
+
+abbrev pub RestUndue : System → LabelTree → ℕ → (Pair → Type 0) → List ℕ → List (Option ℕ) → List (List ℕ) → Type 0
+RestUndue s u k known due wakes nodes = (i : ℕ) → i < length nodes → Contains due i ⊎ IsLooked s u k known [] (wake_at wakes i) (get_or nodes i [])
+
+-- a round found what is new at each node that was due
+pub record AreFound (s : System) (u : LabelTree) (nodes : List (List ℕ)) (k : ℕ) (known : Pair → Type 0) (due : List ℕ) (r : Round) : Type 0 where
+  pub right : AreRight s u k r.gains.items
+  pub news : AreNew u r.gains.items
+  pub looks_are : AreLooks s u k known r.gains.items nodes r.looks.items
+  pub covers : (i : ℕ) → Contains due i → IsSeen r.looks.items i
+  pub noted : AreNoted r.gains.items r.looks.items nodes
