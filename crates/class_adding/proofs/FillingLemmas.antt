@@ -4,7 +4,7 @@ use Rattle.tree_sem.specs.Trees.{LabelTree}
 use Rattle.tree_sem.specs.Order.{paths_of}
 use Rattle.simple_core.specs.declared.system.System.{System}
 use Rattle.simple_core.specs.Pairs.{Pair}
-use Rattle.class_adding.specs.declared.gains.Gain.{Gain}
+use Rattle.closed_page.specs.declared.gains.Gain.{Gain}
 use Rattle.class_adding.specs.declared.looking.Look.{Look}
 use Rattle.class_adding.specs.Filling.{AreLooked, AreFresh, IsNews, IsLooked, IsAfter, wake_at}
 use Rattle.class_adding.specs.Fillings.{IsBegun, IsTaken}

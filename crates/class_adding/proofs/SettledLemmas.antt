@@ -19,8 +19,9 @@ use Rattle.simple_core.specs.Pairs.{Pair, Asks}
 use Rattle.simple_core.proofs.Members.{among_all, all_among_each, flat_map-Contains, Contains-flat_map, Contains-range}
 use Rattle.simple_core.proofs.LabelLemmas.{is-given_by_rules, is-given_by_links, kinds_at-is, is-kinds_at}
 use Rattle.simple_core.proofs.PageLemmas.{page-rises}
-use Rattle.class_adding.specs.declared.gains.Gain.{Gain}
-use Rattle.class_adding.specs.Filling.{label_in, above_in, real_in, within_page, label_next, IsAfter, AreFresh, IsBefore, AreLooked, wake_at, wakes_in}
+use Rattle.closed_page.specs.declared.gains.Gain.{Gain}
+use Rattle.class_adding.specs.Filling.{above_in, real_in, within_page, label_next, IsAfter, AreFresh, IsBefore, AreLooked, wake_at, wakes_in}
+use Rattle.closed_page.specs.Gains.{label_in}
 use Rattle.closed_page.specs.Labelled.{AreAllLabels}
 use Rattle.class_adding.specs.Fresh.{AreSettled, IsResting, AreResting}
 use Rattle.closed_page.proofs.LabelledLemmas.{child_number}

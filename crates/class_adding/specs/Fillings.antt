@@ -5,7 +5,7 @@ use Rattle.std.specs.Prelude.{◌≡◌, ◌++◌, ℕ, List, [], Contains}
 use Rattle.std.specs.List.Sorted.{IsStrictlyIncreasing}
 use Rattle.tree_sem.specs.Trees.{LabelTree}
 use Rattle.tree_sem.specs.Order.{paths_of}
-use Rattle.class_adding.specs.Filling.{label_in, starts, with_gains, news}
+use Rattle.closed_page.specs.Gains.{label_in, starts, with_gains, news}
 use Rattle.class_adding.specs.Work.{IsStart, IsNext}
 use Rattle.class_adding.specs.declared.filling.Filling.{Filling}
 use Rattle.class_adding.specs.declared.rounds.Round.{Round}

@@ -17,7 +17,8 @@ use Rattle.simple_core.specs.declared.rules.Spawn.{Spawn}
 use Rattle.simple_core.specs.Labels.{given_by_links, labels_below}
 use Rattle.simple_core.specs.Rounds.{grown}
 use Rattle.simple_core.specs.Pairs.{Pair, Asks}
-use Rattle.class_adding.specs.Filling.{label_in, SleepsTill, wakes_in, wake_at}
+use Rattle.class_adding.specs.Filling.{SleepsTill, wakes_in, wake_at}
+use Rattle.closed_page.specs.Gains.{label_in}
 
 pub record IsMore (own given old new : List ℕ) : Type 0 where
   pub kept : (y : ℕ) → Contains old y → Contains new y

@@ -8,7 +8,7 @@ use Rattle.std.specs.Prelude.{◌≡◌, ◌⊎◌, ◌≤◌, ◌<◌, ℕ, Lis
 use Rattle.tree_sem.specs.Trees.{LabelTree}
 use Rattle.simple_core.specs.declared.system.System.{System}
 use Rattle.simple_core.specs.Pairs.{Pair}
-use Rattle.class_adding.specs.declared.gains.Gain.{Gain}
+use Rattle.closed_page.specs.declared.gains.Gain.{Gain}
 use Rattle.class_adding.specs.declared.looking.Look.{Look}
 use Rattle.class_adding.specs.declared.rounds.Round.{Round}
 use Rattle.class_adding.specs.Filling.{IsLooked, IsNews, AreRight, AreNew, wake_at}

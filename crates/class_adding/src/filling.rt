@@ -10,12 +10,11 @@ ghost use Rattle.class_adding.specs.Fillings.{IsBegun, IsTaken};
 ghost use Rattle.closed_page.specs.Firsts.{AreOfNodes};
 ghost use Rattle.closed_page.specs.Views.{firsts_of};
 
-use crate::gains::{apply_all, start};
 use crate::gift_table::GiftTable;
 use crate::indexed_system::IndexedSystem;
 use crate::rounds::{Round, look_at_all};
 use crate::work::{Work, begin_work, latest_of, take_looks};
-use closed_page::{PageFirst, PageLabels};
+use closed_page::{PageFirst, PageLabels, apply_gains, start_firsts};
 use simple_core::{GainFault, Summaries};
 use std::alloc::Global;
 use tp_base::NoMemory;
@@ -38,7 +37,7 @@ pub(crate) fn begin(alloc: Global, page: &Tree) -> Result<Filling, NoMemory>
     let labels = PageLabels::new(alloc, page)?;
     let work = begin_work(alloc, page, &labels)?;
     let mut firsts = Vec::new(alloc);
-    start(alloc, page, labels.paths(), &mut firsts)?;
+    start_firsts(alloc, page, labels.paths(), &mut firsts)?;
     Ok(Filling {
         labels,
         firsts,
@@ -60,7 +59,7 @@ fn take_round(
     requires working { IsWorking filling.old.labels.nodes filling.old.work }
     ensures { OnOk result (IsTaken filling.old round.now latest k filling.new) }
 {
-    apply_all(&mut filling.labels, &mut filling.firsts, &round.gains, k)?;
+    apply_gains(&mut filling.labels, &mut filling.firsts, &round.gains, k)?;
     take_looks(
         alloc,
         &filling.labels,

@@ -1,5 +1,6 @@
 pub mod AddLemmas
 pub mod FirstsLemmas
+mod GainLemmas
 pub mod LabelledLemmas
 pub mod RowLemmas
 mod PathTests

@@ -1,6 +1,7 @@
 -- What public contracts cite.
 pub mod ClosedPages
 pub mod Firsts
+pub mod Gains
 pub mod Labelled
 pub mod Rows
 pub mod Views

@@ -3,6 +3,7 @@
 
 mod closed;
 mod first_rounds;
+mod gains;
 mod index;
 mod nodes;
 mod page_labels;
@@ -10,5 +11,6 @@ mod paths;
 
 pub use closed::Closed;
 pub use first_rounds::PageFirst;
+pub use gains::{Gain, apply_gains, start_firsts};
 pub use index::Index;
 pub use page_labels::{PageLabels, all_labels};

@@ -1,6 +1,6 @@
 use Rattle.std.proofs.Common.{[], List, ℕ, get_or, unwrap_or, sym, ap, ◌≡◌, ◌<◌, length, Contains, arith, subst}
 use Rattle.std.proofs.lemmas.List.{get_or_read}
-use Rattle.class_adding.specs.Filling.{label_in}
+use Rattle.closed_page.specs.Gains.{label_in}
 use Rattle.closed_page.specs.Labelled.{node_of}
 use Rattle.class_adding.specs.Fresh.{AreMet}
 use Rattle.class_adding.proofs.FreshLemmas.{given_more, AreCallers}

@@ -1,21 +1,20 @@
 use Rattle.std.proofs.Common.{◌≡◌, ℕ, List, ◌∷◌, All, Contains, sym, ap, ◌∙◌, subst}
 use Rattle.std.proofs.lemmas.List.Elements.{All-head, All-rest}
-use Rattle.class_adding.specs.declared.gains.Gain.{Gain}
-use Rattle.class_adding.specs.Filling.{with_gains}
-use Rattle.class_adding.proofs.AddedLemmas.{first_rest}
-use Rattle.class_adding.proofs.CloseLemmas.{news_next}
-use Rattle.class_adding.proofs.gains.apply_all.Goals as goal
+use Rattle.closed_page.specs.declared.gains.Gain.{Gain}
+use Rattle.closed_page.specs.Gains.{with_gains}
+use Rattle.closed_page.proofs.GainLemmas.{news_next}
+use Rattle.closed_page.proofs.gains.apply_gains.Goals as goal
 
 pub apply-requires : goal.apply-requires
 apply-requires c =
-    let split : c.gains.rest.now ≡ c.in-Some.gain.now ∷ c.in-Some.others.now = first_rest c.gains.rest.now c.in-Some.gain.now c.in-Some.others.now c.in-Some.ensures.cases in
+    let split : c.gains.rest.now ≡ c.in-Some.gain.now ∷ c.in-Some.others.now = c.in-Some.ensures.cases.0 in
     subst (λ (z : List (List ℕ)). Contains z c.in-Some.gain.now.at) (sym c.gains.invariant.nodes)
     (All-head (λ (g : Gain). Contains c.args.labels.now.nodes g.at) c.in-Some.gain.now c.in-Some.others.now
     (subst (λ (z : List Gain). All (λ (g : Gain). Contains c.args.labels.now.nodes g.at) z) split c.gains.invariant.there))
 
 pub gains-preserved : goal.gains-preserved
 gains-preserved c =
-    let split : c.gains.rest.now ≡ c.in-Some.gain.now ∷ c.in-Some.others.now = first_rest c.gains.rest.now c.in-Some.gain.now c.in-Some.others.now c.in-Some.ensures.cases in
+    let split : c.gains.rest.now ≡ c.in-Some.gain.now ∷ c.in-Some.others.now = c.in-Some.ensures.cases.0 in
     record {
       labels = ap (λ z. with_gains z c.in-Some.others.now) c.in_ok-apply.ensures.labels ∙ ap (λ (z : List Gain). with_gains c.gains.labels.labels z) (sym split) ∙ c.gains.invariant.labels;
       there = All-rest (λ (g : Gain). Contains c.args.labels.now.nodes g.at) c.in-Some.gain.now c.in-Some.others.now c.gains.rest.now split c.gains.invariant.there;

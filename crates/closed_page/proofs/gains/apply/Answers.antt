@@ -1,8 +1,8 @@
 use Rattle.std.proofs.Common.{◌≡◌, List, ℕ, [], ◌++◌, Some, unwrap_or, ap, sym, ◌∙◌}
 use Rattle.tree_sem.specs.Trees.{label_at}
-use Rattle.class_adding.specs.Filling.{label_in, firsts_at}
-use Rattle.class_adding.proofs.AddedLemmas.{on_ok}
-use Rattle.class_adding.proofs.gains.apply.Goals as goal
+use Rattle.closed_page.specs.Gains.{label_in, firsts_at}
+use Rattle.closed_page.proofs.GainLemmas.{on_ok}
+use Rattle.closed_page.proofs.gains.apply.Goals as goal
 
 pub returns-clause-labels : goal.returns-clause-labels
 returns-clause-labels c = rw (c.in-Some.ensures.some.1) at c.add.ensures.labels

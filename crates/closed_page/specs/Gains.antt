@@ -1,0 +1,34 @@
+-- What nodes gain, and the first rounds that come of it.
+--     label_in u v             the label at v
+--     firsts_at at own label round   the atoms of the label that the node doesn't have in `own`, as firsts of that round
+--     with_gains u gs          the tree with the gains gs, one after another
+--     news u gs round          the firsts that they bring
+--     starts t nodes           the firsts of these nodes before any round
+use Rattle.std.specs.Prelude.{ℕ, List, [], ◌∷◌, ◌++◌, map, not, unwrap_or}
+use Rattle.std.specs.List.{filter}
+use Rattle.tp_base.specs.Classes.{has_class}
+use Rattle.tree_sem.specs.Trees.{LabelTree, label_at, edit_at}
+use Rattle.tree_sem.specs.Actions.{add_classes}
+use Rattle.closed_page.specs.declared.gains.Gain.{Gain}
+use Rattle.closed_page.specs.declared.first_rounds.PageFirst.{PageFirst}
+
+abbrev pub label_in : LabelTree → List ℕ → List ℕ
+label_in u v = unwrap_or (label_at v u) []
+
+abbrev pub firsts_at : List ℕ → List ℕ → List ℕ → ℕ → List PageFirst
+firsts_at at own label round = map (λ a. record { at = at; atom = a; round = round }) (filter (λ a. not (has_class a own)) label)
+
+abbrev pub with_gain : LabelTree → Gain → LabelTree
+with_gain u g = edit_at g.at (add_classes g.label) u
+
+abbrev pub with_gains : LabelTree → List Gain → LabelTree
+with_gains u [] = u
+with_gains u (g ∷ gains) = with_gains (with_gain u g) gains
+
+abbrev pub news : LabelTree → List Gain → ℕ → List PageFirst
+news u [] round = []
+news u (g ∷ gains) round = firsts_at g.at (label_in u g.at) g.label round ++ news (with_gain u g) gains round
+
+abbrev pub starts : LabelTree → List (List ℕ) → List PageFirst
+starts t [] = []
+starts t (v ∷ vs) = firsts_at v [] (label_in t v) 0 ++ starts t vs
