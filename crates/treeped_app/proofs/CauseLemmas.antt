@@ -22,6 +22,7 @@ use Rattle.run_ends.specs.Stops.{line_of, status_of_stop}
 use Rattle.run_ends.specs.Tells.{Put}
 use Rattle.treeped_app.specs.Runs.{Told, Run, Ends, Fit, AreFrom, AreTexts, Exceeds, read_inputs, IsRefusedBy, IsJudgeable, IsSaid, AreSaid, IsWhole, IsAt, IsLast}
 use Rattle.treeped_app.proofs.BudgetLemmas.{OverOn, left_open, all_decided, doubt_sharp}
+use Rattle.treeped_app.proofs.RingLemmas.{well_read}
 use Rattle.run_ends.specs.Tells.{Says, SaysWhy}
 use Rattle.treeped_app.specs.Commands.{Reports, IsTold, IsEnded, Fails, IsRefusal, FailedAt, AreToldFrom, FitFrom, IsWell, AreWell, HasVisit, IsRefusedOrFails, NothingFails, HasMaybe, IsInDoubt, Causes}
 
@@ -285,7 +286,7 @@ module _ (r : Run) (t : Task) (task : command r.words ≡ Some t) (well : AreWel
   is_read : (y : Texts) → AreTexts r.told v y → read_inputs t'.mode v.number y ≡ Ok its.inputs
   is_read y texts =
       subst (λ (u : Task). read_inputs u.mode v.number y ≡ Ok its.inputs) (sym this_task)
-      (subst (λ (z : Texts). read_inputs t.mode v.number z ≡ Ok its.inputs) (sym (texts_told r.told v.origin its.texts y its.are_told texts.from)) its.read)
+      (subst (λ (z : Texts). read_inputs t.mode v.number z ≡ Ok its.inputs) (sym (texts_told r.told v.origin its.texts y its.are_told texts.from)) (well_read r.words r.told t v task there its))
 
   not_unread : (y : Texts) (stop : Stop) → AreTexts r.told v y → read_inputs t'.mode v.number y ≡ Err stop → ⊥
   not_unread y stop texts unread = let read = is_read y texts in cc
@@ -333,7 +334,7 @@ within_all r t task well enough t' said whole x there over =
     let of = said_by r.told t (visits t.source) said all' x there in
     let its' = well of.0 of.1 in
     let texts = texts_told r.told of.0.origin its'.texts x.texts its'.are_told of.2.texts.from in
-    let both : Ok x.inputs ≡ Ok its'.inputs = sym of.2.read ∙ ap (read_inputs t.mode of.0.number) texts ∙ its'.read in
+    let both : Ok x.inputs ≡ Ok its'.inputs = sym of.2.read ∙ ap (read_inputs t.mode of.0.number) texts ∙ well_read r.words r.told t of.0 task of.1 its' in
     let inputs : x.inputs ≡ its'.inputs = cc in
     enough of.0 of.1 (subst (λ (i : Inputs). IsOverBudget t.mode t.limits i) inputs (subst (λ (u : Task). IsOverBudget u.mode u.limits x.inputs) same over))
 

@@ -5,6 +5,9 @@ pub mod MarkLemmas
 pub mod RoomLemmas
 pub mod DeadLemmas
 pub mod BudgetLemmas
+mod RingScript
+mod RingLines
+mod RingLemmas
 pub mod CauseLemmas
 pub mod LoadingLemmas
 pub mod ReadingLemmas
