@@ -73,7 +73,7 @@ fn a_failed_write_is_heard(rt: HostRuntime) -> Result<(), Fail> {
     let mut out = MemSink::new(alloc, Vec::from_slice(alloc, &[1])?, 100);
     let (status, errors) = errors_of(alloc, &words, &mut files, &mut out)?;
     assert!(rt; status.code() == 5, "status {status:?}");
-    assert!(rt; errors.as_slice() == b"treeped: write fault\n");
+    assert!(rt; errors.as_slice() == b"treeped: write fault\n".as_slice());
     Ok(())
 }
 
