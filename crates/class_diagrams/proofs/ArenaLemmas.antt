@@ -118,12 +118,16 @@ gives_one a n p q arena p_in same =
 
 -- ### references that agree
 
-pub same_meaning : (a : Arena) (p q : Place) (b : Bool) → IsArena a → IsIn a.branches p → IsIn a.branches q → IsTrue b ↔ (p ≡ q)
+pub same_trees : (a : Arena) (p q : Place) (b : Bool) → IsArena a → IsIn a.branches p → IsIn a.branches q → IsTrue b ↔ (p ≡ q)
+    → IsTrue b ↔ (tree_at a.branches p ≡ tree_at a.branches q)
+same_trees a p q b arena p_in q_in is = (λ yes. ap (tree_at a.branches) (is.0 yes), λ trees. is.1 (arena.same p q p_in q_in trees))
+
+pub same_meaning : (a : Arena) (p q : Place) (b : Bool) → IsArena a → IsIn a.branches p → IsIn a.branches q → IsTrue b ↔ (tree_at a.branches p ≡ tree_at a.branches q)
     → IsTrue b ↔ AgreeOnAllSets (tree_at a.branches p) (tree_at a.branches q)
 same_meaning a p q b arena p_in q_in is = (
-  λ yes. agree_where_same (tree_at a.branches p) (tree_at a.branches q) (ap (tree_at a.branches) (is.0 yes)),
-  λ agree. is.1 (arena.same p q p_in q_in (same_where_agree (tree_at a.branches p) (tree_at a.branches q)
-      (IsOrdered-tree_at a.branches p arena.ordered p_in) (IsOrdered-tree_at a.branches q arena.ordered q_in) agree)),
+  λ yes. agree_where_same (tree_at a.branches p) (tree_at a.branches q) (is.0 yes),
+  λ agree. is.1 (same_where_agree (tree_at a.branches p) (tree_at a.branches q)
+      (IsOrdered-tree_at a.branches p arena.ordered p_in) (IsOrdered-tree_at a.branches q arena.ordered q_in) agree),
 )
 
 -- whether a leaf is the true one

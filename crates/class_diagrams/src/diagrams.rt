@@ -86,6 +86,7 @@ impl Diagrams {
         ensures high { IfSome result (λ b. IsIn self.now.branches b.2) }
         ensures tree { IfSome result (λ b. tree_at self.now.branches f
             ≡ branch b.0 (tree_at self.now.branches b.1) (tree_at self.now.branches b.2)) }
+        ensures arena { IsArena self.now }
     {
         self.table.branch(f)
     }
@@ -109,8 +110,7 @@ impl Diagrams {
         ensures same { IsTrue result ↔ (tree_at self.now.branches f ≡ tree_at self.now.branches g) }
         ensures agree { IsTrue result ↔ AgreeOnAllSets (tree_at self.now.branches f) (tree_at self.now.branches g) }
     {
-        let _ = &self.table;
-        f.is(g)
+        self.table.same(f, g)
     }
 
     /// The diagram of the sets that have the atom. Constant on average.
@@ -207,8 +207,7 @@ impl Diagrams {
         ensures same { self.new ≡ self.old }
         ensures arena { IsArena self.new }
     {
-        let _ = &self.table;
-        if f.is(g) {
+        if self.table.same(f, g) {
             return Start::Known(f);
         }
         match self.table.pair(f, g) {

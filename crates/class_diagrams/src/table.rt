@@ -1,5 +1,5 @@
 //! The branches of an arena, each different one once.
-ghost use Rattle.std.specs.Prelude.{◌≡◌, ◌<◌, ◌≤◌, length, [], Ok, Err, IfSome, IfNone, IsNone, ◌↔◌};
+ghost use Rattle.std.specs.Prelude.{◌≡◌, ◌<◌, ◌≤◌, length, [], Ok, Err, IfSome, IfNone, IsNone, IsTrue, ◌↔◌};
 ghost use Rattle.class_diagrams.specs.Trees.{branch, join, IsLeaf, IsOrdered};
 ghost use Rattle.class_diagrams.specs.Arena.{tree_at, IsIn, IsArena};
 ghost use Rattle.class_diagrams.specs.Table.{tree_by};
@@ -94,13 +94,23 @@ impl BranchTable {
         }
     }
 
+    /// Whether two diagrams have the same tree: each tree is there once.
+    pub(crate) fn same(&self, f: Ref, g: Ref) -> bool
+        requires first { IsIn self.now.branches f }
+        requires second { IsIn self.now.branches g }
+        requires arena { IsArena self.now }
+        ensures { IsTrue result ↔ (tree_at self.now.branches f ≡ tree_at self.now.branches g) }
+    {
+        f.is(g)
+    }
+
     /// What two diagrams are for an operation.
     pub(crate) fn pair(&self, f: Ref, g: Ref) -> Pair
         requires first { IsIn self.now.branches f }
         requires second { IsIn self.now.branches g }
+        requires arena { IsArena self.now }
         ensures { IsPair self.now.branches f g result }
     {
-        let _ = &self.nodes;
         match (f.place(), g.place()) {
             (Place::Leaf(value), _) => Pair::WithLeaf { value, other: g },
             (Place::Branch(_), Place::Leaf(value)) => Pair::WithLeaf { value, other: f },
@@ -141,9 +151,9 @@ impl BranchTable {
         requires low_in { IsIn self.old.branches low }
         requires high_in { IsIn self.old.branches high }
         requires ordered { IsOrdered (join atom (tree_at self.old.branches low) (tree_at self.old.branches high)) }
+        requires arena { IsArena self.old }
         ensures { Gives self.old self.new (join atom (tree_at self.old.branches low) (tree_at self.old.branches high)) result }
     {
-        let _ = &self.nodes;
         if low.is(high) {
             Ok(low)
         } else {

@@ -1,7 +1,6 @@
-use Rattle.std.proofs.Common.{subst}
-use Rattle.class_diagrams.specs.Arena.{IsArena}
 use Rattle.class_diagrams.proofs.ArenaLemmas.{same_meaning}
 use Rattle.class_diagrams.proofs.diagrams.Diagrams.same.Goals as goal
 
 pub returns-clause-agree : goal.returns-clause-agree
-returns-clause-agree c = same_meaning c.args.self.now c.args.f c.args.g c.is.result (subst IsArena c.self.view_is c.self.invariant.arena) c.requires.first c.requires.second c.is.ensures
+returns-clause-agree c = rw (← c.self.view_is)
+    (same_meaning c.self.inside.table c.args.f c.args.g c.same.result c.self.invariant.arena (rw (← c.self.view_is) at c.requires.first) (rw (← c.self.view_is) at c.requires.second) c.same.ensures)

@@ -5,9 +5,10 @@ use Rattle.class_diagrams.proofs.CombinedLemmas.{gives_leaf, gives_itself, gives
 use Rattle.class_diagrams.proofs.diagrams.Diagrams.start.Goals as goal
 use Rattle.class_diagrams.proofs.diagrams.Diagrams.start.Goals.{in-Some, in-None}
 
-pub returns-then-is-clause-start : goal.returns-then-is-clause-start
-returns-then-is-clause-start c = rw (← c.self.view_is)
-    (gives_itself c.args.operation c.self.inside.table c.args.f c.args.g c.self.invariant.arena (rw (← c.self.view_is) at c.requires.first) (c.if-is.ensures.0 refl))
+pub returns-then-same-clause-start : goal.returns-then-same-clause-start
+returns-then-same-clause-start c = rw (← c.self.view_is)
+    (gives_itself c.args.operation c.self.inside.table c.args.f c.args.g c.self.invariant.arena (rw (← c.self.view_is) at c.requires.first)
+    (c.self.invariant.arena.same c.args.f c.args.g (rw (← c.self.view_is) at c.requires.first) (rw (← c.self.view_is) at c.requires.second) (c.if-same.ensures.0 refl)))
 
 pub returns-in-WithLeaf-clause-start : goal.returns-in-WithLeaf-clause-start
 returns-in-WithLeaf-clause-start c = rw (← c.self.view_is)
