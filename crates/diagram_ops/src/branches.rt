@@ -3,7 +3,7 @@ ghost use Rattle.std.specs.Prelude.{◌≡◌, ◌+◌, ◌^◌, ◌<◌, ℕ, s
 ghost use Rattle.std.specs.List.{IsDistinct};
 ghost use Rattle.indexmap.specs.IndexSet.{index_set_len};
 ghost use Rattle.class_diagrams.specs.References.{Reference};
-ghost use Rattle.class_diagrams.specs.Arena.{tree_at, IsIn};
+ghost use Rattle.class_diagrams.specs.Arena.{tree_at, IsIn, IsArena};
 ghost use Rattle.class_diagrams.proofs.ReferenceLemmas.{ref_eq};
 ghost use Rattle.diagram_ops.specs.Walks.{with_branch, AreBranches, IsWalk};
 
@@ -17,8 +17,8 @@ pub(crate) fn branches_of(alloc: Global, d: &Diagrams, f: Ref) -> Result<IndexSe
     requires { IsIn d.now.branches f }
     ensures branches { IfOk result (λ seen. AreBranches d.now.branches f seen.keys) }
     ensures few { IfOk result (λ seen. index_set_len seen < 2 ^ 32) }
+    ensures arena { IsArena d.now }
 {
-    let _ = d.held();
     let mut seen = IndexSet::new(alloc);
     see(d, f, &mut seen)?;
     let mut next = 0;
@@ -35,6 +35,7 @@ fn see(d: &Diagrams, f: Ref, seen: &mut IndexSet<Ref>) -> Result<(), NoMemory>
     requires { IsIn d.now.branches f }
     ensures keys { OnOk result (seen.new.keys ≡ with_branch d.now.branches seen.old.keys f) }
     ensures different { IsDistinct ref_eq seen.old.keys → OnOk result (IsDistinct ref_eq seen.new.keys) }
+    ensures arena { IsArena d.now }
 {
     match d.branch(f) {
         None => Ok(()),

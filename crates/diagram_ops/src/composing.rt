@@ -41,7 +41,6 @@ pub fn compose(
     ensures limit { d.new.limit ≡ d.old.limit }
     ensures arena { IsArena d.new }
 {
-    let _ = d.held();
     let mut memo = Memo::new(alloc);
     composed(d, &mut memo, f, by)
 }
@@ -56,7 +55,6 @@ fn composed(
     requires each { All (λ e. IsIn d.old.branches e.1) by.now }
     requires order { IsStrictlyIncreasing (map (λ e. e.0) by.now) }
     requires right { AreRight d.old.branches (tree_by d.old.branches by.now) memo.old }
-    requires arena { IsArena d.old }
     ensures calculates { Calculates d.old d.new (composed_results d.old f by.now) (composed_tree d.old f by.now) result }
     ensures right { AreRight d.new.branches (tree_by d.old.branches by.now) memo.new }
 {
@@ -78,7 +76,8 @@ fn composed(
 #[inline(never)]
 fn begin(d: &Diagrams, memo: &Memo, f: Ref) -> Start
     requires { IsIn d.now.branches f }
-    ensures { (by : ℕ → Tree) → AreRight d.now.branches by memo.now → IsStart d.now.branches by f result }
+    ensures start { (by : ℕ → Tree) → AreRight d.now.branches by memo.now → IsStart d.now.branches by f result }
+    ensures arena { IsArena d.now }
 {
     match d.branch(f) {
         None => Start::Known(f),

@@ -24,7 +24,6 @@ pub fn size(alloc: Global, d: &Diagrams, f: Ref) -> Result<u32, NoMemory>
     requires { IsIn d.now.branches f }
     ensures { IfOk result (λ n. n ≡ size_of (tree_at d.now.branches f)) }
 {
-    let _ = d.held();
     let branches = branches_of(alloc, d, f)?;
     Ok(branches.len() as u32)
 }

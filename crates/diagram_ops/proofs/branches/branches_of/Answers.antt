@@ -33,6 +33,6 @@ returns-clause-branches c =
 pub returns-clause-few : goal.returns-clause-few
 returns-clause-few c =
     let short = walk_short c.args.d.now.branches c.args.f c.loop-next.seen.keys c.loop-next.next c.loop-next.invariant in
-    let limit = c.held.ensures.arena.in_limit in
-    let small = c.held.ensures.arena.small in
+    let limit = c.see.ensures.arena.in_limit in
+    let small = c.see.ensures.arena.small in
     omega (arith, c.len.ensures.len)

@@ -5,4 +5,4 @@ use Rattle.diagram_ops.proofs.looks.size.Goals as goal
 pub returns : goal.returns
 returns c =
     c.len.ensures.len
-    ∙ size_is c.args.d.now.branches c.held.ensures.arena.same c.args.f c.in_ok-branches.branches.keys c.in_ok-branches.ensures.branches
+    ∙ size_is c.args.d.now.branches c.branches_of.ensures.arena.same c.args.f c.in_ok-branches.branches.keys c.in_ok-branches.ensures.branches
