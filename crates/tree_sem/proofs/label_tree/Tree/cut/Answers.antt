@@ -2,6 +2,7 @@ use Rattle.std.proofs.Common.{◌≡◌, ◌-◌, ◌<◌, length, take, get_or,
 use Rattle.std.proofs.lemmas.Option.{slice_get-get_or}
 use Rattle.tree_sem.specs.Arena.{place_from}
 use Rattle.tree_sem.specs.Table.{kids_in, tree_in}
+use Rattle.tree_sem.proofs.ChangeLemmas.{tree_in_limit}
 use Rattle.tree_sem.proofs.CutLemmas.{table_cut}
 use Rattle.tree_sem.proofs.CutPaths.{cut_is, parent_missing, child_missing, child_cut}
 use Rattle.tree_sem.proofs.TableLemmas.{no_node, node_there, kids_there}
@@ -96,6 +97,26 @@ invariant_of-self c =
     let child : slice_get (kids_in slots place) k ≡ Some (get_or (kids_in slots place) k 0) = slice_get-get_or (kids_in slots place) k 0 (omega (arith, count)) in
     table_cut slots c.cut_child.new.slots place k (get_or (kids_in slots place) k 0) (take (length v - 1) v) c.self.invariant c.cut_child.ensures.forest (sym at) child
     (c.cut_child.ensures.tree (take (length v - 1) v) (sym at)) (c.cut_child.ensures.count (get_or (kids_in slots place) k 0) child)
+
+pub returns-clause-in_limit : goal.returns-clause-in_limit
+returns-clause-in_limit c = λ done.
+    let slots = c.self.inside.slots in
+    let tree = tree_in slots 0 in
+    let v = c.args.at.now in
+    let n = c.len-levels.result in
+    let number : n ≡ length v = omega (arith, c.len-levels.ensures) in
+    let some : 0 < length v = omega (arith, c.len-levels.ensures) in
+    let place = c.in-Some.parent in
+    let k = c.at-step.result in
+    let last : slice_get v (length v - 1) ≡ Some k = ap (λ m. slice_get v (m - 1)) (sym number) ∙ c.at-step.ensures in
+    let at : Some place ≡ place_from (kids_in slots) 0 (take (length v - 1) v) = c.in-Some.ensures.place ∙ ap (λ m. place_from (kids_in slots) 0 (take (m - 1) v)) number in
+    let there = node_there slots c.self.invariant.forest (take (length v - 1) v) place at in
+    let kids = kids_there slots c.self.invariant.forest (take (length v - 1) v) place at in
+    let many = ap length (kids_are slots place c.index.result.now c.index.ensures) in
+    let count : c.len.result ≡ length (kids_in slots place) = omega (arith, many, c.index.result.now.children.ok.0, c.len.ensures) in
+    let child : slice_get (kids_in slots place) k ≡ Some (get_or (kids_in slots place) k 0) = slice_get-get_or (kids_in slots place) k 0 (omega (arith, count)) in
+    tree_in_limit c.cut_child.new.slots (table_cut slots c.cut_child.new.slots place k (get_or (kids_in slots place) k 0) (take (length v - 1) v) c.self.invariant c.cut_child.ensures.forest (sym at) child
+    (c.cut_child.ensures.tree (take (length v - 1) v) (sym at)) (c.cut_child.ensures.count (get_or (kids_in slots place) k 0) child))
 
 pub returns-clause-cut : goal.returns-clause-cut
 returns-clause-cut c =
