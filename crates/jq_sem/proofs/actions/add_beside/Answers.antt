@@ -1,7 +1,9 @@
 use Rattle.std.proofs.Common.{IsNone, refl, sym, ◌∙◌, subst}
+use Rattle.tree_sem.specs.declared.actions.Action.TheVariants.{Beside}
+use Rattle.tree_sem.specs.Actions.{act}
 use Rattle.tree_sem.specs.Trees.{LabelTree}
 use Rattle.jq_sem.specs.Runs.{IsChange}
-use Rattle.jq_sem.proofs.RunLemmas.{beside_root, beside_child, parent_node}
+use Rattle.jq_sem.proofs.RunLemmas.{unchanged, beside_root, beside_child, parent_node}
 use Rattle.jq_sem.proofs.actions.add_beside.Goals as goal
 
 pub add_inside-requires : goal.add_inside-requires
@@ -14,4 +16,5 @@ returns c =
 
 pub returns-in-None : goal.returns-in-None
 returns-in-None c =
-    subst (λ (z : LabelTree). IsChange c.args.tree.now z c.stay.new.tree c.stay.result) (beside_root c.args.forest.now c.args.at.now c.args.tree.now (sym c.in_ok-parent.ensures ∙ c.pop.ensures.root.0 (subst IsNone (sym c.in-None.is) refl))) c.stay.ensures
+    unchanged c.args.tree.now (act (Beside c.args.forest.now) c.args.at.now c.args.tree.now)
+    (beside_root c.args.forest.now c.args.at.now c.args.tree.now (sym c.in_ok-parent.ensures ∙ c.pop.ensures.root.0 (subst IsNone (sym c.in-None.is) refl)))
