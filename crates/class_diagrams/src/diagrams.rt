@@ -56,6 +56,7 @@ impl Diagrams {
         requires { nodes ≤ MOST_BRANCHES }
         ensures none { IfOk result (λ d. d.branches ≡ []) }
         ensures limit { IfOk result (λ d. d.limit ≡ nodes) }
+        ensures arena { IfOk result (λ d. IsArena d) }
     {
         let memo = Memo::new(alloc)?;
         let table = BranchTable::new(alloc, nodes);
@@ -109,6 +110,7 @@ impl Diagrams {
         requires second { IsIn self.now.branches g }
         ensures same { IsTrue result ↔ (tree_at self.now.branches f ≡ tree_at self.now.branches g) }
         ensures agree { IsTrue result ↔ AgreeOnAllSets (tree_at self.now.branches f) (tree_at self.now.branches g) }
+        ensures arena { IsArena self.now }
     {
         self.table.same(f, g)
     }
