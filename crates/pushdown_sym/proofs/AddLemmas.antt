@@ -15,9 +15,10 @@ use Rattle.diagram_ops.specs.Compositions.{tcompose, inner_results, tree_by}
 use Rattle.diagram_ops.proofs.HeldLemmas.{AreCovered, IsBranchOfOne, covered_left, covered_right}
 use Rattle.diagram_ops.proofs.StepLemmas.{brings_itself, brings_part, brings_then, calculates_last, calculates_failed, calculates_same_error}
 use Rattle.simple_core.specs.declared.rules.Local.{Local}
+use Rattle.simple_core.specs.declared.system.System.{System}
 use Rattle.pushdown_sym.specs.CellMap.{Entries, place_in, trees_in}
-use Rattle.pushdown_sym.specs.Terms.{CellTrees, Term, local_term, conjunction, conjunctions, disjunction, disjunctions}
-use Rattle.pushdown_sym.specs.Adding.{AreIn, Adds, of_local, child_term}
+use Rattle.pushdown_sym.specs.Terms.{CellTrees, Term, local_term, conjunction, conjunctions, terms, disjunction, disjunctions, next_tree}
+use Rattle.pushdown_sym.specs.Adding.{AreIn, Adds, next_in, results_in, of_local, child_term}
 
 -- ### a list at one of its places
 
@@ -49,6 +50,29 @@ conjunction_covered now j x (b ∷ xs) a rest y there = inr (conjunction_covered
 pub disjunction-append : (x : Tree) (ts us : List Term) → disjunction x (ts ++ us) ≡ disjunction (disjunction x ts) us
 disjunction-append x [] us = refl
 disjunction-append x (t ∷ ts) us = disjunction-append (tor x t.tree) ts us
+
+tor-true : (t : Tree) → tor (leaf true) t ≡ leaf true
+unfolding tor
+tor-true t = refl
+
+disjunction-true : (ts : List Term) → disjunction (leaf true) ts ≡ leaf true
+disjunction-true [] = refl
+disjunction-true (t ∷ ts) = ap (λ x. disjunction x ts) (tor-true t.tree) ∙ disjunction-true ts
+
+true_stays : (s : System) (now : CellTrees) (j atom : ℕ) → now j atom ≡ leaf true → next_tree s now j atom ≡ leaf true
+unfolding next_tree
+true_stays s now j atom is = ap (λ x. disjunction x (terms s now j atom)) is ∙ disjunction-true (terms s now j atom)
+
+-- a cell that holds for every label stays
+pub whole_stays : (s : System) (a : Arena) (cells : Entries) (j atom : ℕ) (r : Reference) → IsArena a → AreIn a.branches cells → r ≡ place_in cells j atom → tree_at a.branches r ≡ leaf true
+    → Calculates a a (results_in s a cells j atom) (next_in s a cells j atom) (Ok r)
+whole_stays s a cells j atom r arena inside is whole = record {
+  answer = (
+    subst (IsIn a.branches) (sym is) (inside j atom),
+    whole ∙ sym (true_stays s (trees_in a.branches cells) j atom (ap (tree_at a.branches) (sym is) ∙ whole)),
+  );
+  brings = brings_itself a (results_in s a cells j atom) arena;
+}
 
 pub covered_behind : (b us vs : List Tree) → AreCovered us vs → AreCovered (b ++ us) (b ++ vs)
 covered_behind [] us vs covered x there = covered x there

@@ -1,6 +1,7 @@
 //! The cells of the next round.
-ghost use Rattle.std.specs.Prelude.{◌≡◌, ◌<◌, ◌==◌, ℕ, suc, length, IsErrOf, IfOk};
+ghost use Rattle.std.specs.Prelude.{◌≡◌, ◌<◌, ◌==◌, ℕ, suc, true, length, IsErrOf, IfOk};
 ghost use Rattle.class_diagrams.specs.References.{Reference};
+ghost use Rattle.class_diagrams.specs.Trees.{leaf};
 ghost use Rattle.class_diagrams.specs.Arena.{tree_at, IsIn, IsArena, StartsWith};
 ghost use Rattle.diagram_ops.specs.Steps.{held_with_all, AreAmong, Calculates};
 ghost use Rattle.pushdown_sym.specs.Adding.{AreIn, next_in, results_in};
@@ -61,7 +62,7 @@ impl Equations {
     /// The cell of a kind and an atom in the round behind `now`. Of the rules that give the atom: a conjunction for each
     /// atom that a local one needs, for each link from a child a look at each kind of child that may have its left side, and
     /// a composition for each different pair of a child's diagram and the atom that makes the child. `Round` looks once for
-    /// all kinds.
+    /// all kinds. A cell that holds for every label stays, and costs nothing.
     pub fn next_cell(
         &self,
         d: &mut Diagrams,
@@ -82,7 +83,6 @@ impl Equations {
         ensures limit { d.new.limit ≡ d.old.limit }
         ensures arena { IsArena d.new }
     {
-        let _ = d.held();
         self.next_alone(now.allocator(), d, now, kind, atom)
     }
 
@@ -95,10 +95,13 @@ impl Equations {
         kind: u32,
         atom: Atom,
     ) -> Result<Ref, DiagramFault>
-        requires inside { AreIn d.old.branches now.now }
-        requires arena { IsArena d.old }
+        requires { AreIn d.old.branches now.now }
         ensures { Calculates d.old d.new (results_in self.now d.old now.now kind atom) (next_in self.now d.old now.now kind atom) result }
     {
+        let start = now.get(kind, atom);
+        if is_whole(d, start) {
+            return Ok(start);
+        }
         match self.children(alloc, now, atom) {
             Ok(children) => self.next_by(alloc, d, now, (kind, atom), children.items()),
             Err(_) => Err(DiagramFault::Memory),
@@ -143,6 +146,15 @@ impl Equations {
         let ups = self.ups.of(cell.1);
         next_of(alloc, &self.system, (locals, ups), children, d, now, cell)
     }
+}
+
+/// Whether a diagram is the one that holds for every label. Constant.
+pub(crate) fn is_whole(d: &Diagrams, f: Ref) -> bool
+    requires { IsIn d.now.branches f }
+    ensures whole { result ≡ true → tree_at d.now.branches f ≡ leaf true }
+    ensures arena { IsArena d.now }
+{
+    d.same(f, Diagrams::leaf(true))
 }
 
 // The cell, and behind it the terms of the local rules, of the links to the parent, and of those from the children.

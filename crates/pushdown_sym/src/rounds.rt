@@ -11,7 +11,7 @@ ghost use Rattle.pushdown_sym.specs.Adding.{AreIn, next_in, results_in};
 ghost use Rattle.pushdown_sym.specs.Children.{standing_of, different, kept_in, AreKept};
 
 use crate::cells::Cells;
-use crate::equations::Equations;
+use crate::equations::{Equations, is_whole};
 use crate::gathering::{Child, Children};
 use class_diagrams::{DiagramFault, Diagrams, Ref};
 use indexmap::IndexMap;
@@ -129,7 +129,8 @@ impl<'e, 'c> Round<'e, 'c> {
 
     /// The cell of a kind and an atom in the round behind this one, as `Equations::next_cell` gives it. Once for each atom,
     /// each link that gives it costs a look at each kind of child that may have its left side; and then each cell a
-    /// composition for each different pair of a child's diagram and the atom that makes the child.
+    /// composition for each different pair of a child's diagram and the atom that makes the child. A cell that holds for every
+    /// label stays, and costs nothing.
     pub fn next_cell(
         &mut self,
         d: &mut Diagrams,
@@ -150,7 +151,6 @@ impl<'e, 'c> Round<'e, 'c> {
         ensures limit { d.new.limit ≡ d.old.limit }
         ensures arena { IsArena d.new }
     {
-        let _ = d.held();
         next_kept(
             self.cells.allocator(),
             self.equations,
@@ -172,11 +172,14 @@ fn next_kept(
     cell: (u32, Atom),
 ) -> Result<Ref, DiagramFault>
     requires inside { AreIn d.old.branches now.now }
-    requires arena { IsArena d.old }
     requires kept { AreKept equations.now now.now kept.old }
     ensures kept { AreKept equations.now now.now kept.new }
     ensures next { Calculates d.old d.new (results_in equations.now d.old now.now cell.0 cell.1) (next_in equations.now d.old now.now cell.0 cell.1) result }
 {
+    let start = now.get(cell.0, cell.1);
+    if is_whole(d, start) {
+        return Ok(start);
+    }
     match kept.gather(alloc, equations, now, cell.1) {
         Ok(()) => equations.next_by(alloc, d, now, cell, kept.of(cell.1)),
         Err(_) => Err(DiagramFault::Memory),
