@@ -31,6 +31,5 @@ pub(crate) fn label_of(
             label.add(atom)?;
         }
     }
-    let _ = label.len();
     Ok(label)
 }

@@ -1,6 +1,7 @@
 //! Summaries that are read from diagrams.
 ghost use Rattle.std.specs.Prelude.{◌≡◌, ◌<◌, ◌≤◌, ◌^◌, [], length, IfOk, IfSome, IsOk, IsErrOf};
 ghost use Rattle.tp_base.specs.Classes.{has_class};
+ghost use Rattle.class_diagrams.specs.Arena.{IsArena};
 ghost use Rattle.limits.specs.declared.budgets.TheConstants.{MOST_BRANCHES};
 ghost use Rattle.simple_core.specs.Rounds.{grown, IsRest, IsFirst};
 ghost use Rattle.simple_core.specs.Systems.{kind_label, IsSound};
@@ -32,13 +33,12 @@ struct Ended {
 fn all_rounds(alloc: Global, system: &System, diagrams: &mut Diagrams) -> Result<Ended, GainFault>
     requires sound { IsSound system.now }
     requires empty { diagrams.old.branches ≡ [] }
+    requires arena { IsArena diagrams.old }
     ensures inside { IfOk result (λ e. AreIn diagrams.new.branches e.cells) }
     ensures built { IfOk result (λ e. IsBuilt system.now diagrams.new (history_in e.histories) e.cells) }
     ensures spent { IsErrOf result GainFault.Spent → MayBeSpent system.now diagrams.old.limit }
     ensures whole { IsOk result → ¬ HasToBeSpent system.now diagrams.old.limit }
 {
-    // Its contract says that this is an arena.
-    let _ = diagrams.held();
     let mut cells = Cells::first(alloc, system)?;
     let mut histories = Histories::new(alloc);
     saturate(alloc, system, diagrams, &mut cells, &mut histories)?;
@@ -128,7 +128,8 @@ impl SharedSummaries {
     // Whether a kind has an atom from the beginning.
     fn starts_with(&self, kind: u32, atom: Atom) -> bool
         requires { kind < length self.now.system.kinds }
-        ensures { result ≡ has_class atom (kind_label self.now.system kind) }
+        ensures start { result ≡ has_class atom (kind_label self.now.system kind) }
+        ensures sound { IsSound self.now.system }
     {
         let kinds = self.system.kinds.items();
         kinds[kind as usize].label.has(atom)
@@ -139,6 +140,7 @@ impl SharedSummaries {
         requires { kind < length self.now.system.kinds }
         ensures first { IsFirst (λ k. grown self.now.system k kind parent.now) atom result }
         ensures bound { IfSome result (λ k. k < 2 ^ 62) }
+        ensures sound { IsSound self.now.system }
     {
         if self.starts_with(kind, atom) {
             return Some(0);
@@ -168,7 +170,6 @@ impl Summaries for SharedSummaries {
     }
 
     fn first_round(&self, kind: u32, parent: &ClassSet, atom: Atom) -> Option<u64> {
-        let _ = &self.system;
         self.first_told(kind, parent, atom)
     }
 }
