@@ -1,24 +1,25 @@
 -- A page between its rounds: what is known of it before the first one, and from one to the next.
-use Rattle.std.proofs.Common.{◌≡◌, ◌≢◌, ◌⊎◌, ℕ, suc, ◌+◌, ◌^◌, ◌<◌, ◌≤◌, List, [], length, get_or, Option, Some, None, IfSome, Contains, refl, sym, ◌∙◌, inl, inr, arith, subst}
+use Rattle.std.proofs.Common.{◌≡◌, ◌≢◌, ◌⊎◌, ℕ, suc, ◌+◌, ◌^◌, ◌<◌, ◌≤◌, ◌==◌, false, List, [], ◌∷◌, ◌++◌, length, get_or, Option, Some, None, IfSome, Contains, refl, sym, ap, ◌∙◌, inl, inr, arith, subst}
+use Rattle.std.proofs.lemmas.Bool.{cases_Bool, eqb-true}
 use Rattle.tree_sem.specs.Trees.{LabelTree}
 use Rattle.tree_sem.specs.Order.{paths_of}
 use Rattle.simple_core.specs.declared.system.System.{System}
 use Rattle.simple_core.specs.Pairs.{Pair}
 use Rattle.closed_page.specs.declared.gains.Gain.{Gain}
 use Rattle.class_adding.specs.declared.looking.Look.{Look}
-use Rattle.class_adding.specs.Filling.{AreLooked, AreFresh, IsNews, IsLooked, IsAfter, wake_at}
+use Rattle.class_adding.specs.Filling.{AreLooked, AreFresh, IsNews, IsLooked, IsAfter, wake_at, wakes_in}
 use Rattle.class_adding.specs.Fillings.{IsBegun, IsTaken}
 use Rattle.class_adding.specs.Fresh.{AreSettled, AreResting}
-use Rattle.class_adding.specs.Looks.{AreFound, AreSeen, RestUndue}
-use Rattle.class_adding.specs.Work.{IsWorking, IsWritten, AreUntil, nodes_in}
+use Rattle.class_adding.specs.Looks.{AreLooks, AreFound, AreSeen, RestUndue}
+use Rattle.class_adding.specs.Work.{IsWorking, IsNext, IsSeen, IsWritten, AreUntil, nodes_in}
 use Rattle.class_adding.specs.declared.filling.Filling.{Filling}
 use Rattle.class_adding.specs.declared.gift_table.Row.{Row}
 use Rattle.class_adding.specs.declared.rounds.Round.{Round}
 use Rattle.class_adding.specs.declared.work.Work.{Work}
-use Rattle.class_adding.proofs.EndLemmas.{IsClosing, closing_start, closing_next, rest_next, few_next}
+use Rattle.class_adding.proofs.EndLemmas.{IsClosing, closing_start, closing_next, few_next}
 use Rattle.class_adding.proofs.RoundLemmas.{looked_more, news_rest}
-use Rattle.class_adding.proofs.SettledLemmas.{all_labels_are, settled_start, resting_start, settled_next, resting_next}
-use Rattle.class_adding.proofs.WrittenLemmas.{working_start, working_next, is_due}
+use Rattle.class_adding.proofs.SettledLemmas.{all_labels_are, settled_start, resting_start, settled_next, resting_next, rest_now}
+use Rattle.class_adding.proofs.WrittenLemmas.{working_start, working_next, look_of, cases_true, is_due}
 
 -- after k rounds
 pub record IsFilled (s : System) (t : LabelTree) (k : ℕ) (known : Pair → Type 0) (f : Filling) : Type 0 where
@@ -92,6 +93,39 @@ module _ (s : System) (u : LabelTree) (nodes : List (List ℕ)) (k : ℕ) (known
   ]
 
 -- the round may remember more of what added children give
+not_woken : (wake : Option ℕ) (n : ℕ) → (wake ≡ Some n → ⊥) → wakes_in n wake ≡ false
+not_woken None n other = refl
+not_woken (Some r) n other = elim (cases_Bool (r == n)) [ inl same ↦ absurd (other (ap Some (eqb-true r n same))) | inr none ↦ none ]
+
+-- a node that isn't due need not be looked at
+rests_next : (s : System) (t u u' : LabelTree) (k k' latest : ℕ) (known : Pair → Type 0) (gains : List Gain) (nodes : List (List ℕ)) (w w' : Work) (looks : List Look) → nodes ≡ paths_of t → IsAfter s t k u → IsAfter s t (suc k) u'
+    → AreFresh s u k nodes w'.fresh.items → AreLooks s u k known gains nodes looks → AreLooked s u k known gains w'.wakes.items nodes → IsWorking nodes w → ((i : ℕ) → Contains w.due.items i → IsSeen looks i)
+    → IsNext nodes w looks latest k' w' → IsWorking nodes w' → k' ≡ suc k → RestUndue s u' k' known w'.due.items w'.wakes.items nodes
+rests_next s t u u' k k' latest known gains nodes w w' looks all after after' fresh looks_are looked working covers next working' one i less = elim (is_due i w'.due.items) [
+  | inl there ↦ inl there
+  | inr never ↦
+      let wakes = w'.wakes.items in
+      let of = look_of nodes w looks latest k' w' working (λ l there. (looks_are l there).same) covers next in
+      let quiet : get_or w'.fresh.items i [] ≡ [] = elim (working'.quiet i less) [ inl is ↦ is | inr there ↦ absurd (never there) ] in
+      let awaited : wake_at wakes i ≡ Some (suc k) → Contains (nodes_in w'.awaited (suc k)) i = λ e. subst (λ (z : Option ℕ). IfSome z (λ n. Contains (nodes_in w'.awaited n) i)) e (working'.awaited i) in
+      let asleep : wakes_in (suc k) (wake_at wakes i) ≡ false = not_woken (wake_at wakes i) (suc k) (λ e. never (next.woken i (subst (λ z. Contains (nodes_in w'.awaited z) i) (sym one) (awaited e)))) in
+      inr (subst (λ z. IsLooked s u' z known [] (wake_at wakes i) (get_or nodes i [])) (sym one)
+      (rest_now s t u u' k nodes w'.fresh.items all after after' fresh i less quiet
+      (λ j n in_j at m listed from.
+      let l = of j m.from in_j from in
+      elim (cases_true l.0.seen_below) [
+        | inl seen ↦ never ((next.near l.0 l.1 l.3).below seen i n less (at ∙ ap (λ z. get_or nodes z [] ++ n ∷ []) (sym l.2)))
+        | inr unseen ↦ (looks_are l.0 l.1).below unseen m listed l.4
+      ])
+      (λ j n in_j at m listed from.
+      let l = of j m.from in_j from in
+      elim (cases_true l.0.seen_above) [
+        | inl seen ↦ never ((next.near l.0 l.1 l.3).above seen i n less (ap (λ z. get_or nodes z []) l.2 ∙ at))
+        | inr unseen ↦ (looks_are l.0 l.1).above unseen m listed l.4
+      ])
+      known gains wakes looked asleep))
+]
+
 pub filled_next : (s : System) (t : LabelTree) (k k' latest : ℕ) (known known' : Pair → Type 0) (f f' : Filling) (r : Round) (remembered : List Row) → IsFilled s t k known f → ((q : Pair) → known q → known' q)
     → AreFound s f.labels.labels f.labels.nodes k known' f.work.due.items r → f.work.latest ≤ latest → AreUntil r.looks.items latest → latest < 2 ^ 62 → (r.gains.items ≢ []) ⊎ (k < latest)
     → IsTaken (record { labels = f.labels; firsts = f.firsts; work = f.work; remembered = remembered }) r latest k' f' → k' ≡ suc k → IsFilled s t k' known' f'
@@ -111,11 +145,9 @@ filled_next s t k k' latest known known' f f' r remembered filled more found bef
     let closing : IsClosing s t u' f'.firsts.items k' known' =
     closing_next s t u f.firsts.items k known known' nodes gains latest filled.nodes filled.closing found.right seen more k' u' f'.firsts.items next taken.labels taken.firsts in
     let after' : IsAfter s t (suc k) u' = subst (λ z. IsAfter s t z u') next closing.after in
-    let working : IsWorking nodes f'.work = working_next nodes f.work looks latest k' f'.work filled.working (λ l there. (found.looks_are l there).within) (λ l there. (found.looks_are l there).same) found.covers before until bound taken.next in
-    let woken : (i : ℕ) → wake_at wakes i ≡ Some k' → Contains due i = λ i at. taken.next.woken i (subst (λ (z : Option ℕ). IfSome z (λ n. Contains (nodes_in f'.work.awaited n) i)) at (working.awaited i)) in
+    let working : IsWorking nodes f'.work = working_next nodes f.work looks latest k' f'.work filled.working (λ l there. (found.looks_are l there).same) found.covers taken.next (λ l there. (found.looks_are l there).within) before until bound in
     let rests : RestUndue s u' k' known' due wakes nodes =
-    rest_next s t u f.firsts.items k known known' nodes gains latest filled.nodes filled.closing found.right seen more k' u' f'.firsts.items looks due wakes next closing found.noted
-    (λ l there. (found.looks_are l there).within) taken.next.near looked woken in
+    rests_next s t u u' k k' latest known' gains nodes f.work f'.work looks filled.nodes filled.closing.after after' is_fresh found.looks_are looked filled.working found.covers taken.next working next in
     let same : nodes' ≡ nodes = taken.nodes in
     record {
       closing = closing;

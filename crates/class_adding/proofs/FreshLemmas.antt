@@ -167,7 +167,7 @@ module _ (s : System) (u : LabelTree) (nodes fresh : List (List ℕ)) (i : ℕ) 
 
 -- ---- what is new
 
-next-is : (s : System) (u : LabelTree) (k : ℕ) (v : List ℕ) (a : ℕ) → Contains (label_next s (grown s k) u v) a → Contains (label_in u v) a ⊎ (Contains (within_page s u v) a ⊎ Contains (flat_map (given_by_links s.down) (labels_below s (grown s k) (label_in u v))) a)
+pub next-is : (s : System) (u : LabelTree) (k : ℕ) (v : List ℕ) (a : ℕ) → Contains (label_next s (grown s k) u v) a → Contains (label_in u v) a ⊎ (Contains (within_page s u v) a ⊎ Contains (flat_map (given_by_links s.down) (labels_below s (grown s k) (label_in u v))) a)
 next-is s u k v a there =
     let below = flat_map (given_by_links s.down) (labels_below s (grown s k) (label_in u v)) in
     let half = union_of (label_in u v) (within_page s u v) in

@@ -283,14 +283,21 @@ quiet_more P xs i a at so_far now x there is =
       | inr last ↦ elim ((Contains-cons x a []).0 last) [ inl same ↦ now (subst P same is) | inr none ↦ absurd (Contains-none x none) ]
     ]
 
-pub no_spawn : (spawns : List Spawn) (rows : List (List ℕ)) (a n key : ℕ) → AreSpawnsAt spawns rows → key ≡ a → n ≡ length (row_of rows key) → n ≡ 0 → (c : Spawn) → Contains spawns c → c.needs ≢ a
-no_spawn spawns rows a n key index is long none c (i, within, at) needs =
-    let listed : slice_get spawns i ≡ Some c = slice_get-get_or spawns i c within ∙ ap Some at in
-    let in_row : Contains (row_of rows key) i = subst (λ z. Contains (row_of rows z) i) (needs ∙ sym is) (index.whole i c listed) in
-    elim (row_of rows key) as (λ (row : List ℕ). length row ≡ 0 → Contains row i → ⊥) [
+-- nothing is found at a key whose row is empty
+no_place : {X : Type 0} (key : X → ℕ) (rules : List X) (rows : List (List ℕ)) (a n k : ℕ) → IsIndex key rules rows → k ≡ a → n ≡ length (row_of rows k) → n ≡ 0 → (x : X) → Contains rules x → key x ≢ a
+no_place key rules rows a n k index is long none x (i, within, at) needs =
+    let listed : slice_get rules i ≡ Some x = slice_get-get_or rules i x within ∙ ap Some at in
+    let in_row : Contains (row_of rows k) i = subst (λ z. Contains (row_of rows z) i) (needs ∙ sym is) (index.whole i x listed) in
+    elim (row_of rows k) as (λ (row : List ℕ). length row ≡ 0 → Contains row i → ⊥) [
       | [] ↦ λ e h. Contains-none i h
-      | x ∷ xs ↦ λ e h. absurd (omega (arith, e))
+      | y ∷ ys ↦ λ e h. absurd (omega (arith, e))
     ] (sym long ∙ none) in_row
+
+pub no_link : (links : List Link) (rows : List (List ℕ)) (a n key : ℕ) → AreLinksAt links rows → key ≡ a → n ≡ length (row_of rows key) → n ≡ 0 → (l : Link) → Contains links l → l.from ≢ a
+no_link links rows a n key index is long none = no_place (λ (l : Link). l.from) links rows a n key index is long none
+
+pub no_spawn : (spawns : List Spawn) (rows : List (List ℕ)) (a n key : ℕ) → AreSpawnsAt spawns rows → key ≡ a → n ≡ length (row_of rows key) → n ≡ 0 → (c : Spawn) → Contains spawns c → c.needs ≢ a
+no_spawn spawns rows a n key index is long none = no_place (λ (c : Spawn). c.needs) spawns rows a n key index is long none
 
 -- ---- what a rule needs
 

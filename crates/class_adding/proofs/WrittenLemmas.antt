@@ -2,20 +2,18 @@
 use Rattle.std.proofs.Common.{◌≡◌, ◌≢◌, ◌⊎◌, ℕ, ◌<◌, ◌≤◌, ◌^◌, Bool, true, false, if◌then◌else◌, ◌==◌, List, [], ◌∷◌, ◌++◌, length, get_or, set, Option, Some, None, IfSome, IsTrue, IsFalse, Contains, refl, sym, ap, ◌∙◌, inl, inr, arith, subst}
 use Rattle.std.proofs.lemmas.Bool.{cases_Bool, both_ways, cases_order, eqb-true, eq-eqb}
 use Rattle.std.proofs.lemmas.List.{get_or-set_same, get_or-set_other}
-use Rattle.std.proofs.lemmas.List.Elements.{Contains-get_or, Contains-append_left, Contains-append_right, Contains-append_cases}
+use Rattle.std.proofs.lemmas.List.Elements.{Contains-append_left, Contains-append_right, Contains-append_cases}
 use Rattle.std.proofs.Math.ListN.{length-set}
 use Rattle.tp_base.specs.Classes.{has_class}
 use Rattle.tp_base.proofs.ClassLemmas.{has_class-Contains, Contains-has_class}
 use Rattle.tp_base.proofs.Rising.{Contains-none, Contains-here, Contains-behind, Contains-cons}
 use Rattle.tree_sem.specs.Trees.{LabelTree}
-use Rattle.closed_page.specs.Labelled.{IsAbove}
-use Rattle.closed_page.specs.Rows.{row_of, IsNoted}
-use Rattle.closed_page.proofs.RowLemmas.{noted_kept, noted_cases}
-use Rattle.closed_page.proofs.LabelledLemmas.{same_parent}
+use Rattle.closed_page.specs.Rows.{row_of}
+use Rattle.closed_page.specs.Labelled.{AreKidsAll, IsHeard}
 use Rattle.class_adding.specs.declared.looking.Look.{Look}
 use Rattle.class_adding.specs.declared.work.Work.{Work}
 use Rattle.class_adding.specs.Filling.{wake_at}
-use Rattle.class_adding.specs.Work.{nodes_in, AreKidsAll, IsHeard, IsLessOf, IsCalled, IsSeen, IsWritten, IsAwaited, AreAwaited, AreUntil, IsNext, IsWorking, IsStart}
+use Rattle.class_adding.specs.Work.{nodes_in, IsLessOf, IsSeen, IsWritten, IsAwaited, AreAwaited, AreUntil, IsNext, IsWorking, IsStart}
 
 pub is_due : (i : ℕ) (due : List ℕ) → Contains due i ⊎ (Contains due i → ⊥)
 is_due i due = elim (cases_Bool (has_class i due)) [
@@ -179,36 +177,8 @@ less_next old new new' key f here others i c there = elim (same_or_not i key) [
   | inr other ↦ f i c (subst (λ (z : List ℕ). Contains z c) (others i other) there)
 ]
 
-module _ (nodes : List (List ℕ)) (once : (i j : ℕ) → i < length nodes → j < length nodes → get_or nodes i [] ≡ get_or nodes j [] → i ≡ j) (c : ℕ) (less : c < length nodes) where
-  pub called_none : (old : List (List ℕ)) → IsAbove nodes (get_or nodes c []) None → IsCalled nodes old old c
-  called_none old above = record {
-    kept = λ i j there. there;
-    only = λ h. h;
-    heard = λ i n within at. absurd (above (get_or nodes i []) n at (Contains-get_or nodes i [] within));
-  }
-
-  pub called_some : (old new : List (List ℕ)) (p : ℕ) → IsAbove nodes (get_or nodes c []) (Some p) → IsNoted old new p c → IsCalled nodes old new c
-  called_some old new p above noted = record {
-    kept = noted_kept old new p c noted;
-    only = λ h i j there. elim (noted_cases old new p c noted i j there) [
-      | inl before ↦ h i j before
-      | inr now ↦
-          let at : get_or nodes j [] ≡ get_or nodes i [] ++ above.1 ∷ [] = ap (λ z. get_or nodes z []) now.1 ∙ above.2 ∙ ap (λ z. get_or nodes z [] ++ above.1 ∷ []) (sym now.0) in
-          (subst (λ z. z < length nodes) (sym now.1) less, above.1, at)
-    ];
-    heard = λ i n within at.
-        let same : p ≡ i = once p i above.0 within (same_parent (get_or nodes p []) (get_or nodes i []) above.1 n (sym above.2 ∙ at)) in
-        subst (λ z. Contains (row_of new z) c) same (subst (λ (z : List ℕ). Contains z c) (sym noted.here) (Contains-append_right (row_of old p) (c ∷ []) c (Contains-here c c [] refl)));
-  }
-
-pub heard_more : (nodes old new : List (List ℕ)) (c : ℕ) → ((i j : ℕ) → Contains (row_of old i) j → Contains (row_of new i) j) → IsHeard nodes old c → IsHeard nodes new c
-heard_more nodes old new c kept h = λ i n within at. kept i c (h i n within at)
-
 pub kids_less : (nodes old new : List (List ℕ)) → IsLessOf old new → AreKidsAll nodes old → AreKidsAll nodes new
 kids_less nodes old new less h = λ i c there. h i c (less i c there)
-
-pub kids_none : (nodes rows : List (List ℕ)) → rows ≡ [] → AreKidsAll nodes rows
-kids_none nodes rows none = λ i c there. absurd (Contains-none c (subst (λ (z : List (List ℕ)). Contains (row_of z i) c) none there))
 
 -- ---- between two rounds
 
@@ -229,52 +199,56 @@ working_start t nodes w b = record {
   bound = omega (arith, b.first);
 }
 
-cases_grew : (b : Bool) → IsTrue b ⊎ IsFalse b
-cases_grew true = inl refl
-cases_grew false = inr refl
+pub cases_true : (b : Bool) → IsTrue b ⊎ IsFalse b
+cases_true true = inl refl
+cases_true false = inr refl
 
-pub working_next : (nodes : List (List ℕ)) (w : Work) (looks : List Look) (latest k : ℕ) (w' : Work) → IsWorking nodes w → ((l : Look) → Contains looks l → l.number < length nodes)
-    → ((l : Look) → Contains looks l → IsFalse l.grew → l.news ≡ []) → ((i : ℕ) → Contains w.due.items i → IsSeen looks i) → w.latest ≤ latest → AreUntil looks latest → latest < 2 ^ 62
-    → IsNext nodes w looks latest k w' → IsWorking nodes w'
-working_next nodes w looks latest k w' f numbers same covers before until bound next =
-    let undue : (i : ℕ) → i < length nodes → ((l : Look) → Contains looks l → l.number ≡ i → ⊥) → get_or w.fresh.items i [] ≡ [] = λ i less none.
-    elim (f.quiet i less) [ inl is ↦ is | inr there ↦ let l = covers i there in absurd (none l.0 l.1 l.2) ] in
-    record {
-      long = next.fresh.count ∙ f.long;
-      times = next.wakes.count ∙ f.times;
-      within = next.within;
-      quiet = λ i less. elim (next.fresh.each i) [
-        | inl kept ↦ inl (kept.0 ∙ undue i less kept.1)
-        | inr l ↦ elim (cases_grew l.0.grew) [
-          | inl grew ↦ inr (subst (Contains w'.due.items) l.2 (next.near l.0 l.1 grew).itself)
-          | inr still ↦ inl (l.3 ∙ same l.0 l.1 still)
-        ]
-      ];
-      only = next.only;
-      heard = λ c a less there. elim (next.fresh.each c) [
-        | inl kept ↦ absurd (Contains-none a (subst (λ (z : List ℕ). Contains z a) (kept.0 ∙ undue c less kept.1) there))
-        | inr l ↦ elim (cases_grew l.0.grew) [
-          | inl grew ↦ subst (λ z. IsHeard nodes w'.callers z) l.2 (next.heard l.0 l.1 grew)
-          | inr still ↦ absurd (Contains-none a (subst (λ (z : List ℕ). Contains z a) (l.3 ∙ same l.0 l.1 still) there))
-        ]
-      ];
-      awaited = λ i. elim (next.wakes.each i) [
-        | inl kept ↦
-            let old = still_awaited w.awaited w'.awaited i (wake_at w.wakes.items i) next.awaited.kept (f.awaited i) in
-            subst (λ (z : Option ℕ). IfSome z (λ r. Contains (nodes_in w'.awaited r) i)) (sym kept.0) old
-        | inr l ↦
-            let here : IfSome l.0.wake (λ r. Contains (nodes_in w'.awaited r) i) = subst (λ z. IfSome l.0.wake (λ r. Contains (nodes_in w'.awaited r) z)) l.2 (next.awaited.there l.0 l.1) in
-            subst (λ (z : Option ℕ). IfSome z (λ r. Contains (nodes_in w'.awaited r) i)) (sym l.3) here
-      ];
-      numbers = λ r i there. elim (next.awaited.right r i there) [
-        | inl old ↦ f.numbers r i old
-        | inr l ↦ subst (λ z. z < length nodes) l.2 (numbers l.0 l.1)
-      ];
-      until = λ i.
-          let upto : IfSome (wake_at w'.wakes.items i) (λ r. r ≤ latest) = elim (next.wakes.each i) [
-            | inl kept ↦ subst (λ (z : Option ℕ). IfSome z (λ r. r ≤ latest)) (sym kept.0) (until_more (wake_at w.wakes.items i) w.latest latest before (f.until i))
-            | inr l ↦ subst (λ (z : Option ℕ). IfSome z (λ r. r ≤ latest)) (sym l.3) (until l.0 l.1)
-          ] in
-          subst (λ n. IfSome (wake_at w'.wakes.items i) (λ r. r ≤ n)) (sym next.until) upto;
-      bound = omega (arith, next.until, bound);
-    }
+module _ (nodes : List (List ℕ)) (w : Work) (looks : List Look) (latest k : ℕ) (w' : Work) (f : IsWorking nodes w) (same : (l : Look) → Contains looks l → IsFalse l.grew → l.news ≡ [])
+    (covers : (i : ℕ) → Contains w.due.items i → IsSeen looks i) (next : IsNext nodes w looks latest k w') where
+  undue : (i : ℕ) → i < length nodes → ((l : Look) → Contains looks l → l.number ≡ i → ⊥) → get_or w.fresh.items i [] ≡ []
+  undue i less none = elim (f.quiet i less) [ inl is ↦ is | inr there ↦ let l = covers i there in absurd (none l.0 l.1 l.2) ]
+
+  -- a fresh atom was found by a look
+  pub look_of : (i a : ℕ) → i < length nodes → Contains (get_or w'.fresh.items i []) a → (l : Look) × Contains looks l × (l.number ≡ i) × IsTrue l.grew × Contains l.news a
+  look_of i a less there = elim (next.fresh.each i) [
+    | inl kept ↦ absurd (Contains-none a (subst (λ (z : List ℕ). Contains z a) (kept.0 ∙ undue i less kept.1) there))
+    | inr l ↦
+        let new : Contains l.0.news a = subst (λ (z : List ℕ). Contains z a) l.3 there in
+        let grew : IsTrue l.0.grew = elim (cases_true l.0.grew) [ inl is ↦ is | inr still ↦ absurd (Contains-none a (subst (λ (z : List ℕ). Contains z a) (same l.0 l.1 still) new)) ] in
+        (l.0, l.1, l.2, grew, new)
+  ]
+
+  pub working_next : ((l : Look) → Contains looks l → l.number < length nodes) → w.latest ≤ latest → AreUntil looks latest → latest < 2 ^ 62 → IsWorking nodes w'
+  working_next numbers before until bound = record {
+    long = next.fresh.count ∙ f.long;
+    times = next.wakes.count ∙ f.times;
+    within = next.within;
+    quiet = λ i less. elim (next.fresh.each i) [
+      | inl kept ↦ inl (kept.0 ∙ undue i less kept.1)
+      | inr l ↦ elim (cases_true l.0.grew) [
+        | inl grew ↦ inr (subst (Contains w'.due.items) l.2 (next.near l.0 l.1 grew).itself)
+        | inr still ↦ inl (l.3 ∙ same l.0 l.1 still)
+      ]
+    ];
+    only = next.only;
+    heard = λ c a less there. let l = look_of c a less there in subst (λ z. IsHeard nodes w'.callers z) l.2 (next.heard l.0 l.1 l.3);
+    awaited = λ i. elim (next.wakes.each i) [
+      | inl kept ↦
+          let old = still_awaited w.awaited w'.awaited i (wake_at w.wakes.items i) next.awaited.kept (f.awaited i) in
+          subst (λ (z : Option ℕ). IfSome z (λ r. Contains (nodes_in w'.awaited r) i)) (sym kept.0) old
+      | inr l ↦
+          let here : IfSome l.0.wake (λ r. Contains (nodes_in w'.awaited r) i) = subst (λ z. IfSome l.0.wake (λ r. Contains (nodes_in w'.awaited r) z)) l.2 (next.awaited.there l.0 l.1) in
+          subst (λ (z : Option ℕ). IfSome z (λ r. Contains (nodes_in w'.awaited r) i)) (sym l.3) here
+    ];
+    numbers = λ r i there. elim (next.awaited.right r i there) [
+      | inl old ↦ f.numbers r i old
+      | inr l ↦ subst (λ z. z < length nodes) l.2 (numbers l.0 l.1)
+    ];
+    until = λ i.
+        let upto : IfSome (wake_at w'.wakes.items i) (λ r. r ≤ latest) = elim (next.wakes.each i) [
+          | inl kept ↦ subst (λ (z : Option ℕ). IfSome z (λ r. r ≤ latest)) (sym kept.0) (until_more (wake_at w.wakes.items i) w.latest latest before (f.until i))
+          | inr l ↦ subst (λ (z : Option ℕ). IfSome z (λ r. r ≤ latest)) (sym l.3) (until l.0 l.1)
+        ] in
+        subst (λ n. IfSome (wake_at w'.wakes.items i) (λ r. r ≤ n)) (sym next.until) upto;
+    bound = omega (arith, next.until, bound);
+  }

@@ -3,6 +3,7 @@
 --     IsMore own given old new   new is old with what is given, but for some of what is in own
 --     AreMet rules own fresh     own has what rules give that need some atom, and no fresh one
 --     AreFollowed links own label fresh   own has what the label gives by links that look at no fresh atom
+--     AreUnseen links atoms      no link looks at one of the atoms
 --     IsSettled s u nodes fresh i   own has what older atoms give, at the node and next to it
 --     AsksAnew s a               a label that gets the atom asks something else than before
 --     IsAsleep s k known own wake   until the round `wake`, what the label asks gives nothing new, and all of it is known
@@ -42,6 +43,9 @@ AreMet rules own fresh = (r : Local) → Contains rules r → All (Contains own)
 
 abbrev pub AreFollowed : List Link → List ℕ → List ℕ → List ℕ → Type 0
 AreFollowed links own label fresh = (l : Link) → Contains links l → Contains label l.from → Contains own l.to ⊎ Contains fresh l.from
+
+abbrev pub AreUnseen : List Link → List ℕ → Type 0
+AreUnseen links atoms = (l : Link) → Contains links l → Contains atoms l.from → ⊥
 
 -- the sets with some numbers
 abbrev pub set_at : List (List ℕ) → Option ℕ → List ℕ

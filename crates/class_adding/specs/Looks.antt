@@ -1,10 +1,9 @@
 -- What a round found at the nodes that were due.
 --     IsLook .. nodes l      the look l says what is new at its node, and when it wakes
---     AreNoted gains looks nodes   each gain is of a node at which some look found something
 --     AreSeen .. latest nodes   each node was looked at or need not be, and wakes in no round after `latest`
 --     AreFound .. due r      the round r found what is new at each node that was due
 --     RestUndue .. due wakes nodes   a node that isn't due need not be looked at
-use Rattle.std.specs.Prelude.{◌≡◌, ◌⊎◌, ◌≤◌, ◌<◌, ℕ, List, [], Option, length, get_or, Contains, IsTrue, IsFalse, IfSome}
+use Rattle.std.specs.Prelude.{◌≡◌, ◌⊎◌, ◌≤◌, ◌<◌, ℕ, List, [], Option, length, get_or, Contains, IsFalse, IfSome}
 use Rattle.tree_sem.specs.Trees.{LabelTree}
 use Rattle.simple_core.specs.declared.system.System.{System}
 use Rattle.simple_core.specs.Pairs.{Pair}
@@ -12,6 +11,7 @@ use Rattle.closed_page.specs.declared.gains.Gain.{Gain}
 use Rattle.class_adding.specs.declared.looking.Look.{Look}
 use Rattle.class_adding.specs.declared.rounds.Round.{Round}
 use Rattle.class_adding.specs.Filling.{IsLooked, IsNews, AreRight, AreNew, wake_at}
+use Rattle.class_adding.specs.Fresh.{AreUnseen}
 use Rattle.class_adding.specs.Work.{IsSeen}
 
 pub record IsLook (s : System) (u : LabelTree) (k : ℕ) (known : Pair → Type 0) (gains : List Gain) (nodes : List (List ℕ)) (l : Look) : Type 0 where
@@ -19,12 +19,11 @@ pub record IsLook (s : System) (u : LabelTree) (k : ℕ) (known : Pair → Type 
   pub looked : IsLooked s u k known gains l.wake (get_or nodes l.number [])
   pub is_news : IsNews s u k (get_or nodes l.number []) l.news
   pub same : IsFalse l.grew → l.news ≡ []
+  pub above : IsFalse l.seen_above → AreUnseen s.down l.news
+  pub below : IsFalse l.seen_below → AreUnseen s.up l.news
 
 abbrev pub AreLooks : System → LabelTree → ℕ → (Pair → Type 0) → List Gain → List (List ℕ) → List Look → Type 0
 AreLooks s u k known gains nodes looks = (l : Look) → Contains looks l → IsLook s u k known gains nodes l
-
-abbrev pub AreNoted : List Gain → List Look → List (List ℕ) → Type 0
-AreNoted gains looks nodes = (g : Gain) → Contains gains g → (l : Look) × Contains looks l × (get_or nodes l.number [] ≡ g.at) × IsTrue l.grew
 
 abbrev pub AreSeen : System → LabelTree → ℕ → (Pair → Type 0) → List Gain → ℕ → List (List ℕ) → Type 0
 AreSeen s u k known gains latest nodes = (i : ℕ) → i < length nodes → (wake : Option ℕ) × IsLooked s u k known gains wake (get_or nodes i []) × IfSome wake (λ r. r ≤ latest)
@@ -38,4 +37,3 @@ pub record AreFound (s : System) (u : LabelTree) (nodes : List (List ℕ)) (k : 
   pub news : AreNew u r.gains.items
   pub looks_are : AreLooks s u k known r.gains.items nodes r.looks.items
   pub covers : (i : ℕ) → Contains due i → IsSeen r.looks.items i
-  pub noted : AreNoted r.gains.items r.looks.items nodes

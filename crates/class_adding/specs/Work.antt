@@ -1,14 +1,13 @@
 -- What is still to come to the nodes of a page. Nodes have their numbers in the order of the document.
 --     nodes_in awaited r     the nodes for which something is awaited in the round r
---     IsNear nodes c due     the list has the c-th node, its parent and its children
---     IsHeard nodes callers c   the c-th node stands among its parent's callers
+--     IsNear nodes l due     the list has the node of the look l, its parent and its children where links look at what is new
 --     IsWritten value looks old new   each of the looks has written its value at its node, and nothing else changed
 --     IsNext nodes w looks k w'   w' is w after looks that end as round k
 --     IsWorking nodes w      what is kept of it between two rounds
 use Rattle.std.specs.Prelude.{◌≡◌, ◌⊎◌, ◌↔◌, ◌≤◌, ◌<◌, ◌^◌, ◌==◌, ℕ, List, [], ◌∷◌, ◌++◌, Option, None, length, get_or, Contains, IsTrue, IfSome}
 use Rattle.multimap.specs.Values.{values_at}
 use Rattle.tree_sem.specs.Trees.{LabelTree}
-use Rattle.closed_page.specs.Labelled.{AreAllLabels}
+use Rattle.closed_page.specs.Labelled.{AreAllLabels, IsParentIn, AreKidsAll, IsHeard}
 use Rattle.closed_page.specs.Rows.{row_of}
 use Rattle.class_adding.specs.Filling.{wake_at}
 use Rattle.class_adding.specs.declared.looking.Look.{Look}
@@ -20,32 +19,20 @@ nodes_in = values_at (λ r key. r == key)
 abbrev pub AreNumbers : List (List ℕ) → List ℕ → Type 0
 AreNumbers nodes due = (i : ℕ) → Contains due i → i < length nodes
 
-abbrev pub IsParentIn : List (List ℕ) → ℕ → List ℕ → Type 0
-IsParentIn nodes c due = (p n : ℕ) → p < length nodes → get_or nodes c [] ≡ get_or nodes p [] ++ n ∷ [] → Contains due p
+abbrev pub AreKidsIn : List (List ℕ) → ℕ → List ℕ → Type 0
+AreKidsIn nodes c due = (d n : ℕ) → d < length nodes → get_or nodes d [] ≡ get_or nodes c [] ++ n ∷ [] → Contains due d
 
-pub record IsNear (nodes : List (List ℕ)) (c : ℕ) (due : List ℕ) : Type 0 where
-  pub itself : Contains due c
-  pub above : IsParentIn nodes c due
-  pub below : (d n : ℕ) → d < length nodes → get_or nodes d [] ≡ get_or nodes c [] ++ n ∷ [] → Contains due d
+pub record IsNear (nodes : List (List ℕ)) (l : Look) (due : List ℕ) : Type 0 where
+  pub itself : Contains due l.number
+  pub above : IsTrue l.seen_above → IsParentIn nodes l.number due
+  pub below : IsTrue l.seen_below → AreKidsIn nodes l.number due
 
 abbrev pub AreNear : List (List ℕ) → List Look → List ℕ → Type 0
-AreNear nodes looks due = (l : Look) → Contains looks l → IsTrue l.grew → IsNear nodes l.number due
-
--- each caller of a node is its child
-abbrev pub AreKidsAll : List (List ℕ) → List (List ℕ) → Type 0
-AreKidsAll nodes callers = (i c : ℕ) → Contains (row_of callers i) c → (c < length nodes) × (n : ℕ) × (get_or nodes c [] ≡ get_or nodes i [] ++ n ∷ [])
-
-abbrev pub IsHeard : List (List ℕ) → List (List ℕ) → ℕ → Type 0
-IsHeard nodes callers c = (i n : ℕ) → i < length nodes → get_or nodes c [] ≡ get_or nodes i [] ++ n ∷ [] → Contains (row_of callers i) c
+AreNear nodes looks due = (l : Look) → Contains looks l → IsTrue l.grew → IsNear nodes l due
 
 -- the rows of a list where the places of some keys were taken away
 abbrev pub IsLessOf : List (List ℕ) → List (List ℕ) → Type 0
 IsLessOf old new = (i c : ℕ) → Contains (row_of new i) c → Contains (row_of old i) c
-
-pub record IsCalled (nodes old new : List (List ℕ)) (c : ℕ) : Type 0 where
-  pub kept : (i j : ℕ) → Contains (row_of old i) j → Contains (row_of new i) j
-  pub only : AreKidsAll nodes old → AreKidsAll nodes new
-  pub heard : IsHeard nodes new c
 
 -- a node has a look
 abbrev pub IsSeen : List Look → ℕ → Type 0

@@ -1,8 +1,9 @@
 //! Which nodes a round looks at, by their numbers.
 ghost use Rattle.std.specs.Prelude.{◌≡◌, ◌↔◌, ◌<◌, ◌⊎◌, ℕ, length, Contains, IfOk, OnOk, IsTrue};
+ghost use Rattle.closed_page.specs.Labelled.{IsParentIn};
 ghost use Rattle.class_adding.specs.declared.looking.Look.{Look};
 ghost use Rattle.class_adding.specs.Filling.{wake_at, wakes_in};
-ghost use Rattle.class_adding.specs.Work.{AreNumbers, IsParentIn, IsNear, AreNear};
+ghost use Rattle.class_adding.specs.Work.{AreNumbers, AreKidsIn, IsNear, AreNear};
 
 use crate::looking::Look;
 use closed_page::PageLabels;
@@ -29,49 +30,50 @@ pub(crate) fn is_round(wake: Option<u64>, k: u64) -> bool
     }
 }
 
-/// The numbers below this one.
-pub(crate) fn all_numbers(alloc: Global, count: usize) -> Result<Vec<usize>, NoMemory>
-    ensures { IfOk result (λ v. (i : ℕ) → Contains v.items i ↔ (i < count)) }
-{
-    let mut numbers = Vec::new(alloc);
-    for i in 0..count {
-        numbers.push(i)?;
-    }
-    Ok(numbers)
-}
-
-fn add_parent(labels: &PageLabels, number: usize, due: &mut Vec<usize>) -> Result<(), NoMemory>
-    requires number { number < length labels.now.nodes }
-    ensures kept { OnOk result ((i : ℕ) → Contains due.old.items i → Contains due.new.items i) }
-    ensures within { OnOk result ((i : ℕ) → Contains due.new.items i → Contains due.old.items i ⊎ (i < length labels.now.nodes)) }
-    ensures there { OnOk result (IsParentIn labels.now.nodes number due.new.items) }
-{
-    match labels.parent(number) {
-        Some(parent) => {
-            due.push(parent)?;
-            Ok(())
-        }
-        None => Ok(()),
-    }
-}
-
-// Adds a node at which something is new, and those next to it.
-fn add_near(labels: &PageLabels, look: &Look, due: &mut Vec<usize>) -> Result<(), NoMemory>
+// Adds the parent of a node, if a link looks from there at what is new.
+fn add_parent(labels: &PageLabels, look: &Look, due: &mut Vec<usize>) -> Result<(), NoMemory>
     requires number { look.now.number < length labels.now.nodes }
     ensures kept { OnOk result ((i : ℕ) → Contains due.old.items i → Contains due.new.items i) }
     ensures within { OnOk result ((i : ℕ) → Contains due.new.items i → Contains due.old.items i ⊎ (i < length labels.now.nodes)) }
-    ensures near { OnOk result (IsTrue look.now.grew → IsNear labels.now.nodes look.now.number due.new.items) }
+    ensures there { OnOk result (IsTrue look.now.seen_above → IsParentIn labels.now.nodes look.now.number due.new.items) }
 {
-    if look.grew {
-        let number = look.number;
-        due.push(number)?;
-        add_parent(labels, number, due)?;
-        due.extend_from_slice(labels.kids(number))?;
+    if look.seen_above {
+        labels.add_parent(look.number, due)?;
     }
     Ok(())
 }
 
-// The nodes at which something is new, those next to them, and those that wake; one may stand there more than once.
+// The children of a node, if a link looks from there at what is new.
+fn kids_told<'a>(labels: &'a PageLabels, look: &Look) -> &'a [usize]
+    requires number { look.now.number < length labels.now.nodes }
+    ensures within { AreNumbers labels.now.nodes result.now }
+    ensures there { IsTrue look.now.seen_below → AreKidsIn labels.now.nodes look.now.number result.now }
+{
+    if look.seen_below {
+        labels.kids(look.number)
+    } else {
+        &[]
+    }
+}
+
+// Adds a node at which something is new, and those next to it that links lead to.
+fn add_near(labels: &PageLabels, look: &Look, due: &mut Vec<usize>) -> Result<(), NoMemory>
+    requires number { look.now.number < length labels.now.nodes }
+    ensures kept { OnOk result ((i : ℕ) → Contains due.old.items i → Contains due.new.items i) }
+    ensures within { OnOk result ((i : ℕ) → Contains due.new.items i → Contains due.old.items i ⊎ (i < length labels.now.nodes)) }
+    ensures near { OnOk result (IsTrue look.now.grew → IsNear labels.now.nodes look.now due.new.items) }
+{
+    if look.grew {
+        let number = look.number;
+        due.push(number)?;
+        add_parent(labels, look, due)?;
+        due.extend_from_slice(kids_told(labels, look))?;
+    }
+    Ok(())
+}
+
+// The nodes at which something is new, those next to them that links lead to, and those that wake; one may stand there more
+// than once.
 fn gathered(
     alloc: Global,
     labels: &PageLabels,
@@ -104,8 +106,8 @@ fn in_order(numbers: Vec<usize>) -> Result<Vec<usize>, NoMemory>
     Ok(due)
 }
 
-/// The nodes at which something is new, those next to them, and those that wake, in the order of the document. It costs
-/// the changed nodes and their children, but for a sort.
+/// The nodes at which something is new, those next to them from which a link looks at it, and those that wake, in the order
+/// of the document. It costs these nodes, but for a sort.
 pub(crate) fn next_due(
     alloc: Global,
     labels: &PageLabels,

@@ -2,8 +2,9 @@
 ghost use Rattle.std.specs.Prelude.{◌≡◌, ◌≢◌, ◌++◌, ◌+◌, ℕ, Contains, IfOk, OnOk, IsFalse};
 ghost use Rattle.tp_base.specs.Classes.{all_among, union_of};
 ghost use Rattle.simple_core.specs.Labels.{given_by_rules, given_by_links};
+ghost use Rattle.simple_core.specs.declared.rules.Link.{Link};
 ghost use Rattle.simple_core.specs.declared.rules.Spawn.{Spawn};
-ghost use Rattle.class_adding.specs.Fresh.{IsMore, AreMet, AsksAnew};
+ghost use Rattle.class_adding.specs.Fresh.{IsMore, AreMet, AreUnseen, AsksAnew};
 ghost use Rattle.class_adding.specs.Indexes.{at_place, at_row, by_label, given_in, to_of, kind_of, AreKinds, AreLocalsAt, AreLinksAt, AreSpawnsAt};
 
 use crate::places::{links_at, locals_at, spawns_at};
@@ -120,6 +121,20 @@ impl<'a> IndexedSystem<'a> {
         self.child.of(atom.0 as usize).len() != 0
     }
 
+    /// Whether some link from a child looks at one of these atoms, so that they give something to the parent. Linear in them.
+    pub(crate) fn is_seen_above(&self, label: &ClassSet) -> bool
+        ensures { IsFalse result → AreUnseen self.now.down label.now }
+    {
+        are_seen(self.system.down.items(), &self.down, label)
+    }
+
+    /// Whether some link from a parent looks at one of these atoms, so that they give something to children. Linear in them.
+    pub(crate) fn is_seen_below(&self, label: &ClassSet) -> bool
+        ensures { IsFalse result → AreUnseen self.now.up label.now }
+    {
+        are_seen(self.system.up.items(), &self.up, label)
+    }
+
     /// The kinds that a label adds; one may stand there more than once.
     pub(crate) fn kinds_of(&self, alloc: Global, label: &ClassSet) -> Result<Vec<u32>, NoMemory>
         ensures { IfOk result (λ v. AreKinds self.now label.now v.items) }
@@ -128,6 +143,27 @@ impl<'a> IndexedSystem<'a> {
         add_spawned(self.system.child.items(), &self.child, label, &mut kinds)?;
         Ok(kinds)
     }
+}
+
+// Whether some link looks at the atom.
+fn is_seen(links: &[Link], index: &Index, atom: Atom) -> bool
+    requires { AreLinksAt links.now index.now }
+    ensures { IsFalse result → (l : Link) → Contains links.now l → l.from ≢ atom }
+{
+    index.of(atom.0 as usize).len() != 0
+}
+
+// Whether some link looks at one of these atoms.
+fn are_seen(links: &[Link], index: &Index, label: &ClassSet) -> bool
+    requires { AreLinksAt links.now index.now }
+    ensures { IsFalse result → AreUnseen links.now label.now }
+{
+    for i in 0..label.len() {
+        if is_seen(links, index, label.at(i)) {
+            return true;
+        }
+    }
+    false
 }
 
 // Whether the label has each of these atoms. Logarithmic in the label for each.

@@ -1,11 +1,12 @@
 //! What is still to come to the nodes of a page, from one round to the next.
 ghost use Rattle.std.specs.Prelude.{◌≡◌, ◌≤◌, ◌<◌, ℕ, List, [], None, length, get_or, set, All, Contains, IfOk, OnOk, IfSome, IsTrue};
 ghost use Rattle.tree_sem.specs.Nodes.{IsNode};
+ghost use Rattle.closed_page.specs.Labelled.{AreKidsAll, IsHeard};
 ghost use Rattle.closed_page.specs.Rows.{row_of};
 ghost use Rattle.class_adding.specs.declared.looking.Look.{Look};
-ghost use Rattle.class_adding.specs.Work.{AreKidsAll, IsHeard, IsLessOf, IsCalled, IsWritten, IsAwaited, AreAwaited, AreUntil, AreNumbers, nodes_in, IsNext, IsStart};
+ghost use Rattle.class_adding.specs.Work.{IsLessOf, IsWritten, IsAwaited, AreAwaited, AreUntil, AreNumbers, nodes_in, IsNext, IsStart};
 
-use crate::due::{all_numbers, next_due};
+use crate::due::next_due;
 use crate::looking::Look;
 use closed_page::{Index, PageLabels, all_labels};
 use multimap::Multimap;
@@ -24,38 +25,6 @@ pub(crate) struct Work {
     pub(crate) awaited: Multimap<u64, usize>,
     pub(crate) latest: u64,
     pub(crate) due: Vec<usize>,
-}
-
-// Notes a node at its parent.
-fn call(
-    alloc: Global,
-    labels: &PageLabels,
-    number: usize,
-    callers: &mut Index,
-) -> Result<(), NoMemory>
-    requires { number < length labels.now.nodes }
-    ensures { OnOk result (IsCalled labels.now.nodes callers.old callers.new number) }
-{
-    match labels.parent(number) {
-        Some(parent) => {
-            callers.note(alloc, parent, number)?;
-            Ok(())
-        }
-        None => Ok(()),
-    }
-}
-
-// Notes each node at its parent.
-fn all_callers(alloc: Global, labels: &PageLabels) -> Result<Index, NoMemory>
-    ensures only { IfOk result (λ t. AreKidsAll labels.now.nodes t) }
-    ensures heard { IfOk result (λ t. (c : ℕ) → c < length labels.now.nodes → IsHeard labels.now.nodes t c) }
-{
-    let mut callers = Index::new(alloc);
-    let count = labels.paths().len();
-    for i in 0..count {
-        call(alloc, labels, i, &mut callers)?;
-    }
-    Ok(callers)
 }
 
 // No round for any node.
@@ -78,10 +47,10 @@ pub(crate) fn begin_work(alloc: Global, page: &Tree, labels: &PageLabels) -> Res
     ensures { IfOk result (λ w. IsStart page.now labels.now.nodes w) }
 {
     let fresh = all_labels(alloc, page, labels.paths())?;
-    let callers = all_callers(alloc, labels)?;
+    let callers = labels.all_callers(alloc)?;
     let count = labels.paths().len();
     let wakes = no_wakes(alloc, count)?;
-    let due = all_numbers(alloc, count)?;
+    let due = labels.all_numbers(alloc)?;
     Ok(Work {
         fresh,
         callers,
@@ -116,7 +85,7 @@ fn call_if(
     ensures heard { OnOk result (IsTrue look.now.grew → IsHeard labels.now.nodes callers.new look.now.number) }
 {
     if look.grew {
-        call(alloc, labels, look.number, callers)?;
+        labels.call(alloc, look.number, callers)?;
     }
     Ok(())
 }
@@ -234,7 +203,7 @@ pub(crate) fn latest_of(latest: u64, looks: &[Look]) -> u64
 }
 
 /// Takes in what these looks found, which is then round k. It costs a few steps for each look, and for each child of a
-/// node that changed.
+/// node that links from its parent lead to.
 pub(crate) fn take_looks(
     alloc: Global,
     labels: &PageLabels,

@@ -1,4 +1,5 @@
 pub mod AddLemmas
+pub mod CallLemmas
 pub mod FirstsLemmas
 mod GainLemmas
 pub mod LabelledLemmas

@@ -3,12 +3,14 @@
 --     node_of l i            the path of the node with this number
 --     IsAbove nodes v o      o is the number of the parent of the node at v, if the parent is there
 --     AreKids nodes i row    the row has the numbers of the children of the i-th node
+--     IsParentIn nodes c row the row has the number of the c-th node's parent
+--     IsHeard nodes callers c   the c-th node stands among its parent's callers
 --     AreRelated ..          what is kept of each node belongs to the tree
 use Rattle.std.specs.Prelude.{◌≡◌, ℕ, ◌<◌, List, [], ◌∷◌, ◌++◌, Option, Some, None, length, get_or, Contains, IsSome, refl}
 use Rattle.std.specs.Coded.{Coded, code_by, coded×, coded_ℕ, coded_list}
 use Rattle.tree_sem.specs.Trees.{LabelTree, node_at, label_at}
 use Rattle.tree_sem.specs.TreeCode.{tree_code}
-use Rattle.closed_page.specs.Rows.{AreByNumber}
+use Rattle.closed_page.specs.Rows.{row_of, AreByNumber}
 
 pub record Labelled : Type 0 where
   pub labels : LabelTree
@@ -29,6 +31,22 @@ IsAbove nodes v (Some j) = (j < length nodes) × (n : ℕ) × (v ≡ get_or node
 pub record AreKids (nodes : List (List ℕ)) (i : ℕ) (row : List ℕ) : Type 0 where
   pub only : (c : ℕ) → Contains row c → (c < length nodes) × (n : ℕ) × (get_or nodes c [] ≡ get_or nodes i [] ++ n ∷ [])
   pub whole : (c n : ℕ) → c < length nodes → get_or nodes c [] ≡ get_or nodes i [] ++ n ∷ [] → Contains row c
+
+abbrev pub IsParentIn : List (List ℕ) → ℕ → List ℕ → Type 0
+IsParentIn nodes c row = (p n : ℕ) → p < length nodes → get_or nodes c [] ≡ get_or nodes p [] ++ n ∷ [] → Contains row p
+
+-- each caller of a node is its child
+abbrev pub AreKidsAll : List (List ℕ) → List (List ℕ) → Type 0
+AreKidsAll nodes callers = (i c : ℕ) → Contains (row_of callers i) c → (c < length nodes) × (n : ℕ) × (get_or nodes c [] ≡ get_or nodes i [] ++ n ∷ [])
+
+abbrev pub IsHeard : List (List ℕ) → List (List ℕ) → ℕ → Type 0
+IsHeard nodes callers c = (i n : ℕ) → i < length nodes → get_or nodes c [] ≡ get_or nodes i [] ++ n ∷ [] → Contains (row_of callers i) c
+
+-- one more node was noted at its parent
+pub record IsCalled (nodes old new : List (List ℕ)) (c : ℕ) : Type 0 where
+  pub kept : (i j : ℕ) → Contains (row_of old i) j → Contains (row_of new i) j
+  pub only : AreKidsAll nodes old → AreKidsAll nodes new
+  pub heard : IsHeard nodes new c
 
 -- the first n nodes
 pub record AreAllAbove (nodes : List (List ℕ)) (parents : List (Option ℕ)) (n : ℕ) : Type 0 where

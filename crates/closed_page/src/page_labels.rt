@@ -1,10 +1,10 @@
 //! The labels of a page, by the numbers of its nodes in the order of the document.
-ghost use Rattle.std.specs.Prelude.{◌≡◌, ◌<◌, ℕ, [], Some, None, length, get_or, unwrap_or, option_copied, IfOk, OnOk, OnErr, IfSome, IsSome, IsNone, List, Contains, All};
+ghost use Rattle.std.specs.Prelude.{◌≡◌, ◌<◌, ◌⊎◌, ◌↔◌, ℕ, [], Some, None, length, get_or, unwrap_or, option_copied, IfOk, OnOk, OnErr, IfSome, IsSome, IsNone, List, Contains, All};
 ghost use Rattle.tree_sem.specs.Trees.{node_at, label_at, edit_at};
 ghost use Rattle.tree_sem.specs.Nodes.{IsNode};
 ghost use Rattle.tree_sem.specs.Order.{paths_of};
 ghost use Rattle.tree_sem.specs.Actions.{add_classes};
-ghost use Rattle.closed_page.specs.Labelled.{node_of, IsAbove, AreKids, AreAllAbove, AreAllLabels};
+ghost use Rattle.closed_page.specs.Labelled.{node_of, IsAbove, AreKids, IsParentIn, AreKidsAll, IsHeard, IsCalled, AreAllAbove, AreAllLabels};
 
 use crate::index::Index;
 use crate::nodes::PageNodes;
@@ -82,6 +82,18 @@ impl PageLabels {
         self.nodes.number_of(at)
     }
 
+    /// The numbers of all nodes. Linear in them.
+    pub fn all_numbers(&self, alloc: Global) -> Result<Vec<usize>, NoMemory>
+        ensures { IfOk result (λ v. (i : ℕ) → Contains v.items i ↔ (i < length self.now.nodes)) }
+    {
+        let mut numbers = Vec::new(alloc);
+        let count = self.paths().len();
+        for i in 0..count {
+            numbers.push(i)?;
+        }
+        Ok(numbers)
+    }
+
     /// The label of a node.
     pub fn own(&self, number: usize) -> &ClassSet
         requires { number < length self.now.nodes }
@@ -107,6 +119,49 @@ impl PageLabels {
         ensures whole { (v : List ℕ) → IsSome (node_at v self.now.labels) → Contains self.now.nodes v }
     {
         self.kids.of(number)
+    }
+
+    /// Adds the number of a node's parent to these, if there is a parent. Constant.
+    pub fn add_parent(&self, number: usize, row: &mut Vec<usize>) -> Result<(), NoMemory>
+        requires number { number < length self.now.nodes }
+        ensures kept { OnOk result ((i : ℕ) → Contains row.old.items i → Contains row.new.items i) }
+        ensures within { OnOk result ((i : ℕ) → Contains row.new.items i → Contains row.old.items i ⊎ (i < length self.now.nodes)) }
+        ensures there { OnOk result (IsParentIn self.now.nodes number row.new.items) }
+    {
+        match self.parent(number) {
+            Some(parent) => {
+                row.push(parent)?;
+                Ok(())
+            }
+            None => Ok(()),
+        }
+    }
+
+    /// Notes a node at its parent, if there is one. Linear in the parent's number, where it is the largest so far.
+    pub fn call(&self, alloc: Global, number: usize, callers: &mut Index) -> Result<(), NoMemory>
+        requires { number < length self.now.nodes }
+        ensures { OnOk result (IsCalled self.now.nodes callers.old callers.new number) }
+    {
+        match self.parent(number) {
+            Some(parent) => {
+                callers.note(alloc, parent, number)?;
+                Ok(())
+            }
+            None => Ok(()),
+        }
+    }
+
+    /// Notes each node at its parent. Linear in the nodes.
+    pub fn all_callers(&self, alloc: Global) -> Result<Index, NoMemory>
+        ensures only { IfOk result (λ t. AreKidsAll self.now.nodes t) }
+        ensures heard { IfOk result (λ t. (c : ℕ) → c < length self.now.nodes → IsHeard self.now.nodes t c) }
+    {
+        let mut callers = Index::new(alloc);
+        let count = self.paths().len();
+        for i in 0..count {
+            self.call(alloc, i, &mut callers)?;
+        }
+        Ok(callers)
     }
 
     /// Adds atoms to the label of a node. It costs the node's depth, too.

@@ -25,10 +25,10 @@ looks-preserved c =
     record {
       left = left_next c.args.looks.now c.looks.rest.now c.in-Some.look.now c.in-Some.others.now split c.looks.invariant.left;
       within = λ i there. elim (c.in_ok-add_near.ensures.within i there) [ inl before ↦ c.looks.invariant.within i before | inr less ↦ less ];
-      near = done_next (λ (m : Look). IsTrue m.grew → IsNear c.args.labels.now.nodes m.number c.looks.due.items) (λ (m : Look). IsTrue m.grew → IsNear c.args.labels.now.nodes m.number c.add_near.new.due.items) c.args.looks.now c.looks.rest.now c.in-Some.look.now c.in-Some.others.now split c.looks.invariant.near
-          (λ m h grew. near_more c.args.labels.now.nodes m.number c.looks.due.items c.add_near.new.due.items kept (h grew)) c.in_ok-add_near.ensures.near;
+      near = done_next (λ (m : Look). IsTrue m.grew → IsNear c.args.labels.now.nodes m c.looks.due.items) (λ (m : Look). IsTrue m.grew → IsNear c.args.labels.now.nodes m c.add_near.new.due.items) c.args.looks.now c.looks.rest.now c.in-Some.look.now c.in-Some.others.now split c.looks.invariant.near
+          (λ m h grew. near_more c.args.labels.now.nodes m c.looks.due.items c.add_near.new.due.items kept (h grew)) c.in_ok-add_near.ensures.near;
       woken = λ i there. kept i (c.looks.invariant.woken i there);
     }
 
 pub returns-clause-near : goal.returns-clause-near
-returns-clause-near c = done_all (λ (m : Look). IsTrue m.grew → IsNear c.args.labels.now.nodes m.number c.looks.due.items) c.args.looks.now c.looks.rest.now c.in_default.ensures.cases c.looks.invariant.near
+returns-clause-near c = done_all (λ (m : Look). IsTrue m.grew → IsNear c.args.labels.now.nodes m c.looks.due.items) c.args.looks.now c.looks.rest.now c.in_default.ensures.cases c.looks.invariant.near

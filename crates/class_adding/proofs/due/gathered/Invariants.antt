@@ -7,7 +7,7 @@ abbrev pub invariant-looks : goal.invariant-looks
 invariant-looks l = record {
   left : (m : Look) → Contains l.rest m → Contains l.looks m;
   within : AreNumbers l.labels.nodes l.due.items;
-  near : (m : Look) → Contains l.looks m → Contains l.rest m ⊎ (IsTrue m.grew → IsNear l.labels.nodes m.number l.due.items);
+  near : (m : Look) → Contains l.looks m → Contains l.rest m ⊎ (IsTrue m.grew → IsNear l.labels.nodes m l.due.items);
   woken : (i : ℕ) → Contains l.woken i → Contains l.due.items i;
 }
 

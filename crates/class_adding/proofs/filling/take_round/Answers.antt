@@ -1,6 +1,7 @@
 use Rattle.std.proofs.Common.{ℕ, List, ◌<◌, length, Contains, sym, subst}
 use Rattle.class_adding.specs.declared.looking.Look.{Look}
-use Rattle.class_adding.specs.Work.{AreKidsAll, AreNumbers, nodes_in}
+use Rattle.closed_page.specs.Labelled.{AreKidsAll}
+use Rattle.class_adding.specs.Work.{AreNumbers, nodes_in}
 use Rattle.class_adding.proofs.filling.take_round.Goals as goal
 
 pub take_looks-requires-clause-numbers : goal.take_looks-requires-clause-numbers

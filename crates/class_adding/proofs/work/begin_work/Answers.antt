@@ -10,5 +10,5 @@ returns c = record {
   none = c.in_ok-wakes.ensures.none;
   awaited = c.new.ensures;
   first = refl;
-  due = λ i. rw (ap length c.paths-count.ensures) at (c.in_ok-due.ensures i);
+  due = c.in_ok-due.ensures;
 }

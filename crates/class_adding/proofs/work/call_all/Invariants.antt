@@ -1,6 +1,6 @@
 use Rattle.std.proofs.Common.{◌⊎◌, length, Contains, IsTrue}
 use Rattle.class_adding.specs.declared.looking.Look.{Look}
-use Rattle.class_adding.specs.Work.{AreKidsAll, IsHeard}
+use Rattle.closed_page.specs.Labelled.{AreKidsAll, IsHeard}
 use Rattle.class_adding.proofs.work.call_all.Given as goal
 
 abbrev pub invariant-looks : goal.invariant-looks

@@ -1,10 +1,9 @@
 use Rattle.std.proofs.Common.{length, ap, arith}
-use Rattle.class_adding.proofs.DueLemmas.{heard_next}
-use Rattle.class_adding.proofs.WrittenLemmas.{kids_none}
-use Rattle.class_adding.proofs.work.all_callers.Goals as goal
+use Rattle.closed_page.proofs.CallLemmas.{heard_next, kids_none}
+use Rattle.closed_page.proofs.page_labels.PageLabels.all_callers.Goals as goal
 
 pub loop-i-init : goal.loop-i-init
-loop-i-init c = record { only = kids_none c.args.labels.now.nodes c.new-callers.result c.new-callers.ensures; heard = λ d less. absurd (omega arith); count = omega (arith, ap length c.paths-count.ensures) }
+loop-i-init c = record { only = kids_none c.args.self.now.nodes c.new-callers.result c.new-callers.ensures; heard = λ d less. absurd (omega arith); count = omega (arith, ap length c.paths-count.ensures) }
 
 pub call-requires : goal.call-requires
 call-requires c = omega (arith, c.loop-i-test.true, c.loop-i.invariant.count)
@@ -12,7 +11,7 @@ call-requires c = omega (arith, c.loop-i-test.true, c.loop-i.invariant.count)
 pub loop-i-preserved : goal.loop-i-preserved
 loop-i-preserved c = record {
   only = c.in_ok-call.ensures.only c.loop-i.invariant.only;
-  heard = heard_next c.args.labels.now.nodes c.loop-i.callers c.call.new.callers c.loop-i.i c.in_ok-call.ensures.kept c.in_ok-call.ensures.heard c.loop-i.invariant.heard;
+  heard = heard_next c.args.self.now.nodes c.loop-i.callers c.call.new.callers c.loop-i.i c.in_ok-call.ensures.kept c.in_ok-call.ensures.heard c.loop-i.invariant.heard;
   count = c.loop-i.invariant.count;
 }
 

@@ -1,0 +1,77 @@
+-- Rows of numbers of nodes: a node's parent, and each node at its parent.
+use Rattle.std.proofs.Common.{◌≡◌, ◌⊎◌, ℕ, ◌+◌, ◌<◌, List, [], ◌∷◌, ◌++◌, length, get_or, Some, None, Contains, refl, sym, ap, ◌∙◌, inl, inr, arith, subst}
+use Rattle.std.proofs.lemmas.Bool.{cases_lt}
+use Rattle.std.proofs.lemmas.List.Elements.{Contains-get_or, Contains-append_left, Contains-append_right, Contains-append_cases}
+use Rattle.tp_base.proofs.Rising.{Contains-none, Contains-here, Contains-cons}
+use Rattle.closed_page.specs.Rows.{row_of, IsNoted}
+use Rattle.closed_page.specs.Labelled.{IsAbove, IsParentIn, AreKidsAll, IsHeard, IsCalled}
+use Rattle.closed_page.proofs.RowLemmas.{noted_kept, noted_cases}
+use Rattle.closed_page.proofs.LabelledLemmas.{same_parent}
+
+pub pushed : {X : Type 0} (old new : List X) (x y : X) → new ≡ old ++ x ∷ [] → Contains new y → Contains old y ⊎ (y ≡ x)
+pushed old new x y is there = elim (Contains-append_cases old (x ∷ []) y (subst (λ z. Contains z y) is there)) [
+  | inl before ↦ inl before
+  | inr now ↦ elim ((Contains-cons y x []).0 now) [ inl here ↦ inr here | inr none ↦ absurd (Contains-none y none) ]
+]
+
+pub pushed_kept : {X : Type 0} (old new : List X) (x y : X) → new ≡ old ++ x ∷ [] → Contains old y → Contains new y
+pushed_kept old new x y is there = subst (λ z. Contains z y) (sym is) (Contains-append_left old (x ∷ []) y there)
+
+pub pushed_there : {X : Type 0} (old new : List X) (x : X) → new ≡ old ++ x ∷ [] → Contains new x
+pushed_there old new x is = subst (λ z. Contains z x) (sym is) (Contains-append_right old (x ∷ []) x (Contains-here x x [] refl))
+
+pub number_within : (old new : List ℕ) (i count : ℕ) → new ≡ old ++ i ∷ [] → i < count → ((j : ℕ) → Contains old j → j < count) → (j : ℕ) → Contains new j → j < count
+number_within old new i count is less f j there = elim (pushed old new i j is there) [ inl before ↦ f j before | inr same ↦ subst (λ z. z < count) (sym same) less ]
+
+pub number_more : (old new : List ℕ) (i : ℕ) → new ≡ old ++ i ∷ [] → ((j : ℕ) → j < i → Contains old j) → (j : ℕ) → j < i + 1 → Contains new j
+number_more old new i is f j less = elim (cases_lt j i) [
+  | inl before ↦ pushed_kept old new i j is (f j before)
+  | inr late ↦ let same : i ≡ j = omega (arith, less, late) in subst (Contains new) same (pushed_there old new i is)
+]
+
+-- ---- a node's parent
+
+pub parent_none : (nodes : List (List ℕ)) (c : ℕ) (due : List ℕ) → IsAbove nodes (get_or nodes c []) None → IsParentIn nodes c due
+parent_none nodes c due above p n less at = absurd (above (get_or nodes p []) n at (Contains-get_or nodes p [] less))
+
+pub parent_some : (nodes : List (List ℕ)) (c : ℕ) (old new : List ℕ) (p : ℕ) → ((i j : ℕ) → i < length nodes → j < length nodes → get_or nodes i [] ≡ get_or nodes j [] → i ≡ j)
+    → IsAbove nodes (get_or nodes c []) (Some p) → new ≡ old ++ p ∷ [] → IsParentIn nodes c new
+parent_some nodes c old new p once above is q n less at =
+    let same : p ≡ q = once p q above.0 less (same_parent (get_or nodes p []) (get_or nodes q []) above.1 n (sym above.2 ∙ at)) in
+    subst (Contains new) same (pushed_there old new p is)
+
+-- ---- each node at its parent
+
+module _ (nodes : List (List ℕ)) (once : (i j : ℕ) → i < length nodes → j < length nodes → get_or nodes i [] ≡ get_or nodes j [] → i ≡ j) (c : ℕ) (less : c < length nodes) where
+  pub called_none : (old : List (List ℕ)) → IsAbove nodes (get_or nodes c []) None → IsCalled nodes old old c
+  called_none old above = record {
+    kept = λ i j there. there;
+    only = λ h. h;
+    heard = λ i n within at. absurd (above (get_or nodes i []) n at (Contains-get_or nodes i [] within));
+  }
+
+  pub called_some : (old new : List (List ℕ)) (p : ℕ) → IsAbove nodes (get_or nodes c []) (Some p) → IsNoted old new p c → IsCalled nodes old new c
+  called_some old new p above noted = record {
+    kept = noted_kept old new p c noted;
+    only = λ h i j there. elim (noted_cases old new p c noted i j there) [
+      | inl before ↦ h i j before
+      | inr now ↦
+          let at : get_or nodes j [] ≡ get_or nodes i [] ++ above.1 ∷ [] = ap (λ z. get_or nodes z []) now.1 ∙ above.2 ∙ ap (λ z. get_or nodes z [] ++ above.1 ∷ []) (sym now.0) in
+          (subst (λ z. z < length nodes) (sym now.1) less, above.1, at)
+    ];
+    heard = λ i n within at.
+        let same : p ≡ i = once p i above.0 within (same_parent (get_or nodes p []) (get_or nodes i []) above.1 n (sym above.2 ∙ at)) in
+        subst (λ z. Contains (row_of new z) c) same (subst (λ (z : List ℕ). Contains z c) (sym noted.here) (Contains-append_right (row_of old p) (c ∷ []) c (Contains-here c c [] refl)));
+  }
+
+pub heard_more : (nodes old new : List (List ℕ)) (c : ℕ) → ((i j : ℕ) → Contains (row_of old i) j → Contains (row_of new i) j) → IsHeard nodes old c → IsHeard nodes new c
+heard_more nodes old new c kept h = λ i n within at. kept i c (h i n within at)
+
+pub kids_none : (nodes rows : List (List ℕ)) → rows ≡ [] → AreKidsAll nodes rows
+kids_none nodes rows none = λ i c there. absurd (Contains-none c (subst (λ (z : List (List ℕ)). Contains (row_of z i) c) none there))
+
+pub heard_next : (nodes old new : List (List ℕ)) (i : ℕ) → ((k j : ℕ) → Contains (get_or old k []) j → Contains (get_or new k []) j) → IsHeard nodes new i → ((c : ℕ) → c < i → IsHeard nodes old c) → (c : ℕ) → c < i + 1 → IsHeard nodes new c
+heard_next nodes old new i kept now f c less = elim (cases_lt c i) [
+  | inl before ↦ λ p n within at. kept p c (f c before p n within at)
+  | inr late ↦ let same : i ≡ c = omega (arith, less, late) in subst (λ z. IsHeard nodes new z) same now
+]
