@@ -35,9 +35,9 @@ pub(crate) fn begin(alloc: Global, page: &Tree) -> Result<Filling, NoMemory>
     ensures { IfOk result (λ f. IsBegun page.now f) }
 {
     let labels = PageLabels::new(alloc, page)?;
-    let work = begin_work(alloc, page, &labels)?;
+    let work = begin_work(alloc, &labels)?;
     let mut firsts = Vec::new(alloc);
-    start_firsts(alloc, page, labels.paths(), &mut firsts)?;
+    start_firsts(alloc, &labels, &mut firsts)?;
     Ok(Filling {
         labels,
         firsts,

@@ -1,6 +1,5 @@
 //! What is still to come to the nodes of a page, from one round to the next.
-ghost use Rattle.std.specs.Prelude.{◌≡◌, ◌≤◌, ◌<◌, ℕ, List, [], None, length, get_or, set, All, Contains, IfOk, OnOk, IfSome, IsTrue};
-ghost use Rattle.tree_sem.specs.Nodes.{IsNode};
+ghost use Rattle.std.specs.Prelude.{◌≡◌, ◌≤◌, ◌<◌, ℕ, List, [], None, length, get_or, set, Contains, IfOk, OnOk, IfSome, IsTrue};
 ghost use Rattle.closed_page.specs.Labelled.{AreKidsAll, IsHeard};
 ghost use Rattle.closed_page.specs.Rows.{row_of};
 ghost use Rattle.class_adding.specs.declared.looking.Look.{Look};
@@ -8,11 +7,10 @@ ghost use Rattle.class_adding.specs.Work.{IsLessOf, IsWritten, IsAwaited, AreAwa
 
 use crate::due::next_due;
 use crate::looking::Look;
-use closed_page::{Index, PageLabels, all_labels};
+use closed_page::{Index, PageLabels};
 use multimap::Multimap;
 use std::alloc::Global;
 use tp_base::{ClassSet, NoMemory};
-use tree_sem::Tree;
 
 /// What is still to come to the nodes, by their numbers: the atoms that the last round brought to each; those of its
 /// children to which it brought some; the round in which the children that its label adds give something new, and for each
@@ -42,11 +40,10 @@ fn no_wakes(alloc: Global, count: usize) -> Result<Vec<Option<u64>>, NoMemory>
 }
 
 /// Before the first round: all atoms are new, and every node is due.
-pub(crate) fn begin_work(alloc: Global, page: &Tree, labels: &PageLabels) -> Result<Work, NoMemory>
-    requires { All (IsNode page.now) labels.now.nodes }
-    ensures { IfOk result (λ w. IsStart page.now labels.now.nodes w) }
+pub(crate) fn begin_work(alloc: Global, labels: &PageLabels) -> Result<Work, NoMemory>
+    ensures { IfOk result (λ w. IsStart labels.now.labels labels.now.nodes w) }
 {
-    let fresh = all_labels(alloc, page, labels.paths())?;
+    let fresh = labels.all_own(alloc)?;
     let callers = labels.all_callers(alloc)?;
     let count = labels.paths().len();
     let wakes = no_wakes(alloc, count)?;

@@ -57,6 +57,18 @@ labels_more u nodes own own' i l before here is =
       ];
     }
 
+-- one node more, with its label
+pub labels_next : (u : LabelTree) (nodes nodes' own own' : List (List ℕ)) (v l : List ℕ) → AreAllLabels u nodes own (length nodes) → label_at v u ≡ Some l → nodes' ≡ nodes ++ v ∷ [] → own' ≡ own ++ l ∷ [] → AreAllLabels u nodes' own' (length nodes')
+labels_next u nodes nodes' own own' v l before here more_nodes more_own =
+    let n = length nodes in
+    let long : length nodes' ≡ n + 1 = ap length more_nodes ∙ length_push nodes v in
+    let kept : AreAllLabels u nodes' own n = record {
+      count = before.count;
+      each = λ i less. ap (λ z. label_at z u) (ap (λ z. get_or z i []) more_nodes ∙ get_or_append_left nodes (v ∷ []) [] i less) ∙ before.each i less;
+    } in
+    let last : label_at (get_or nodes' n []) u ≡ Some l = ap (λ z. label_at z u) (ap (λ z. get_or z n []) more_nodes ∙ get_or_push nodes v [] n refl) ∙ here in
+    subst (AreAllLabels u nodes' own') (sym long) (labels_more u nodes' own own' n l kept last more_own)
+
 -- ---- the numbers of the children
 
 pub kids_start : (rows : List (List ℕ)) → rows ≡ [] → AreByNumber [] rows

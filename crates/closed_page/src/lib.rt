@@ -13,4 +13,4 @@ pub use closed::Closed;
 pub use first_rounds::PageFirst;
 pub use gains::{Gain, apply_gains, start_firsts};
 pub use index::Index;
-pub use page_labels::{PageLabels, all_labels};
+pub use page_labels::PageLabels;

@@ -8,7 +8,7 @@ ghost use Rattle.closed_page.specs.Labelled.{node_of, IsAbove, AreKids, IsParent
 
 use crate::index::Index;
 use crate::nodes::PageNodes;
-use crate::paths::all_paths;
+use crate::paths::{all_nodes, copies};
 use std::alloc::Global;
 use std::marker::Model;
 use tp_base::{ClassSet, NoMemory, Path};
@@ -44,11 +44,11 @@ impl PageLabels {
         ensures nodes { IfOk result (λ l. l.nodes ≡ paths_of page.now) }
     {
         let tree = page.copy()?;
-        let paths = all_paths(alloc, page)?;
-        let nodes = PageNodes::new(alloc, paths)?;
+        let walk = all_nodes(alloc, page)?;
+        let own = walk.labels;
+        let nodes = PageNodes::new(alloc, walk.paths)?;
         let parents = all_above(alloc, &nodes)?;
         let kids = Index::of_numbers(alloc, &parents)?;
-        let own = all_labels(alloc, page, nodes.paths())?;
         Ok(PageLabels {
             tree,
             nodes,
@@ -100,6 +100,14 @@ impl PageLabels {
         ensures { label_at (node_of self.now number) self.now.labels ≡ Some result.now }
     {
         &self.own[number]
+    }
+
+    /// The label of each node, once more. Linear in the labels.
+    pub fn all_own(&self, alloc: Global) -> Result<Vec<ClassSet>, NoMemory>
+        ensures { IfOk result (λ v. AreAllLabels self.now.labels self.now.nodes v.items (length self.now.nodes)) }
+    {
+        let labels = copies(alloc, &self.own)?;
+        Ok(labels)
     }
 
     /// The number of a node's parent.
@@ -221,28 +229,4 @@ fn all_above(alloc: Global, nodes: &PageNodes) -> Result<Vec<Option<usize>>, NoM
         parents.push(parent)?;
     }
     Ok(parents)
-}
-
-// The label of a node, once more.
-fn label_of(page: &Tree, at: &Path) -> Result<ClassSet, NoMemory>
-    requires { IsNode page.now at.now }
-    ensures { IfOk result (λ l. label_at at.now page.now ≡ Some l) }
-{
-    match page.label(at) {
-        Some(label) => label.copy(),
-        None => unreachable!(),
-    }
-}
-
-/// The label of each of these nodes, once more.
-pub fn all_labels(alloc: Global, page: &Tree, paths: &[Path]) -> Result<Vec<ClassSet>, NoMemory>
-    requires { All (IsNode page.now) paths.now }
-    ensures { IfOk result (λ v. AreAllLabels page.now paths.now v.items (length paths.now)) }
-{
-    let mut labels = Vec::new(alloc);
-    for i in 0..paths.len() {
-        let label = label_of(page, &paths[i])?;
-        labels.push(label)?;
-    }
-    Ok(labels)
 }

@@ -3,7 +3,7 @@ use Rattle.class_adding.proofs.work.begin_work.Goals as goal
 
 pub returns : goal.returns
 returns c = record {
-  fresh = rw c.paths.ensures at c.in_ok-fresh.ensures;
+  fresh = c.in_ok-fresh.ensures;
   only = c.in_ok-callers.ensures.only;
   heard = c.in_ok-callers.ensures.heard;
   times = c.in_ok-wakes.ensures.count ∙ omega (arith, ap length c.paths-count.ensures);

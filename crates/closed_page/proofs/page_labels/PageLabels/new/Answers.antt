@@ -1,10 +1,8 @@
-use Rattle.std.proofs.Common.{List, ℕ, Option, All, length, sym, ◌∙◌, subst}
+use Rattle.std.proofs.Common.{List, ℕ, Option, length, sym, ◌∙◌, subst}
 use Rattle.tree_sem.specs.Trees.{LabelTree}
-use Rattle.tree_sem.specs.Nodes.{IsNode}
 use Rattle.closed_page.specs.Rows.{AreByNumber}
 use Rattle.closed_page.specs.Labelled.{AreRelated, AreAllLabels}
 use Rattle.closed_page.proofs.LabelledLemmas.{related_page}
-use Rattle.closed_page.proofs.LabelledLemmas.{paths_there}
 use Rattle.closed_page.proofs.page_labels.PageLabels.new.Goals as goal
 
 pub invariant_of-result : goal.invariant_of-result
@@ -12,12 +10,8 @@ invariant_of-result c =
     let nodes = c.in_ok-nodes.nodes in
     let parents = c.in_ok-parents.parents.items in
     let kids = c.in_ok-kids.kids in
-    let own = c.in_ok-own.own.items in
+    let own = c.in_ok-walk.walk.labels.items in
     subst (λ (z : LabelTree). AreRelated z nodes parents kids own) (sym c.in_ok-tree.ensures)
-    (related_page c.args.page.now nodes parents kids own (c.in_ok-nodes.ensures ∙ c.in_ok-paths.ensures) c.in_ok-parents.ensures
+    (related_page c.args.page.now nodes parents kids own (c.in_ok-nodes.ensures ∙ c.in_ok-walk.ensures.paths) c.in_ok-parents.ensures
     (subst (λ (z : List (Option ℕ)). AreByNumber z kids) c.deref.ensures.value c.in_ok-kids.ensures)
-    (subst (λ (z : List (List ℕ)). AreAllLabels c.args.page.now z own (length z)) c.paths.ensures c.in_ok-own.ensures))
-
-pub all_labels-requires : goal.all_labels-requires
-all_labels-requires c =
-    subst (λ (z : List (List ℕ)). All (IsNode c.args.page.now) z) (sym (c.paths.ensures ∙ c.in_ok-nodes.ensures ∙ c.in_ok-paths.ensures)) (paths_there c.args.page.now)
+    (subst (λ (z : List (List ℕ)). AreAllLabels c.args.page.now z own (length z)) (sym c.in_ok-nodes.ensures) c.in_ok-walk.ensures.labels))
