@@ -2,11 +2,9 @@
 ghost use Rattle.std.specs.Prelude.{◌≡◌, ◌↔◌, ℕ, None, false, Contains, IfOk, OnOk, IsSome, IsErrOf, IsFalse};
 ghost use Rattle.std.specs.List.{flat_map};
 ghost use Rattle.simple_core.specs.Labels.{given_by_links, labels_below};
-ghost use Rattle.simple_core.specs.Systems.{IsSound};
 ghost use Rattle.simple_core.specs.Rounds.{grown};
 ghost use Rattle.simple_core.specs.Pairs.{Asks};
-ghost use Rattle.simple_core.specs.Knowledge.{KeepsAsking, IsToldBy};
-ghost use Rattle.class_adding.specs.Asking.{Went};
+ghost use Rattle.class_adding.specs.Asking.{IsReady, Went};
 ghost use Rattle.class_adding.specs.Gifts.{AreGifts};
 ghost use Rattle.class_adding.specs.Filling.{wakes_in};
 ghost use Rattle.class_adding.specs.Fresh.{IsMore, AsksAnew, IsAsleep, IsResting};
@@ -39,11 +37,7 @@ pub(crate) fn look_below<S: Summaries>(
     k: u64,
     next: &mut Gathered,
 ) -> Result<Option<u64>, GainFault>
-    requires sound { IsSound system.now }
-    requires made { S.system sums.old ≡ system.now }
-    requires closed { KeepsAsking system.now (S.known sums.old) }
-    requires tells { IsToldBy (S.told sums.old) (S.known sums.old) }
-    requires remembered { AreGifts system.now (S.known sums.old) remembered.old }
+    requires ready { IsReady system.now (S.system sums.old) (S.known sums.old) (S.told sums.old) remembered.old }
     requires resting { IsResting system.now k (S.known sums.old) own.now fresh.now wake }
     ensures more { OnOk result (IsMore own.now (flat_map (given_by_links system.now.down) (labels_below system.now (grown system.now k) own.now)) next.old next.new) }
     ensures asleep { IfOk result (λ wake. IsAsleep system.now k (S.known sums.new) own.now wake) }

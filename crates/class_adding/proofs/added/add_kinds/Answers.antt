@@ -12,9 +12,9 @@ pub kinds-init : goal.kinds-init
 kinds-init g c = record {
   asking = asking_start c.args.system.now c.args.k c.args.own.now c.args.seen.now (g.S.Summaries.known c.args.sums.now) c.args.next.now c.args.kinds.now c.requires.kinds;
   waking = waking_start c.args.system.now c.args.k c.args.own.now c.args.seen.now c.args.kinds.now c.requires.kinds;
-  remembered = c.requires.remembered;
+  remembered = c.requires.ready.remembered;
   went = went_start c.args.system.now (Asks c.args.system.now c.args.own.now) (g.S.Summaries.known c.args.sums.now) (g.S.Summaries.told c.args.sums.now) (g.S.Summaries.system c.args.sums.now)
-      (g.S.Summaries.spent_on c.args.sums.now) c.requires.tells c.requires.closed c.requires.made;
+      (g.S.Summaries.spent_on c.args.sums.now) c.requires.ready.tells c.requires.ready.closed c.requires.ready.made;
   spent = refl;
   room = refl;
 }
@@ -22,7 +22,7 @@ kinds-init g c = record {
 pub add_asked-requires-clause-kind : goal.add_asked-requires-clause-kind
 add_asked-requires-clause-kind g c =
     let split = first_rest c.kinds.rest.now c.in-Some.kind.now c.in-Some.others.now c.in-Some.ensures.cases in
-    kind_listed c.args.system.now c.args.own.now c.in-Some.kind.now c.requires.sound.spawned
+    kind_listed c.args.system.now c.args.own.now c.in-Some.kind.now c.requires.ready.sound.spawned
     (asking_first c.args.system.now c.args.k c.args.own.now c.args.seen.now (g.S.Summaries.known c.kinds.sums) c.args.next.now c.kinds.next c.args.kinds.now c.kinds.rest.now c.in-Some.kind.now c.in-Some.others.now split c.kinds.invariant.asking)
 
 pub add_asked-requires-clause-visible : goal.add_asked-requires-clause-visible
@@ -67,3 +67,8 @@ returns-clause-sleeps g c = waking_all c.args.system.now c.args.k c.args.own.now
 pub returns-clause-known : goal.returns-clause-known
 returns-clause-known g c =
     asked_all c.args.system.now c.args.k c.args.own.now c.args.seen.now (g.S.Summaries.known c.kinds.sums) c.args.next.now c.kinds.next c.args.kinds.now c.kinds.rest.now c.requires.kinds c.kinds.invariant.asking c.in_default.ensures.cases c.requires.seen
+
+pub add_asked-requires-clause-ready : goal.add_asked-requires-clause-ready
+add_asked-requires-clause-ready g c =
+    let went = c.kinds.invariant.went in
+    record { sound = c.requires.ready.sound; made = went.made; closed = went.closed; tells = went.tells; remembered = c.kinds.invariant.remembered }

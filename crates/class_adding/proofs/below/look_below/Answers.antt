@@ -20,7 +20,10 @@ returns-then-not-is_due-clause-asleep g c =
 
 pub returns-then-not-is_due-clause-went : goal.returns-then-not-is_due-clause-went
 returns-then-not-is_due-clause-went g c = went_start c.args.system.now (Asks c.args.system.now c.args.own.now) (g.S.Summaries.known c.args.sums.now) (g.S.Summaries.told c.args.sums.now) (g.S.Summaries.system c.args.sums.now)
-    (g.S.Summaries.spent_on c.args.sums.now) c.requires.tells c.requires.closed c.requires.made
+    (g.S.Summaries.spent_on c.args.sums.now) c.requires.ready.tells c.requires.ready.closed c.requires.ready.made
 
 pub returns-clause-more : goal.returns-clause-more
 returns-clause-more g c = more_all c.args.own.now (flat_map (given_by_links c.args.system.now.down) (labels_below c.args.system.now (grown c.args.system.now c.args.k) c.args.own.now)) c.args.next.now c.add_added.new.next c.in_ok-later.ensures.given
+
+pub returns-then-not-is_due-clause-remembered : goal.returns-then-not-is_due-clause-remembered
+returns-then-not-is_due-clause-remembered g c = c.requires.ready.remembered

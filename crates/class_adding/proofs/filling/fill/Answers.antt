@@ -128,3 +128,8 @@ take_round-requires-clause-numbers g c = λ l there. (c.in_ok-round.ensures.foun
 
 pub take_round-requires-clause-working : goal.take_round-requires-clause-working
 take_round-requires-clause-working g c = c.rounds.invariant.filled.working
+
+pub look_at_all-requires-clause-ready : goal.look_at_all-requires-clause-ready
+look_at_all-requires-clause-ready g c =
+    let went = c.rounds.invariant.went in
+    record { sound = c.requires.sound; made = went.made; closed = went.closed; tells = went.tells; remembered = c.rounds.invariant.remembered }
