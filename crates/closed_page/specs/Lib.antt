@@ -1,5 +1,6 @@
 -- What public contracts cite.
 pub mod ClosedPages
+pub mod FirstChildren
 pub mod Firsts
 pub mod Gains
 pub mod Labelled

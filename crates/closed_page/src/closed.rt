@@ -1,11 +1,14 @@
 //! A closed page.
-ghost use Rattle.std.specs.Prelude.{◌≡◌, IfOk, option_copied};
-ghost use Rattle.tree_sem.specs.Trees.{label_at};
+ghost use Rattle.std.specs.Prelude.{◌≡◌, ◌++◌, ◌∷◌, [], IfOk, find, option_copied, unwrap_or};
+ghost use Rattle.std.specs.List.{range_with_len};
+ghost use Rattle.tree_sem.specs.Trees.{label_at, children_at};
 ghost use Rattle.closed_page.specs.ClosedPages.{HasNoOthers, round_of};
+ghost use Rattle.closed_page.specs.FirstChildren.{came_by};
 ghost use Rattle.closed_page.specs.Firsts.{AreOfNodes};
 ghost use Rattle.closed_page.specs.Views.{firsts_of};
 
-use crate::first_rounds::{FirstRounds, PageFirst};
+use crate::first_children::FirstChildren;
+use crate::first_rounds::{FirstRounds, PageFirst, numbers_of};
 use crate::page_labels::PageLabels;
 use std::alloc::Global;
 use std::marker::Model;
@@ -38,8 +41,10 @@ impl Closed {
         requires others { HasNoOthers page.labels (firsts_of firsts.items) }
         ensures { IfOk result (λ c. c ≡ record { labels = page.labels; firsts = firsts_of firsts.items }) }
     {
+        let numbers = numbers_of(alloc, &page, &firsts)?;
+        let below = FirstChildren::new(alloc, &page, &firsts, &numbers)?;
         let (labels, nodes) = page.into_parts();
-        let firsts = FirstRounds::new(alloc, nodes, firsts)?;
+        let firsts = FirstRounds::new(alloc, nodes, firsts, &numbers, below)?;
         Ok(Closed { labels, firsts })
     }
 
@@ -58,5 +63,14 @@ impl Closed {
             Some(_) => self.firsts.round(at, atom),
             None => None,
         }
+    }
+
+    /// The least number of a child that has the atom by the round. Linear in the path's length, on average, and in the
+    /// children that have the atom.
+    pub fn first_child(&self, at: &Path, atom: Atom, round: u64) -> Option<u32>
+        ensures { result ≡ find (λ n. came_by round (round_of self.now.firsts (at.now ++ n ∷ []) atom))
+            (range_with_len 0 (unwrap_or (children_at at.now self.now.labels) 0)) }
+    {
+        self.firsts.first_child(at, atom, round)
     }
 }

@@ -1,11 +1,14 @@
 //! The first rounds of a page, found by its nodes.
 ghost use Rattle.std.specs.Prelude.{◌≡◌, length, slice_get, IfOk};
 ghost use Rattle.closed_page.specs.ClosedPages.{round_of};
+ghost use Rattle.closed_page.specs.FirstChildren.{AreFoundBelow, IsFirstChild};
 ghost use Rattle.closed_page.specs.Firsts.{AreOfNodes, AreNumbers, round_if, round_among};
 ghost use Rattle.closed_page.specs.Views.{firsts_of};
 
+use crate::first_children::{FirstChildren, least_child};
 use crate::index::Index;
 use crate::nodes::PageNodes;
+use crate::page_labels::PageLabels;
 use std::alloc::Global;
 use std::marker::Model;
 use tp_base::{Atom, NoMemory, Path};
@@ -18,12 +21,13 @@ pub struct PageFirst {
     pub round: u64,
 }
 
-/// Firsts, and for the number of each node their places. A contract sees the firsts.
+/// Firsts, and their places by the numbers of their nodes, and of their nodes' parents. A contract sees the firsts.
 #[derive(Drop)]
 pub(crate) struct FirstRounds {
     nodes: PageNodes,
     firsts: Vec<PageFirst>,
     rows: Index,
+    below: FirstChildren,
 }
 
 impl Model for FirstRounds {
@@ -31,30 +35,35 @@ impl Model for FirstRounds {
     ghost use Rattle.closed_page.specs.ClosedPages.{First};
     ghost use Rattle.closed_page.specs.Views.{firsts_of};
     ghost use Rattle.closed_page.specs.Firsts.{AreFound};
+    ghost use Rattle.closed_page.specs.FirstChildren.{AreFoundBelow};
 
     ghost Value = { List First };
 
     ghost view = { λ r. firsts_of r.firsts.items };
 
-    ghost invariant = { λ r. AreFound r.nodes r.firsts.items r.rows };
+    ghost invariant = { λ r. AreFound r.nodes r.firsts.items r.rows × AreFoundBelow r.nodes r.firsts.items r.below };
 }
 
 impl FirstRounds {
-    /// Notes the places of firsts. Linear in the lengths of their paths, on average.
+    /// Notes the places of firsts, by the numbers of their nodes. Linear in their number.
     pub(crate) fn new(
         alloc: Global,
         nodes: PageNodes,
         firsts: Vec<PageFirst>,
+        numbers: &[Option<usize>],
+        below: FirstChildren,
     ) -> Result<FirstRounds, NoMemory>
-        requires { AreOfNodes nodes firsts.items }
+        requires nodes { AreOfNodes nodes firsts.items }
+        requires numbers { AreNumbers nodes firsts.items numbers.now (length firsts.items) }
+        requires below { AreFoundBelow nodes firsts.items below }
         ensures { IfOk result (λ r. r ≡ firsts_of firsts.items) }
     {
-        let numbers = numbers_of(alloc, &nodes, &firsts)?;
-        let rows = Index::of_numbers(alloc, &numbers)?;
+        let rows = Index::of_numbers(alloc, numbers)?;
         Ok(FirstRounds {
             nodes,
             firsts,
             rows,
+            below,
         })
     }
 
@@ -67,20 +76,31 @@ impl FirstRounds {
             None => None,
         }
     }
+
+    /// The least child of a node that has the atom by the round. Linear in the path's length, on average, and in the
+    /// children that have the atom.
+    pub(crate) fn first_child(&self, at: &Path, atom: Atom, round: u64) -> Option<u32>
+        ensures { IsFirstChild self.now at.now atom round result }
+    {
+        match self.nodes.number_of(at) {
+            Some(number) => least_child(&self.firsts, self.below.of(number, atom), round),
+            None => None,
+        }
+    }
 }
 
-// The number of each first's node.
-fn numbers_of(
+/// The number of each first's node. Linear in the lengths of their paths, on average.
+pub(crate) fn numbers_of(
     alloc: Global,
-    nodes: &PageNodes,
+    page: &PageLabels,
     firsts: &[PageFirst],
 ) -> Result<Vec<Option<usize>>, NoMemory>
-    ensures { IfOk result (λ v. AreNumbers nodes.now firsts.now v.items (length firsts.now)) }
+    ensures { IfOk result (λ v. AreNumbers page.now.nodes firsts.now v.items (length firsts.now)) }
 {
     let mut numbers = Vec::new(alloc);
     for i in 0..firsts.len() {
         let first = &firsts[i];
-        let number = nodes.number_of(&first.at);
+        let number = page.number_of(&first.at);
         numbers.push(number)?;
     }
     Ok(numbers)

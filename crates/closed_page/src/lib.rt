@@ -2,6 +2,7 @@
 #![tactic(auto)]
 
 mod closed;
+mod first_children;
 mod first_rounds;
 mod gains;
 mod index;
