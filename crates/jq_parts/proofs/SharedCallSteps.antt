@@ -1,5 +1,6 @@
 -- Shared calls: one more, how many stand, whether one is of `parents`, and their copies.
-use Rattle.std.proofs.Common.{◌≡◌, ◌≢◌, ℕ, not, Bool, true, false, ◌||◌, List, [], ◌∷◌, ◌++◌, length, map, reverse, refl, sym, ap, ◌∙◌, arith, append_assoc}
+use Rattle.std.proofs.Common.{◌≡◌, ℕ, not, Bool, true, false, ◌||◌, List, [], ◌∷◌, ◌++◌, length, map, reverse, refl, sym, ap, ◌∙◌, nat_lt, arith, append_assoc}
+use Rattle.std.proofs.lemmas.Bool.Decides.{nat_tests}
 use Rattle.std.proofs.lemmas.List.{map-append, reverse-append}
 use Rattle.jq_sem.specs.Statements.{Root, Call, matched, back, standing}
 use Rattle.jq_sem.specs.Sharp.{ExactCall, ExactChain, wide_call}
@@ -51,26 +52,18 @@ one_standing n m cs c is more =
     more ∙ ap (λ k. and_standing k (judged_of c)) is ∙ sym (stand_more (matched []) [] (map judged_of cs) (judged_of c))
     ∙ ap (λ xs. length (standing (matched []) [] xs).1) (sym (map-append judged_of cs (c ∷ [])))
 
-any_left : (n : ℕ) (cs : List Call) → n ≡ length cs → n ≢ 0 → not (is_empty cs) ≡ true
-any_left n [] is some = absurd (some is)
-any_left n (c ∷ cs) is some = refl
-
-none_left : (n : ℕ) (cs : List Call) → n ≡ length cs → n ≡ 0 → not (is_empty cs) ≡ false
-none_left n [] is none = refl
-none_left n (c ∷ cs) is none = let never : ⊥ = omega (arith, is, none) in absurd never
+any_left : (cs : List Call) → not (is_empty cs) ≡ nat_lt 0 (length cs)
+any_left [] = refl
+any_left (c ∷ cs) = grind (arith, nat_tests)
 
 -- those that stand, by what is judged
 counted : (n : ℕ) (root : Root) (cs : List MarkedCall) → n ≡ count cs → n ≡ length (standing root [] (map wide_call (map marked_of cs))).1
 counted n root cs is =
     is ∙ ap length (any_root (matched []) root [] (map judged_of cs)) ∙ ap (λ xs. length (standing root [] xs).1) (sym (judged cs))
 
-pub some_standing : (n : ℕ) (root : Root) (cs : List MarkedCall) → n ≡ length (standing (matched []) [] (map judged_of cs)).1 → n ≢ 0
-    → not (is_empty (standing root [] (map wide_call (map marked_of cs))).1) ≡ true
-some_standing n root cs is some = any_left n _ (counted n root cs is) some
-
-pub none_standing : (n : ℕ) (root : Root) (cs : List MarkedCall) → n ≡ length (standing (matched []) [] (map judged_of cs)).1 → n ≡ 0
-    → not (is_empty (standing root [] (map wide_call (map marked_of cs))).1) ≡ false
-none_standing n root cs is none = none_left n _ (counted n root cs is) none
+pub any_standing : (b : Bool) (n : ℕ) (root : Root) (cs : List MarkedCall) → n ≡ length (standing (matched []) [] (map judged_of cs)).1 → b ≡ nat_lt 0 n
+    → not (is_empty (standing root [] (map wide_call (map marked_of cs))).1) ≡ b
+any_standing b n root cs is some = any_left (standing root [] (map wide_call (map marked_of cs))).1 ∙ ap (nat_lt 0) (sym (counted n root cs is)) ∙ sym some
 
 -- ---- whether one is of `parents`
 

@@ -1,10 +1,11 @@
 //! Calls that several chains may share.
-ghost use Rattle.std.specs.Prelude.{◌≡◌, ◌||◌, not, [], ◌∷◌, ◌++◌, map, IfOk};
+ghost use Rattle.std.specs.Prelude.{◌≡◌, ◌||◌, not, nat_lt, [], ◌∷◌, ◌++◌, map, IfOk};
 ghost use Rattle.jq_sem.specs.Sharp.{wide_call};
 ghost use Rattle.jq_sem.specs.Statements.{standing};
 ghost use Rattle.jq_sem.specs.Views.{call_of};
 ghost use Rattle.jq_words.specs.Brackets.{is_empty};
 ghost use Rattle.jq_parts.specs.MarkedCalls.{marked_of};
+ghost use Rattle.jq_parts.specs.Links.{how_many};
 ghost use Rattle.jq_parts.specs.SharedCalls as spec;
 
 use crate::marked_calls::MarkedCall;
@@ -35,14 +36,44 @@ impl Drop for Link {
     }
 }
 
+// How many calls stand: one more than others, or none. A list has no end, where a number would have one.
+enum Standing {
+    Nothing,
+    OneMore(Rc<Standing>),
+}
+
+/// A loop, as of `Link`.
+impl Drop for Standing {
+    fn drop(mut self) {
+        loop {
+            match self {
+                Standing::Nothing => return,
+                Standing::OneMore(others) => match Rc::into_inner(others) {
+                    None => return,
+                    Some(standing) => self = standing,
+                },
+            }
+        }
+    }
+}
+
 // How many calls stand, with one call more.
-fn and_one(standing: usize, call: &Call) -> Result<usize, NoMemory>
-    ensures { IfOk result (λ n. n ≡ spec.and_standing standing (call_of call.now)) }
+fn and_one(alloc: Global, standing: Rc<Standing>, call: &Call) -> Result<Rc<Standing>, NoMemory>
+    ensures { IfOk result (λ n. how_many n.value ≡ spec.and_standing (how_many standing.value) (call_of call.now)) }
 {
     match call {
-        Call::End => Ok(standing.saturating_sub(1)),
-        _ => standing.checked_add(1).ok_or(NoMemory),
+        Call::End => match &*standing {
+            Standing::Nothing => Ok(standing),
+            Standing::OneMore(others) => Ok(others.clone()?),
+        },
+        _ => Ok(Rc::new(alloc, Standing::OneMore(standing))?),
     }
+}
+
+fn is_some(standing: &Rc<Standing>) -> bool
+    ensures { result ≡ nat_lt 0 (how_many standing.now.value) }
+{
+    matches!(**standing, Standing::OneMore(_))
 }
 
 // Whether there is a call of `parents`, with one call more.
@@ -59,8 +90,8 @@ fn and_parents(before: bool, call: &Call) -> bool
 #[derive(Drop)]
 pub struct SharedCalls {
     last: Rc<Link>,
-    /// How many stand, as each `end` takes the last one back.
-    left: usize,
+    /// Those that stand, as each `end` takes the last one back.
+    left: Rc<Standing>,
     /// Whether one is of `parents`, also one that was taken back.
     parents: bool,
 }
@@ -69,7 +100,7 @@ impl Model for SharedCalls {
     ghost use Rattle.std.specs.Prelude.{◌≡◌, List, [], length, map};
     ghost use Rattle.jq_sem.specs.Statements.{matched, standing};
     ghost use Rattle.jq_parts.specs.declared.marked_calls.MarkedCall.{MarkedCall};
-    ghost use Rattle.jq_parts.specs.Links.{calls_to};
+    ghost use Rattle.jq_parts.specs.Links.{calls_to, how_many};
     ghost use Rattle.jq_parts.specs.MarkedCalls.{judged_of};
     ghost use Rattle.jq_parts.specs.SharedCalls.{has_parents};
 
@@ -77,7 +108,7 @@ impl Model for SharedCalls {
 
     ghost view = { λ c. calls_to c.last.value };
 
-    ghost invariant = { λ c. (c.left ≡ length (standing (matched []) [] (map judged_of (calls_to c.last.value))).1) × (c.parents ≡ has_parents (map judged_of (calls_to c.last.value))) };
+    ghost invariant = { λ c. (how_many c.left.value ≡ length (standing (matched []) [] (map judged_of (calls_to c.last.value))).1) × (c.parents ≡ has_parents (map judged_of (calls_to c.last.value))) };
 }
 
 impl SharedCalls {
@@ -87,7 +118,7 @@ impl SharedCalls {
     {
         Ok(SharedCalls {
             last: Rc::new(alloc, Link::Start)?,
-            left: 0,
+            left: Rc::new(alloc, Standing::Nothing)?,
             parents: false,
         })
     }
@@ -98,7 +129,7 @@ impl SharedCalls {
     {
         Ok(SharedCalls {
             last: self.last.clone()?,
-            left: self.left,
+            left: self.left.clone()?,
             parents: self.parents,
         })
     }
@@ -108,7 +139,7 @@ impl SharedCalls {
     pub fn with_call(self, alloc: Global, call: MarkedCall) -> Result<Self, NoMemory>
         ensures { IfOk result (λ c. c ≡ self ++ call ∷ []) }
     {
-        let left = and_one(self.left, &call.call)?;
+        let left = and_one(alloc, self.left, &call.call)?;
         let parents = and_parents(self.parents, &call.call);
         Ok(SharedCalls {
             last: Rc::new(alloc, Link::After(call, self.last))?,
@@ -118,11 +149,11 @@ impl SharedCalls {
     }
 
     /// Whether one of them stands. Constant.
-    #[tactic(auto, using(crate::proofs::SharedCallSteps::some_standing, crate::proofs::SharedCallSteps::none_standing))]
+    #[tactic(auto, using(crate::proofs::SharedCallSteps::any_standing))]
     pub fn any_stands(&self) -> bool
         ensures { (root : _) → not (is_empty (standing root [] (map wide_call (map marked_of self.now))).1) ≡ result }
     {
-        self.left != 0
+        is_some(&self.left)
     }
 
     /// Whether one of them is of `parents`, also one that was taken back. Constant.

@@ -1,7 +1,6 @@
 //! The statements of a script, one more at a time.
-ghost use Rattle.std.specs.Prelude.{◌≡◌, ◌≤◌, ℕ, List, length, map, IfOk, IfErr, OnOk};
+ghost use Rattle.std.specs.Prelude.{◌≡◌, ◌≤◌, ℕ, List, length, map, min, IfOk, OnOk};
 ghost use Rattle.jq_words.specs.Results.{Leaves};
-ghost use Rattle.jq_words.specs.declared.faults.ScriptFault.TheVariants.{Memory};
 ghost use Rattle.jq_words.specs.declared.faults.TheConstants.{MOST_STATEMENTS};
 ghost use Rattle.jq_parts.specs.MarkedCalls.{marked_chain_of};
 ghost use Rattle.jq_parts.specs.Stating as spec;
@@ -16,18 +15,15 @@ use std::alloc::Global;
 use tp_base::NoMemory;
 use tree_sem::Action;
 
-// How many calls some chains have together.
-fn calls_in(chains: &[MarkedChain]) -> Result<usize, ScriptFault>
-    ensures count { IfOk result (λ n. n ≡ spec.calls_in (map marked_chain_of chains.now)) }
-    ensures only_memory { IfErr result (λ e. e ≡ Memory) }
+// How many calls some chains have together, or the greatest number where they are more.
+fn calls_in(chains: &[MarkedChain]) -> usize
+    ensures { result ≡ min (spec.calls_in (map marked_chain_of chains.now)) usize.MAX }
 {
     let mut count: usize = 0;
     for chain in chains {
-        count = count
-            .checked_add(chain.calls.len())
-            .ok_or(ScriptFault::Memory)?;
+        count = count.saturating_add(chain.calls.len());
     }
-    Ok(count)
+    count
 }
 
 // The chains of handlers, outermost first.
@@ -62,11 +58,7 @@ pub fn stated(
     }
     let chain = chain.copy(alloc)?;
     let chains = chains_of(alloc, handlers)?;
-    let count = calls_in(&chains)?;
-    let all = count
-        .checked_add(chain.calls.len())
-        .ok_or(ScriptFault::Memory)?;
-    if all > MOST_CALLS {
+    if calls_in(&chains).saturating_add(chain.calls.len()) > MOST_CALLS {
         return Err(ScriptFault::TooLong(at));
     }
     statements.push(Stated {
