@@ -45,18 +45,16 @@ fn round_of(firsts: &[First], atom: Atom) -> Option<u64>
 pub(crate) fn first_at(
     system: &System,
     table: &Table,
-    pairs: u32,
     kind: u32,
     parent: &ClassSet,
     atom: Atom,
 ) -> Option<u64>
-    requires table { IsTable system.now pairs table.now }
+    requires table { (pairs : ℕ) × IsTable system.now pairs table.now × (pairs < 2 ^ 32) }
     requires at_rest { AllRest table.now }
     requires known { Contains (map pair_of table.now) (kind, parent.now) }
     ensures first { IsFirst (labels system.now (kind, parent.now)) atom result }
     ensures bound { IfSome result (λ k. k < 2 ^ 62) }
 {
-    let _pairs = pairs;
     match table.find(kind, parent) {
         Some(i) => round_of(&table.entry(i).firsts, atom),
         None => None,
@@ -68,16 +66,14 @@ fn known_label(
     alloc: Global,
     system: &System,
     table: &Table,
-    pairs: u32,
     kind: u32,
     parent: &ClassSet,
 ) -> Result<Option<ClassSet>, NoMemory>
-    requires table { IsTable system.now pairs table.now }
+    requires table { (pairs : ℕ) × IsTable system.now pairs table.now }
     requires at_rest { AllRest table.now }
     ensures label { IfOk result (λ o. IfSome o (λ l. IsRest system.now kind parent.now l)) }
     ensures there { IfOk result (λ o. IfSome o (λ _. Contains (map pair_of table.now) (kind, parent.now))) }
 {
-    let _pairs = pairs;
     match table.find(kind, parent) {
         Some(i) => {
             let label = atoms_of(alloc, &table.entry(i).firsts)?;
@@ -135,7 +131,7 @@ pub(crate) fn ask(
     ensures spent { result ≡ Err GainFault.Spent → (qs : List Pair) → AreNeeded system.now qs table.old → Needed system.now (Contains qs) (kind, parent.now)
         → HasMore (Needed system.now (Contains qs)) pairs }
 {
-    if let Some(label) = known_label(alloc, system, table, pairs, kind, parent)? {
+    if let Some(label) = known_label(alloc, system, table, kind, parent)? {
         return Ok(label);
     }
     let before = table.len();

@@ -226,26 +226,24 @@ pub(crate) fn step(
     system: &System,
     table: &mut Table,
     agenda: &mut Agenda,
-    pairs: u32,
     i: usize,
     k: u64,
     asked: Asked,
 ) -> Result<(), NoMemory>
     requires round { k + 1 < 2 ^ 64 }
-    requires going { IsGoing system.now pairs table.old agenda.old }
+    requires going { (pairs : ℕ) × IsGoing system.now pairs table.old agenda.old }
     requires early { IsEmptyBelow k agenda.old.due }
     requires rounds { IsSomeAnd (slice_get table.old i) (λ e. e.rounds ≡ Some k) }
     requires asked { IsSomeAnd (slice_get table.old i) (λ e. asked.own ≡ labels system.now (pair_of e) k) }
     requires seen { asked.seen ≡ visible_in system.now asked.own }
     requires heard { (r : Pair) → Asks system.now asked.own r → IsHeard table.old asked.children.items r }
     requires inside { (j : ℕ) → Contains asked.children.items j → j < length table.old }
-    ensures going { OnOk result (IsGoing system.now pairs table.new agenda.new) }
+    ensures going { OnOk result ((pairs : ℕ) → IsGoing system.now pairs table.old agenda.old → IsGoing system.now pairs table.new agenda.new) }
     ensures more { IsMore table.old table.new }
     ensures same { OnOk result (map pair_of table.new ≡ map pair_of table.old) }
     ensures rows { OnOk result (AreSameBelow (suc k) agenda.old.due agenda.new.due) }
     ensures done { OnOk result (IsSomeAnd (slice_get table.new i) (λ e. IsDone e.rounds (suc k))) }
 {
-    let _pairs = pairs;
     let next = next_label(alloc, system, table, i, k, &asked.own, &asked.seen)?;
     let new = fresh(alloc, &asked.own, &next, k + 1)?;
     let first = agenda.first;

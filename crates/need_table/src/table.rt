@@ -114,6 +114,6 @@ impl Summaries for PlainSummaries {
     }
 
     fn first_round(&self, kind: u32, parent: &ClassSet, atom: Atom) -> Option<u64> {
-        first_at(&self.system, &self.table, self.pairs, kind, parent, atom)
+        first_at(&self.system, &self.table, kind, parent, atom)
     }
 }

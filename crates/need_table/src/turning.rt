@@ -52,7 +52,7 @@ fn turn(
     table.raise(i, k);
     let asked = asked_by(alloc, system, table, pairs, i, k)?;
     if table.len() == before {
-        step(alloc, system, table, agenda, pairs, i, k, asked)?;
+        step(alloc, system, table, agenda, i, k, asked)?;
     } else {
         start(&mut agenda.due, before, table.len())?;
     }

@@ -5,6 +5,9 @@ use Rattle.need_table.proofs.FillLemmas.{pairs_more}
 use Rattle.need_table.proofs.SettleLemmas.{as_before}
 use Rattle.need_table.proofs.asking.ask.Goals as goal
 
+pub known_label-requires-clause-table : goal.known_label-requires-clause-table
+known_label-requires-clause-table c = (c.args.pairs, c.requires.table)
+
 pub returns-in-Ok-clause-kept : goal.returns-in-Ok-clause-kept
 returns-in-Ok-clause-kept c = pairs_more c.args.table.now c.try_ask.new.table c.try_ask.ensures.more
 

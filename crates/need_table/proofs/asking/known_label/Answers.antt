@@ -9,7 +9,7 @@ use Rattle.need_table.proofs.asking.known_label.Goals as goal
 
 pub returns-in_ok-label-in-Some-clause-label : goal.returns-in_ok-label-in-Some-clause-label
 returns-in_ok-label-in-Some-clause-label c =
-    let rest = label_at_rest c.args.system.now c.args.pairs c.args.table.now c.in-Some.i (c.args.kind, c.args.parent.now) c.entry.result.now c.requires.table c.requires.at_rest c.in-Some.ensures.place c.entry.ensures in
+    let rest = label_at_rest c.args.system.now c.requires.table.0 c.args.table.now c.in-Some.i (c.args.kind, c.args.parent.now) c.entry.result.now c.requires.table.1 c.requires.at_rest c.in-Some.ensures.place c.entry.ensures in
     subst (λ (z : List ℕ). IsRest c.args.system.now c.args.kind c.args.parent.now z)
     (sym (c.in_ok-label-in-Some.ensures ∙ ap (λ (fs : List First). set_of (map (λ (f : First). f.atom) fs)) c.deref.ensures.value)) rest
 

@@ -7,7 +7,7 @@ use Rattle.need_table.proofs.StepLemmas.{listening, stepped}
 use Rattle.need_table.proofs.filling.step.Goals as goal
 
 pub next_label-requires-clause-labels : goal.next_label-requires-clause-labels
-next_label-requires-clause-labels c = known c.args.system.now c.args.pairs c.args.table.now c.args.agenda.now c.requires.going c.args.k c.requires.early
+next_label-requires-clause-labels c = known c.args.system.now c.requires.going.0 c.args.table.now c.args.agenda.now c.requires.going.1 c.args.k c.requires.early
 
 pub next_label-requires-clause-asked : goal.next_label-requires-clause-asked
 next_label-requires-clause-asked c = λ r asks. heard_there c.args.table.now c.args.asked.children.items r (c.requires.heard r asks)
@@ -16,17 +16,17 @@ pub entry-requires : goal.entry-requires
 entry-requires c = within_of (λ e. e.rounds ≡ Some c.args.k) c.args.table.now c.args.i c.requires.rounds
 
 pub listen-requires : goal.listen-requires
-listen-requires c = λ j child le. listening c.args.system.now c.args.pairs c.args.table.now c.args.agenda.now c.args.i c.args.k c.entry.result.now c.deref.result.now j c.requires.going c.requires.rounds c.entry.ensures c.deref.ensures.value child le
+listen-requires c = λ j child le. listening c.args.system.now c.requires.going.0 c.args.table.now c.args.agenda.now c.args.i c.args.k c.entry.result.now c.deref.result.now j c.requires.going.1 c.requires.rounds c.entry.ensures c.deref.ensures.value child le
 
 pub note-requires-clause-place : goal.note-requires-clause-place
 note-requires-clause-place c = within_of (λ e. e.rounds ≡ Some c.args.k) c.args.table.now c.args.i c.requires.rounds
 
 pub returns-in_err-note-clause-more : goal.returns-in_err-note-clause-more
-returns-in_err-note-clause-more c = (round_lost c.args.system.now c.args.pairs c.args.table.now c.args.table.now c.note.new.self c.args.i c.args.k c.requires.going.table (more_itself c.args.table.now) c.requires.rounds c.in_err-note.ensures.err).more
+returns-in_err-note-clause-more c = (round_lost c.args.system.now c.requires.going.0 c.args.table.now c.args.table.now c.note.new.self c.args.i c.args.k c.requires.going.1.table (more_itself c.args.table.now) c.requires.rounds c.in_err-note.ensures.err).more
 
 pub tell-requires-clause-place : goal.tell-requires-clause-place
 tell-requires-clause-place c =
-    let step = round_done c.args.system.now c.args.pairs c.args.table.now c.args.table.now c.note.new.self c.args.i c.args.k c.args.asked.own c.in_ok-next.next c.deref-3.result.now c.args.asked.children.items c.requires.going.table
+    let step = round_done c.args.system.now c.requires.going.0 c.args.table.now c.args.table.now c.note.new.self c.args.i c.args.k c.args.asked.own c.in_ok-next.next c.deref-3.result.now c.args.asked.children.items c.requires.going.1.table
     (more_itself c.args.table.now) c.requires.rounds c.requires.asked c.in_ok-next.ensures c.requires.heard (c.deref-3.ensures.value ∙ c.in_ok-new.ensures) c.in_ok-note.ensures.ok in
     let longer = step.0.more.longer in
     let less = within_of (λ e. e.rounds ≡ Some c.args.k) c.args.table.now c.args.i c.requires.rounds in
@@ -34,13 +34,13 @@ tell-requires-clause-place c =
 
 pub returns-in_err-tell-clause-more : goal.returns-in_err-tell-clause-more
 returns-in_err-tell-clause-more c =
-    (round_done c.args.system.now c.args.pairs c.args.table.now c.args.table.now c.note.new.self c.args.i c.args.k c.args.asked.own c.in_ok-next.next c.deref-3.result.now c.args.asked.children.items c.requires.going.table
+    (round_done c.args.system.now c.requires.going.0 c.args.table.now c.args.table.now c.note.new.self c.args.i c.args.k c.args.asked.own c.in_ok-next.next c.deref-3.result.now c.args.asked.children.items c.requires.going.1.table
     (more_itself c.args.table.now) c.requires.rounds c.requires.asked c.in_ok-next.ensures c.requires.heard (c.deref-3.ensures.value ∙ c.in_ok-new.ensures) c.in_ok-note.ensures.ok).0.more
 
 pub returns-clause-going : goal.returns-clause-going
-returns-clause-going c =
-    stepped c.args.system.now c.args.pairs c.args.table.now c.note.new.self c.args.agenda.now c.tell.new.agenda c.listen.new.askers c.args.i c.args.k c.args.asked.own c.in_ok-next.next c.deref-3.result.now
-    c.args.asked.children.items c.requires.going c.requires.rounds c.requires.asked c.in_ok-next.ensures c.requires.heard c.requires.inside (c.deref-3.ensures.value ∙ c.in_ok-new.ensures) c.in_ok-note.ensures.ok
+returns-clause-going c = λ pairs going.
+    stepped c.args.system.now pairs c.args.table.now c.note.new.self c.args.agenda.now c.tell.new.agenda c.listen.new.askers c.args.i c.args.k c.args.asked.own c.in_ok-next.next c.deref-3.result.now
+    c.args.asked.children.items going c.requires.rounds c.requires.asked c.in_ok-next.ensures c.requires.heard c.requires.inside (c.deref-3.ensures.value ∙ c.in_ok-new.ensures) c.in_ok-note.ensures.ok
     c.tell.ensures.first c.tell.ensures.kept c.in_ok-tell.ensures.more c.in_ok-listen.ensures.more
     (λ f there. c.in_ok-tell.ensures.own f (subst (λ (z : List First). Contains z f) (c.deref-3.ensures.value ∙ sym c.deref-4.ensures.value) there))
     (λ f there a asks. c.in_ok-tell.ensures.askers f (subst (λ (z : List First). Contains z f) (c.deref-3.ensures.value ∙ sym c.deref-4.ensures.value) there) a asks) (λ j child le. c.in_ok-listen.ensures.heard j (subst (λ (z : List ℕ). Contains z j) (sym c.deref-2.ensures.value) child) le)
@@ -48,15 +48,15 @@ returns-clause-going c =
 
 pub returns-clause-more : goal.returns-clause-more
 returns-clause-more c =
-    (round_done c.args.system.now c.args.pairs c.args.table.now c.args.table.now c.note.new.self c.args.i c.args.k c.args.asked.own c.in_ok-next.next c.deref-3.result.now c.args.asked.children.items c.requires.going.table
+    (round_done c.args.system.now c.requires.going.0 c.args.table.now c.args.table.now c.note.new.self c.args.i c.args.k c.args.asked.own c.in_ok-next.next c.deref-3.result.now c.args.asked.children.items c.requires.going.1.table
     (more_itself c.args.table.now) c.requires.rounds c.requires.asked c.in_ok-next.ensures c.requires.heard (c.deref-3.ensures.value ∙ c.in_ok-new.ensures) c.in_ok-note.ensures.ok).0.more
 
 pub returns-clause-same : goal.returns-clause-same
 returns-clause-same c =
-    (round_done c.args.system.now c.args.pairs c.args.table.now c.args.table.now c.note.new.self c.args.i c.args.k c.args.asked.own c.in_ok-next.next c.deref-3.result.now c.args.asked.children.items c.requires.going.table
+    (round_done c.args.system.now c.requires.going.0 c.args.table.now c.args.table.now c.note.new.self c.args.i c.args.k c.args.asked.own c.in_ok-next.next c.deref-3.result.now c.args.asked.children.items c.requires.going.1.table
     (more_itself c.args.table.now) c.requires.rounds c.requires.asked c.in_ok-next.ensures c.requires.heard (c.deref-3.ensures.value ∙ c.in_ok-new.ensures) c.in_ok-note.ensures.ok).0.same
 
 pub returns-clause-done : goal.returns-clause-done
 returns-clause-done c =
-    (round_done c.args.system.now c.args.pairs c.args.table.now c.args.table.now c.note.new.self c.args.i c.args.k c.args.asked.own c.in_ok-next.next c.deref-3.result.now c.args.asked.children.items c.requires.going.table
+    (round_done c.args.system.now c.requires.going.0 c.args.table.now c.args.table.now c.note.new.self c.args.i c.args.k c.args.asked.own c.in_ok-next.next c.deref-3.result.now c.args.asked.children.items c.requires.going.1.table
     (more_itself c.args.table.now) c.requires.rounds c.requires.asked c.in_ok-next.ensures c.requires.heard (c.deref-3.ensures.value ∙ c.in_ok-new.ensures) c.in_ok-note.ensures.ok).1

@@ -30,7 +30,13 @@ pub step-requires-clause-going : goal.step-requires-clause-going
 step-requires-clause-going c =
     let r = raise (goal.at.step-requires-clause-going c).After-raise in
     let same : c.asked_by.new.table ≡ c.raise.new.self = appended_same c.raise.new.self c.asked_by.new.table c.in_ok-asked.ensures.appended (omega (arith, c.len.ensures, c.if-len-before.true, c.len-before.ensures, r.count)) in
-    subst (λ (z : List Entry). IsGoing c.args.system.now c.args.pairs z c.args.agenda.now) (sym same) r.going
+    (c.args.pairs, subst (λ (z : List Entry). IsGoing c.args.system.now c.args.pairs z c.args.agenda.now) (sym same) r.going)
+
+pub returns-in_ok-step-clause-going : goal.returns-in_ok-step-clause-going
+returns-in_ok-step-clause-going c =
+    let r = raise (goal.at.returns-in_ok-step-clause-going c).After-raise in
+    let same : c.asked_by.new.table ≡ c.raise.new.self = appended_same c.raise.new.self c.asked_by.new.table c.in_ok-asked.ensures.appended (omega (arith, c.len.ensures, c.if-len-before.true, c.len-before.ensures, r.count)) in
+    c.in_ok-step.ensures.going c.args.pairs (subst (λ (z : List Entry). IsGoing c.args.system.now c.args.pairs z c.args.agenda.now) (sym same) r.going)
 
 pub step-requires-clause-rounds : goal.step-requires-clause-rounds
 step-requires-clause-rounds c =

@@ -31,6 +31,7 @@ invariant_of-self-in-Err-Spent c =
     let is : c.ask.result ≡ Err Spent = search rules in
     record {
       table = c.ask.ensures.table;
+      small = c.self.invariant.small;
       at_rest = c.ask.ensures.at_rest;
       too_many = subst (λ (q : Pair). HasMore (Needed c.self.inside.system (λ r. Contains (map pair_of c.ask.new.table) r ⊎ (r ≡ q))) c.self.inside.pairs) (sym question)
           (spent_now c.self.inside.system c.self.inside.pairs c.self.inside.table c.ask.new.table (c.args.kind, c.args.parent.now) c.in-Err-Spent.ensures.err (c.ask.ensures.spent is));
