@@ -1,6 +1,6 @@
 -- The first way that stands, list by list.
 --     found_here, found_next, found_none    a search along a list
---     range_found, range_none               a search along the numbers
+--     range_next                            a search along the numbers
 --     local_found, up_found, down_left      the first of all ways
 --     real_found, spawn_found, none_found   the first of those by one link
 --     each_here, each_next, each_end        the first of those by the links of a list
@@ -62,33 +62,6 @@ find_map p f (x ∷ xs) = elim (p (f x)) as (λ b. cond b (Some (f x)) (find p (
 -- ### numbers
 
 module _ (p : ℕ → Bool) where
-  range_at : (a n i : ℕ) → i < n → p (a + i) ≡ true → ((k : ℕ) → k < i → p (a + k) ≡ false) → find p (range_with_len a n) ≡ Some (a + i)
-  range_at a zero i less pass before = absurd (omega (arith, less))
-  range_at a (suc n) zero less pass before =
-      let place : a ≡ a + 0 = omega arith in
-      ap (λ b. cond b (Some a) (find p (range_with_len (a + 1) n))) (ap p place ∙ pass) ∙ ap Some place
-  range_at a (suc n) (suc i) less pass before =
-      let first : a ≡ a + 0 = omega arith in
-      let place : (a + 1) + i ≡ a + suc i = omega arith in
-      ap (λ b. cond b (Some a) (find p (range_with_len (a + 1) n))) (ap p first ∙ before 0 (omega arith))
-      ∙ range_at (a + 1) n i (omega (arith, less)) (ap p place ∙ pass) (λ k lt. let further : (a + 1) + k ≡ a + suc k = omega arith in ap p further ∙ before (suc k) (omega (arith, lt)))
-      ∙ ap Some place
-
-  range_past : (a n : ℕ) → ((k : ℕ) → k < n → p (a + k) ≡ false) → find p (range_with_len a n) ≡ None
-  range_past a zero before = refl
-  range_past a (suc n) before =
-      let first : a ≡ a + 0 = omega arith in
-      ap (λ b. cond b (Some a) (find p (range_with_len (a + 1) n))) (ap p first ∙ before 0 (omega arith))
-      ∙ range_past (a + 1) n (λ k lt. let further : (a + 1) + k ≡ a + suc k = omega arith in ap p further ∙ before (suc k) (omega (arith, lt)))
-
-  pub range_found : (n i : ℕ) → i < n → p i ≡ true → ((k : ℕ) → k < i → p k ≡ false) → Some i ≡ find p (range_with_len 0 n)
-  range_found n i less pass before =
-      let place : 0 + i ≡ i = omega arith in
-      sym (range_at 0 n i less (ap p place ∙ pass) (λ k lt. let further : 0 + k ≡ k = omega arith in ap p further ∙ before k lt) ∙ ap Some place)
-
-  pub range_none : (n : ℕ) → ((k : ℕ) → k < n → p k ≡ false) → None ≡ find p (range_with_len 0 n)
-  range_none n before = sym (range_past 0 n (λ k lt. let further : 0 + k ≡ k = omega arith in ap p further ∙ before k lt))
-
   pub range_next : (i : ℕ) → ((k : ℕ) → k < i → p k ≡ false) → p i ≡ false → (k : ℕ) → k < i + 1 → p k ≡ false
   range_next i before here k less = elim (cases_lt k i) [
     | inl earlier ↦ before k earlier

@@ -1,20 +1,21 @@
 -- What first rounds say of labels, and the visible part of a label.
 --     first_has, never_has       whether a label has an atom, by the atom's first round
+--     closed_child               the first child that has an atom
 --     below_known, spawn_is      a child that a spawn rule adds
 --     popped, above_is           the label of a node's parent
 --     all_stop, all_next         all atoms of a list, one after the other
 --     IsSeen                     the visible part so far
-use Rattle.std.proofs.Common.{◌≡◌, ◌↔◌, ℕ, zero, suc, ◌+◌, ◌-◌, ◌<◌, ◌≤◌, Bool, true, false, leb, ◌&&◌, List, [], ◌∷◌, ◌++◌, length, take, drop, get_or, Contains, Option, Some, None, IsSome, IsNone, is_some, option_map, unwrap_or, slice_get, inl, inr, refl, sym, ap, ◌∙◌, subst, arith}
-use Rattle.std.specs.List.{list_all}
+use Rattle.std.proofs.Common.{◌≡◌, ◌↔◌, ℕ, zero, suc, ◌+◌, ◌-◌, ◌<◌, ◌≤◌, Bool, true, false, leb, ◌&&◌, List, [], ◌∷◌, ◌++◌, length, take, drop, find, get_or, Contains, Option, Some, None, IsSome, IsNone, is_some, option_map, unwrap_or, slice_get, inl, inr, refl, sym, ap, ◌∙◌, subst, arith}
+use Rattle.std.specs.List.{list_all, range_with_len}
 use Rattle.std.specs.List.Sorted.{IsStrictlyIncreasing}
-use Rattle.std.proofs.lemmas.Bool.{cases_Bool, leb-true, leb-false, false_from_ne_true}
+use Rattle.std.proofs.lemmas.Bool.{cases_Bool, cases_lt, leb-true, leb-false, false_from_ne_true}
 use Rattle.std.proofs.lemmas.List.{take_all}
 use Rattle.std.proofs.lemmas.List.Elements.{Contains-append_cases, Contains-append_left, Contains-append_right}
 use Rattle.std.proofs.lemmas.Option.{slice_get-get_or}
 use Rattle.tp_base.specs.Classes.{has_class, with_class, cut_to}
 use Rattle.tp_base.proofs.Rising.{All-from_Contains}
 use Rattle.tp_base.proofs.ClassLemmas.{has_class-Contains, Contains-has_class, Contains-with_class, IsStrictlyIncreasing-with_class, Contains-cut_to, IsStrictlyIncreasing-cut_to, same_members}
-use Rattle.tree_sem.specs.Trees.{LabelTree, node_at}
+use Rattle.tree_sem.specs.Trees.{LabelTree, node_at, children_at}
 use Rattle.tree_sem.specs.Paths.{parent_of}
 use Rattle.tree_sem.proofs.PathLemmas.{parent_of-take}
 use Rattle.simple_core.specs.declared.rules.Spawn.{Spawn}
@@ -24,11 +25,15 @@ use Rattle.simple_core.specs.Rounds.{grown, IsFirst}
 use Rattle.simple_core.specs.Pages.{page_round}
 use Rattle.simple_core.specs.Pairs.{Pair, Asks}
 use Rattle.simple_core.proofs.LabelLemmas.{is-kinds_at}
-use Rattle.simple_core.proofs.Members.{Among}
+use Rattle.simple_core.proofs.Members.{Among, Contains-range}
+use Rattle.simple_core.proofs.PageRest.{counted_child}
 use Rattle.simple_core.proofs.RestLemmas.{first_is}
 use Rattle.simple_core.proofs.RoundLemmas.{grown-rises, grown-one_more}
 use Rattle.simple_core.proofs.PageLemmas.{page-rises, page-one_more}
 use Rattle.closed_page.specs.ClosedPages.{ClosedPage, IsClosedPage, round_of}
+use Rattle.closed_page.specs.FirstChildren.{came_by}
+use Rattle.closed_page.proofs.ChildLemmas.{range_agree}
+use Rattle.closed_page.proofs.LabelledLemmas.{child_number}
 use Rattle.proof_check.proofs.EntryLemmas.{drop_at, drop_end, take_at}
 use Rattle.proof_maker.specs.declared.worlds.Place.{Place}
 use Rattle.proof_maker.specs.declared.worlds.Place.TheVariants.{Node, Added}
@@ -68,6 +73,35 @@ module _ (s : System) (page : LabelTree) where
 
     pub node_never : None ≡ round_of c.firsts v a → false ≡ has_class a (page_round s page k v)
     node_never is = never_has (λ m. page_round s page m v) (page-one_more s page v) a k (subst (IsFirst (λ m. page_round s page m v) a) (sym is) (closed.firsts v a node))
+
+  -- the least child that a closed page tells is the first of the page's that has the atom
+  module _ (c : ClosedPage) (closed : IsClosedPage s page c) (v : List ℕ) (a k : ℕ) where
+    came_is : (n : ℕ) → IsSome (node_at (v ++ n ∷ []) page) → came_by k (round_of c.firsts (v ++ n ∷ []) a) ≡ has_class a (page_round s page k (v ++ n ∷ []))
+    came_is n node = elim (round_of c.firsts (v ++ n ∷ []) a) as (λ o. o ≡ round_of c.firsts (v ++ n ∷ []) a → came_by k o ≡ has_class a (page_round s page k (v ++ n ∷ []))) [
+      | None ↦ λ e. node_never c closed (v ++ n ∷ []) node a k e
+      | Some r ↦ λ e. node_first c closed (v ++ n ∷ []) node a k r e
+    ] refl
+
+    fewer : (t u : LabelTree) → ((w : List ℕ) → IsSome (node_at w t) → IsSome (node_at w u)) → unwrap_or (children_at v t) 0 ≤ unwrap_or (children_at v u) 0
+    fewer t u there =
+        let n = unwrap_or (children_at v t) 0 in
+        let m = unwrap_or (children_at v u) 0 in
+        elim (cases_lt m n) [
+          | inl less ↦
+              let never : m < m = child_number v m u (there (v ++ m ∷ []) (counted_child v t m (Contains-range n m less))) in
+              absurd (omega (arith, never))
+          | inr le ↦ le
+        ]
+
+    pub closed_child : find (λ n. came_by k (round_of c.firsts (v ++ n ∷ []) a)) (range_with_len 0 (unwrap_or (children_at v c.labels) 0))
+        ≡ find (λ n. has_class a (page_round s page k (v ++ n ∷ []))) (range_with_len 0 (unwrap_or (children_at v page) 0))
+    closed_child =
+        let fewer_in = fewer c.labels page (λ w there. (closed.nodes w).0 there) in
+        let fewer_out = fewer page c.labels (λ w there. (closed.nodes w).1 there) in
+        let count : unwrap_or (children_at v c.labels) 0 ≡ unwrap_or (children_at v page) 0 = omega (arith, fewer_in, fewer_out) in
+        ap (λ m. find (λ n. came_by k (round_of c.firsts (v ++ n ∷ []) a)) (range_with_len 0 m)) count
+        ∙ range_agree (λ n. came_by k (round_of c.firsts (v ++ n ∷ []) a)) (λ n. has_class a (page_round s page k (v ++ n ∷ []))) (unwrap_or (children_at v page) 0)
+        (λ n less. came_is n (counted_child v page n (Contains-range (unwrap_or (children_at v page) 0) n less)))
 
   -- the label of a parent
   pub above_is : (v p : List ℕ) (a k : ℕ) → parent_of v ≡ Some p → has_class a (page_round s page k p) ≡ has_class a (above_on s page k v)

@@ -1,22 +1,20 @@
 //! The reason that is chosen for an atom at a place: the first one all of whose premises stand in the round before the atom's first round.
-ghost use Rattle.std.specs.Prelude.{◌≡◌, ◌&&◌, ◌++◌, ◌∷◌, [], ◌<◌, ◌-◌, length, map, find, slice_get, Contains, IsSome, IfOk, IfSome, option_map, unwrap_or};
+ghost use Rattle.std.specs.Prelude.{◌≡◌, ◌&&◌, ◌-◌, length, find, Contains, IfOk, IfSome, option_map};
 ghost use Rattle.std.specs.List.{flat_map, range_with_len};
 ghost use Rattle.tp_base.specs.Classes.{has_class};
-ghost use Rattle.tree_sem.specs.Trees.{node_at, children_at};
 ghost use Rattle.simple_core.specs.Labels.{visible_in};
 ghost use Rattle.simple_core.specs.Rounds.{grown};
-ghost use Rattle.simple_core.specs.Pages.{page_round};
 ghost use Rattle.closed_page.specs.ClosedPages.{IsClosedPage};
 ghost use Rattle.proof_needs.specs.Choices.{by_local, by_up, ways_down, ways, chosen};
 ghost use Rattle.proof_maker.specs.Worlds.{setting_of, path_of, labels_of, IsPlace, IsNodeOf, IsReady, stands_at, real_has, spawn_has};
 ghost use Rattle.proof_maker.specs.Glances.{HasBelow};
 ghost use Rattle.proof_maker.specs.Reasons.{found_reason};
 
-use crate::worlds::{Place, World, added_has, has, has_all, is_above, node_has, visible_at};
+use crate::worlds::{Place, World, added_has, has, has_all, is_above, visible_at};
 use proof_needs::{Choice, from_of};
 use simple_core::{Spawn, Summaries};
 use std::alloc::Global;
-use tp_base::{Atom, ClassSet, NoMemory, Path};
+use tp_base::{Atom, ClassSet, NoMemory};
 
 /// A reason, and for a spawn the visible label in the round before: with it the reason was found.
 #[derive(Drop)]
@@ -185,7 +183,7 @@ fn link_way<S: Summaries>(
         ≡ find (stands_at world.now place.now round) (ways_down world.now.system.now (setting_of world.now.system.now world.now.page.now place.now) (path_of place.now) link)) }
 {
     let from = from_of(world.system.down.items(), link);
-    if let Some(child) = real_child(world, place, from, round)? {
+    if let Some(child) = real_child(world, place, from, round) {
         return Ok(Some(alone(alloc, Choice::Real(link as u64, child))));
     }
     let visible = visible_at(alloc, world, sums, place, round)?;
@@ -198,44 +196,16 @@ fn link_way<S: Summaries>(
     }
 }
 
-fn real_child(
-    world: &World<'_>,
-    place: &Place<'_>,
-    from: Atom,
-    round: u64,
-) -> Result<Option<u32>, NoMemory>
+fn real_child(world: &World<'_>, place: &Place<'_>, from: Atom, round: u64) -> Option<u32>
     requires closed { IsClosedPage world.now.system.now world.now.page.now world.now.closed.now }
     requires node { IsNodeOf world.now.page.now place.now }
-    ensures { IfOk result (λ w. w ≡ find (real_has world.now place.now round from)
-        (range_with_len 0 ((setting_of world.now.system.now world.now.page.now place.now).reals (path_of place.now)))) }
+    ensures { result ≡ find (real_has world.now place.now round from)
+        (range_with_len 0 ((setting_of world.now.system.now world.now.page.now place.now).reals (path_of place.now))) }
 {
     match place {
-        Place::Node(at) => node_child(world, at, from, round),
-        Place::Added(_, _) => Ok(None),
+        Place::Node(at) => world.closed.first_child(at, from, round),
+        Place::Added(_, _) => None,
     }
-}
-
-fn node_child(world: &World<'_>, at: &Path, from: Atom, round: u64) -> Result<Option<u32>, NoMemory>
-    requires closed { IsClosedPage world.now.system.now world.now.page.now world.now.closed.now }
-    ensures { IfOk result (λ w. w ≡ find (λ n. has_class from (page_round world.now.system.now world.now.page.now round (at.now ++ n ∷ [])))
-        (range_with_len 0 (unwrap_or (children_at at.now world.now.page.now) 0))) }
-{
-    for n in 0..world.page.children(at).unwrap_or(0) {
-        if child_has(world, at, n, from, round)? {
-            return Ok(Some(n));
-        }
-    }
-    Ok(None)
-}
-
-fn child_has(world: &World<'_>, at: &Path, n: u32, from: Atom, round: u64) -> Result<bool, NoMemory>
-    requires closed { IsClosedPage world.now.system.now world.now.page.now world.now.closed.now }
-    requires node { IsSome (node_at (at.now ++ n ∷ []) world.now.page.now) }
-    ensures { IfOk result (λ b. b ≡ has_class from (page_round world.now.system.now world.now.page.now round (at.now ++ n ∷ []))) }
-{
-    let mut child = at.copy()?;
-    child.push(n)?;
-    Ok(node_has(world, &child, from, round))
 }
 
 fn added_child<S: Summaries>(

@@ -1,6 +1,7 @@
 use Rattle.std.proofs.Common.{length, sym, ap, ◌∙◌, arith}
 use Rattle.proof_maker.specs.Worlds.{spawn_has}
-use Rattle.proof_maker.proofs.FindLemmas.{range_found, range_next, range_none}
+use Rattle.closed_page.proofs.ChildLemmas.{range_found, range_none}
+use Rattle.proof_maker.proofs.FindLemmas.{range_next}
 use Rattle.proof_maker.proofs.WorldLemmas.{spawn_is}
 use Rattle.proof_maker.proofs.choices.added_child.Goals as goal
 
