@@ -8,6 +8,7 @@ pub mod GlanceLemmas
 pub mod EntryCounts
 pub mod CanonLemmas
 pub mod MakeLemmas
+pub mod ItemsLemmas
 pub mod ListLemmas
 pub mod StepLemmas
 pub mod FollowLemmas

@@ -3,6 +3,7 @@ pub mod Forests
 pub mod Needs
 pub mod Rules
 -- Invariants, and the states of the code.
+pub mod Entries
 pub mod Glances
 pub mod Items
 pub mod Making

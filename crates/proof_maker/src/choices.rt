@@ -23,6 +23,14 @@ pub(crate) struct Found {
     pub(crate) below: ClassSet,
 }
 
+// A place in a round, and the visible part of its label then.
+#[derive(Clone, Copy)]
+struct Scene<'a> {
+    place: &'a Place<'a>,
+    round: u64,
+    visible: &'a ClassSet,
+}
+
 // A reason that is no spawn.
 fn alone(alloc: Global, choice: Choice) -> Found
     ensures { result.choice ≡ choice }
@@ -187,7 +195,12 @@ fn link_way<S: Summaries>(
         return Ok(Some(alone(alloc, Choice::Real(link as u64, child))));
     }
     let visible = visible_at(alloc, world, sums, place, round)?;
-    match added_child(world, sums, place, from, &visible, round) {
+    let scene = Scene {
+        place,
+        round,
+        visible: &visible,
+    };
+    match added_child(world, sums, &scene, from) {
         Some(spawn) => Ok(Some(Found {
             choice: Choice::Spawn(link as u64, spawn as u64),
             below: visible,
@@ -208,24 +221,23 @@ fn real_child(world: &World<'_>, place: &Place<'_>, from: Atom, round: u64) -> O
     }
 }
 
+// The first spawn rule whose child has the atom.
 fn added_child<S: Summaries>(
     world: &World<'_>,
     sums: &S,
-    place: &Place<'_>,
+    scene: &Scene<'_>,
     from: Atom,
-    visible: &ClassSet,
-    round: u64,
 ) -> Option<usize>
     requires made { S.system sums.now ≡ world.now.system.now }
     requires ready { IsReady world.now (S.known sums.now) }
-    requires place { IsPlace world.now.page.now (S.known sums.now) place.now }
-    requires visible { visible.now ≡ visible_in world.now.system.now (labels_of world.now.system.now world.now.page.now place.now round) }
-    ensures { result ≡ find (spawn_has world.now place.now round from) (range_with_len 0 (length world.now.system.now.child)) }
+    requires place { IsPlace world.now.page.now (S.known sums.now) scene.now.place.now }
+    requires visible { scene.now.visible.now ≡ visible_in world.now.system.now (labels_of world.now.system.now world.now.page.now scene.now.place.now scene.now.round) }
+    ensures { result ≡ find (spawn_has world.now scene.now.place.now scene.now.round from) (range_with_len 0 (length world.now.system.now.child)) }
 {
     let spawns = world.system.child.items();
     for c in 0..spawns.len() {
         let spawn = spawns[c];
-        if spawn_stands(world, sums, place, &spawn, from, visible, round) {
+        if spawn_stands(world, sums, scene, &spawn, from) {
             return Some(c);
         }
     }
@@ -235,21 +247,19 @@ fn added_child<S: Summaries>(
 fn spawn_stands<S: Summaries>(
     world: &World<'_>,
     sums: &S,
-    place: &Place<'_>,
+    scene: &Scene<'_>,
     spawn: &Spawn,
     from: Atom,
-    visible: &ClassSet,
-    round: u64,
 ) -> bool
     requires made { S.system sums.now ≡ world.now.system.now }
     requires ready { IsReady world.now (S.known sums.now) }
-    requires place { IsPlace world.now.page.now (S.known sums.now) place.now }
-    requires visible { visible.now ≡ visible_in world.now.system.now (labels_of world.now.system.now world.now.page.now place.now round) }
+    requires place { IsPlace world.now.page.now (S.known sums.now) scene.now.place.now }
+    requires visible { scene.now.visible.now ≡ visible_in world.now.system.now (labels_of world.now.system.now world.now.page.now scene.now.place.now scene.now.round) }
     requires listed { Contains world.now.system.now.child spawn.now }
-    ensures { result ≡ (has_class spawn.now.needs (labels_of world.now.system.now world.now.page.now place.now round) && has_class from (grown world.now.system.now round spawn.now.kind visible.now)) }
+    ensures { result ≡ (has_class spawn.now.needs (labels_of world.now.system.now world.now.page.now scene.now.place.now scene.now.round) && has_class from (grown world.now.system.now scene.now.round spawn.now.kind scene.now.visible.now)) }
 {
-    if !has(world, sums, place, spawn.needs, round) {
+    if !has(world, sums, scene.place, spawn.needs, scene.round) {
         return false;
     }
-    added_has(world.system, sums, spawn.kind, visible, from, round)
+    added_has(sums, spawn.kind, scene.visible, from, scene.round)
 }

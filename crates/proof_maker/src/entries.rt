@@ -3,10 +3,11 @@ ghost use Rattle.std.specs.Prelude.{◌≡◌, ◌<◌, ◌^◌, min, length, ma
 ghost use Rattle.proof_check.specs.Kept.{kept_steps};
 ghost use Rattle.proof_check.specs.Unfolding.{items_count};
 ghost use Rattle.proof_check.specs.Validity.{MOST_STEPS};
+ghost use Rattle.proof_maker.specs.Entries.{IsEntryWith};
 ghost use Rattle.proof_maker.specs.Items.{reason_with};
 ghost use Rattle.proof_needs.specs.Dealing.{node_of};
 ghost use Rattle.proof_needs.specs.Numbers.{number_in};
-ghost use Rattle.proof_maker.specs.Making.{AreEntries, IsMade, IsNodeWant, item_of, page_item_of};
+ghost use Rattle.proof_maker.specs.Making.{AreEntries, IsNodeWant, item_of, page_item_of};
 
 use indexmap::IndexSet;
 use proof_check::{
@@ -34,28 +35,26 @@ pub(crate) fn entries_of(
     let mut entries = Entries::new(Vec::new(alloc));
     for i in 0..order.len() {
         let triple = order.as_slice()[i];
-        let wants = &orders[triple].wants;
-        let entry = entry_of(triple, needs, system, wants, order, &entries)?;
+        let items = items_of(alloc, needs, &orders[triple].wants, order)?;
+        let entry = entry_of(needs, triple, items, system, &entries)?;
         entries.push(entry)?;
     }
     Ok(entries)
 }
 
+// The entry of a triple with these items, behind the entries so far.
 fn entry_of(
-    triple: usize,
     needs: &Needs,
+    triple: usize,
+    items: Vec<ProofItem>,
     system: &System,
-    wants: &[usize],
-    order: &IndexSet<usize>,
     entries: &Entries,
 ) -> Result<Entry, NoMemory>
     requires triple { triple < length needs.now.triples.keys }
     requires tie { triple < length needs.now.ties.items }
-    requires few { length order.now.keys < 2 ^ 32 }
-    ensures made { IfOk result (IsMade needs.now order.now.keys wants.now triple) }
+    ensures made { IfOk result (IsEntryWith needs.now items.items triple) }
     ensures steps { IfOk result (λ e. e.steps ≡ min (items_count system.now (kept_steps entries.now) e.items) MOST_STEPS) }
 {
-    let items = items_of(entries.allocator(), needs, wants, order)?;
     let steps = items_steps(&items, entries, system);
     let parent = needs.ties[triple].above.copy()?;
     Ok(Entry {

@@ -66,17 +66,15 @@ pub(crate) fn node_has(world: &World<'_>, at: &Path, atom: Atom, round: u64) -> 
 
 /// Whether an added node has the atom by the round.
 pub(crate) fn added_has<S: Summaries>(
-    system: &System,
     sums: &S,
     kind: u32,
     parent: &ClassSet,
     atom: Atom,
     round: u64,
 ) -> bool
-    requires made { S.system sums.now ≡ system.now }
     requires known { S.known sums.now (kind, parent.now) }
-    ensures test { result ≡ has_class atom (grown system.now round kind parent.now) }
-    ensures asking { KeepsAsking system.now (S.known sums.now) }
+    ensures test { result ≡ has_class atom (grown (S.system sums.now) round kind parent.now) }
+    ensures asking { KeepsAsking (S.system sums.now) (S.known sums.now) }
 {
     match sums.first_round(kind, parent, atom) {
         Some(first) => first <= round,
@@ -100,7 +98,7 @@ pub(crate) fn has<S: Summaries>(
 {
     match place {
         Place::Node(at) => node_has(world, at, atom, round),
-        Place::Added(kind, parent) => added_has(world.system, sums, *kind, parent, atom, round),
+        Place::Added(kind, parent) => added_has(sums, *kind, parent, atom, round),
     }
 }
 

@@ -8,20 +8,20 @@ use Rattle.proof_maker.proofs.choices.added_child.Goals as goal
 pub returns-then-spawn_stands : goal.returns-then-spawn_stands
 returns-then-spawn_stands g c =
     let w = c.args.world.now in
-    let is = spawn_is w c.args.place.now c.args.round c.args.from c.loop-c.c c.items-spawns.result.now c.index-spawns-c.result c.args.visible.now c.spawn_stands.result c.items-spawns.ensures
+    let is = spawn_is w c.args.scene.now.place.now c.args.scene.now.round c.args.from c.loop-c.c c.items-spawns.result.now c.index-spawns-c.result c.args.scene.now.visible.now c.spawn_stands.result c.items-spawns.ensures
     (omega (arith, c.loop-c-test.true)) c.index-spawns-c.is c.requires.visible c.spawn_stands.ensures in
     let count = ap length c.items-spawns.ensures in
-    range_found (spawn_has w c.args.place.now c.args.round c.args.from) (length w.system.now.child) c.loop-c.c (omega (arith, c.loop-c-test.true, count)) (sym is ∙ c.if-spawn_stands.true) c.loop-c.invariant
+    range_found (spawn_has w c.args.scene.now.place.now c.args.scene.now.round c.args.from) (length w.system.now.child) c.loop-c.c (omega (arith, c.loop-c-test.true, count)) (sym is ∙ c.if-spawn_stands.true) c.loop-c.invariant
 
 pub loop-c-preserved : goal.loop-c-preserved
 loop-c-preserved g c =
     let w = c.args.world.now in
-    let is = spawn_is w c.args.place.now c.args.round c.args.from c.loop-c.c c.items-spawns.result.now c.index-spawns-c.result c.args.visible.now c.spawn_stands.result c.items-spawns.ensures
+    let is = spawn_is w c.args.scene.now.place.now c.args.scene.now.round c.args.from c.loop-c.c c.items-spawns.result.now c.index-spawns-c.result c.args.scene.now.visible.now c.spawn_stands.result c.items-spawns.ensures
     (omega (arith, c.loop-c-test.true)) c.index-spawns-c.is c.requires.visible c.spawn_stands.ensures in
-    range_next (spawn_has w c.args.place.now c.args.round c.args.from) c.loop-c.c c.loop-c.invariant (sym is ∙ c.if-spawn_stands.false)
+    range_next (spawn_has w c.args.scene.now.place.now c.args.scene.now.round c.args.from) c.loop-c.c c.loop-c.invariant (sym is ∙ c.if-spawn_stands.false)
 
 pub returns : goal.returns
 returns g c =
     let w = c.args.world.now in
     let count = ap length c.items-spawns.ensures in
-    range_none (spawn_has w c.args.place.now c.args.round c.args.from) (length w.system.now.child) (λ k less. c.loop-c.invariant k (omega (arith, less, c.loop-c-test.false, count)))
+    range_none (spawn_has w c.args.scene.now.place.now c.args.scene.now.round c.args.from) (length w.system.now.child) (λ k less. c.loop-c.invariant k (omega (arith, less, c.loop-c-test.false, count)))

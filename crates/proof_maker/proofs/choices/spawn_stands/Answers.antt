@@ -1,7 +1,20 @@
+use Rattle.std.proofs.Common.{◌&&◌, ap, ◌∙◌}
+use Rattle.tp_base.specs.Classes.{has_class}
+use Rattle.simple_core.specs.declared.system.System.{System}
+use Rattle.simple_core.specs.Rounds.{grown}
 use Rattle.proof_maker.proofs.WorldLemmas.{below_known}
 use Rattle.proof_maker.proofs.choices.spawn_stands.Goals as goal
 
-pub added_has-requires-clause-known : goal.added_has-requires-clause-known
-added_has-requires-clause-known g c =
-    below_known c.args.world.now (g.S.Summaries.known c.args.sums.now) c.requires.ready c.args.place.now c.args.round c.args.spawn.now c.args.visible.now c.requires.place c.has.ensures.asking c.requires.listed
-    c.if-not-has.ensures.test c.requires.visible
+pub added_has-requires : goal.added_has-requires
+added_has-requires g c = record {
+  known =
+      below_known c.args.world.now (g.S.Summaries.known c.args.sums.now) c.requires.ready c.args.scene.now.place.now c.args.scene.now.round c.args.spawn.now c.args.scene.now.visible.now c.requires.place c.has.ensures.asking c.requires.listed
+      c.if-not-has.ensures.test c.requires.visible;
+}
+
+pub returns : goal.returns
+returns g c =
+    let scene = c.args.scene.now in
+    c.added_has.ensures.test
+    ∙ ap (λ (s : System). has_class c.args.from (grown s scene.round c.args.spawn.now.kind scene.visible.now)) c.requires.made
+    ∙ ap (λ b. b && has_class c.args.from (grown c.args.world.now.system.now scene.round c.args.spawn.now.kind scene.visible.now)) c.if-not-has.ensures.test
