@@ -1,8 +1,7 @@
 -- Numbering formulas by their keys: what one step and what lists of steps give.
-use Rattle.std.proofs.Common.{rules, ◌≡◌, ℕ, suc, ◌+◌, Bool, true, false, List, [], ◌∷◌, ◌++◌, length, map, Contains, Result, Ok, Err, Option, Some, None, IfOk, refl, sym, ap, ◌∙◌, subst, inl, inr, arith, append_assoc, append-nil}
+use Rattle.std.proofs.Common.{rules, ◌≡◌, ℕ, suc, ◌+◌, Bool, true, false, not, List, [], ◌∷◌, ◌++◌, length, map, Contains, Result, Ok, Err, Option, Some, None, IfOk, refl, sym, ap, ◌∙◌, subst, inl, inr, arith, append_assoc, append-nil}
 use Rattle.std.specs.List.{list_any, position_or_len}
 use Rattle.std.specs.Str.{bytes_eq}
-use Rattle.std.specs.Option.{SomeIff, ok_or}
 use Rattle.std.specs.Cmp.Derive.{both_true}
 use Rattle.std.proofs.lemmas.Bool.{cases_Bool, and_parts, false_from_ne_true}
 use Rattle.std.proofs.lemmas.Slice.Eq.{bytes_eq-Decides}
@@ -135,6 +134,23 @@ table_push n fs ks g k table numbered formula is = record {
       ∙ ap (λ z. map (kept_of (atom_in n (fs ++ g ∷ []))) fs ++ z ∷ []) (is ∙ sym (kept_still n fs (g ∷ []) g numbered))
       ∙ sym (map-append (kept_of (atom_in n (fs ++ g ∷ []))) fs (g ∷ []));
 }
+
+position_last : (p : Key → Bool) (ks : List Key) → list_any p ks ≡ false → position_or_len p ks ≡ length ks
+position_last p [] none = refl
+position_last p (k ∷ ks) none = elim (cases_Bool (p k)) [
+  | inl yes' ↦ let on : list_any p (k ∷ ks) ≡ true = rw yes' refl in cc
+  | inr no' ↦
+      let rest = position_last p ks (rw no' at none) in
+      rw no' (omega (arith, rest))
+]
+
+not_on : (b : Bool) → true ≡ not b → b ≡ false
+not_on true on = cc
+not_on false on = refl
+
+-- a new key goes last
+pub goes_last : (k : Key) (ks : List Key) (is_new : Bool) → is_new ≡ not (list_any (key_eq k) ks) → is_new ≡ true → position_or_len (key_eq k) ks ≡ length ks
+goes_last k ks is_new is on = position_last (key_eq k) ks (not_on (list_any (key_eq k) ks) (sym on ∙ is))
 
 pub entered : (n : ℕ) (ks : List Key) (k : Key) (place : ℕ) → place ≡ position_or_len (key_eq k) ks → IsEntered n ks (insert_key key_eq ks k) k.shape k.parts.items (n + place)
 entered n ks k place at fs g table numbered formula shape numbers =
@@ -310,7 +326,3 @@ module _ {E : Type 0} (n : ℕ) (old mid new : List Key) (g : Guard) where
   pub ok_any : (gs gs' : List Guard) (numbers : List ℕ) (r : Result ℕ E) → g ≡ any (guards_of gs) → gs' ≡ gs → AreNumbered n old mid (guards_of gs') numbers → IfOk r (λ b. IsEntered n mid new Any numbers b) → IfOk r (λ b. IsNumbered n old new g b)
   ok_any gs gs' numbers (Ok b) is same listed last = subst (λ z. IsNumbered n old new z b) (sym is) (number_any n old mid new (guards_of gs) numbers b (subst (λ z. AreNumbered n old mid (guards_of z) numbers) same listed) last)
   ok_any gs gs' numbers (Err e) is same listed last = tt
-
-pub sum_is : {E : Type 0} (o : Option ℕ) (P : Type 0) (v : ℕ) (Q : ℕ → Type 0) (e : E) → SomeIff o P v → Q v → IfOk (ok_or o e) Q
-sum_is None P v Q e some is = tt
-sum_is (Some x) P v Q e some is = let same : x ≡ v = search rules in subst Q (sym same) is

@@ -1,5 +1,5 @@
 //! The numbering of all that a system has atoms and kinds for.
-ghost use Rattle.std.specs.Prelude.{◌≡◌, ◌+◌, ◌≤◌, ◌↔◌, length, map, All, IsTrue, IfOk};
+ghost use Rattle.std.specs.Prelude.{◌≡◌, ◌+◌, ◌<◌, ◌≤◌, ◌^◌, ◌↔◌, length, map, All, IsTrue, IfOk};
 ghost use Rattle.tp_base.specs.declared.atoms.TheConstants.{MOST_ATOMS};
 ghost use Rattle.guard_sem.specs.Guards.{guards_of};
 ghost use Rattle.guard_simplify.specs.AtomNumbers.{HaveFewNodes};
@@ -50,6 +50,7 @@ fn rule_numbers(
     keys: &mut IndexSet<Key>,
     rules: &[Rule],
 ) -> Result<Vec<usize>, NoMemory>
+    requires { first < 2 ^ 32 }
     ensures { IfOk result (λ made. AreNumbered first keys.old.keys keys.new.keys (guards_of (map (λ r. r.guard) rules.now)) made.items) }
 {
     let mut made = Vec::new(alloc);
