@@ -191,10 +191,10 @@ impl<'l, 'a> Cursor<'l, 'a> {
 /// Whether a call has as many arguments as there are. Constant.
 #[tactic(auto, unfolding(crate::specs::Lists::counts))]
 pub fn counts(row: &Row<'_>, enclosed: &Enclosed<'_, '_>) -> bool
-    ensures { result ≡ spec.counts (row_from row.now.0.now row.now.1 row.now.2 row.now.3) (extent_of enclosed.now) }
+    ensures { result ≡ spec.counts (row_from row.now) (extent_of enclosed.now) }
 {
-    let few = enclosed.count < row.1 && begins(&enclosed.behind.words, b")");
-    match row.2 {
+    let few = enclosed.count < row.fewest && begins(&enclosed.behind.words, b")");
+    match row.most {
         None => !few,
         Some(most) => enclosed.count <= most && !few,
     }

@@ -7,7 +7,7 @@ mod list_parts;
 mod openings;
 mod value_chains;
 
-pub use forms::{Between, StatementForm};
+pub use forms::StatementForm;
 pub use heads::{handed_other, pass_comma, pass_document, pass_name, want_function};
 pub use list_parts::{and_list, called_with, condition, list_in, list_statement, returned, set};
 pub use openings::form_of;

@@ -157,7 +157,7 @@ fn call_name(
     reached: &Value,
     words: &mut Cursor<'_, '_>,
 ) -> Result<(Row<'static>, usize), ScriptFault>
-    ensures gives { Finds (λ k. (row_from k.0.0.now k.0.1 k.0.2 k.0.3, k.1)) words.new result (spec.call_name reader.entry.exact (length reader.entry.text.now) (value_of reached.now) words.old) }
+    ensures gives { Finds (λ k. (row_from k.0, k.1)) words.new result (spec.call_name reader.entry.exact (length reader.entry.text.now) (value_of reached.now) words.old) }
     ensures rest { OnOk result (IsBehind words.old words.new) }
 {
     let Some(word) = words.words().first() else {
@@ -169,7 +169,7 @@ fn call_name(
     let Some(row) = row_of(reader.exact, word.spelling()) else {
         return Err(ScriptFault::UnknownCall(word.letters(reader.alloc)?, word.at()));
     };
-    if is_unordered(row.3, reached) {
+    if is_unordered(row.form, reached) {
         return Err(ScriptFault::UnknownCall(word.letters(reader.alloc)?, word.at()));
     }
     words.pass();
@@ -183,7 +183,7 @@ pub fn dot_name(
     reached: &Value,
     words: &mut Cursor<'_, '_>,
 ) -> Result<(Row<'static>, usize), ScriptFault>
-    ensures gives { Finds (λ k. (row_from k.0.0.now k.0.1 k.0.2 k.0.3, k.1)) words.new result (spec.dot_name reader.entry.exact (length reader.entry.text.now) (value_of reached.now) words.old) }
+    ensures gives { Finds (λ k. (row_from k.0, k.1)) words.new result (spec.dot_name reader.entry.exact (length reader.entry.text.now) (value_of reached.now) words.old) }
     ensures rest { OnOk result (IsBehind words.old words.new) }
 {
     if is_placed(reached) {
@@ -203,9 +203,9 @@ pub fn admitted(
     at: usize,
     words: &Cursor<'_, '_>,
 ) -> Result<usize, ScriptFault>
-    ensures { Gives (λ n. n) result (spec.admitted (length reader.entry.text.now) (value_of reached.now) (row_from row.now.0.now row.now.1 row.now.2 row.now.3) at words.now) }
+    ensures { Gives (λ n. n) result (spec.admitted (length reader.entry.text.now) (value_of reached.now) (row_from row.now) at words.now) }
 {
-    if !may_stand(row.3, reached) {
+    if !may_stand(row.form, reached) {
         return Err(ScriptFault::UnknownForm(at));
     }
     if !begins(words.words(), b"(") {

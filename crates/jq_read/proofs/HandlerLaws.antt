@@ -1,5 +1,5 @@
 -- No statement of a script has more handlers than brackets may be open, rule by rule: a handler's function stands in a bracket of its own.
-use Rattle.std.proofs.Common.{◌≡◌, ℕ, zero, suc, ◌+◌, ◌-◌, ◌<◌, ◌≤◌, ◌==◌, Bool, true, false, not, ◌&&◌, ◌||◌, List, [], ◌∷◌, length, drop, Option, Some, None, codes, arith, length-append}
+use Rattle.std.proofs.Common.{◌≡◌, ℕ, zero, suc, ◌+◌, ◌-◌, ◌<◌, ◌≤◌, ◌==◌, Bool, true, false, not, ◌&&◌, List, [], ◌∷◌, length, drop, Option, Some, None, codes, arith, length-append}
 use Rattle.std.specs.Prelude.{Ok, Err, IfOk, nat_le, nat_lt}
 use Rattle.std.specs.List.{AllByRecursion}
 use Rattle.std.proofs.lemmas.Result.{IfOk-at_ok}
@@ -24,16 +24,14 @@ use Rattle.jq_parts.specs.Roots.{root}
 use Rattle.jq_forms.specs.Values.{is_chain}
 use Rattle.jq_forms.specs.declared.forms.StatementForm.{StatementForm}
 use Rattle.jq_forms.specs.declared.forms.StatementForm.TheVariants as form
-use Rattle.jq_forms.specs.declared.forms.Between.{Between}
 use Rattle.jq_read.specs.States.{Context, State, size, scope_in}
 use Rattle.jq_read.specs.Functions.{Block, function_body, function, handler_at, with_handler, in_handler, handed, rules_in}
 use Rattle.jq_forms.specs.Heads.{behind_name, want_function, handed_other, behind_one, behind_document}
 use Rattle.jq_parts.specs.Calls.{elements_in, dot_name, admitted, ended}
 use Rattle.jq_read.specs.CallArguments.{compounds_argument, move_arguments, unite_arguments, class_arguments, value_argument, attribute_arguments, grow_arguments, place_arguments}
-use Rattle.jq_forms.specs.ListParts.{and_list, condition, called_with}
+use Rattle.jq_forms.specs.ListParts.{and_list, called_with}
 use Rattle.jq_read.specs.Chains.{several, listened, listening, listen_arguments, unchanged, at_least, arguments_of, and_stated, call, all_read, calls, chain}
-use Rattle.jq_forms.specs.Openings.{form_of}
-use Rattle.jq_read.specs.Statements.{Blocks, and_end, bracketed, start, ready, once, timer, named_function, declared_value, value_behind, one, more_ones, declaration, chain_statement, with_state, statement_as, is_branch, begin, is_over, turn, at_file_end, sequence, no_block, braces, block, is_bound}
+use Rattle.jq_read.specs.Statements.{Blocks, and_end, bracketed, start, ready, once, timer, named_function, declared_value, value_behind, one, more_ones, declaration, chain_statement, with_state, statement_as, is_branch, form_at, statement, closes, sequence, no_block, braces, block, is_bound}
 use Rattle.jq_words.specs.FreeLists.{free}
 use Rattle.jq_read.specs.Script.{at_top, nothing_read}
 use Rattle.jq_read.proofs.ReadingLaws.{and_then, any_then, either, all_push}
@@ -305,6 +303,7 @@ module _ (n : ℕ) (most : n ≤ MOST_OPEN) (blocks : Blocks) (here_leaves : Lea
   statement_nested form.Block room c s ws few here = here_leaves c s ws few here
   statement_nested form.Declaration room c s ws few here = declaration_nested room c s (drop 1 ws) few here
   statement_nested form.Function room c s ws few here = named_function_nested room c s (drop 1 ws) few here
+  statement_nested form.Branch room c s ws few here = list_nested s _ here
   statement_nested form.Return room c s ws few here = list_nested s _ here
   statement_nested form.Start room c s ws few here = start_nested room c s (drop 1 ws) few here
   statement_nested form.Ready room c s ws few here = ready_nested room c s (drop 1 ws) few here
@@ -314,26 +313,25 @@ module _ (n : ℕ) (most : n ≤ MOST_OPEN) (blocks : Blocks) (here_leaves : Lea
   statement_nested form.Set room c s ws few here = list_nested s _ here
   statement_nested form.Once room c s ws few here = once_nested room c s ws few here
   statement_nested form.Free room c s ws few here = list_nested s _ here
-  statement_nested form.Branch room c s ws few here = list_nested s _ here
 
-  turn_nested : (room : ℕ) (c : Context) (b : Between) (s : State) (ws : List Word) → length c.handlers ≤ n → AreNested s → IfOk (turn blocks room c b s ws) (λ t. AreNested t.1)
-  unfolding turn
-  turn_nested room c b s ws few here =
-      either _ (is_branch (form_of (is_bound s ws) ws)) _ _ (any_then _ (condition (size c) (rules_in c room false) ws) _ (λ rest. here))
-      (and_then _ _ (statement_as (form_of (is_bound s ws) ws) blocks room c s ws) _ (statement_nested (form_of (is_bound s ws) ws) room c s ws few here) (λ r known. known))
+  whole_nested : (room : ℕ) (c : Context) (s : State) (skip : ℕ) (ws : List Word) → length c.handlers ≤ n → AreNested s → IfOk (statement blocks room c s skip ws) StateNested
+  unfolding statement
+  whole_nested room c s skip [] few here = tt
+  whole_nested room c s (suc skip) (w ∷ ws) few here = whole_nested room c s skip ws few here
+  whole_nested room c s zero (w ∷ ws) few here =
+      and_then _ _ (statement_as (form_at s (w ∷ ws)) blocks room c s (w ∷ ws)) _ (statement_nested (form_at s (w ∷ ws)) room c s (w ∷ ws) few here) (λ begun known.
+      either _ (is_branch (form_at s (w ∷ ws))) _ _
+      (and_then _ _ (statement blocks room c begun.0 (length ws - length begun.1) ws) _ (whole_nested room c begun.0 (length ws - length begun.1) ws few known) (λ first there.
+      either _ (begins_name (codes "else") first.1) _ _ (whole_nested room c first.0 (length ws - length (drop 1 first.1)) ws few there) there))
+      known)
 
-  file_end_nested : (in_block : Bool) (b : Between) (c : Context) (s : State) → AreNested s → IfOk (at_file_end in_block b c s) StateNested
-  unfolding at_file_end
-  file_end_nested in_block b c s here = either _ (in_block || b.wanted) _ _ tt here
-
-  sequence_nested : (in_block : Bool) (room : ℕ) (c : Context) (b : Between) (s : State) (skip : ℕ) (ws : List Word) → length c.handlers ≤ n → AreNested s
-      → IfOk (sequence in_block blocks room c b s skip ws) StateNested
+  sequence_nested : (in_block : Bool) (room : ℕ) (c : Context) (s : State) (skip : ℕ) (ws : List Word) → length c.handlers ≤ n → AreNested s → IfOk (sequence in_block blocks room c s skip ws) StateNested
   unfolding sequence
-  sequence_nested in_block room c b s skip [] few here = file_end_nested in_block b c s here
-  sequence_nested in_block room c b s (suc skip) (w ∷ ws) few here = sequence_nested in_block room c b s skip ws few here
-  sequence_nested in_block room c b s zero (w ∷ ws) few here =
-      either _ (is_over in_block b w) _ _ here
-      (and_then _ _ (turn blocks room c b s (w ∷ ws)) _ (turn_nested room c b s (w ∷ ws) few here) (λ t known. sequence_nested in_block room c t.0 t.1 (length ws - length t.2) ws few known))
+  sequence_nested in_block room c s skip [] few here = either _ in_block _ _ tt here
+  sequence_nested in_block room c s (suc skip) (w ∷ ws) few here = sequence_nested in_block room c s skip ws few here
+  sequence_nested in_block room c s zero (w ∷ ws) few here =
+      either _ (closes in_block w) _ _ here
+      (and_then _ _ (statement blocks room c s 0 (w ∷ ws)) _ (whole_nested room c s 0 (w ∷ ws) few here) (λ r known. sequence_nested in_block room c r.0 (length ws - length r.1) ws few known))
 
 -- ---- blocks and files
 
@@ -341,7 +339,7 @@ braces_nested : (n room : ℕ) (blocks : Blocks) → n ≤ MOST_OPEN → LeavesN
 unfolding braces
 braces_nested n room blocks most leaves deeper c s ws few here =
     any_then _ (want_open (size c) (suc room) (codes "{") ws) _ (λ inside.
-    and_then _ _ (sequence true blocks room c begin s 0 inside) _ (sequence_nested n most blocks leaves deeper true room c begin s 0 inside few here) (λ all known. known))
+    and_then _ _ (sequence true blocks room c s 0 inside) _ (sequence_nested n most blocks leaves deeper true room c s 0 inside few here) (λ all known. known))
 
 -- the handlers round a block, and the brackets that may still be opened in it, are together no more than may be open
 blocks_nested : (room opened n : ℕ) → n + room ≤ MOST_OPEN + opened → LeavesNested n (block room opened)
@@ -357,11 +355,11 @@ both (s ∷ ss) nested short = (record { few = nested.0; short = short.0 }, both
 
 -- what is read of a file's words can be counted
 pub all_counted : (exact : Bool) (text : List ℕ) (ws rest : List Word) (names : List Named) (g : Grown) (ss : List ExactStatement) (ds : List Declaration)
-    → sequence false (block MOST_OPEN) MOST_OPEN (at_top exact text ws) begin (nothing_read names) 0 ws ≡ Ok (record { grown = g; statements = ss; declarations = ds }, rest)
+    → sequence false (block MOST_OPEN) MOST_OPEN (at_top exact text ws) (nothing_read names) 0 ws ≡ Ok (record { grown = g; statements = ss; declarations = ds }, rest)
     → AllByRecursion IsCounted ss
 all_counted exact text ws rest names g ss ds is =
     let nested = sequence_nested 0 (omega arith) (block MOST_OPEN) (blocks_nested MOST_OPEN 0 0 (omega arith)) (blocks_nested MOST_OPEN 1 1 (omega arith))
-    false MOST_OPEN (at_top exact text ws) begin (nothing_read names) 0 ws (omega arith) tt in
-    let short = sequence_in (block MOST_OPEN) (blocks_in MOST_OPEN) 0 false MOST_OPEN (at_top exact text ws) begin (nothing_read names) 0 ws (nothing_in names) in
+    false MOST_OPEN (at_top exact text ws) (nothing_read names) 0 ws (omega arith) tt in
+    let short = sequence_in (block MOST_OPEN) (blocks_in MOST_OPEN) 0 false MOST_OPEN (at_top exact text ws) (nothing_read names) 0 ws (nothing_in names) in
     let counted = IfOk-at_ok (λ r. IsIn 0 r.0) is short in
     both ss (IfOk-at_ok (λ r. AreNested r.0) is nested) counted.short

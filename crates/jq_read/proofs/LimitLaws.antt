@@ -1,5 +1,5 @@
 -- What the statements of a script stay within, rule by rule. Nodes of markup that was read and is in no statement yet are counted too.
-use Rattle.std.proofs.Common.{◌≡◌, ℕ, zero, suc, ◌+◌, ◌-◌, ◌<◌, ◌≤◌, ◌==◌, Bool, true, false, not, ◌&&◌, ◌||◌, if◌then◌else◌, List, [], ◌∷◌, ◌++◌, length, map, sum, take, drop, Option, Some, None, refl, sym, ap, ◌∙◌, codes, arith, length-append}
+use Rattle.std.proofs.Common.{◌≡◌, ℕ, zero, suc, ◌+◌, ◌-◌, ◌<◌, ◌≤◌, ◌==◌, Bool, true, false, not, ◌&&◌, if◌then◌else◌, List, [], ◌∷◌, ◌++◌, length, map, sum, take, drop, Option, Some, None, refl, sym, ap, ◌∙◌, codes, arith, length-append}
 use Rattle.std.specs.Prelude.{Result, Ok, Err, IfOk, IfSome, nat_le, nat_lt, bytes_eq, option_and_then}
 use Rattle.std.specs.List.{AllByRecursion, sum_by}
 use Rattle.std.proofs.lemmas.Bool.{leb-false, ltb-false}
@@ -36,16 +36,14 @@ use Rattle.jq_parts.specs.Roots.{root, wrapped_root, root_of, jquery_argument, l
 use Rattle.jq_forms.specs.Values.{is_chain}
 use Rattle.jq_forms.specs.declared.forms.StatementForm.{StatementForm}
 use Rattle.jq_forms.specs.declared.forms.StatementForm.TheVariants as form
-use Rattle.jq_forms.specs.declared.forms.Between.{Between}
 use Rattle.jq_read.specs.States.{Context, State, size, with_names, scope_in}
 use Rattle.jq_read.specs.Functions.{Block, function_body, function, handler_at, in_handler, handed, rules_in}
 use Rattle.jq_forms.specs.Heads.{behind_name, want_function, handed_other, behind_one, behind_document}
 use Rattle.jq_parts.specs.Calls.{elements_in, made, and_call, dot_name, admitted, ended}
 use Rattle.jq_read.specs.CallArguments.{compounds_argument, move_arguments, unite_arguments, acting, class_arguments, value_argument, attribute_arguments, added, grow_arguments, trees_in, place_arguments}
-use Rattle.jq_forms.specs.ListParts.{and_list, condition, called_with}
+use Rattle.jq_forms.specs.ListParts.{and_list, called_with}
 use Rattle.jq_read.specs.Chains.{several, listened, listening, listen_arguments, unchanged, at_least, arguments_of, and_stated, call, all_read, calls, chain}
-use Rattle.jq_forms.specs.Openings.{form_of}
-use Rattle.jq_read.specs.Statements.{Blocks, and_end, bracketed, start, ready, once, timer, named_function, declared_value, value_behind, one, more_ones, declaration, chain_statement, with_state, statement_as, is_branch, begin, is_over, turn, at_file_end, sequence, no_block, braces, block, is_bound}
+use Rattle.jq_read.specs.Statements.{Blocks, and_end, bracketed, start, ready, once, timer, named_function, declared_value, value_behind, one, more_ones, declaration, chain_statement, with_state, statement_as, is_branch, form_at, statement, closes, sequence, no_block, braces, block, is_bound}
 use Rattle.jq_words.specs.FreeLists.{free}
 use Rattle.jq_read.specs.Script.{from_scan, at_top, nothing_read, script_of, script_with, script}
 use Rattle.jq_read.proofs.ReadingLaws.{and_then, any_then, either, all_push, all_take, first_some, this_one}
@@ -514,6 +512,7 @@ module _ (blocks : Blocks) (keeps : (opened : ℕ) → Keeps (blocks opened)) wh
   statement_in form.Block k room c s ws here = keeps 0 k c s ws here
   statement_in form.Declaration k room c s ws here = declaration_in k room c s (drop 1 ws) here
   statement_in form.Function k room c s ws here = named_function_in k room c s (drop 1 ws) here
+  statement_in form.Branch k room c s ws here = list_in k s _ here
   statement_in form.Return k room c s ws here = list_in k s _ here
   statement_in form.Start k room c s ws here = start_in k room c s (drop 1 ws) here
   statement_in form.Ready k room c s ws here = ready_in k room c s (drop 1 ws) here
@@ -523,25 +522,25 @@ module _ (blocks : Blocks) (keeps : (opened : ℕ) → Keeps (blocks opened)) wh
   statement_in form.Set k room c s ws here = list_in k s _ here
   statement_in form.Once k room c s ws here = once_in k room c s ws here
   statement_in form.Free k room c s ws here = list_in k s _ here
-  statement_in form.Branch k room c s ws here = list_in k s _ here
 
-  turn_in : (k room : ℕ) (c : Context) (b : Between) (s : State) (ws : List Word) → IsIn k s → IfOk (turn blocks room c b s ws) (λ t. IsIn k t.1)
-  unfolding turn
-  turn_in k room c b s ws here =
-      either _ (is_branch (form_of (is_bound s ws) ws)) _ _ (any_then _ (condition (size c) (rules_in c room false) ws) _ (λ rest. here))
-      (and_then _ _ (statement_as (form_of (is_bound s ws) ws) blocks room c s ws) _ (statement_in (form_of (is_bound s ws) ws) k room c s ws here) (λ r known. known))
+  whole_in : (k room : ℕ) (c : Context) (s : State) (skip : ℕ) (ws : List Word) → IsIn k s → IfOk (statement blocks room c s skip ws) (StateIn k)
+  unfolding statement
+  whole_in k room c s skip [] here = tt
+  whole_in k room c s (suc skip) (w ∷ ws) here = whole_in k room c s skip ws here
+  whole_in k room c s zero (w ∷ ws) here =
+      and_then _ _ (statement_as (form_at s (w ∷ ws)) blocks room c s (w ∷ ws)) _ (statement_in (form_at s (w ∷ ws)) k room c s (w ∷ ws) here) (λ begun known.
+      either _ (is_branch (form_at s (w ∷ ws))) _ _
+      (and_then _ _ (statement blocks room c begun.0 (length ws - length begun.1) ws) _ (whole_in k room c begun.0 (length ws - length begun.1) ws known) (λ first there.
+      either _ (begins_name (codes "else") first.1) _ _ (whole_in k room c first.0 (length ws - length (drop 1 first.1)) ws there) there))
+      known)
 
-  file_end_in : (k : ℕ) (in_block : Bool) (b : Between) (c : Context) (s : State) → IsIn k s → IfOk (at_file_end in_block b c s) (StateIn k)
-  unfolding at_file_end
-  file_end_in k in_block b c s here = either _ (in_block || b.wanted) _ _ tt here
-
-  pub sequence_in : (k : ℕ) (in_block : Bool) (room : ℕ) (c : Context) (b : Between) (s : State) (skip : ℕ) (ws : List Word) → IsIn k s → IfOk (sequence in_block blocks room c b s skip ws) (StateIn k)
+  pub sequence_in : (k : ℕ) (in_block : Bool) (room : ℕ) (c : Context) (s : State) (skip : ℕ) (ws : List Word) → IsIn k s → IfOk (sequence in_block blocks room c s skip ws) (StateIn k)
   unfolding sequence
-  sequence_in k in_block room c b s skip [] here = file_end_in k in_block b c s here
-  sequence_in k in_block room c b s (suc skip) (w ∷ ws) here = sequence_in k in_block room c b s skip ws here
-  sequence_in k in_block room c b s zero (w ∷ ws) here =
-      either _ (is_over in_block b w) _ _ here
-      (and_then _ _ (turn blocks room c b s (w ∷ ws)) _ (turn_in k room c b s (w ∷ ws) here) (λ t known. sequence_in k in_block room c t.0 t.1 (length ws - length t.2) ws known))
+  sequence_in k in_block room c s skip [] here = either _ in_block _ _ tt here
+  sequence_in k in_block room c s (suc skip) (w ∷ ws) here = sequence_in k in_block room c s skip ws here
+  sequence_in k in_block room c s zero (w ∷ ws) here =
+      either _ (closes in_block w) _ _ here
+      (and_then _ _ (statement blocks room c s 0 (w ∷ ws)) _ (whole_in k room c s 0 (w ∷ ws) here) (λ r known. sequence_in k in_block room c r.0 (length ws - length r.1) ws known))
 
 -- ---- blocks and files
 
@@ -549,7 +548,7 @@ braces_in : (room : ℕ) (blocks : Blocks) → ((opened : ℕ) → Keeps (blocks
 unfolding braces
 braces_in room blocks keeps k c s ws here =
     any_then _ (want_open (size c) (suc room) (codes "{") ws) _ (λ inside.
-    and_then _ _ (sequence true blocks room c begin s 0 inside) _ (sequence_in blocks keeps k true room c begin s 0 inside here) (λ all known. known))
+    and_then _ _ (sequence true blocks room c s 0 inside) _ (sequence_in blocks keeps k true room c s 0 inside here) (λ all known. known))
 
 pub blocks_in : (room opened : ℕ) → Keeps (block room opened)
 unfolding block no_block
@@ -598,8 +597,8 @@ within_wides k s here = record {
 file_in : (exact : Bool) (text : List ℕ) (ws : List Word) (names : List Named) → IfOk (script_of exact text ws names) (λ r. AreWithin (wides r.0))
 unfolding script_of
 file_in exact text ws names =
-    and_then _ _ (sequence false (block MOST_OPEN) MOST_OPEN (at_top exact text ws) begin (nothing_read names) 0 ws) _
-    (sequence_in (block MOST_OPEN) (blocks_in MOST_OPEN) 0 false MOST_OPEN (at_top exact text ws) begin (nothing_read names) 0 ws (nothing_in names))
+    and_then _ _ (sequence false (block MOST_OPEN) MOST_OPEN (at_top exact text ws) (nothing_read names) 0 ws) _
+    (sequence_in (block MOST_OPEN) (blocks_in MOST_OPEN) 0 false MOST_OPEN (at_top exact text ws) (nothing_read names) 0 ws (nothing_in names))
     (λ all known. within_wides 0 all.0 known)
 
 script_in : (exact : Bool) (text : List ℕ) (names : List Named) → IfOk (script_with exact text names) (λ r. AreWithin (wides r.0))

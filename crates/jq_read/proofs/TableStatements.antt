@@ -1,5 +1,5 @@
 -- The statements of a script are over the table of names that reading leaves.
-use Rattle.std.proofs.Common.{◌≡◌, ℕ, zero, suc, ◌-◌, Bool, true, false, ◌||◌, List, [], ◌∷◌, ◌++◌, length, drop, Option, None, codes}
+use Rattle.std.proofs.Common.{◌≡◌, ℕ, zero, suc, ◌-◌, Bool, true, false, List, [], ◌∷◌, ◌++◌, length, drop, Option, None, codes}
 use Rattle.std.specs.Prelude.{Ok, IfOk}
 use Rattle.std.proofs.lemmas.Result.{IfOk-at_ok, IfOk-weaker}
 use Rattle.tp_base.specs.Names.{Named}
@@ -14,14 +14,12 @@ use Rattle.jq_forms.specs.Values.{is_chain}
 use Rattle.jq_sem.specs.Tables.{AreStatementsOver}
 use Rattle.jq_forms.specs.declared.forms.StatementForm.{StatementForm}
 use Rattle.jq_forms.specs.declared.forms.StatementForm.TheVariants as form
-use Rattle.jq_forms.specs.declared.forms.Between.{Between}
 use Rattle.jq_read.specs.States.{Context, State, size}
 use Rattle.jq_read.specs.Functions.{function_body, function, in_handler, handed, rules_in}
 use Rattle.jq_read.specs.Chains.{chain}
-use Rattle.jq_forms.specs.Openings.{form_of}
-use Rattle.jq_read.specs.Statements.{Blocks, and_end, bracketed, start, ready, once, timer, named_function, declared_value, value_behind, one, more_ones, declaration, chain_statement, with_state, statement_as, is_branch, begin, is_over, turn, at_file_end, sequence, no_block, braces, block, is_bound}
+use Rattle.jq_read.specs.Statements.{Blocks, and_end, bracketed, start, ready, once, timer, named_function, declared_value, value_behind, one, more_ones, declaration, chain_statement, with_state, statement_as, is_branch, form_at, statement, closes, sequence, no_block, braces, block, is_bound}
 use Rattle.jq_words.specs.FreeLists.{free}
-use Rattle.jq_forms.specs.ListParts.{condition, called_with, and_list}
+use Rattle.jq_forms.specs.ListParts.{called_with, and_list}
 use Rattle.jq_forms.specs.Heads.{behind_document}
 use Rattle.jq_read.specs.Script.{from_scan, at_top, nothing_read, script_of, script_with, script}
 use Rattle.jq_read.proofs.ReadingLaws.{and_then, any_then, either, all_push}
@@ -131,6 +129,7 @@ module _ (blocks : Blocks) (keeps : (opened : ℕ) → KeepsOver (blocks opened)
   statement_over form.Block room c s ws over = keeps 0 c s ws over
   statement_over form.Declaration room c s ws over = declaration_over room c s (drop 1 ws) over
   statement_over form.Function room c s ws over = named_function_over room c s (drop 1 ws) over
+  statement_over form.Branch room c s ws over = list_over c s _ over
   statement_over form.Return room c s ws over = list_over c s _ over
   statement_over form.Start room c s ws over = start_over room c s (drop 1 ws) over
   statement_over form.Ready room c s ws over = ready_over room c s (drop 1 ws) over
@@ -140,25 +139,28 @@ module _ (blocks : Blocks) (keeps : (opened : ℕ) → KeepsOver (blocks opened)
   statement_over form.Set room c s ws over = list_over c s _ over
   statement_over form.Once room c s ws over = once_over room c s ws over
   statement_over form.Free room c s ws over = list_over c s _ over
-  statement_over form.Branch room c s ws over = list_over c s _ over
 
-  turn_over : (room : ℕ) (c : Context) (b : Between) (s : State) (ws : List Word) → AreOver c s → IfOk (turn blocks room c b s ws) (λ t. IsLater c s t.1)
-  unfolding turn
-  turn_over room c b s ws over =
-      either _ (is_branch (form_of (is_bound s ws) ws)) _ _ (any_then _ (condition (size c) (rules_in c room false) ws) _ (λ rest. same c s over))
-      (and_then _ _ (statement_as (form_of (is_bound s ws) ws) blocks room c s ws) _ (statement_over (form_of (is_bound s ws) ws) room c s ws over) (λ r later. later))
+  whole_over : (room : ℕ) (c : Context) (s : State) (skip : ℕ) (ws : List Word) → AreOver c s → IfOk (statement blocks room c s skip ws) (StateOver c s)
+  unfolding statement
+  whole_over room c s skip [] over = tt
+  whole_over room c s (suc skip) (w ∷ ws) over = whole_over room c s skip ws over
+  whole_over room c s zero (w ∷ ws) over =
+      and_then _ _ (statement_as (form_at s (w ∷ ws)) blocks room c s (w ∷ ws)) _ (statement_over (form_at s (w ∷ ws)) room c s (w ∷ ws) over) (λ begun later.
+      either _ (is_branch (form_at s (w ∷ ws))) _ _
+      (more c s begun.0 _ later
+      (and_then _ _ (statement blocks room c begun.0 (length ws - length begun.1) ws) _ (whole_over room c begun.0 (length ws - length begun.1) ws later.over) (λ first others.
+      either _ (begins_name (codes "else") first.1) _ _
+      (more c begun.0 first.0 _ others (whole_over room c first.0 (length ws - length (drop 1 first.1)) ws others.over))
+      others)))
+      later)
 
-  file_end_over : (in_block : Bool) (b : Between) (c : Context) (s : State) → AreOver c s → IfOk (at_file_end in_block b c s) (StateOver c s)
-  unfolding at_file_end
-  file_end_over in_block b c s over = either _ (in_block || b.wanted) _ _ tt (same c s over)
-
-  sequence_over : (in_block : Bool) (room : ℕ) (c : Context) (b : Between) (s : State) (skip : ℕ) (ws : List Word) → AreOver c s → IfOk (sequence in_block blocks room c b s skip ws) (StateOver c s)
+  sequence_over : (in_block : Bool) (room : ℕ) (c : Context) (s : State) (skip : ℕ) (ws : List Word) → AreOver c s → IfOk (sequence in_block blocks room c s skip ws) (StateOver c s)
   unfolding sequence
-  sequence_over in_block room c b s skip [] over = file_end_over in_block b c s over
-  sequence_over in_block room c b s (suc skip) (w ∷ ws) over = sequence_over in_block room c b s skip ws over
-  sequence_over in_block room c b s zero (w ∷ ws) over =
-      either _ (is_over in_block b w) _ _ (same c s over)
-      (and_then _ _ (turn blocks room c b s (w ∷ ws)) _ (turn_over room c b s (w ∷ ws) over) (λ t later. more c s t.1 _ later (sequence_over in_block room c t.0 t.1 (length ws - length t.2) ws later.over)))
+  sequence_over in_block room c s skip [] over = either _ in_block _ _ tt (same c s over)
+  sequence_over in_block room c s (suc skip) (w ∷ ws) over = sequence_over in_block room c s skip ws over
+  sequence_over in_block room c s zero (w ∷ ws) over =
+      either _ (closes in_block w) _ _ (same c s over)
+      (and_then _ _ (statement blocks room c s 0 (w ∷ ws)) _ (whole_over room c s 0 (w ∷ ws) over) (λ r later. more c s r.0 _ later (sequence_over in_block room c r.0 (length ws - length r.1) ws later.over)))
 
 -- ---- blocks and files
 
@@ -166,7 +168,7 @@ braces_over : (room : ℕ) (blocks : Blocks) → ((opened : ℕ) → KeepsOver (
 unfolding braces
 braces_over room blocks keeps c s ws over =
     any_then _ (want_open (size c) (suc room) (codes "{") ws) _ (λ inside.
-    and_then _ _ (sequence true blocks room c begin s 0 inside) _ (sequence_over blocks keeps true room c begin s 0 inside over) (λ all later. later))
+    and_then _ _ (sequence true blocks room c s 0 inside) _ (sequence_over blocks keeps true room c s 0 inside over) (λ all later. later))
 
 blocks_over : (room opened : ℕ) → KeepsOver (block room opened)
 unfolding block no_block
@@ -177,8 +179,8 @@ blocks_over (suc room) zero c s ws over = braces_over room (block room) (blocks_
 file_over : (exact : Bool) (text : List ℕ) (ws : List Word) (names : List Named) → IfOk (script_of exact text ws names) (λ r. AreStatementsOver (length r.1) (wides r.0))
 unfolding script_of
 file_over exact text ws names =
-    and_then _ _ (sequence false (block MOST_OPEN) MOST_OPEN (at_top exact text ws) begin (nothing_read names) 0 ws) _
-    (sequence_over (block MOST_OPEN) (blocks_over MOST_OPEN) false MOST_OPEN (at_top exact text ws) begin (nothing_read names) 0 ws (record { handlers = tt; statements = tt; bindings = tt }))
+    and_then _ _ (sequence false (block MOST_OPEN) MOST_OPEN (at_top exact text ws) (nothing_read names) 0 ws) _
+    (sequence_over (block MOST_OPEN) (blocks_over MOST_OPEN) false MOST_OPEN (at_top exact text ws) (nothing_read names) 0 ws (record { handlers = tt; statements = tt; bindings = tt }))
     (λ all later. later.over.statements)
 
 script_over : (exact : Bool) (text : List ℕ) (names : List Named) → IfOk (script_with exact text names) (λ r. AreStatementsOver (length r.1) (wides r.0))

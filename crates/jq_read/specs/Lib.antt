@@ -8,4 +8,5 @@ pub mod Statements
 pub mod States
 -- Invariants, and the states of the code.
 pub mod Readers
+pub mod Sequences
 pub mod Views

@@ -14,7 +14,7 @@ use Rattle.jq_words.specs.Words.{Word, words, Outcome, ◌>>=◌}
 use Rattle.jq_words.specs.Functions.{declared_in}
 use Rattle.jq_parts.specs.Markup.{grown}
 use Rattle.jq_read.specs.States.{Context, State}
-use Rattle.jq_read.specs.Statements.{begin, sequence, block}
+use Rattle.jq_read.specs.Statements.{sequence, block}
 
 abbrev pub from_scan : {A : Type 0} → Result A ScanFault → Outcome A
 from_scan (Ok x) = Ok x
@@ -30,7 +30,7 @@ nothing_read names = record { grown = grown names 0; statements = []; declaratio
 -- The statements that the words of a file make, and the names in the table then, or the first fault.
 unfoldable pub script_of : Bool → List ℕ → List Word → List Named → Outcome (List ExactStatement × List Named)
 script_of exact text ws names = do
-  all ← sequence false (block MOST_OPEN) MOST_OPEN (at_top exact text ws) begin (nothing_read names) 0 ws
+  all ← sequence false (block MOST_OPEN) MOST_OPEN (at_top exact text ws) (nothing_read names) 0 ws
   Ok (all.0.statements, all.0.grown.names)
 
 -- those of a file, with the sharp calls or without

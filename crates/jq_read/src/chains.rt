@@ -110,12 +110,12 @@ pub(crate) fn call_arguments<'a>(
     atoms: &mut AtomTable,
     words: &mut Cursor<'_, 'a>,
 ) -> Result<Done, ScriptFault>
-    ensures gives { Turns done_of (state_of reader.entry state.new atoms.new) words.new result (spec.arguments_of (statements.block room 0) room (context_of reader.entry state.old) (value_of reached) (row_from row.entry.0.now row.entry.1 row.entry.2 row.entry.3) count (state_of reader.entry state.old atoms.old) words.old) }
+    ensures gives { Turns done_of (state_of reader.entry state.new atoms.new) words.new result (spec.arguments_of (statements.block room 0) room (context_of reader.entry state.old) (value_of reached) (row_from row.entry) count (state_of reader.entry state.old atoms.old) words.old) }
     ensures rest { OnOk result (IsRest words.old words.new) }
     ensures kept { OnOk result (context_of reader.entry state.new ≡ context_of reader.entry state.old) }
     ensures front { IsFront atoms.old atoms.new }
 {
-    match row.3 {
+    match row.form {
         Form::Find
         | Form::Children
         | Form::Parent
@@ -124,8 +124,8 @@ pub(crate) fn call_arguments<'a>(
         | Form::Has
         | Form::Closest
         | Form::Siblings => {
-            let none = is_left_out(row.1, count);
-            move_arguments(reader, row.3, none, reached, state, atoms, words)
+            let none = is_left_out(row.fewest, count);
+            move_arguments(reader, row.form, none, reached, state, atoms, words)
         }
         Form::First => {
             let done = take_first(reader.alloc, reached)?;
@@ -142,7 +142,7 @@ pub(crate) fn call_arguments<'a>(
         Form::GrowsBeside => grow_arguments(reader, room, true, reached, state, atoms, words),
         Form::Places => place_arguments(reader, room, reached, state, atoms, words),
         Form::Handles => {
-            let count = at_least(row.1, count);
+            let count = at_least(row.fewest, count);
             several(reader, false, &reached, count, room, state, atoms, words)?;
             Ok(unchanged(reached))
         }

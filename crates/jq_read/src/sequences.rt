@@ -1,9 +1,8 @@
 //! Statements, one after another, and in blocks.
-ghost use Rattle.std.specs.Prelude.{◌≡◌, true, false, [], length, IfOk, IfErr, OnOk};
-ghost use Rattle.jq_words.specs.Words.{begins_name};
+ghost use Rattle.std.specs.Prelude.{◌≡◌, ◌<◌, true, false, [], length, OnOk};
 ghost use Rattle.sel_core.specs.Results.{IsFront};
 ghost use Rattle.jq_words.specs.Results.{Leaves, Turns, IsRest, IsBehind};
-ghost use Rattle.jq_words.specs.declared.faults.ScriptFault.TheVariants.{Memory};
+ghost use Rattle.jq_read.specs.Sequences as turns;
 ghost use Rattle.jq_read.specs.Statements as spec;
 ghost use Rattle.jq_read.specs.States.{size};
 ghost use Rattle.jq_read.specs.Readers.{context_of, state_of};
@@ -12,13 +11,20 @@ use crate::bound_names::form_here;
 use crate::statements::statement;
 use crate::states::State;
 use jq_cursor::{Cursor, Reader};
-use jq_forms::{Between, StatementForm, condition};
+use jq_forms::StatementForm;
 use jq_words::{ScriptFault, Word, begins_name};
 use tp_base::AtomTable;
 
-#[tactic(auto, unfolding(crate::specs::Statements::is_over))]
+// What stands between two statements: whether one is wanted, and how many `if`s may still get an `else`.
+#[derive(Clone, Copy)]
+struct Between {
+    wanted: bool,
+    ifs: u64,
+}
+
+#[tactic(auto, unfolding(crate::specs::Sequences::is_over))]
 fn is_over(in_block: bool, between: Between, word: &Word<'_>) -> bool
-    ensures { result ≡ spec.is_over in_block between word.now }
+    ensures { result ≡ turns.is_over in_block between word.now }
 {
     in_block && !between.wanted && word.is_mark(b"}")
 }
@@ -30,19 +36,21 @@ fn is_branch(form: StatementForm) -> bool
 }
 
 // Behind a condition a statement is wanted, which may get an `else`.
-fn behind_condition(between: Between) -> Result<Between, ScriptFault>
-    ensures behind { IfOk result (λ b. b ≡ spec.behind_condition between) }
-    ensures only_memory { IfErr result (λ e. e ≡ Memory) }
+fn behind_condition(between: Between) -> Between
+    requires { between.ifs < u64.MAX }
+    ensures { result ≡ turns.behind_condition between }
 {
-    let ifs = between.ifs.checked_add(1).ok_or(ScriptFault::Memory)?;
-    Ok(Between { wanted: true, ifs })
+    Between {
+        wanted: true,
+        ifs: between.ifs + 1,
+    }
 }
 
 // What is behind a statement; passes its `else`.
 #[tactic(auto, using(jq_words::proofs::Rests::behind_first, jq_words::proofs::Rests::itself))]
 fn behind_statement(between: Between, words: &mut Cursor<'_, '_>) -> Between
-    ensures between { result ≡ spec.behind_statement between words.old }
-    ensures words { words.new ≡ spec.behind_else between words.old }
+    ensures between { result ≡ turns.behind_statement between words.old }
+    ensures words { words.new ≡ turns.behind_else between words.old }
     ensures rest { IsRest words.old words.new }
 {
     if between.ifs != 0 && begins_name(words.words(), b"else") {
@@ -58,9 +66,9 @@ fn behind_statement(between: Between, words: &mut Cursor<'_, '_>) -> Between
     }
 }
 
-#[tactic(auto, unfolding(crate::specs::Statements::at_file_end))]
+#[tactic(auto, unfolding(crate::specs::Sequences::at_file_end))]
 fn at_file_end(reader: Reader<'_>, in_block: bool, between: Between) -> Result<(), ScriptFault>
-    ensures gives { (c : _) → (s : _) → size c ≡ length reader.entry.text.now → Leaves (s, []) result (spec.at_file_end in_block between c s) }
+    ensures gives { (c : _) → (s : _) → size c ≡ length reader.entry.text.now → Leaves (s, []) result (turns.at_file_end in_block between c s) }
 {
     if in_block || between.wanted {
         Err(ScriptFault::UnknownForm(reader.text.len()))
@@ -71,7 +79,7 @@ fn at_file_end(reader: Reader<'_>, in_block: bool, between: Between) -> Result<(
 
 // One turn of a sequence: a statement, or a condition.
 #[cycle(grammar)]
-#[tactic(auto, unfolding(crate::specs::Statements::turn), using(sel_core::proofs::Fronts::front_itself, jq_words::proofs::Rests::behind_rest))]
+#[tactic(auto, unfolding(crate::specs::Sequences::turn), using(sel_core::proofs::Fronts::front_itself, jq_words::proofs::Rests::behind_rest))]
 fn turn<'a>(
     reader: Reader<'_>,
     between: Between,
@@ -80,23 +88,23 @@ fn turn<'a>(
     atoms: &mut AtomTable,
     words: &mut Cursor<'_, 'a>,
 ) -> Result<Between, ScriptFault>
-    ensures gives { Turns (λ b. b) (state_of reader.entry state.new atoms.new) words.new result (spec.turn (spec.block room) room (context_of reader.entry state.old) between (state_of reader.entry state.old atoms.old) words.old) }
+    requires counted { between.ifs < u64.MAX }
+    ensures gives { Turns (λ b. b) (state_of reader.entry state.new atoms.new) words.new result (turns.turn (spec.block room) room (context_of reader.entry state.old) between (state_of reader.entry state.old atoms.old) words.old) }
     ensures rest { OnOk result (IsBehind words.old words.new) }
     ensures kept { OnOk result (context_of reader.entry state.new ≡ context_of reader.entry state.old) }
     ensures front { IsFront atoms.old atoms.new }
 {
     let form = form_here(state, words);
-    if is_branch(form) {
-        condition(reader, state.scope.has_this, room, words)?;
-        return behind_condition(between);
-    }
     statement(reader, form, room, state, atoms, words)?;
+    if is_branch(form) {
+        return Ok(behind_condition(between));
+    }
     Ok(behind_statement(between, words))
 }
 
 /// Statements up to the brace of their block, or to the end of the file.
 #[cycle(grammar)]
-#[tactic(auto, using(sel_core::proofs::Fronts::front_itself, sel_core::proofs::Fronts::front_of_front, crate::proofs::SequenceSteps::goes_on, crate::proofs::SequenceSteps::fails, crate::proofs::SequenceSteps::over, crate::proofs::SequenceSteps::ends, jq_words::proofs::Rests::itself, jq_words::proofs::Rests::is_rest, jq_words::proofs::Rests::of_rest, jq_words::proofs::Rests::shorter))]
+#[tactic(auto, using(sel_core::proofs::Fronts::front_itself, sel_core::proofs::Fronts::front_of_front, crate::proofs::SequenceSteps::begins, crate::proofs::SequenceSteps::none_counted, crate::proofs::SequenceSteps::one_fits, crate::proofs::SequenceSteps::over, crate::proofs::SequenceSteps::file_ends, jq_words::proofs::Rests::itself, jq_words::proofs::Rests::is_rest, jq_words::proofs::Rests::of_rest, jq_words::proofs::Rests::shorter))]
 pub(crate) fn sequence<'a>(
     reader: Reader<'_>,
     in_block: bool,
@@ -105,7 +113,7 @@ pub(crate) fn sequence<'a>(
     atoms: &mut AtomTable,
     words: &mut Cursor<'_, 'a>,
 ) -> Result<(), ScriptFault>
-    ensures gives { Leaves (state_of reader.entry state.new atoms.new, words.new) result (spec.sequence in_block (spec.block room) room (context_of reader.entry state.old) spec.begin (state_of reader.entry state.old atoms.old) 0 words.old) }
+    ensures gives { Leaves (state_of reader.entry state.new atoms.new, words.new) result (spec.sequence in_block (spec.block room) room (context_of reader.entry state.old) (state_of reader.entry state.old atoms.old) 0 words.old) }
     ensures rest { OnOk result (IsRest words.old words.new) }
     ensures kept { OnOk result (context_of reader.entry state.new ≡ context_of reader.entry state.old) }
     ensures front { IsFront atoms.old atoms.new }

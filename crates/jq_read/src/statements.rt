@@ -14,7 +14,7 @@ use crate::declarations::declaration;
 use crate::sequences::block;
 use crate::states::State;
 use jq_cursor::{Cursor, Reader, spelled};
-use jq_forms::{StatementForm, list_statement, pass_document, returned};
+use jq_forms::{StatementForm, condition, list_statement, pass_document, returned};
 use jq_words::{ScriptFault, letters, place};
 use tp_base::AtomTable;
 
@@ -50,7 +50,7 @@ fn chain_statement<'a>(
     Ok(())
 }
 
-/// A statement of a form; a branch is read in a sequence.
+/// A statement of a form; of a branch, its condition.
 #[cycle(grammar)]
 #[tactic(auto, unfolding(crate::specs::Statements::statement_as, crate::specs::Statements::ready), using(sel_core::proofs::Fronts::front_itself, jq_words::proofs::Rests::passed, jq_words::proofs::Rests::behind_behind, jq_words::proofs::Rests::behind_rest, jq_words::proofs::Rests::on_ok_behind))]
 pub(crate) fn statement<'a>(
@@ -80,6 +80,7 @@ pub(crate) fn statement<'a>(
             words.pass();
             named_function(reader, room, state, atoms, words)
         }
+        StatementForm::Branch => condition(reader, state.scope.has_this, room, words),
         StatementForm::Return => {
             words.pass();
             returned(reader, state.scope.has_this, room, words)
@@ -100,8 +101,6 @@ pub(crate) fn statement<'a>(
         }
         StatementForm::Set => set_here(reader, room, state, words),
         StatementForm::Once => once(reader, room, state, atoms, words),
-        StatementForm::Free | StatementForm::Branch => {
-            list_statement(reader, state.scope.has_this, room, words)
-        }
+        StatementForm::Free => list_statement(reader, state.scope.has_this, room, words),
     }
 }

@@ -1,5 +1,5 @@
 -- Tokens in order are within their text.
-use Rattle.std.proofs.Common.{◌≡◌, ℕ, zero, suc, ◌≤◌, List, [], ◌∷◌, length, take, refl, arith}
+use Rattle.std.proofs.Common.{◌≡◌, ℕ, zero, suc, ◌≤◌, List, [], ◌∷◌, length, take, refl, ap, arith}
 use Rattle.js_scan.specs.declared.token.Token.{Token}
 use Rattle.js_scan.specs.Tokens.{InOrder}
 use Rattle.jq_words.specs.Words.{words_behind}
@@ -28,3 +28,12 @@ all_words text end zero [] few = refl
 all_words text end zero (t ∷ ts) few = let never : ⊥ = omega (arith, few) in absurd never
 all_words text end (suc k) [] few = refl
 all_words text end (suc k) (t ∷ ts) few = let fewer : length ts ≤ k = omega (arith, few) in rw (all_words text t.to k ts fewer) refl
+
+as_long : (text : List ℕ) (end : ℕ) (ts : List Token) → length (words_behind text end ts) ≡ length ts
+unfolding words_behind
+as_long text end [] = refl
+as_long text end (t ∷ ts) = ap suc (as_long text t.to ts)
+
+-- words can be counted where their tokens can
+pub as_many : (text : List ℕ) (end : ℕ) (ts : List Token) → length ts ≤ 18446744073709551615 → length (words_behind text end ts) ≤ 18446744073709551615
+as_many text end ts few = omega (arith, as_long text end ts, few)

@@ -228,11 +228,12 @@ impl<'a> Words<'a> {
         }
     }
 
-    /// The first word.
-    #[tactic(auto, unfolding(crate::specs::Words::words_behind), using(crate::proofs::Orders::first_within))]
+    /// The first word. Words can be counted.
+    #[tactic(auto, unfolding(crate::specs::Words::words_behind), using(crate::proofs::Orders::first_within, crate::proofs::Orders::as_many))]
     pub fn first(&self) -> Option<Word<'a>>
         ensures some { IfSome result (λ w. self.now ≡ w ∷ drop 1 self.now) }
         ensures none { IfNone result (self.now ≡ []) }
+        ensures few { length self.now ≤ 18446744073709551615 }
     {
         match self.tokens.split_first() {
             None => None,

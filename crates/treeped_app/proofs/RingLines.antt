@@ -23,12 +23,11 @@ use Rattle.jq_parts.specs.Scopes.{matched_chain}
 use Rattle.jq_parts.specs.Markup.{Grown, grown}
 use Rattle.jq_parts.specs.Calls.{ended}
 use Rattle.jq_parts.specs.Roots.{root}
-use Rattle.jq_forms.specs.declared.forms.Between.{Between}
 use Rattle.jq_forms.specs.Openings.{form_of}
 use Rattle.jq_read.specs.States.{Context, State, size, scope_in}
 use Rattle.jq_read.specs.Functions.{Block}
 use Rattle.jq_read.specs.Chains.{call, calls, chain}
-use Rattle.jq_read.specs.Statements.{Blocks, begin, chain_statement, statement_as, turn, is_over, at_file_end, sequence, block}
+use Rattle.jq_read.specs.Statements.{Blocks, chain_statement, statement_as, statement, sequence, block}
 use Rattle.jq_read.specs.Script.{at_top, nothing_read, script_of, script_with}
 use Rattle.ring_reads.specs.Readings.{IsRead}
 use Rattle.ring_reads.specs.RingScripts.{IsOneNode, ReadsClasses, ReadsRingRoots, ReadsRingMarkup}
@@ -102,21 +101,13 @@ statement_read m nodes count blocks c s ws q rest chained =
     gives_then (IsChained m nodes count (word Mark (codes ";") q ∷ rest)) (IsStated m nodes count rest) (chain (blocks 1) MOST_OPEN c s ws) _ chained
     (λ r is. rw (is.is) (record { names = is.names; statements = is.statements; is = refl; few = is.few; one = is.one }))
 
--- and that between two statements
-record IsTurned (m nodes count : ℕ) (rest : List Word) (t : Between × State × List Word) : Type 0 where
-  names : List Named
-  statements : List ExactStatement
-  is : t ≡ (begin, state names nodes statements, rest)
-  few : length names ≤ m
-  one : length statements ≡ suc count
-
-turn_read : (m nodes' count nodes : ℕ) (blocks : Blocks) (c : Context) (names : List Named) (ss : List ExactStatement) (f g h : Place) (letters : List ℕ) (ws rest : List Word)
+whole_read : (m nodes' count nodes : ℕ) (blocks : Blocks) (c : Context) (names : List Named) (ss : List ExactStatement) (f g h : Place) (letters : List ℕ) (ws rest : List Word)
     → Gives (IsStated m nodes' count rest) (chain_statement blocks MOST_OPEN c (state names nodes ss) (word Name (codes "$") f ∷ word Mark (codes "(") g ∷ word (Text letters) (quoted_text letters) h ∷ ws))
-    → Gives (IsTurned m nodes' count rest) (turn blocks MOST_OPEN c begin (state names nodes ss) (word Name (codes "$") f ∷ word Mark (codes "(") g ∷ word (Text letters) (quoted_text letters) h ∷ ws))
-unfolding turn statement_as form_of is_mark is_name is_any_name is_among is_mark_among is_name_among fits first_is spelled bound latest
-turn_read m nodes' count nodes blocks c names ss f g h letters ws rest stated =
-    gives_then (IsStated m nodes' count rest) (IsTurned m nodes' count rest) (chain_statement blocks MOST_OPEN c (state names nodes ss) (word Name (codes "$") f ∷ word Mark (codes "(") g ∷ word (Text letters) (quoted_text letters) h ∷ ws)) _ stated
-    (λ r is. rw (is.is) (record { names = is.names; statements = is.statements; is = refl; few = is.few; one = is.one }))
+    → Gives (IsStated m nodes' count rest) (statement blocks MOST_OPEN c (state names nodes ss) 0 (word Name (codes "$") f ∷ word Mark (codes "(") g ∷ word (Text letters) (quoted_text letters) h ∷ ws))
+unfolding statement statement_as form_of is_mark is_name is_any_name is_among is_mark_among is_name_among fits first_is spelled bound latest
+whole_read m nodes' count nodes blocks c names ss f g h letters ws rest stated =
+    gives_then (IsStated m nodes' count rest) (IsStated m nodes' count rest) (chain_statement blocks MOST_OPEN c (state names nodes ss) (word Name (codes "$") f ∷ word Mark (codes "(") g ∷ word (Text letters) (quoted_text letters) h ∷ ws)) _ stated
+    (λ r is. is)
 
 -- ---- lines
 
@@ -124,26 +115,26 @@ abbrev pub IsOk : {X : Type 0} → Outcome X → Type 0
 IsOk r = Gives (λ x. Unit {0}) r
 
 abbrev Rest : Blocks → Context → List Named → ℕ → List ExactStatement → List Word → Type 0
-Rest blocks c names nodes ss ws = IsOk (sequence false blocks MOST_OPEN c begin (state names nodes ss) 0 ws)
+Rest blocks c names nodes ss ws = IsOk (sequence false blocks MOST_OPEN c (state names nodes ss) 0 ws)
 
-behind_line : (m nodes count : ℕ) (blocks : Blocks) (c : Context) (w1 w2 w3 w4 w5 w6 w7 w8 w9 : Word) (rest : List Word) (t : Between × State × List Word) → IsTurned m nodes count rest t
+behind_line : (m nodes count : ℕ) (blocks : Blocks) (c : Context) (w1 w2 w3 w4 w5 w6 w7 w8 w9 : Word) (rest : List Word) (t : State × List Word) → IsStated m nodes count rest t
     → ((names : List Named) (ss : List ExactStatement) → length names ≤ m → length ss ≡ suc count → Rest blocks c names nodes ss rest)
-    → IsOk (sequence false blocks MOST_OPEN c t.0 t.1 (length (w1 ∷ w2 ∷ w3 ∷ w4 ∷ w5 ∷ w6 ∷ w7 ∷ w8 ∷ w9 ∷ rest) - length t.2) (w1 ∷ w2 ∷ w3 ∷ w4 ∷ w5 ∷ w6 ∷ w7 ∷ w8 ∷ w9 ∷ rest))
+    → IsOk (sequence false blocks MOST_OPEN c t.0 (length (w1 ∷ w2 ∷ w3 ∷ w4 ∷ w5 ∷ w6 ∷ w7 ∷ w8 ∷ w9 ∷ rest) - length t.1) (w1 ∷ w2 ∷ w3 ∷ w4 ∷ w5 ∷ w6 ∷ w7 ∷ w8 ∷ w9 ∷ rest))
 unfolding sequence
 behind_line m nodes count blocks c w1 w2 w3 w4 w5 w6 w7 w8 w9 rest t is next =
     let ws = w1 ∷ w2 ∷ w3 ∷ w4 ∷ w5 ∷ w6 ∷ w7 ∷ w8 ∷ w9 ∷ rest in
     let nine : length ws - length rest ≡ 9 = omega arith in
-    subst (λ (x : Between × State × List Word). IsOk (sequence false blocks MOST_OPEN c x.0 x.1 (length ws - length x.2) ws)) (sym is.is)
-    (subst (λ (n : ℕ). IsOk (sequence false blocks MOST_OPEN c begin (state is.names nodes is.statements) n ws)) (sym nine)
+    subst (λ (x : State × List Word). IsOk (sequence false blocks MOST_OPEN c x.0 (length ws - length x.1) ws)) (sym is.is)
+    (subst (λ (n : ℕ). IsOk (sequence false blocks MOST_OPEN c (state is.names nodes is.statements) n ws)) (sym nine)
     (next is.names is.statements is.few is.one))
 
 line_read : (m nodes' nodes : ℕ) (blocks : Blocks) (c : Context) (names : List Named) (ss : List ExactStatement) (w0 w1 w2 w3 w4 w5 w6 w7 w8 w9 : Word) (rest : List Word)
-    → Gives (IsTurned m nodes' (length ss) rest) (turn blocks MOST_OPEN c begin (state names nodes ss) (w0 ∷ w1 ∷ w2 ∷ w3 ∷ w4 ∷ w5 ∷ w6 ∷ w7 ∷ w8 ∷ w9 ∷ rest))
+    → Gives (IsStated m nodes' (length ss) rest) (statement blocks MOST_OPEN c (state names nodes ss) 0 (w0 ∷ w1 ∷ w2 ∷ w3 ∷ w4 ∷ w5 ∷ w6 ∷ w7 ∷ w8 ∷ w9 ∷ rest))
     → ((names' : List Named) (ss' : List ExactStatement) → length names' ≤ m → length ss' ≡ suc (length ss) → Rest blocks c names' nodes' ss' rest)
     → Rest blocks c names nodes ss (w0 ∷ w1 ∷ w2 ∷ w3 ∷ w4 ∷ w5 ∷ w6 ∷ w7 ∷ w8 ∷ w9 ∷ rest)
-unfolding sequence is_over
-line_read m nodes' nodes blocks c names ss w0 w1 w2 w3 w4 w5 w6 w7 w8 w9 rest turned next =
-    gives_then (IsTurned m nodes' (length ss) rest) (λ x. Unit {0}) (turn blocks MOST_OPEN c begin (state names nodes ss) (w0 ∷ w1 ∷ w2 ∷ w3 ∷ w4 ∷ w5 ∷ w6 ∷ w7 ∷ w8 ∷ w9 ∷ rest)) _ turned
+unfolding sequence
+line_read m nodes' nodes blocks c names ss w0 w1 w2 w3 w4 w5 w6 w7 w8 w9 rest whole next =
+    gives_then (IsStated m nodes' (length ss) rest) (λ x. Unit {0}) (statement blocks MOST_OPEN c (state names nodes ss) 0 (w0 ∷ w1 ∷ w2 ∷ w3 ∷ w4 ∷ w5 ∷ w6 ∷ w7 ∷ w8 ∷ w9 ∷ rest)) _ whole
     (λ t is. behind_line m nodes' (length ss) blocks c w1 w2 w3 w4 w5 w6 w7 w8 w9 rest t is next)
 
 -- a line of a root, a call and its argument
@@ -156,8 +147,8 @@ any_line m m' nodes nodes' blocks c names ss bs f g h i p q a b d e rest read ca
     let ws = word Name (codes "$") f ∷ word Mark (codes "(") g ∷ word (Text (46 ∷ bs)) (quoted_text (46 ∷ bs)) h ∷ behind in
     let chained = chain_read m m' nodes nodes' (blocks 1) c names ss bs f g h i p q a b d e rest read called in
     let stated = statement_read m' nodes' (length ss) blocks c (state names nodes ss) ws q rest chained in
-    let turned = turn_read m' nodes' (length ss) nodes blocks c names ss f g h (46 ∷ bs) behind rest stated in
-    line_read m' nodes' nodes blocks c names ss (word Name (codes "$") f) (word Mark (codes "(") g) (word (Text (46 ∷ bs)) (quoted_text (46 ∷ bs)) h) (word Mark (codes ")") i) (word Mark (codes ".") p) a b d e (word Mark (codes ";") q) rest turned next
+    let whole = whole_read m' nodes' (length ss) nodes blocks c names ss f g h (46 ∷ bs) behind rest stated in
+    line_read m' nodes' nodes blocks c names ss (word Name (codes "$") f) (word Mark (codes "(") g) (word (Text (46 ∷ bs)) (quoted_text (46 ∷ bs)) h) (word Mark (codes ")") i) (word Mark (codes ".") p) a b d e (word Mark (codes ";") q) rest whole next
 
 one_node_more : {E : Type 0} (n m : ℕ) (e : List Named × Result (List LabelTree) E) → n ≤ m → IsOneNode n e → IsOneNode m e
 one_node_more n m (names, Ok ts) more is = let few = is.0 in (omega (arith, few, more), is.1)
@@ -205,7 +196,7 @@ module _ (blocks : Blocks) (exact : Bool) (text : List ℕ) (declared : List (Li
       (λ names' ss' less one. next names' ss' rest less one others))
 
   last_line : ReadsClasses → (nodes : ℕ) (names : List Named) (ss : List ExactStatement) (ws : List Word) → length names + 2 ≤ MOST_ATOMS → length ss < MOST_STATEMENTS → map look ws ≡ last_words → Rest blocks top names nodes ss ws
-  unfolding sequence at_file_end
+  unfolding sequence
   last_line reads nodes names ss ws room few is =
       by_words last_words [] (λ vs. Rest blocks top names nodes ss vs) ws is
       (λ f g h k p a b d e q rest others.
@@ -240,6 +231,6 @@ script_read reads roots markup scans exact n names few room =
     let s = scans n few in
     let ws = words (script n) s.0 in
     rw (s.1)
-    (gives_then (λ x. Unit {0}) (λ x. Unit {0}) (sequence false (block MOST_OPEN) MOST_OPEN (at_top exact (script n) ws) begin (nothing_read names) 0 ws) _
+    (gives_then (λ x. Unit {0}) (λ x. Unit {0}) (sequence false (block MOST_OPEN) MOST_OPEN (at_top exact (script n) ws) (nothing_read names) 0 ws) _
     (boxes_read (block MOST_OPEN) exact (script n) (declared_in ws) reads roots markup (λ i. (i + 1) % n) n few (next_small n few) n 0 0 names [] ws (omega arith) (omega (arith, few, room)) (omega (arith, few)) (omega (arith, few)) s.2)
     (λ x is. tt))

@@ -1,4 +1,4 @@
-use Rattle.std.proofs.Common.{◌-◌, sym, ap, ◌∙◌, arith}
+use Rattle.std.proofs.Common.{◌-◌, refl, sym, ap, ◌∙◌, arith}
 use Rattle.std.proofs.lemmas.Result.{err_from_is_err_and}
 use Rattle.sel_core.proofs.Fronts.{front_of_front}
 use Rattle.jq_words.proofs.Rests.{of_rest, is_rest, rest_behind, behind_rest, behind_behind}
@@ -6,7 +6,7 @@ use Rattle.jq_parts.specs.Scopes.{places_of}
 use Rattle.jq_read.specs.States.{Context}
 use Rattle.jq_read.specs.Statements.{block}
 use Rattle.jq_read.specs.Readers.{context_of, state_of}
-use Rattle.jq_read.proofs.SequenceSteps.{goes_on, fails, block_refused}
+use Rattle.jq_read.proofs.SequenceSteps.{goes_on, fails, still_counted, over, file_ends, block_refused}
 use Rattle.jq_read.proofs.ChainSteps as chain_steps
 use Rattle.jq_read.proofs.DeclarationSteps as declaration_steps
 use Rattle.jq_read.proofs.SeveralSteps as several_steps
@@ -17,13 +17,15 @@ use Rattle.jq_read.proofs.+grammar.Goals as goal
 pub sequences::sequence-statements-preserved : goal.sequences::sequence-statements-preserved
 sequences::sequence-statements-preserved t c =
     let here = rw c.words.ensures at c.in-Some.ensures.some in
+    let few = rw c.words.ensures at c.in-Some.ensures.few in
     let read = rw c.statements.invariant.kept at c.in_ok-between.ensures.gives in
     let on = sym c.if-is_over.ensures in
     record {
       rest = of_rest _ _ _ c.statements.invariant.rest (is_rest _ _ c.in_ok-between.ensures.rest);
       kept = c.in_ok-between.ensures.kept ∙ c.statements.invariant.kept;
       front = front_of_front _ _ _ c.statements.invariant.front c.in_ok-between.ensures.front;
-      reads = sym (goes_on c.args.in_block (block c.args.room) c.args.room (context_of c.args.reader c.args.state.now) c.statements.between c.in_ok-between.between _ _ c.in-Some.word c.statements.words c.turn.new.words here on read c.in_ok-between.ensures.rest) ∙ c.statements.invariant.reads;
+      counted = still_counted c.args.in_block (block c.args.room) c.args.room (context_of c.args.reader c.args.state.now) c.statements.between c.in_ok-between.between _ _ c.in-Some.word c.statements.words c.turn.new.words here few read c.in_ok-between.ensures.rest c.statements.invariant.counted;
+      reads = goes_on c.args.in_block (block c.args.room) c.args.room (context_of c.args.reader c.args.state.now) c.statements.between c.in_ok-between.between _ _ c.in-Some.word c.statements.words c.turn.new.words _ c.statements.invariant.reads here on read c.in_ok-between.ensures.rest;
     }
 
 pub sequences::sequence-returns-in_err-between-clause-gives : goal.sequences::sequence-returns-in_err-between-clause-gives
@@ -31,7 +33,18 @@ sequences::sequence-returns-in_err-between-clause-gives t c =
     let here = rw c.words.ensures at c.in-Some.ensures.some in
     let p = err_from_is_err_and c.from_residual.result c.from_residual.ensures.1 in
     rw (p.1, p.2) (λ known. let read = rw c.statements.invariant.kept at (c.in_err-between.ensures.gives known) in
-    sym c.statements.invariant.reads ∙ fails c.args.in_block (block c.args.room) c.args.room (context_of c.args.reader c.args.state.now) c.statements.between _ c.in-Some.word c.statements.words _ here (sym c.if-is_over.ensures) read)
+    fails c.args.in_block (block c.args.room) c.args.room (context_of c.args.reader c.args.state.now) c.statements.between _ c.in-Some.word c.statements.words _ _ c.statements.invariant.reads here (sym c.if-is_over.ensures) read)
+
+pub sequences::sequence-returns-then-is_over-clause-gives : goal.sequences::sequence-returns-then-is_over-clause-gives
+sequences::sequence-returns-then-is_over-clause-gives t c =
+    let here = rw c.words.ensures at c.in-Some.ensures.some in
+    over c.args.in_block (block c.args.room) c.args.room (context_of c.args.reader c.args.state.now) c.statements.between _ c.in-Some.word c.statements.words _ c.statements.invariant.reads here (sym c.if-is_over.ensures)
+
+pub sequences::sequence-returns-clause-gives : goal.sequences::sequence-returns-clause-gives
+sequences::sequence-returns-clause-gives t c =
+    let none = rw c.words.ensures at c.in_default.ensures.none in
+    file_ends c.args.in_block (block c.args.room) c.args.room (context_of c.args.reader c.args.state.now) c.at_file_end.result c.statements.between (state_of c.args.reader c.statements.state c.statements.atoms) c.statements.words _ c.statements.invariant.reads none
+    (c.at_file_end.ensures.gives (context_of c.args.reader c.args.state.now) (state_of c.args.reader c.statements.state c.statements.atoms) refl)
 
 pub chains::calls-calls-preserved : goal.chains::calls-calls-preserved
 chains::calls-calls-preserved t c =

@@ -3,9 +3,10 @@ use Rattle.sel_core.specs.Results.{IsFront}
 use Rattle.jq_words.specs.Results.{IsRest}
 use Rattle.jq_parts.specs.Calls.{elements_in}
 use Rattle.jq_read.specs.Chains.{several, calls}
-use Rattle.jq_read.specs.Statements.{more_ones, sequence, block, begin}
+use Rattle.jq_read.specs.Statements.{more_ones, sequence, block}
 use Rattle.jq_read.specs.Readers.{context_of, state_of}
 use Rattle.jq_parts.specs.Views.{value_of}
+use Rattle.jq_read.proofs.SequenceSteps.{AreCounted, ReadsOn}
 use Rattle.jq_read.proofs.+grammar.Given as goal
 
 abbrev pub decreases-sequences::block : goal.decreases-sequences::block
@@ -82,8 +83,9 @@ invariant-sequences::sequence-statements l = record {
   rest : IsRest l.fn.words l.words;
   kept : context_of l.reader l.state ≡ context_of l.reader l.fn.state;
   front : IsFront l.fn.atoms l.atoms;
-  reads : sequence l.in_block (block l.room) l.room (context_of l.reader l.fn.state) l.between (state_of l.reader l.state l.atoms) 0 l.words
-      ≡ sequence l.in_block (block l.room) l.room (context_of l.reader l.fn.state) begin (state_of l.reader l.fn.state l.fn.atoms) 0 l.fn.words;
+  counted : AreCounted l.between l.words;
+  reads : ReadsOn l.in_block (block l.room) l.room (context_of l.reader l.fn.state) l.between (state_of l.reader l.state l.atoms) l.words
+      (sequence l.in_block (block l.room) l.room (context_of l.reader l.fn.state) (state_of l.reader l.fn.state l.fn.atoms) 0 l.fn.words);
 }
 
 abbrev pub decreases-sequences::sequence-statements : goal.decreases-sequences::sequence-statements

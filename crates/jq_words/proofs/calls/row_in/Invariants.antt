@@ -4,7 +4,7 @@ use Rattle.jq_words.specs.CallViews.{row_from}
 use Rattle.jq_words.proofs.calls.row_in.Given as goal
 
 abbrev pub invariant-rows : goal.invariant-rows
-invariant-rows l = row_in (map (λ k. row_from k.0.now k.1 k.2 k.3) l.left) l.name ≡ row_in (map (λ k. row_from k.0.now k.1 k.2 k.3) l.table) l.name
+invariant-rows l = row_in (map row_from l.left) l.name ≡ row_in (map row_from l.table) l.name
 
 abbrev pub decreases-rows : goal.decreases-rows
 decreases-rows l = length l.left
