@@ -1,5 +1,5 @@
 -- The items of a page that were passed, by the numbers of their nodes.
-use Rattle.std.proofs.Common.{◌≡◌, ◌≤◌, ℕ, suc, drop, slice_get, true, false, if◌then◌else◌, List, [], ◌∷◌, ◌++◌, length, ◌==◌, Some, None, option_map, option_and_then, unwrap_or, refl, sym, ap, ◌∙◌, arith}
+use Rattle.std.proofs.Common.{◌≡◌, ◌≤◌, ℕ, suc, drop, slice_get, true, false, if◌then◌else◌, List, [], ◌∷◌, ◌++◌, length, ◌==◌, Option, Some, None, option_map, option_and_then, unwrap_or, refl, sym, ap, ◌∙◌, arith}
 use Rattle.std.proofs.lemmas.Bool.Decides.{Decides-eqb}
 use Rattle.std.proofs.lemmas.List.{append-nil}
 use Rattle.std.proofs.lemmas.Slice.Eq.{bytes_eq-Decides}
@@ -21,6 +21,7 @@ use Rattle.proof_check.specs.Unfolding.{Progress, Passed, child_for, end_for, fr
 use Rattle.tree_sem.proofs.CountLemmas.{length-node_at}
 use Rattle.tree_sem.specs.declared.tree_fault.TheConstants.{MOST_NODES}
 use Rattle.tree_sem.specs.Trees.{Row, no_nodes, node, LabelTree, length_of, nodes_of, count_of, node_at, children_at}
+use Rattle.tree_sem.specs.TreeNodes.{TreeNode, node_of}
 use Rattle.simple_core.specs.declared.system.System.{System}
 use Rattle.proof_check.proofs.CountLemmas.{page_steps, entry_steps}
 use Rattle.proof_check.proofs.EntryLemmas.{drop_at, not_same}
@@ -99,6 +100,25 @@ few_children page v few =
       | None ↦ λ e. omega arith
       | Some n ↦ λ e. omega (arith, few, length-node_at v page n e, length-nodes_of n.below)
     ] refl
+
+-- as many as the node tells that was looked up, and none where there is no node
+pub base_told : (page : LabelTree) (v : List ℕ) (n : TreeNode) (k : ℕ) → Some n ≡ node_of page v → Some k ≡ children_at n.path n.tree → k ≡ unwrap_or (children_at v page) 0
+base_told page v n k found told =
+    let seen : TreeNode = record { tree = page; path = v } in
+    let is : n ≡ seen = node_seen (node_at v page) found in
+    let same : Some k ≡ children_at v page = told ∙ ap (λ (z : TreeNode). children_at z.path z.tree) is in
+    ap (λ o. unwrap_or o 0) same
+  where
+    node_seen : (o : Option LabelTree) → Some n ≡ option_map (λ (s : LabelTree). let m : TreeNode = record { tree = page; path = v } in m) o → n ≡ record { tree = page; path = v }
+    node_seen None is = cc
+    node_seen (Some s) is = cc
+
+pub base_none : (page : LabelTree) (v : List ℕ) → None ≡ node_of page v → 0 ≡ unwrap_or (children_at v page) 0
+base_none page v none =
+    elim (node_at v page) as (λ o. None ≡ option_map (λ (s : LabelTree). let m : TreeNode = record { tree = page; path = v } in m) o → 0 ≡ unwrap_or (option_map (λ (n : LabelTree). length_of n.below) o) 0) [
+      | None ↦ λ e. refl
+      | Some n ↦ λ e. cc
+    ] none
 
 -- an item whose child is grown, at a node of the page
 pub page_grown : (s : System) (es : List Entry) (x : ProofItem) (l c e child number : ℕ) (kind : Kind) (spot : PageNode) (before after : Progress) → x.reason ≡ Down l (Grown c e) → spawned s c ≡ Some kind

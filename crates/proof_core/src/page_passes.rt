@@ -104,8 +104,10 @@ fn base_of(page: &Tree, at: &Path) -> u32
     ensures base { result ≡ unwrap_or (children_at at.now page.now) 0 }
     ensures few { result ≤ MOST_NODES }
 {
-    let _count = page.count();
-    page.children(at).unwrap_or(0)
+    match page.node(at) {
+        Some(node) => node.children(),
+        None => 0,
+    }
 }
 
 fn item_passed(

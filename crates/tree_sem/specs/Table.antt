@@ -49,7 +49,7 @@ pub record IsTable (slots : Slab Slot) : Type 0 where
 
 -- the place of a node of the root's tree
 pub record IsPlace (slots : Slab Slot) (place : ℕ) : Type 0 where
-  pub forest : IsForest slots
+  pub table : IsTable slots
   pub leads : place_from (kids_in slots) 0 (path_in slots place) ≡ Some place
 
 -- the same, but that the node at the place has this label, these children and this parent

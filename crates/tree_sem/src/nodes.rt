@@ -1,8 +1,8 @@
 //! A node of a tree, from which one goes upward.
 ghost use Rattle.std.specs.Prelude.{◌≡◌, Some};
-ghost use Rattle.tree_sem.specs.Table.{tree_in, IsForest};
+ghost use Rattle.tree_sem.specs.Table.{tree_in, IsTable};
 ghost use Rattle.tree_sem.specs.TreeNodes.{node_of, parent_node};
-ghost use Rattle.tree_sem.specs.Trees.{label_at};
+ghost use Rattle.tree_sem.specs.Trees.{label_at, children_at};
 
 use crate::slots::{Slot, place_of};
 use slab::Slab;
@@ -33,7 +33,7 @@ impl<'a> Model for Node<'a> {
 impl<'a> Node<'a> {
     /// The node at the path. Linear in the path's length.
     pub(crate) fn at_path(slots: &'a Slab<Slot>, at: &Path) -> Option<Node<'a>>
-        requires { IsForest slots.now }
+        requires { IsTable slots.now }
         ensures { result ≡ node_of (tree_in slots.now 0) at.now }
     {
         let place = place_of(slots, at, at.len())?;
@@ -45,6 +45,13 @@ impl<'a> Node<'a> {
         ensures { Some result.now ≡ label_at self.now.path self.now.tree }
     {
         &self.slots[self.place].label
+    }
+
+    /// How many children it has. Constant.
+    pub fn children(&self) -> u32
+        ensures { Some result ≡ children_at self.now.path self.now.tree }
+    {
+        self.slots[self.place].children.len() as u32
     }
 
     /// Its parent, which the root alone has not. Constant.

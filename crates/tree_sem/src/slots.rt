@@ -8,7 +8,6 @@ ghost use Rattle.tree_sem.specs.Arena.{place_from};
 ghost use Rattle.tree_sem.specs.Table.{kids_in, label_in, parent_in, IsForest, IsChanged, IsGrown};
 
 use slab::Slab;
-use std::alloc::Global;
 use tp_base::{Atom, ClassSet, NoMemory, Path};
 
 /// A node, with the numbers of its children and of its parent in the table. The root has no parent.
@@ -19,15 +18,14 @@ pub struct Slot {
     pub parent: Option<usize>,
 }
 
-/// A node with this label and without children.
-pub fn childless(alloc: Global, label: ClassSet, parent: Option<usize>) -> Slot
+/// A node with this label and without children. Its memory comes from where its label's does.
+pub fn childless(label: ClassSet, parent: Option<usize>) -> Slot
     ensures label { result.label ≡ label }
     ensures children { result.children.items ≡ [] }
     ensures parent { result.parent ≡ parent }
     ensures rises { IsStrictlyIncreasing label }
 {
-    // Its contract says that a set rises.
-    let _ = label.len();
+    let alloc = label.allocator();
     Slot {
         label,
         children: Vec::new(alloc),
@@ -99,8 +97,7 @@ pub fn push_child(slots: &mut Slab<Slot>, place: usize, label: ClassSet) -> Resu
     ensures err { OnErr result (IsChanged slots.old slots.new place (label_in slots.old place) (kids_in slots.old place) (parent_in slots.old place)) }
 {
     let slot = &mut slots[place];
-    let alloc = *slot.children.allocator();
-    let node = childless(alloc, label, Some(place));
+    let node = childless(label, Some(place));
     slot.children.reserve(1)?;
     let child = slots.insert(node)?;
     let slot = &mut slots[place];

@@ -1,11 +1,17 @@
-use Rattle.std.proofs.Common.{◌≤◌, sym, ap, subst, unwrap_or, ◌∙◌, arith}
-use Rattle.tree_sem.specs.Trees.{count_of}
+use Rattle.std.proofs.Common.{◌≡◌, ◌≤◌, None, unwrap_or, sym, ◌∙◌, subst}
+use Rattle.tree_sem.specs.Trees.{children_at}
+use Rattle.tree_sem.specs.TreeNodes.{node_of}
 use Rattle.tree_sem.specs.declared.tree_fault.TheConstants.{MOST_NODES}
-use Rattle.proof_core.proofs.PagePassLemmas.{few_children}
+use Rattle.proof_core.proofs.PagePassLemmas.{few_children, base_told, base_none}
 use Rattle.proof_core.proofs.page_passes.base_of.Goals as goal
 
-pub returns-clause-few : goal.returns-clause-few
-returns-clause-few c =
+pub returns-in-Some-clause-base : goal.returns-in-Some-clause-base
+returns-in-Some-clause-base c = base_told c.args.page.now c.args.at.now c.in-Some.node c.children.result c.in-Some.ensures.node c.children.ensures
+
+pub returns-in-Some-clause-few : goal.returns-in-Some-clause-few
+returns-in-Some-clause-few c =
     let page = c.args.page.now in
-    let few : count_of page ≤ MOST_NODES = omega (arith, c.count-count.ensures.count, c.count-count.ensures.in_limit) in
-    subst (λ n. n ≤ MOST_NODES) (sym (c.unwrap_or.ensures ∙ ap (λ o. unwrap_or o 0) c.children.ensures)) (few_children page c.args.at.now few)
+    subst (λ n. n ≤ MOST_NODES) (sym (base_told page c.args.at.now c.in-Some.node c.children.result c.in-Some.ensures.node c.children.ensures)) (few_children page c.args.at.now c.node.ensures.in_limit)
+
+pub returns-in-None-clause-base : goal.returns-in-None-clause-base
+returns-in-None-clause-base c = base_none c.args.page.now c.args.at.now (sym c.in-None.is ∙ c.node.ensures.node)

@@ -8,4 +8,4 @@ pub returns : goal.returns
 returns c =
     let slots = c.self.inside.slots.now in
     let place = c.self.inside.place in
-    rw (← c.self.view_is) (ap Some (sym (label_is slots place c.index.result.now c.index.ensures)) ∙ sym (label_there slots c.self.invariant.forest (path_in slots place) place (sym c.self.invariant.leads)))
+    rw (← c.self.view_is) (ap Some (sym (label_is slots place c.index.result.now c.index.ensures)) ∙ sym (label_there slots c.self.invariant.table.forest (path_in slots place) place (sym c.self.invariant.leads)))
