@@ -13,7 +13,7 @@ use Rattle.std.proofs.lemmas.Option.{slice_get_within, slice_get-get_or, get_or_
 use Rattle.tp_base.specs.Classes.{has_class, all_among, with_class, union_of}
 use Rattle.tp_base.proofs.ClassLemmas.{same_members, Contains-union_of, IsStrictlyIncreasing-union_of}
 use Rattle.tp_base.proofs.Rising.{Contains-here, Contains-cons, Contains-none, All-from_Contains}
-use Rattle.tp_base.proofs.NamesLemmas.{slice_get-append_left, slice_get-push}
+use Rattle.tp_base.proofs.Lists.{slice_get-append_left, slice_get-push}
 use Rattle.simple_core.specs.declared.system.System.{System}
 use Rattle.simple_core.specs.declared.rules.Local.{Local}
 use Rattle.simple_core.specs.declared.rules.Link.{Link}

@@ -169,7 +169,7 @@ with_branches-cases x ts (branch a l h) there = elim (with_tree-cases x (branch 
   ]
 ]
 
-has_tree-further : (x : Tree) (ts us : List Tree) → StartsWith ts us → has_tree x ts ≡ true → has_tree x us ≡ true
+pub has_tree-further : (x : Tree) (ts us : List Tree) → StartsWith ts us → has_tree x ts ≡ true → has_tree x us ≡ true
 has_tree-further x ts us first there = rw first.1 (has_tree-left x ts first.0 there)
 
 -- and each of the tree's is there

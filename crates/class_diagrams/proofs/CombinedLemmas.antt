@@ -1,6 +1,7 @@
 -- An operation on two diagrams of an arena, by its parts.
-use Rattle.std.proofs.Common.{◌≡◌, ℕ, ◌+◌, ◌<◌, Bool, true, false, ◌&&◌, ◌||◌, List, Result, Ok, Err, IfOk, cond, refl, sym, ap, subst, ◌∙◌}
+use Rattle.std.proofs.Common.{◌≡◌, ℕ, ◌+◌, ◌<◌, Bool, true, false, ◌&&◌, ◌||◌, List, Result, Ok, Err, IfOk, refl, sym, ap, subst, ◌∙◌}
 use Rattle.tp_base.specs.Classes.{has_class}
+use Rattle.tp_base.proofs.Truths.{cond_itself}
 use Rattle.class_diagrams.specs.declared.refs.Place.{Place}
 use Rattle.class_diagrams.specs.declared.memo.Operation.{Operation}
 use Rattle.class_diagrams.specs.declared.memo.Operation.TheVariants.{And, Or}
@@ -23,10 +24,6 @@ and_itself false = refl
 or_itself : (v : Bool) → (v || v) ≡ v
 or_itself true = refl
 or_itself false = refl
-
-cond_itself : (v : Bool) → cond v true false ≡ v
-cond_itself true = refl
-cond_itself false = refl
 
 tree_of-combine : (o : Operation) (t u : Tree) → tree_of o t u ≡ combine (leaf_rule_of o) t u
 unfolding tand tor

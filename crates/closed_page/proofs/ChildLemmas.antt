@@ -6,7 +6,7 @@ use Rattle.std.proofs.lemmas.List.{length_push, take_more, take_all}
 use Rattle.std.proofs.lemmas.List.Elements.{Contains-append_left, Contains-append_right, Contains-append_cases, Contains-get_or}
 use Rattle.std.proofs.lemmas.Option.{slice_get_within, slice_get-get_or, get_or_from_slice_get}
 use Rattle.tp_base.proofs.Rising.{Contains-here, Contains-behind, Contains-cons, Contains-none}
-use Rattle.tp_base.proofs.NamesLemmas.{slice_get-push}
+use Rattle.tp_base.proofs.Lists.{slice_get-push}
 use Rattle.tree_sem.specs.Trees.{LabelTree, node_at, label_at, children_at}
 use Rattle.tree_sem.proofs.PathLemmas.{parent_of-child}
 use Rattle.tree_sem.proofs.RowLemmas.{node_at-child}

@@ -7,10 +7,10 @@ use Rattle.std.proofs.lemmas.List.{take_more, length-take-le, length_push, get_o
 use Rattle.std.proofs.lemmas.Bool.{cases_lt, cases_order}
 use Rattle.std.proofs.lemmas.List.Elements.{Contains-get_or, Contains-append_right}
 use Rattle.tp_base.proofs.Rising.{Contains-here, Contains-none, All-from_Contains}
-use Rattle.tp_base.proofs.NamesLemmas.{slice_get-append_left, slice_get-push}
 use Rattle.std.proofs.lemmas.Option.{slice_get_within, slice_get-get_or, get_or_from_slice_get}
 use Rattle.std.proofs.Math.ListN.{length-set}
 use Rattle.tp_base.specs.Classes.{union_of}
+use Rattle.tp_base.proofs.Lists.{slice_get-append_left, slice_get-push}
 use Rattle.tree_sem.specs.Trees.{LabelTree, node_at, label_at, children_at, edit_at, count_of, length_of}
 use Rattle.tree_sem.specs.Order.{paths_of, Before}
 use Rattle.tree_sem.specs.Actions.{add_classes}

@@ -1,6 +1,7 @@
 -- What a parse of the whole command comes to.
 use Rattle.std.proofs.Common.{◌≡◌, ◌||◌, Bool, true, false, if◌then◌else◌, List, [], ◌∷◌, Option, Some, None, codes, refl, ap, ◌∙◌}
 use Rattle.std.specs.Prelude.{fold, is_some}
+use Rattle.tp_base.proofs.Truths.{or_true}
 use Rattle.clap.specs.Walk.{Row, Rule, Text, Walk, idle, has_row, finished, nothing_held, settled, walk, with_default}
 use Rattle.clap.specs.Simple.{built, entered, matches_of}
 use Rattle.clap.specs.Kinds.{Kinds, or_else}
@@ -17,10 +18,6 @@ simple = refl
 no_sub : (stop : Option (Text × List Text)) → (entered_fault (built app) stop ≡ []) × (is_some (entered (built app) stop) ≡ false)
 no_sub None = (refl, refl)
 no_sub (Some p) = (refl, refl)
-
-or_true : (b : Bool) → (b || true) ≡ true
-or_true true = refl
-or_true false = refl
 
 abbrev no_kinds : Kinds
 no_kinds = []

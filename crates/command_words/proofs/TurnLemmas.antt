@@ -1,8 +1,9 @@
 -- Turns of the walk.
-use Rattle.std.proofs.Common.{◌≡◌, ◌&&◌, ◌||◌, ℕ, ◌==◌, Bool, true, false, if◌then◌else◌, List, [], ◌∷◌, Option, Some, None, option_map, refl, sym, ap, ◌∙◌}
+use Rattle.std.proofs.Common.{◌≡◌, ◌&&◌, ℕ, ◌==◌, Bool, true, false, if◌then◌else◌, List, [], ◌∷◌, Option, Some, None, option_map, refl, sym, ap, ◌∙◌}
 use Rattle.std.specs.Prelude.{option_and_then, slice_get}
 use Rattle.std.specs.Str.{bytes_eq, chars}
 use Rattle.std.specs.List.{before_first}
+use Rattle.tp_base.proofs.Truths.{and_false, or_false}
 use Rattle.clap.specs.Lexer.{long_of, short_of}
 use Rattle.clap.specs.Walk.{Row, Rule, Text, Walk, Waiting, idle, positional, option, used, settled, has_row, walked, arg_by_long, is_pending}
 use Rattle.clap.specs.Faults.{settle_fault, walk_fault, turn_fault, use_fault, flags_fault}
@@ -101,10 +102,6 @@ abbrev pub waits : Bool → Waiting
 waits true = idle
 waits false = positional
 
-and_none : (b : Bool) → (b && false) ≡ false
-and_none true = refl
-and_none false = refl
-
 -- what is settled
 abbrev pub rest_of : List Row → Hold → List Row
 rest_of rows hold = (settled shape.rules (held_at rows hold)).rows
@@ -117,22 +114,18 @@ settles rows hold = settle_fault shape.rules false (held_at rows hold)
 
 pub turn_name : (n : Waiting) (x : Text) (rows : List Row) (hold : Hold) → IsTurn (at true n rows hold) x (settles rows hold) (at true positional (rest_of rows hold) (word x))
 unfolding walked
-turn_name n x rows hold = (rw (and_none (is_pending rule_names (hold_text hold))) refl, rw (and_none (is_pending rule_names (hold_text hold))) refl)
+turn_name n x rows hold = (rw (and_false (is_pending rule_names (hold_text hold))) refl, rw (and_false (is_pending rule_names (hold_text hold))) refl)
 
 pub turn_bare : (b : Bool) (x : Text) (rows : List Row) (hold : Hold) → bytes_eq x (45 ∷ 45 ∷ []) ≡ false → long_of x ≡ None → short_of x ≡ None
     → IsTurn (at false (waits b) rows hold) x (settles rows hold) (at false positional (rest_of rows hold) (word x))
 unfolding walked
-turn_bare true x rows hold d l s = (rw (d, l, s, and_none (is_pending rule_names (hold_text hold))) refl, rw (d, l, s, and_none (is_pending rule_names (hold_text hold))) refl)
-turn_bare false x rows hold d l s = (rw (d, l, s, and_none (is_pending rule_names (hold_text hold))) refl, rw (d, l, s, and_none (is_pending rule_names (hold_text hold))) refl)
+turn_bare true x rows hold d l s = (rw (d, l, s, and_false (is_pending rule_names (hold_text hold))) refl, rw (d, l, s, and_false (is_pending rule_names (hold_text hold))) refl)
+turn_bare false x rows hold d l s = (rw (d, l, s, and_false (is_pending rule_names (hold_text hold))) refl, rw (d, l, s, and_false (is_pending rule_names (hold_text hold))) refl)
 
 pub turn_dashes : (b : Bool) (x : Text) (rows : List Row) (hold : Hold) → bytes_eq x (45 ∷ 45 ∷ []) ≡ true → IsTurn (at false (waits b) rows hold) x [] (at true (waits b) rows hold)
 unfolding walked
 turn_dashes true x rows hold d = (rw d refl, rw d refl)
 turn_dashes false x rows hold d = (rw d refl, rw d refl)
-
-or_none : (b : Bool) → (b || false) ≡ b
-or_none true = refl
-or_none false = refl
 
 -- the rule of a flag, or else of a key
 abbrev pub rule_of : Option Flag → Option Key → Option Rule
@@ -156,7 +149,7 @@ pick false false false false false false false false false false = refl
 -- the rule of a long name
 pub long_rule : (n : Text) → arg_by_long shape.rules n ≡ rule_of (flag_of n) (key_of n)
 long_rule n =
-    rw (or_none (bytes_eq (flag_name plain) n), or_none (bytes_eq (flag_name dead) n), or_none (bytes_eq (flag_name runs) n), or_none (bytes_eq (flag_name site) n), or_none (bytes_eq (flag_name prune) n), or_none (bytes_eq (key_name pairs) n), or_none (bytes_eq (key_name nodes) n), or_none (bytes_eq (key_name entries) n), or_none (bytes_eq (key_name list) n), or_none (bytes_eq (key_name gen) n))
+    rw (or_false (bytes_eq (flag_name plain) n), or_false (bytes_eq (flag_name dead) n), or_false (bytes_eq (flag_name runs) n), or_false (bytes_eq (flag_name site) n), or_false (bytes_eq (flag_name prune) n), or_false (bytes_eq (key_name pairs) n), or_false (bytes_eq (key_name nodes) n), or_false (bytes_eq (key_name entries) n), or_false (bytes_eq (key_name list) n), or_false (bytes_eq (key_name gen) n))
     (pick (bytes_eq (flag_name plain) n) (bytes_eq (flag_name dead) n) (bytes_eq (flag_name runs) n) (bytes_eq (flag_name site) n) (bytes_eq (flag_name prune) n) (bytes_eq (key_name pairs) n) (bytes_eq (key_name nodes) n) (bytes_eq (key_name entries) n) (bytes_eq (key_name list) n) (bytes_eq (key_name gen) n))
 
 pub uses_flag : (f : Flag) (rows : List Row) → gate (use_fault false (rule_flag f) [] rows) (used (rule_flag f) [] rows) ≡ use_part rows (flag f)

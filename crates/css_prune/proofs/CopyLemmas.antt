@@ -6,6 +6,7 @@ use Rattle.std.proofs.lemmas.Bool.{le-leb, lt-leb, lt-ltb, le-ltb}
 use Rattle.std.proofs.lemmas.List.{drop-drop}
 use Rattle.css_read.specs.declared.sheets.Range.{Range}
 use Rattle.css_read.specs.Pruned.{is_in, without}
+use Rattle.css_read.proofs.CutLemmas.{none_cut}
 use Rattle.css_prune.specs.Copying.{RiseFrom}
 
 -- ---- their order
@@ -86,11 +87,6 @@ one_copied at next r rest later text old new all first rise is found before =
     lower [] from to less rise = tt
     lower (r ∷ rs) from to less rise = (omega (arith, rise.0), rise.1)
 
-no_ranges : (at : ℕ) (bs : List ℕ) → without [] at bs ≡ bs
-unfolding without
-no_ranges at [] = refl
-no_ranges at (b ∷ bs) = ap (λ x. b ∷ x) (no_ranges (at + 1) bs)
-
 pub all_copied : (at : ℕ) (rest : List Range) (text old new all : List ℕ) → length rest ≡ 0 → new ≡ old ++ drop at text → old ++ without rest at (drop at text) ≡ all → new ≡ all
 all_copied at (r ∷ rs) text old new all none found before = absurd (omega arith)
-all_copied at [] text old new all none found before = found ∙ ap (λ x. old ++ x) (sym (no_ranges at (drop at text))) ∙ before
+all_copied at [] text old new all none found before = found ∙ ap (λ x. old ++ x) (sym (none_cut at (drop at text))) ∙ before

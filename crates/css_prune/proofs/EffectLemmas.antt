@@ -1,5 +1,6 @@
 -- What is left of a sheet does what the sheet does at each node that a script makes, where what goes is never reached.
 use Rattle.std.proofs.Common.{◌≡◌, ◌↔◌, ℕ, Bool, true, false, List, [], ◌∷◌, Result, Ok, refl, sym, ap, ◌∙◌, inl, inr}
+use Rattle.std.proofs.lemmas.Bool.{false_from_ne_true}
 use Rattle.tp_base.specs.Names.{Named}
 use Rattle.tree_sem.specs.Trees.{LabelTree}
 use Rattle.tree_sem.specs.declared.actions.Event.{Event}
@@ -14,7 +15,6 @@ use Rattle.css_read.specs.Sheets.{Outcome, judged, skipped, Sheet}
 use Rattle.css_read.specs.declared.faults.SheetFault.{SheetFault}
 use Rattle.css_read.proofs.KeptLemmas.{sheets_kept}
 use Rattle.css_prune.specs.NodeEffects.{Tells, IsUnreached, AreUnreached, KeepsEffects}
-use Rattle.css_prune.proofs.PartLemmas.{not_true}
 
 -- ---- such a test there is
 
@@ -41,7 +41,7 @@ all_fail page stmts events v test legal tells ((i, false) ∷ fs) unreached = (t
 all_fail page stmts events v test legal tells ((i, true) ∷ fs) unreached = (by i.outcome unreached.0, all_fail page stmts events v test legal tells fs unreached.1)
   where
     by : (o : Outcome) → IsUnreached page stmts o → FailsTest test (record { from = i.from; to = i.to; rule = i.rule; outcome = o }, true)
-    by (judged s) none = not_true (test s) (λ is. none (events, legal, v, (tells s).0 is))
+    by (judged s) none = false_from_ne_true (test s) (λ is. none (events, legal, v, (tells s).0 is))
     by (skipped why at) none = tt
 
 same_sheet : (names : List Named) (a b : Sheet) → ◌≡◌ {A = Ending Sheet} (names, Ok a) (names, Ok b) → a ≡ b

@@ -1,15 +1,11 @@
 -- A text from the first place of a byte on, and what stands in a text, by that.
 use Rattle.std.proofs.Common.{◌≡◌, ℕ, zero, suc, ◌+◌, ◌≤◌, ◌==◌, ◌||◌, cond, nat_lt, Bool, true, false, List, [], ◌∷◌, length, drop, codes, refl, sym, ◌∙◌, inl, inr, arith}
 use Rattle.std.specs.Char.{to_ascii_lowercase}
-use Rattle.std.proofs.lemmas.Bool.{cases_Bool, eqb-false, ne_eqb, ltb-false}
+use Rattle.std.proofs.lemmas.Bool.{cases_Bool, eqb-false, ne_eqb, ltb-false, false_from_ne_true}
 use Rattle.memchr.specs.Find.{Nowhere, NoneBefore, Passes, is_byte}
 use Rattle.css_read.specs.Pruned.{has_word, has_order_mark}
 use Rattle.css_prune.specs.Flags.{begins_word, begins_early_rule, begins_order_mark, has_early_rule}
 use Rattle.css_prune.specs.Parts.{from_byte}
-
-pub not_true : (t : Bool) → (t ≡ true → ⊥) → t ≡ false
-not_true true wrong = absurd (wrong refl)
-not_true false wrong = refl
 
 pub by_test : {P : Type 0} (t : Bool) → (t ≡ true → P) → (t ≡ false → P) → P
 by_test t holds fails = elim (cases_Bool t) [ inl e ↦ holds e | inr e ↦ fails e ]
@@ -18,13 +14,13 @@ by_test t holds fails = elim (cases_Bool t) [ inl e ↦ holds e | inr e ↦ fail
 
 pub none_there : (y : ℕ) (bs : List ℕ) → Nowhere (Passes (is_byte y) bs) 0 (length bs) → from_byte y bs ≡ drop (length bs) bs
 none_there y [] none = refl
-none_there y (b ∷ bs) none = rw (not_true (b == y) (λ is. none 0 (omega arith) (omega arith) is)) (none_there y bs (λ k low high. none (suc k) (omega arith) (omega arith)))
+none_there y (b ∷ bs) none = rw (false_from_ne_true (b == y) (λ is. none 0 (omega arith) (omega arith) is)) (none_there y bs (λ k low high. none (suc k) (omega arith) (omega arith)))
 
 pub first_there : (y k : ℕ) (bs : List ℕ) → NoneBefore (Passes (is_byte y) bs) 0 (length bs) k → Passes (is_byte y) bs k → from_byte y bs ≡ drop k bs
 first_there y k [] before here = absurd (omega (arith, before.high))
 first_there y zero (b ∷ bs) before here = rw here refl
 first_there y (suc k) (b ∷ bs) before here =
-    rw (not_true (b == y) (λ is. before.before 0 (omega arith) (omega arith) is))
+    rw (false_from_ne_true (b == y) (λ is. before.before 0 (omega arith) (omega arith) is))
     (first_there y k bs (record { low = omega arith; high = omega (arith, before.high); before = λ j low less. before.before (suc j) (omega arith) (omega arith) }) here)
 
 pub no_longer : (y : ℕ) (bs : List ℕ) → length (from_byte y bs) ≤ length bs

@@ -2,7 +2,7 @@
 use Rattle.std.proofs.Common.{◌≡◌, ℕ, zero, suc, ◌+◌, ◌-◌, ◌≤◌, ◌<◌, ◌==◌, ◌&&◌, ◌||◌, not, cond, Bool, true, false, if◌then◌else◌, nat_lt, List, [], ◌∷◌, ◌++◌, length, take, drop, slice_range, Option, None, Some, option_map, Ok, Err, refl, sym, ap, ◌∙◌, subst, arith, length-append, length-drop, append_assoc}
 use Rattle.std.specs.List.{prefix_len}
 use Rattle.std.specs.Option.{ok_or}
-use Rattle.std.proofs.lemmas.Bool.{and_parts}
+use Rattle.std.proofs.lemmas.Bool.{and_parts, or_from}
 use Rattle.std.proofs.lemmas.Bool.Decides.{nat_tests}
 use Rattle.std.proofs.lemmas.List.{drop_at}
 use Rattle.text_bytes.specs.Attributes.{is_set_apart, with_value}
@@ -10,6 +10,7 @@ use Rattle.text_bytes.specs.Blanks.{is_blank}
 use Rattle.tp_base.specs.Names.{Named}
 use Rattle.tp_base.specs.declared.atoms.AtomKind.{AtomKind}
 use Rattle.tp_base.specs.declared.atoms.AtomKind.TheVariants as kind
+use Rattle.tp_base.proofs.Truths.{not_both}
 use Rattle.sel_core.specs.declared.faults.Skip.TheVariants.{Long}
 use Rattle.sel_core.specs.declared.faults.SelFault.{SelFault}
 use Rattle.sel_core.specs.declared.faults.SelFault.TheVariants as sel
@@ -83,15 +84,11 @@ begins_none : (b : ℕ) (t : List ℕ) → (b == 47) ≡ false → begins_commen
 begins_none b [] not = grind (arith, nat_tests)
 begins_none b (d ∷ t) not = grind (arith, nat_tests)
 
-pick_not : (x : Bool) → x ≡ true → x ≡ false → ⊥
-pick_not true is not = cc
-pick_not false is not = cc
-
 byte_passes : (b : ℕ) (t : List ℕ) → is_quote b ≡ false → (b == 47) ≡ false → Passes (b ∷ t) t
 byte_passes b t quote slash =
     let behind : behind_unit (b ∷ t) ≡ t = other_unit b t quote (begins_none b t slash) in
     record {
-      leads = record { front = b ∷ []; whole = refl; closes = λ closed. closes_unit b t (λ is. absurd (pick_not (is_quote b) is quote)) (subst ClosesStrings (sym behind) closed) };
+      leads = record { front = b ∷ []; whole = refl; closes = λ closed. closes_unit b t (λ is. absurd (not_both (is_quote b) is quote)) (subst ClosesStrings (sym behind) closed) };
       shorter = omega arith;
     }
 
@@ -105,12 +102,8 @@ record IsPlainTest (p : ℕ → Bool) : Type 0 where
   single : p 39 ≡ false
   slash : p 47 ≡ false
 
-neither : (x y : Bool) → x ≡ false → y ≡ false → (x || y) ≡ false
-neither true y first second = first
-neither false y first second = second
-
 tested_passes : (p : ℕ → Bool) (b : ℕ) (t : List ℕ) → IsPlainTest p → p b ≡ true → Passes (b ∷ t) t
-tested_passes p b t plain is = byte_passes b t (neither (b == 34) (b == 39) (not_byte p 34 b plain.double is) (not_byte p 39 b plain.single is)) (not_byte p 47 b plain.slash is)
+tested_passes p b t plain is = byte_passes b t (or_from (b == 34) (b == 39) (not_byte p 34 b plain.double is) (not_byte p 39 b plain.single is)) (not_byte p 47 b plain.slash is)
 
 -- a run of such bytes
 run_leads : (p : ℕ → Bool) → IsPlainTest p → (bs : List ℕ) → Leads bs (drop (prefix_len p bs) bs)

@@ -1,11 +1,11 @@
 -- An at-rule that goes takes with it what stands in its block: the at-rules there go, and the rules.
 use Rattle.std.proofs.Common.{◌≡◌, ◌⊎◌, ℕ, zero, suc, ◌+◌, ◌≤◌, ◌<◌, ◌==◌, ◌&&◌, nat_lt, Bool, true, false, if◌then◌else◌, List, [], ◌∷◌, ◌++◌, length, get_or, Option, Some, None, refl, sym, ap, ◌∙◌, inl, inr, arith, length-append}
 use Rattle.std.specs.List.{list_all}
-use Rattle.std.proofs.lemmas.Bool.{and_parts}
+use Rattle.std.proofs.lemmas.Bool.{and_parts, and_right}
 use Rattle.std.proofs.lemmas.Bool.Decides.{nat_tests}
+use Rattle.tp_base.proofs.Truths.{not_both, same_number}
 use Rattle.css_read.specs.declared.holders.Holder.{Holder}
 use Rattle.css_read.specs.Pruned.{is_owner, held_by, insides, all_of_some, gone_holders}
-use Rattle.css_read.proofs.TameLemmas.{both_ways}
 
 -- ---- what is held
 
@@ -22,9 +22,6 @@ all_parts (x ∷ xs) ys all =
     let both = and_parts x (are_all (xs ++ ys)) all in
     let later = all_parts xs ys both.1 in
     (rw both.0 later.0, later.1)
-
-same_number : (n : ℕ) → (n == n) ≡ true
-same_number n = grind (arith, nat_tests)
 
 -- what has an owner goes where all go that the owner has
 held_goes : (n : ℕ) (before : List (Option ℕ)) (after : List (Option ℕ)) (gone : List Bool) → length before < length gone → are_all (held_by n (before ++ Some n ∷ after) gone) ≡ true → get_or gone (length before) false ≡ true
@@ -165,10 +162,6 @@ none_all : (xs : List Bool) → NoneGoes xs → all_of_some xs ≡ false
 none_all [] none = refl
 none_all (x ∷ xs) none = rw none.0 refl
 
-stays_by : (x y : Bool) → y ≡ false → (x && y) ≡ false
-stays_by true y is = is
-stays_by false y is = refl
-
 dead_from : (owners : List (Option ℕ)) (rules : List Bool) (least n : ℕ) (hs : List Holder) → OwnersFrom least owners → StandApart least n hs → AreDead least hs (gone_holders owners rules n hs)
 unfolding gone_holders
 dead_from owners rules least n [] from apart = tt
@@ -180,7 +173,7 @@ dead_from owners rules least n (h ∷ hs) from apart = let later = dead_from own
         let none : held_by n owners rules ++ held_by n (insides hs) (gone_holders owners rules (n + 1) hs) ≡ held_by n (insides hs) (gone_holders owners rules (n + 1) hs) =
         ap (λ (xs : List Bool). xs ++ held_by n (insides hs) (gone_holders owners rules (n + 1) hs)) (none_owned least n owners rules under from)
         in
-        inl (stays_by (h.loose && h.bare) _ (ap all_of_some none ∙ none_all (held_by n (insides hs) (gone_holders owners rules (n + 1) hs)) (none_held least n hs (gone_holders owners rules (n + 1) hs) under later)))
+        inl (and_right (h.loose && h.bare) _ (ap all_of_some none ∙ none_all (held_by n (insides hs) (gone_holders owners rules (n + 1) hs)) (none_held least n hs (gone_holders owners rules (n + 1) hs) under later)))
 
 -- the first of all
 pub first_stays : (owners : List (Option ℕ)) (rules : List Bool) (least : ℕ) (h : Holder) (hs : List Holder) → 0 < least → OwnersFrom least owners → StandApart least 1 hs → get_or (gone_holders owners rules 0 (h ∷ hs)) 0 false ≡ true → ⊥
@@ -189,5 +182,5 @@ first_stays owners rules least h hs some from apart gone =
     let later = gone_holders owners rules 1 hs in
     let none : held_by 0 owners rules ++ held_by 0 (insides hs) later ≡ held_by 0 (insides hs) later = ap (λ (xs : List Bool). xs ++ held_by 0 (insides hs) later) (none_owned least 0 owners rules some from) in
     let dead = dead_from owners rules least 1 hs from apart in
-    both_ways (h.loose && h.bare && all_of_some (held_by 0 owners rules ++ held_by 0 (insides hs) later)) gone
-    (stays_by (h.loose && h.bare) _ (ap all_of_some none ∙ none_all (held_by 0 (insides hs) later) (none_held least 0 hs later some dead)))
+    not_both (h.loose && h.bare && all_of_some (held_by 0 owners rules ++ held_by 0 (insides hs) later)) gone
+    (and_right (h.loose && h.bare) _ (ap all_of_some none ∙ none_all (held_by 0 (insides hs) later) (none_held least 0 hs later some dead)))

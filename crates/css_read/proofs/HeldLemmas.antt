@@ -1,8 +1,8 @@
 -- Each rule, and each at-rule whose block holds rules, stands in the block of the one that is innermost open there.
-use Rattle.std.proofs.Common.{◌≡◌, ℕ, zero, suc, ◌+◌, ◌-◌, ◌≤◌, ◌<◌, ◌==◌, Bool, true, false, if◌then◌else◌, List, [], ◌∷◌, ◌++◌, length, get_or, slice_get, Option, Some, IfSome, IsSomeAnd, refl, sym, ap, ◌∙◌, subst, arith, length-append, append_assoc, append-nil}
-use Rattle.std.proofs.lemmas.Bool.Decides.{nat_tests}
+use Rattle.std.proofs.Common.{◌≡◌, ℕ, zero, suc, ◌+◌, ◌-◌, ◌≤◌, ◌<◌, Bool, true, false, if◌then◌else◌, List, [], ◌∷◌, ◌++◌, length, get_or, slice_get, Option, Some, IfSome, IsSomeAnd, refl, sym, ap, ◌∙◌, subst, arith, length-append, append_assoc, append-nil}
 use Rattle.std.proofs.lemmas.Option.{slice_get-get_or, slice_get_within}
 use Rattle.std.proofs.Math.ListN.{get_or-append}
+use Rattle.tp_base.proofs.Truths.{suc_not_zero}
 use Rattle.text_bytes.specs.OrderMark.{behind_order_mark}
 use Rattle.css_read.specs.declared.fronts.Front.{Front}
 use Rattle.css_read.specs.declared.fronts.Front.TheVariants.{Passed, Opens, Closes, Styles}
@@ -47,9 +47,6 @@ end_after at n (s ∷ ss) = by (ends_block n s.front) (end_after (at + length s.
     by true later = omega arith
     by false later = omega (arith, later)
 
-pub none_ends : (n : ℕ) → (suc n == 0) ≡ false
-none_ends n = grind (arith, nat_tests)
-
 -- a block ends no later than the one round it
 end_outer : (at n : ℕ) (ss : List Span) → last_end at (in_block n (steps_at at ss)) ≤ last_end at (in_block (suc n) (steps_at at ss))
 unfolding in_block
@@ -74,7 +71,7 @@ end_outer at n (s ∷ ss) = by s.front n (λ m. end_outer (at + length s.bytes) 
     by (Styles len) n outer = outer n
     by Opens n outer = subst (λ (m : ℕ). last_end to (in_block (n + 1) later) ≤ last_end to (in_block m later)) (sym (one_more n)) (outer (n + 1))
     by Closes zero outer = end_after to (suc zero - 1) ss
-    by Closes (suc n) outer = rw (none_ends n, none_ends (suc n), one_less n, one_less (suc n)) (outer n)
+    by Closes (suc n) outer = rw (suc_not_zero n, suc_not_zero (suc n), one_less n, one_less (suc n)) (outer n)
 
 -- ---- those that are open at an offset
 
@@ -139,7 +136,7 @@ held_step text (Styles len) bytes ss at pre outer some round later all whole =
 held_step text Closes bytes ss at pre [] some round later all whole = later pre [] tt all whole
 held_step text Closes bytes ss at pre (k ∷ outer) some round later all whole =
     let to = at + length bytes in
-    let next = round_later pre [] at Closes bytes ss suc (λ i. i) (λ i. refl) (λ i. refl) none_ends one_less 0 outer round.1 in
+    let next = round_later pre [] at Closes bytes ss suc (λ i. i) (λ i. refl) (λ i. refl) suc_not_zero one_less 0 outer round.1 in
     later pre outer (subst (λ (hs : List Holder). AreRound hs to 0 (steps_at to ss) outer) (append-nil pre) next) all whole
   where
     one_less : (n : ℕ) → suc n - 1 ≡ n

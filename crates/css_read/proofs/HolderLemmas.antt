@@ -1,6 +1,7 @@
 -- What is found from left to right is what the definitions say, which look ahead for the end of each block.
 use Rattle.std.proofs.Common.{◌≡◌, ℕ, zero, suc, ◌+◌, ◌-◌, ◌≤◌, ◌<◌, ◌==◌, ◌&&◌, ◌||◌, nat_lt, Bool, true, false, if◌then◌else◌, List, [], ◌∷◌, ◌++◌, length, drop, refl, sym, ap, ◌∙◌, arith, length-append, append_assoc, append-nil}
 use Rattle.std.proofs.lemmas.Bool.Decides.{nat_tests}
+use Rattle.tp_base.proofs.Truths.{and_true, and_false, or_true}
 use Rattle.text_bytes.specs.OrderMark.{behind_order_mark}
 use Rattle.css_read.specs.declared.fronts.Front.{Front}
 use Rattle.css_read.specs.declared.fronts.Front.TheVariants.{Passed, Opens, Closes, Styles}
@@ -78,10 +79,6 @@ changed_none f same n [] = refl
 changed_none f same zero (h ∷ hs) = ap (λ (k : Holder). k ∷ hs) (same h)
 changed_none f same (suc n) (h ∷ hs) = ap (λ (ks : List Holder). h ∷ ks) (changed_none f same n hs)
 
-pub and_true : (x : Bool) → (x && true) ≡ x
-and_true true = refl
-and_true false = refl
-
 -- nothing is left
 finish_end : (text : List ℕ) (n : ℕ) (outer : List ℕ) (hs : List Holder) → finish_all text n [] outer hs ≡ hs
 unfolding in_block is_bare
@@ -99,14 +96,6 @@ finish_same text ss ts p q up rise same i (k ∷ outer) hs =
     ∙ ap (λ (n : ℕ). finish_all text n ts outer (changed (finish text (q i) ts) k hs)) (rise i)
 
 -- ---- one step
-
-or_true : (x : Bool) → (x || true) ≡ true
-or_true true = refl
-or_true false = refl
-
-and_false : (x : Bool) → (x && false) ≡ false
-and_false true = refl
-and_false false = refl
 
 abbrev step_at : Front → ℕ → ℕ → Step
 step_at f from to = record { front = f; from = from; to = to }

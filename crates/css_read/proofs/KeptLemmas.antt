@@ -2,6 +2,7 @@
 use Rattle.std.proofs.Common.{◌≡◌, ℕ, ◌+◌, ◌==◌, not, Bool, true, false, if◌then◌else◌, List, [], ◌∷◌, ◌++◌, length, get_or, Ok, refl, sym, ap, ◌∙◌, subst, arith, length-append}
 use Rattle.std.specs.Str.Lossy.{utf8_valid_len}
 use Rattle.std.proofs.lemmas.Bool.Decides.{nat_tests}
+use Rattle.std.proofs.lemmas.Str.{utf8_valid_len-IsUtf8}
 use Rattle.text_bytes.specs.OrderMark.{behind_order_mark}
 use Rattle.tp_base.specs.Names.{Named}
 use Rattle.sel_core.specs.Selectors.{Selector}
@@ -23,7 +24,6 @@ use Rattle.css_read.proofs.RuleOrder.{AreRulesApart, rules_apart}
 use Rattle.css_read.proofs.ScopeLemmas.{Stands, scopes_in, scopes_are, left_in, scopes_left, scope_left}
 use Rattle.css_read.proofs.SpanLemmas.{bytes_of, steps_at, rules_in, spans_read}
 use Rattle.css_read.proofs.StayLemmas.{AreNumbered, AreGroups, groups_from, known_stay, few_stay}
-use Rattle.css_read.proofs.Utf8.{valid_len}
 
 -- ---- effects
 
@@ -179,7 +179,7 @@ sheet_kept text names later sheet flags reads count left =
     let scopes = scopes_keep text names later sheet flags read is left.mark in (
       again.sheet,
       record {
-        reads = reading_from other later later again.sheet (valid_len other left.utf8) rules;
+        reads = reading_from other later later again.sheet (utf8_valid_len-IsUtf8 other left.utf8) rules;
         items = subst (AreMoved gone items) (sym again.whole) again.moved;
         effects = λ test fails.
             ap (effect_in test (scopes_of other)) again.whole

@@ -51,4 +51,3 @@ pub mod StayLemmas
 pub mod TameLemmas
 pub mod ThinLemmas
 pub mod UnitLemmas
-pub mod Utf8

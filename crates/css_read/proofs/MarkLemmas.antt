@@ -2,11 +2,12 @@
 use Rattle.std.proofs.Common.{◌≡◌, ◌⊎◌, ℕ, zero, suc, ◌+◌, ◌-◌, ◌≤◌, ◌<◌, ◌==◌, ◌&&◌, ◌||◌, not, nat_eq, nat_lt, Bool, true, false, if◌then◌else◌, List, [], ◌∷◌, ◌++◌, length, drop, map, slice_range, get_or, Option, Some, Ok, refl, sym, ap, ◌∙◌, subst, inl, inr, arith, length-append, append_assoc}
 use Rattle.std.specs.List.{starts_with, list_any, list_all}
 use Rattle.std.specs.Str.{IsUtf8}
-use Rattle.std.proofs.lemmas.Bool.{and_parts, or_parts}
+use Rattle.std.proofs.lemmas.Bool.{and_parts, or_parts, or_cases}
 use Rattle.std.proofs.lemmas.Bool.Decides.{nat_tests}
 use Rattle.std.proofs.lemmas.List.{length-take, append_cancel_right}
 use Rattle.text_bytes.specs.OrderMark.{behind_order_mark}
 use Rattle.tp_base.specs.Names.{Named}
+use Rattle.tp_base.proofs.Truths.{suc_not_zero, not_both}
 use Rattle.css_read.specs.declared.fronts.Front.{Front}
 use Rattle.css_read.specs.declared.fronts.Front.TheVariants.{Passed, Opens, Closes, Styles}
 use Rattle.css_read.specs.declared.holders.Holder.{Holder}
@@ -20,14 +21,13 @@ use Rattle.css_read.specs.Sheets.{Item, Sheet}
 use Rattle.css_read.proofs.CharLemmas.{IsInner, CutsWhole, whole_behind, cuts_whole, less_or}
 use Rattle.css_read.proofs.CutLemmas.{IsCut, in_range, AreFrom, from_earlier, none_before}
 use Rattle.css_read.proofs.GoneLemmas.{IsFrom, OwnersFrom, StandApart, holder_goes, rule_goes, first_stays}
-use Rattle.css_read.proofs.HeldLemmas.{end_after, none_ends}
+use Rattle.css_read.proofs.HeldLemmas.{end_after}
 use Rattle.css_read.proofs.ItemLemmas.{IsSheetOf, ranges_of, sheet_of}
 use Rattle.css_read.proofs.PieceOrder.{pieces_apart}
 use Rattle.css_read.proofs.PrunedLemmas.{IsOwned, AreOwned, owned_from, spans_of, mark_size, steps_are, rules_steps, IsPrunedTo, left_spans, KeepsMark, marked_keeps}
 use Rattle.css_read.proofs.PrunedText.{cuts_between}
 use Rattle.css_read.proofs.RuleOrder.{AreRulesApart, rules_apart}
 use Rattle.css_read.proofs.SpanLemmas.{Span, bytes_of, AreRead, steps_at, rules_in, spans_read}
-use Rattle.css_read.proofs.TameLemmas.{both_ways}
 use Rattle.css_read.proofs.PlanLemmas.{from_append}
 
 -- ---- the first byte that stays
@@ -87,7 +87,7 @@ inner_follows rs at bs b left whole inner is = by is.front is.whole is.gone is.s
     by (c ∷ front) all gone stays =
         let there : CutsWhole rs (at + length (c ∷ front)) (b ∷ is.others) = whole_behind rs at (c ∷ front) (b ∷ is.others) (subst (CutsWhole rs at) all whole) in
         let before : at + length (c ∷ front) - 1 ≡ at + length front = omega arith in
-        absurd (both_ways (IsCut rs (at + length (c ∷ front))) (there.0 inner ∙ ap (IsCut rs) before ∙ gone (at + length front) (omega arith) (omega arith)) stays)
+        absurd (not_both (IsCut rs (at + length (c ∷ front))) (there.0 inner ∙ ap (IsCut rs) before ∙ gone (at + length front) (omega arith) (omega arith)) stays)
 
 -- a mark in front of what is left stands in the text, behind what goes
 record HasMarkLeft (rs : List Range) (text : List ℕ) : Type 0 where
@@ -153,13 +153,9 @@ record IsUnfixed (text : List ℕ) (rules : List Range) (fs : List Flagged) (bef
   free : is_fixed text 0 rule (of_rule 0 fs) ≡ false
   early : rule.from < before
 
-cut_either : (x y : Bool) → (x || y) ≡ true → (x ≡ true) ⊎ (y ≡ true)
-cut_either true y is = inl refl
-cut_either false y is = inr is
-
 any_append : (p : Range → Bool) (rs qs : List Range) → list_any p (rs ++ qs) ≡ true → (list_any p rs ≡ true) ⊎ (list_any p qs ≡ true)
 any_append p [] qs is = inr is
-any_append p (r ∷ rs) qs is = by (cut_either (p r) (list_any p (rs ++ qs)) is) (λ later. any_append p rs qs later)
+any_append p (r ∷ rs) qs is = by (or_cases (p r) (list_any p (rs ++ qs)) is) (λ later. any_append p rs qs later)
   where
     or_left : (x y : Bool) → x ≡ true → (x || y) ≡ true
     or_left true y is = refl
@@ -182,7 +178,7 @@ begins_there : (r : Range) → is_in 0 r ≡ true → r.from ≡ 0
 begins_there r is = grind (arith, nat_tests)
 
 not_first : (rs : List Range) → AreFrom 1 rs → IsCut rs 0 ≡ true → ⊥
-not_first rs from is = both_ways (IsCut rs 0) is (none_before 1 0 rs from (omega arith))
+not_first rs from is = not_both (IsCut rs 0) is (none_before 1 0 rs from (omega arith))
 
 gone_from : (n : ℕ) (rs : List Range) (gone : List Bool) → AreFrom n rs → AreFrom n (gone_ranges rs gone)
 gone_from n [] gone from = tt
@@ -220,7 +216,7 @@ rule_cut text (r ∷ rs) fs before some from is = by (list_all goes (of_rule 0 f
     found free (inr cut) = absurd (none cut)
 
     by : (all fixed : Bool) → is_fixed text 0 r (of_rule 0 fs) ≡ fixed → IsCut (if all && not fixed then r ∷ later else later) 0 ≡ true → IsUnfixed text (r ∷ rs) fs before
-    by true false free is = found free (cut_either (is_in 0 r) (IsCut later 0) is)
+    by true false free is = found free (or_cases (is_in 0 r) (IsCut later 0) is)
     by true true free is = absurd (none is)
     by false fixed free is = absurd (none is)
 
@@ -408,7 +404,7 @@ walk_step text all owners rules end Closes bytes ss at pre k (m ∷ outer) some 
     one_less n = omega arith
 
     same : last_end to (if suc (length outer) == 0 then [] else in_block (suc (length outer) - 1) steps) ≡ last_end to (in_block (length outer) steps)
-    same = rw (none_ends (length outer), one_less (length outer)) refl
+    same = rw (suc_not_zero (length outer), one_less (length outer)) refl
 
     by : RuleGoes (rules_in steps) rules end ⊎ NoRule text (length pre) (m ∷ outer) steps owners → RuleGoes (rules_in steps) rules end ⊎ NoRule text (length pre) (k ∷ m ∷ outer) ((record { front = Closes; from = at; to = to }) ∷ steps) owners
     by (inl goes) = inl goes
@@ -508,7 +504,7 @@ behind_first r rs at first stays = by (less_or at r.to)
 
     by : (r.to ≤ at) ⊎ (at < r.to) → r.to ≤ at
     by (inl behind) = behind
-    by (inr inside) = absurd (both_ways (is_in at r) (in_range at r (omega (arith, first)) inside) (or_parts (is_in at r) (IsCut rs at) stays).0)
+    by (inr inside) = absurd (not_both (is_in at r) (in_range at r (omega (arith, first)) inside) (or_parts (is_in at r) (IsCut rs at) stays).0)
 
 holder_cut : (text : List ℕ) (fs : List Flagged) (ss : List Span) (before : ℕ) (rules : List Bool) → AreRead 0 ss → rules ≡ gone_rules text 0 (ranges_of (rules_in (steps_at 0 ss))) fs → length (rules_in (steps_at 0 ss)) ≤ length rules
     → (all : List Holder) → all ≡ holders_from text 0 [] (steps_at 0 ss) → (owners : List (Option ℕ)) → owners ≡ owners_from 0 [] (steps_at 0 ss)
@@ -697,7 +693,7 @@ no_mark_left text names later sheet flags utf8 read count same = by (starts_with
 
     absurd_by : (m : HasMarkLeft rs text) → IsUnfixed text sheet.rules (with_flags sheet.items flags) (length m.front) → ⊥
     absurd_by m found =
-        both_ways (has_order_mark (drop found.rule.from text)) (has_behind text m.front m.others found.rule.from m.whole (omega (arith, found.early))) (unfixed text found.rule (of_rule 0 (with_flags sheet.items flags)) found.free)
+        not_both (has_order_mark (drop found.rule.from text)) (has_behind text m.front m.others found.rule.from m.whole (omega (arith, found.early))) (unfixed text found.rule (of_rule 0 (with_flags sheet.items flags)) found.free)
 
     some : (front others : List ℕ) → text ≡ front ++ 0xEF ∷ 0xBB ∷ 0xBF ∷ others → 0 < length front
     some [] others is = absurd (not_marked text others same is)

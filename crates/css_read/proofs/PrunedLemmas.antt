@@ -5,6 +5,7 @@ use Rattle.std.proofs.lemmas.Bool.{or_parts}
 use Rattle.std.proofs.lemmas.List.{length-take-le, take-append-drop}
 use Rattle.text_bytes.specs.OrderMark.{behind_order_mark}
 use Rattle.tp_base.specs.Names.{Named}
+use Rattle.tp_base.proofs.Truths.{or_assoc}
 use Rattle.css_read.specs.declared.fronts.Front.{Front}
 use Rattle.css_read.specs.declared.fronts.Front.TheVariants.{Passed, Opens, Closes, Styles}
 use Rattle.css_read.specs.declared.sheets.Range.{Range}
@@ -230,10 +231,6 @@ ruled text fs k at ss = let rules = ranges_of (rules_in (steps_at at ss)) in gon
 
 abbrev in_lists : List ℕ → List Flagged → ℕ → ℕ → List Span → List Range
 in_lists text fs k at ss = lists_cuts text k (ranges_of (rules_in (steps_at at ss))) fs
-
-or_assoc : (a b c : Bool) → ((a || b) || c) ≡ (a || (b || c))
-or_assoc true b c = refl
-or_assoc false b c = refl
 
 -- a block that holds rules
 open_plan : (text : List ℕ) (fs : List Flagged) (k at d hn : ℕ) (outer : List ℕ) (gone : List Bool) (bytes : List ℕ) (ss : List Span)

@@ -1,7 +1,7 @@
 -- The pruned text has the selectors that stay: the rules that are read of it, and the places of their selectors.
 use Rattle.std.proofs.Common.{◌≡◌, ℕ, zero, suc, ◌+◌, ◌-◌, ◌≤◌, ◌&&◌, not, Bool, true, false, List, [], ◌∷◌, ◌++◌, length, drop, map, get_or, slice_range, refl, sym, ap, ◌∙◌, subst, arith, length-append, append_assoc, append-nil}
 use Rattle.std.specs.List.{list_all}
-use Rattle.std.proofs.lemmas.Bool.{and_parts}
+use Rattle.std.proofs.lemmas.Bool.{and_parts, not-true}
 use Rattle.std.proofs.lemmas.List.{length-take}
 use Rattle.css_read.specs.declared.fronts.Front.{Front}
 use Rattle.css_read.specs.declared.fronts.Front.TheVariants.{Passed, Opens, Closes, Styles}
@@ -24,7 +24,7 @@ use Rattle.css_read.proofs.ScopeLemmas.{Stands, stands_next}
 use Rattle.css_read.proofs.ShiftLemmas.{HaveBytes, same_list, AreWithin, own_within, item_text, parts_have}
 use Rattle.css_read.proofs.SpanLemmas.{Span, bytes_of, bytes-append, IsRuleBehind, left_of, steps_at, rules_in}
 use Rattle.css_read.proofs.StayLemmas.{AreGroups, unflagged, stayed-append, fixed_stay, free_stay, none_stay, texts_are, within_stay, of_stay, HasFrom, has_next, has_at, if_stays, number_next, AreNumbered, numbered}
-use Rattle.css_read.proofs.UnitLemmas.{flat, not_true}
+use Rattle.css_read.proofs.UnitLemmas.{flat}
 
 -- ---- rules of another text with the selectors of a text
 
@@ -276,7 +276,7 @@ going_reread text other fs fixed gone at p Closes bytes ps ss next k m j later g
 going_reread text other fs fixed gone at p (Styles len) bytes ps ss next k m j later gs is =
     let all : (list_all goes (of_rule k fs) && not (is_fixed text k (record { from = at; to = at + length bytes }) (of_rule k fs))) ≡ true = first_same _ _ _ _ is.rules in
     let both = and_parts (list_all goes (of_rule k fs)) (not (is_fixed text k (record { from = at; to = at + length bytes }) (of_rule k fs))) all in
-    rule_goes text other fs fixed gone at p len bytes ps ss k (suc m) j later gs (rules_in (steps_at later (rest_of (suc m) ps ss))) is (not_true _ both.1) both.0
+    rule_goes text other fs fixed gone at p len bytes ps ss k (suc m) j later gs (rules_in (steps_at later (rest_of (suc m) ps ss))) is (not-true _ both.1) both.0
     (next (k + 1) (suc m) j later is.groups.1 (style_next text other fs fixed gone at p len bytes ps ss k (suc m) j later gs is (suc m) j later refl (omega arith) is.there))
 
 pub reread_from : (text other : List ℕ) (fs : List Flagged) (fixed gone : List Bool) (ss : List Span) (at : ℕ) (ps : List Plan) → ArePlans at ps ss → Stands text at ss → AreSized ss → RereadFrom text other fs fixed gone at ps ss

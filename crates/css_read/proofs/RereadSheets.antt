@@ -3,6 +3,7 @@ use Rattle.std.proofs.Common.{◌≡◌, ℕ, suc, ◌+◌, ◌≤◌, ◌<◌, 
 use Rattle.std.proofs.lemmas.Bool.Decides.{nat_tests}
 use Rattle.tp_base.specs.Names.{Named}
 use Rattle.tp_base.proofs.Fronts.{front_itself}
+use Rattle.tp_base.proofs.Truths.{is_less}
 use Rattle.css_read.specs.declared.faults.TheConstants.{MOST_SELECTORS}
 use Rattle.css_read.specs.declared.faults.SheetFault.TheVariants.{TooManySelectors}
 use Rattle.css_read.specs.declared.sheets.Range.{Range}
@@ -36,9 +37,6 @@ moved_by known gone i number n r e is first second at =
 
 -- ---- the selectors of a list
 
-under : (n most : ℕ) → n < most → nat_lt n most ≡ true
-under n most less = grind (arith, nat_tests)
-
 record AreItemsAgain (names : List Named) (gone : List Bool) (found own : List Item) (e : Ending (List Item)) : Type 0 where
   new : List Item
   read : e ≡ (names, Ok (found ++ new))
@@ -47,7 +45,7 @@ record AreItemsAgain (names : List Named) (gone : List Bool) (found own : List I
 
 item_added : (other : List ℕ) (rule : ℕ) (found : List Item) (names : List Named) (p : Range) (i : Item) → length found < MOST_SELECTORS → read_item other rule names p ≡ (names, Ok i) → add_item other rule found names p ≡ (names, Ok (found ++ i ∷ []))
 unfolding add_item
-item_added other rule found names p i less read = rw (under (length found) MOST_SELECTORS less, read) refl
+item_added other rule found names p i less read = rw (is_less (length found) MOST_SELECTORS less, read) refl
 
 items_again : (text other : List ℕ) (names : List Named) (gone : List Bool) (rule : ℕ) (found own : List Item) (ps : List Range) → HaveBytes text other own ps → AreKnownIn text names own → AreNumbered gone rule own → length found + length own ≤ MOST_SELECTORS
     → AreItemsAgain names gone found own (add_items other rule found names ps)

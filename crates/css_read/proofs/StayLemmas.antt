@@ -3,6 +3,7 @@ use Rattle.std.proofs.Common.{◌≡◌, ℕ, suc, ◌+◌, ◌≤◌, ◌&&◌,
 use Rattle.std.specs.List.{list_all}
 use Rattle.std.proofs.lemmas.List.{get_or_at, length-take-le}
 use Rattle.tp_base.specs.Names.{Named}
+use Rattle.tp_base.proofs.Truths.{and_true, and_false}
 use Rattle.css_read.specs.Effects.{stayed_in, number_left}
 use Rattle.css_read.specs.Pruned.{Flagged, goes, with_flags, of_rule}
 use Rattle.css_read.specs.Rules.{Rule}
@@ -12,7 +13,6 @@ use Rattle.css_read.proofs.ItemLemmas.{AreOf, AreItemsOf, items_from, own_of, ot
 use Rattle.css_read.proofs.PrunedLemmas.{IsOwned, flags_taken}
 use Rattle.css_read.proofs.RulePlans.{texts_left}
 use Rattle.css_read.proofs.ShiftLemmas.{item_text, AreWithin}
-use Rattle.css_read.proofs.HolderLemmas.{and_true}
 
 -- ---- the flags of each rule, one rule after another
 
@@ -60,17 +60,13 @@ stayed-append fixed (f ∷ xs) ys = by (goes f && not (get_or fixed f.0.rule fal
     by true later = later
     by false later = ap (λ (is : List Item). f.0 ∷ is) later
 
-none_goes : (x : Bool) → (x && false) ≡ false
-none_goes true = refl
-none_goes false = refl
-
 -- in a rule that is fixed all of them do
 pub fixed_stay : (fixed : List Bool) (k : ℕ) (own : List Item) (flags : List Bool) → AreOf k own → length flags ≡ length own → get_or fixed k false ≡ true → stayed_in fixed (with_flags own flags) ≡ own
 fixed_stay fixed k [] flags of count is = refl
 fixed_stay fixed k (i ∷ own) [] of count is = absurd (omega arith)
 fixed_stay fixed k (i ∷ own) (g ∷ flags) of count is =
     let here : get_or fixed i.rule false ≡ true = ap (λ n. get_or fixed n false) of.0 ∙ is in
-    rw (here, none_goes g) (ap (λ (is : List Item). i ∷ is) (fixed_stay fixed k own flags of.1 (omega arith) is))
+    rw (here, and_false g) (ap (λ (is : List Item). i ∷ is) (fixed_stay fixed k own flags of.1 (omega arith) is))
 
 -- in another rule those that aren't flagged
 pub free_stay : (fixed : List Bool) (k : ℕ) (own : List Item) (flags : List Bool) → AreOf k own → get_or fixed k false ≡ false → stayed_in fixed (with_flags own flags) ≡ unflagged (with_flags own flags)

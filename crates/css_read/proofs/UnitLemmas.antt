@@ -3,11 +3,12 @@
 use Rattle.std.proofs.Common.{◌≡◌, ℕ, zero, suc, ◌+◌, ◌-◌, ◌≤◌, ◌<◌, ◌==◌, ◌&&◌, ◌||◌, not, Bool, true, false, if◌then◌else◌, List, [], ◌∷◌, ◌++◌, length, drop, refl, sym, ap, ◌∙◌, subst, arith, length-append, append_assoc}
 use Rattle.std.specs.Prelude.{◌⊎◌}
 use mathlib.Core.Logic.{inl, inr}
-use Rattle.std.proofs.lemmas.Bool.{and_parts, or_parts, cases_Bool, eqb-true}
+use Rattle.std.proofs.lemmas.Bool.{and_parts, or_parts, cases_Bool, eqb-true, not-true}
 use Rattle.std.proofs.lemmas.Bool.Decides.{nat_tests}
 use Rattle.std.proofs.lemmas.List.{drop_at}
 use Rattle.text_bytes.specs.Blanks.{is_blank}
 use Rattle.sel_core.specs.Bytes.{begins_with, behind_close, behind_gap}
+use Rattle.sel_core.proofs.Gaps.{gap_skip}
 use Rattle.css_read.specs.Pieces.{with_unit, solid_len}
 use Rattle.css_read.specs.declared.brackets.Bracket.{Bracket}
 use Rattle.css_read.specs.Units.{is_quote, begins_comment, begins_gap, behind_unit, after_byte, stops_at, from_first_in, behind_string}
@@ -67,17 +68,13 @@ scan_step bytes brackets b p rest stops behind =
     let left : length (p ++ rest) - length rest ≡ length p = omega arith in
     rw (stops, behind, left) (skips bytes (after_byte b brackets) (length p) (p ++ rest) ∙ ap (from_first_in bytes (after_byte b brackets) 0) (drop_at p rest (length p) refl))
 
-pub not_true : (x : Bool) → not x ≡ true → x ≡ false
-not_true true is = absurd cc
-not_true false is = refl
-
 pub scan_units : (bytes : List ℕ) (brackets : List Bracket) (cs : List Chunk) (rest : List ℕ) → AreUnits cs rest → has_none bytes brackets cs ≡ true
     → from_first_in bytes brackets 0 (flat cs ++ rest) ≡ from_first_in bytes (brackets_after brackets cs) 0 rest
 scan_units bytes brackets [] rest units none = refl
 scan_units bytes brackets (c ∷ cs) rest units none =
     let both = and_parts (not (stops_at bytes c.first brackets)) (has_none bytes (after_byte c.first brackets) cs) none in
     ap (λ bs. from_first_in bytes brackets 0 (c.first ∷ bs)) (append_assoc c.more (flat cs) rest)
-    ∙ scan_step bytes brackets c.first c.more (flat cs ++ rest) (not_true _ both.0) (units.0.passes (flat cs ++ rest) units.1)
+    ∙ scan_step bytes brackets c.first c.more (flat cs ++ rest) (not-true _ both.0) (units.0.passes (flat cs ++ rest) units.1)
     ∙ scan_units bytes (after_byte c.first brackets) cs rest units.2 both.1
 
 -- ---- the chunks of a text that is passed over
@@ -342,12 +339,6 @@ units_before (c ∷ []) rest others calm units = (units.0, λ none is. calm, tt)
 units_before (c ∷ d ∷ cs) rest others calm units = (units.0, units.1, units_before (d ∷ cs) rest others calm units.2)
 
 -- ---- white space and comments at both ends
-
-gap_skip : (blanks : Bool) (n : ℕ) (bs : List ℕ) → behind_gap blanks n bs ≡ behind_gap blanks 0 (drop n bs)
-unfolding behind_gap
-gap_skip blanks zero bs = refl
-gap_skip blanks (suc n) [] = refl
-gap_skip blanks (suc n) (b ∷ bs) = gap_skip blanks n bs
 
 gap_by : (blank : Bool) (b : ℕ) (p rest : List ℕ) → is_blank b ≡ blank → (blank || begins_comment (b ∷ p ++ rest)) ≡ true → behind_unit (b ∷ p ++ rest) ≡ rest → behind_gap true 0 (b ∷ p ++ rest) ≡ behind_gap true 0 rest
 unfolding behind_gap

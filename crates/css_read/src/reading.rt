@@ -189,7 +189,7 @@ fn add_rules(alloc: Global, text: &[u8], atoms: &mut AtomTable) -> Result<Draft,
 
 /// Reads a sheet. A byte order mark at its front is passed over. The names that were read before a refusal stay in
 /// the table. Linear in the file, in time and in memory.
-#[tactic(auto, unfolding(crate::specs::Reading::read_sheet), using(crate::proofs::Utf8::valid_len, sel_core::proofs::Fronts::front_itself))]
+#[tactic(auto, unfolding(crate::specs::Reading::read_sheet), using(text_bytes::proofs::Utf8::valid_len, sel_core::proofs::Fronts::front_itself))]
 pub fn read_sheet(alloc: Global, text: &[u8], atoms: &mut AtomTable) -> Result<Sheet, SheetFault>
     ensures reads { Reads sheet_of result atoms.new (spec.read_sheet text.now atoms.old) }
     ensures count { IfOk result (λ s. length s.items ≤ MOST_SELECTORS) }

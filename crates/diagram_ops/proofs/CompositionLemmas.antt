@@ -3,6 +3,7 @@ use Rattle.std.proofs.Common.{◌≡◌, ℕ, Bool, true, false, ◌&&◌, ◌||
 use Rattle.std.proofs.lemmas.Bool.{cases_Bool, cases_order}
 use Rattle.tp_base.specs.Classes.{has_class, union_of}
 use Rattle.tp_base.proofs.ClassLemmas.{Contains-with_class, Contains-union_of}
+use Rattle.tp_base.proofs.Truths.{or_false}
 use Rattle.class_diagrams.specs.Trees.{Tree, leaf, branch, eval, IsOrdered, tand, tor, join, combine, and_leaf, or_leaf}
 use Rattle.class_diagrams.proofs.CombineLemmas.{eval-tand, eval-tor, IsOrdered-tand, IsOrdered-tor, combine-same, combine-less, combine-more}
 use Rattle.class_diagrams.proofs.TreeLemmas.{cases_tree, join-same, join-other}
@@ -39,10 +40,6 @@ IsOrdered-tcompose (branch a l h) by ok =
 or_above : (v w : Bool) → (v ≡ true → w ≡ true) → (v || w) ≡ w
 or_above true w implies = sym (implies refl)
 or_above false w implies = refl
-
-or_false : (v : Bool) → (v || false) ≡ v
-or_false true = refl
-or_false false = refl
 
 substituted : (v w : Bool) (has : Bool) → (v ≡ true → w ≡ true) → (v || (has && w)) ≡ cond has w v
 substituted v w true implies = or_above v w implies

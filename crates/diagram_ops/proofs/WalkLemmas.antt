@@ -360,10 +360,6 @@ module _ (ts : List Tree) where
 
 -- ### for the answers
 
-pub nil_of : {X : Type 0} (xs : List X) → length xs ≡ 0 → xs ≡ []
-nil_of [] none = refl
-nil_of (x ∷ xs) none = absurd (omega arith)
-
 pub on_both : {T E : Type 0} (r : Result T E) (P Q S : Type 0) → (P → Q → S) → OnOk r P → OnOk r Q → OnOk r S
 on_both (Ok v) P Q S further first second = further first second
 on_both (Err e) P Q S further first second = tt

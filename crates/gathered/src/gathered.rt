@@ -1,6 +1,5 @@
 //! Atoms as they come, of which a set is made by one sort.
 ghost use Rattle.std.specs.Prelude.{◌≡◌, [], IfOk, OnOk};
-ghost use Rattle.std.specs.List.Sorted.{IsStrictlyIncreasing};
 ghost use Rattle.tp_base.specs.Classes.{with_class, union_of};
 
 use std::alloc::Global;
@@ -58,13 +57,6 @@ impl Gathered {
     {
         self.atoms.extend_from_slice(&other.atoms)?;
         Ok(())
-    }
-
-    /// Its contract says that the set of them rises. It does nothing.
-    pub fn rises(&self)
-        ensures { IsStrictlyIncreasing self.now }
-    {
-        let _ = &self.atoms;
     }
 
     /// The set of them, by one sort.

@@ -4,11 +4,11 @@ use Rattle.std.proofs.lemmas.List.{take_more}
 use Rattle.tp_base.specs.declared.no_memory.NoMemory.{NoMemory}
 use Rattle.tree_sem.specs.Trees.{LabelTree}
 use Rattle.tree_sem.specs.Nodes.{IsNode, HasAtoms}
-use Rattle.tree_sem.proofs.NodeLemmas.{HasAtom-node}
+use Rattle.tree_sem.proofs.NodeLemmas.{HasAtom-node, HasAtoms-none}
 use Rattle.node_marks.specs.Marks.{IsMarked, IsSetOf, HasParentIn, HasAncestorIn, HasChildIn, HasDescendantIn}
 use Rattle.guard_sem.specs.Guards.{Guard, atom, parent, ancestor, child, descendant, somewhere, at_or_below, guards_of}
 use Rattle.guard_sem.specs.Holding.{Holds, HoldAll, HoldsOne}
-use Rattle.guard_sem.proofs.SelectorLemmas.{HasAtoms-none, HasAtoms-more, HasAtoms-first}
+use Rattle.guard_sem.proofs.SelectorLemmas.{HasAtoms-more, HasAtoms-first}
 
 -- a set by another test of its nodes
 pub of_same : (t : LabelTree) (P Q : List ℕ → Type 0) → ((v : List ℕ) → P v ↔ Q v) → (r : Result (List Bool) NoMemory) → IfOk r (λ m. IsSetOf t m P) → IfOk r (λ m. IsSetOf t m Q)

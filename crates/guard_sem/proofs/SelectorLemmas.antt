@@ -1,13 +1,13 @@
 -- The guard of a selector holds exactly where the selector matches.
 use Rattle.std.proofs.Common.{◌≡◌, ◌↔◌, ℕ, ◌≤◌, List, [], ◌∷◌, ◌++◌, length, take, map, Option, Result, Ok, Err, IfOk, Some, None, option_map, IsSome, IsSomeAnd, All, Contains, refl, sym, ap, ◌∙◌, arith, length-append}
-use Rattle.std.proofs.lemmas.List.Elements.{All-nil, All-cons, All-head, All-tail, All-contains}
+use Rattle.std.proofs.lemmas.List.Elements.{All-cons, All-head, All-tail, All-contains}
 use Rattle.std.proofs.lemmas.List.{take-append-le, length-take}
 use Rattle.std.proofs.Math.Seq.{take-length}
 use Rattle.tp_base.specs.declared.no_memory.NoMemory.{NoMemory}
 use Rattle.tree_sem.specs.Trees.{LabelTree, node_at}
 use Rattle.tree_sem.specs.Nodes.{IsNode, HasAtom, HasAtoms}
 use Rattle.tree_sem.proofs.BothLemmas.{last_of}
-use Rattle.tree_sem.proofs.NodeLemmas.{HasAtom-node, HasAtoms-node}
+use Rattle.tree_sem.proofs.NodeLemmas.{HasAtom-node, HasAtoms-node, HasAtoms-none}
 use Rattle.tree_sem.proofs.PathLemmas.{take_take}
 use Rattle.sel_core.specs.Selectors.{Join, child as to_parent, inside, Outer, Selector, IsAbove, Above, Matches, simple}
 use Rattle.sel_core.specs.declared.selectors.Compound.{Compound}
@@ -20,9 +20,6 @@ use Rattle.guard_sem.specs.OfSelectors.{of_compound, of_join, of_parts, of_selec
 module _ (t : LabelTree) (v : List ℕ) where
   abbrev Label : Option LabelTree → (List ℕ → Type 0) → Type 0
   Label o P = IsSomeAnd (option_map (λ (n : LabelTree). n.label) o) P
-
-  pub HasAtoms-none : IsNode t v → HasAtoms t v []
-  HasAtoms-none is = elim (node_at v t) as (λ o. IsSome o → Label o (λ l. All (Contains l) [])) [ None ↦ λ is. cc | Some s ↦ λ is. All-nil (Contains s.label) ] is
 
   pub HasAtoms-more : (a : ℕ) (atoms : List ℕ) → HasAtom t v a → HasAtoms t v atoms → HasAtoms t v (a ∷ atoms)
   HasAtoms-more a atoms has fits = elim (node_at v t) as (λ o. Label o (λ l. Contains l a) → Label o (λ l. All (Contains l) atoms) → Label o (λ l. All (Contains l) (a ∷ atoms))) [
@@ -49,14 +46,14 @@ module _ (t : LabelTree) (v : List ℕ) where
   ] fits
 
   of_atoms : (atoms : List ℕ) → IsNode t v → HoldAll t v (guards_of (map atom atoms)) ↔ HasAtoms t v atoms
-  of_atoms [] is = (λ h. HasAtoms-none is, λ fits. tt)
+  of_atoms [] is = (λ h. HasAtoms-none t v is, λ fits. tt)
   of_atoms (a ∷ atoms) is =
       let rest = of_atoms atoms is in
       (λ h. HasAtoms-more a atoms h.0 (rest.0 h.1), λ fits. (HasAtoms-first a atoms fits, rest.1 (HasAtoms-others a atoms fits)))
 
   pub of_compound-fits : (atoms : List ℕ) → Holds t v (of_compound atoms) ↔ HasAtoms t v atoms
-  of_compound-fits [] = (λ is. HasAtoms-none is, λ fits. HasAtoms-node t v [] fits)
-  of_compound-fits (a ∷ []) = (λ has. HasAtoms-more a [] has (HasAtoms-none (HasAtom-node t v a has)), λ fits. HasAtoms-first a [] fits)
+  of_compound-fits [] = (λ is. HasAtoms-none t v is, λ fits. HasAtoms-node t v [] fits)
+  of_compound-fits (a ∷ []) = (λ has. HasAtoms-more a [] has (HasAtoms-none t v (HasAtom-node t v a has)), λ fits. HasAtoms-first a [] fits)
   of_compound-fits (a ∷ b ∷ atoms) = (
     λ h. (of_atoms (a ∷ b ∷ atoms) h.0).0 h.1,
     λ fits. let is = HasAtoms-node t v (a ∷ b ∷ atoms) fits in (is, (of_atoms (a ∷ b ∷ atoms) is).1 fits),

@@ -2,13 +2,14 @@
 use Rattle.std.proofs.Common.{◌≡◌, ℕ, List, ◌++◌, map, Some, All, Contains, refl, sym, subst, inl, inr}
 use Rattle.std.specs.Prelude.{slice_get}
 use Rattle.std.proofs.lemmas.List.Elements.{All-contains, Contains-append_cases}
+use Rattle.tp_base.proofs.Lists.{Contains-at}
 use Rattle.tree_sem.proofs.NodeLemmas.{map-Contains}
 use Rattle.tree_sem.specs.Trees.{LabelTree}
 use Rattle.guard_sem.specs.Guards.{Guard}
 use Rattle.guard_sem.specs.declared.rules.Rule.{Rule}
 use Rattle.guard_simplify.specs.Simplified.{atom_for}
 use Rattle.guard_simplify.specs.Law.{IsOver, IsRuleOver, GoesBack}
-use Rattle.guard_simplify.proofs.GoingBack.{slice_get-Contains, steps_back, no_step_back}
+use Rattle.guard_simplify.proofs.GoingBack.{steps_back, no_step_back}
 use Rattle.tree_sem.specs.Nodes.{IsTreeOver}
 
 module _ (rules : List Rule) (guards : List Guard) (n : ℕ) (over : (g : Guard) → Contains (map (λ (r : Rule). r.guard) rules ++ guards) g → IsOver n g)
@@ -25,7 +26,7 @@ module _ (rules : List Rule) (guards : List Guard) (n : ℕ) (over : (g : Guard)
 
 -- by the elements of the two lists
 pub each_rule_over : (rules : List Rule) (n : ℕ) → All (IsRuleOver n) rules → (i : ℕ) (r : Rule) → slice_get rules i ≡ Some r → IsRuleOver n r
-each_rule_over rules n rules_over i r rule = All-contains (IsRuleOver n) rules r rules_over (slice_get-Contains rules i r rule)
+each_rule_over rules n rules_over i r rule = All-contains (IsRuleOver n) rules r rules_over (Contains-at rules i r rule)
 
 pub each_guard_over : (rules : List Rule) (guards : List Guard) (n : ℕ) → All (IsRuleOver n) rules → All (IsOver n) guards → (g : Guard) → Contains (map (λ (r : Rule). r.guard) rules ++ guards) g → IsOver n g
 each_guard_over rules guards n rules_over guards_over g is = elim (Contains-append_cases (map (λ (r : Rule). r.guard) rules) guards g is) [

@@ -4,6 +4,7 @@ use Rattle.std.specs.Prelude.{slice_get}
 use Rattle.std.specs.List.{flat_map}
 use Rattle.std.proofs.lemmas.List.Elements.{Contains-append_left, Contains-append_right}
 use Rattle.tp_base.proofs.Rising.{Contains-here, Contains-behind, Contains-cons, Contains-none}
+use Rattle.tp_base.proofs.Lists.{Contains-at, Contains-flat_map, flat_map-Contains}
 use Rattle.tree_sem.specs.declared.actions.Action.{Action}
 use Rattle.tree_sem.specs.declared.actions.Action.TheVariants.{Classes, Inside, Beside}
 use Rattle.tree_sem.specs.Trees.{LabelTree, no_nodes, push_tree}
@@ -22,13 +23,12 @@ use Rattle.guard_simplify.specs.Firsts.{different}
 use Rattle.guard_simplify.specs.Auxiliaries.{tops_of, formulas, by_rule, seen}
 use Rattle.guard_simplify.specs.Simplified.{atom_for, atom_of, classes_of, formula_locals, formula_downs, action_locals, seen_local, seen_down, system}
 use Rattle.guard_simplify.specs.Law.{Follows}
-use Rattle.guard_simplify.proofs.NumberLemmas.{different-Contains, flat_map-Contains, Contains-flat_map}
+use Rattle.guard_simplify.proofs.NumberLemmas.{different-Contains}
 use Rattle.guard_simplify.proofs.Steps.{IsLater, later_itself, later_both, got_by_local}
 use Rattle.guard_simplify.proofs.Adding.{Served, add, one_need, down_along}
 use Rattle.guard_simplify.proofs.Following.{GivesEach, Spawned, ActionServed, RuleServed, follow}
 use Rattle.guard_simplify.proofs.FormulaLemmas.{inside_listed, inner_listed, served}
 use Rattle.guard_simplify.proofs.ForestLemmas.{Contains-by_rule, forest_spawned}
-use Rattle.guard_simplify.proofs.GoingBack.{slice_get-Contains}
 use Rattle.tree_sem.proofs.EmbeddingLemmas.{image_of, image_is, image_child_is}
 use Rattle.tree_sem.specs.Nodes.{IsNode, HasAtom}
 use Rattle.tree_sem.proofs.ImageLemmas.{IsNode-image, HasAtom-image}
@@ -64,7 +64,7 @@ module _ (rules : List Rule) (guards : List Guard) (n : ℕ) where
 
   rule_served : (i : ℕ) (r : Rule) → slice_get rules i ≡ Some r → RuleServed s at r
   rule_served i r rule = record {
-    guard = served rules guards n r.guard (inside_listed rules guards n r.guard (Contains-append_left (map (λ (r : Rule). r.guard) rules) guards r.guard (Contains-map (λ (r : Rule). r.guard) rules r (slice_get-Contains rules i r rule))));
+    guard = served rules guards n r.guard (inside_listed rules guards n r.guard (Contains-append_left (map (λ (r : Rule). r.guard) rules) guards r.guard (Contains-map (λ (r : Rule). r.guard) rules r (Contains-at rules i r rule))));
     action = by_action r.action refl;
   }
     where

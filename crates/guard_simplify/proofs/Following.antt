@@ -12,7 +12,7 @@ use Rattle.tree_sem.specs.Actions.{add_classes, add_trees}
 use Rattle.tree_sem.specs.Embedding.{IsWithin, IsImage}
 use Rattle.tree_sem.proofs.RowLemmas.{there, node_at-append}
 use Rattle.tree_sem.proofs.EditLemmas.{node_at-add_child_new}
-use Rattle.tree_sem.proofs.ImageLemmas.{image_grows, edit_image}
+use Rattle.tree_sem.proofs.ImageLemmas.{image_grows, edit_image, one_down}
 use Rattle.tree_sem.proofs.WithinLemmas.{within_at, within_both, are_within_each, all_in, carried, image_node}
 use Rattle.simple_core.specs.declared.rules.Local.{Local}
 use Rattle.simple_core.specs.declared.system.System.{System}
@@ -21,12 +21,12 @@ use Rattle.guard_sem.specs.Guards.{Guard}
 use Rattle.guard_sem.specs.declared.rules.Rule.{Rule}
 use Rattle.guard_sem.specs.Rules.{RuleStep, taken, IsLegal, after_step, end_of, AreLegal}
 use Rattle.guard_sem.proofs.HoldingLemmas.{Holds-node, holds_image}
-use Rattle.guard_sem.proofs.SelectorLemmas.{HasAtoms-none, HasAtoms-more}
+use Rattle.guard_sem.proofs.SelectorLemmas.{HasAtoms-more}
 use Rattle.guard_simplify.proofs.Steps.{IsLater, later_itself, later_both, got_by_local, later_by_spawn}
 use Rattle.guard_simplify.proofs.Adding.{Served, add, one_need}
-use Rattle.guard_simplify.proofs.PushedTrees.{one_down, pushed_cases}
+use Rattle.guard_simplify.proofs.PushedTrees.{pushed_cases}
 use Rattle.tree_sem.specs.Nodes.{HasAtom, HasAtoms}
-use Rattle.tree_sem.proofs.NodeLemmas.{HasAtom-node}
+use Rattle.tree_sem.proofs.NodeLemmas.{HasAtom-node, HasAtoms-none}
 use Rattle.tree_sem.specs.Growth.{Grows}
 use Rattle.tree_sem.proofs.GrowthLemmas.{grows_at, HasAtom-grows}
 

@@ -7,6 +7,7 @@ use Rattle.std.proofs.lemmas.List.Elements.{All-contains_itself, Contains-append
 use Rattle.tp_base.specs.Classes.{with_class}
 use Rattle.tp_base.proofs.ClassLemmas.{with_class-there}
 use Rattle.tp_base.proofs.Rising.{Contains-behind, Contains-cons, Contains-none}
+use Rattle.tp_base.proofs.Lists.{Contains-flat_map, flat_map-Contains}
 use Rattle.tree_sem.specs.Trees.{Row, no_nodes, node, LabelTree, tree_of, length_of, node_at, label_at}
 use Rattle.tree_sem.proofs.RowLemmas.{there, tree_of-within, child_node_at}
 use Rattle.tree_sem.proofs.WithinLemmas.{All-with_class}
@@ -23,7 +24,7 @@ use Rattle.guard_simplify.specs.Firsts.{place_of, different}
 use Rattle.guard_simplify.specs.Auxiliaries.{forest_of, nodes_of, children_in, Place, same_place, by_rule, places, owners, formulas, formula, owner, seen, auxiliaries}
 use Rattle.guard_simplify.specs.Simplified.{atom_for, atom_of, kind_at, spawns_below, action_spawns, label_in, kind_of, system}
 use Rattle.guard_simplify.proofs.Following.{Spawned}
-use Rattle.guard_simplify.proofs.NumberLemmas.{flat_map-Contains, Contains-flat_map, same_place-sound, same_place-itself}
+use Rattle.guard_simplify.proofs.NumberLemmas.{same_place-sound, same_place-itself}
 use Rattle.tree_sem.specs.Nodes.{IsNode}
 
 -- what is in the list by rules

@@ -1,9 +1,9 @@
 -- Simple steps go back to rule steps: what is true of each simple tree, and that each step keeps it.
-use Rattle.std.proofs.Common.{◌≡◌, ◌≢◌, ◌⊎◌, ℕ, zero, suc, ◌+◌, ◌<◌, List, [], ◌∷◌, ◌++◌, length, Option, Some, None, option_map, IsSome, IsSomeAnd, Contains, refl, sym, ap, ◌∙◌, subst, inl, inr, arith, length-append}
-use Rattle.std.proofs.lemmas.Bool.{cases_order}
+use Rattle.std.proofs.Common.{◌≡◌, ◌≢◌, ◌⊎◌, ℕ, ◌+◌, ◌<◌, List, [], ◌∷◌, ◌++◌, length, Option, Some, None, option_map, IsSome, IsSomeAnd, Contains, refl, sym, ap, ◌∙◌, subst, inl, inr, arith, length-append}
 use Rattle.tp_base.specs.Classes.{with_class}
 use Rattle.tp_base.proofs.ClassLemmas.{Contains-with_class, union_of-keeps_right}
-use Rattle.tp_base.proofs.Rising.{Contains-here, Contains-behind, Contains-none}
+use Rattle.tp_base.proofs.Rising.{Contains-here, Contains-none}
+use Rattle.tp_base.proofs.Lists.{Contains-at, same_or_other, flat_map-Contains}
 use Rattle.tree_sem.specs.declared.actions.Action.{Action}
 use Rattle.tree_sem.specs.declared.actions.Action.TheVariants.{Classes, Inside, Beside}
 use Rattle.tree_sem.specs.Actions.{add_classes}
@@ -33,7 +33,7 @@ use Rattle.guard_simplify.specs.Firsts.{different}
 use Rattle.guard_simplify.specs.Auxiliaries.{formulas, forest_of, nodes_of, children_in, by_rule}
 use Rattle.guard_simplify.specs.Simplified.{atom_for, atom_of, classes_of, formula_locals, formula_ups, formula_downs, action_locals, action_spawns, seen_local, seen_down, label_in, system}
 use Rattle.guard_simplify.specs.Law.{IsAdded, IsFor, IsTrueOf, IsOver, IsRuleOver}
-use Rattle.guard_simplify.proofs.NumberLemmas.{different-Contains, flat_map-Contains}
+use Rattle.guard_simplify.proofs.NumberLemmas.{different-Contains}
 use Rattle.guard_simplify.proofs.Meanings.{Known, said, local_said, up_said, down_said}
 use Rattle.guard_simplify.proofs.FormulaLemmas.{seen_is, known, inside_listed, none_below, one_meaning, formula_known}
 use Rattle.guard_simplify.proofs.ForestLemmas.{owner_is, by_rule-Contains, node_is, label_of_kind, spawn_cases}
@@ -42,24 +42,6 @@ use Rattle.tree_sem.specs.Nodes.{IsNode, HasAtom, IsTreeOver}
 use Rattle.tree_sem.specs.Growth.{Grows}
 use Rattle.tree_sem.proofs.GrowthLemmas.{IsNode-grows, HasAtom-grows}
 use Rattle.guard_sem.proofs.HoldingLemmas.{Holds-grows}
-
-same_or_other : (xs ys : List ℕ) → (xs ≡ ys) ⊎ (xs ≢ ys)
-same_or_other [] [] = inl refl
-same_or_other [] (y ∷ ys) = inr (λ e. cc)
-same_or_other (x ∷ xs) [] = inr (λ e. cc)
-same_or_other (x ∷ xs) (y ∷ ys) = elim (same_or_other xs ys) [
-  | inr other ↦ inr (λ e. other (cc))
-  | inl same ↦ elim (cases_order x y) [
-    | inl first ↦ inl (λ i. first i ∷ same i)
-    | inr (inl less) ↦ inr (λ e. let first : x ≡ y = cc in omega arith)
-    | inr (inr more) ↦ inr (λ e. let first : x ≡ y = cc in omega arith)
-  ]
-]
-
-pub slice_get-Contains : {X : Type 0} (xs : List X) (i : ℕ) (x : X) → slice_get xs i ≡ Some x → Contains xs x
-slice_get-Contains [] i x at = cc
-slice_get-Contains (y ∷ xs) zero x at = let same : y ≡ x = cc in Contains-here x y xs (sym same)
-slice_get-Contains (y ∷ xs) (suc i) x at = Contains-behind x y xs (slice_get-Contains xs i x at)
 
 abbrev pick : {P Q : Type 0} → List ℕ → List ℕ → P ⊎ Q → List ℕ
 pick x y (inl p) = x
@@ -206,7 +188,7 @@ module _ (rules : List Rule) (guards : List Guard) (n : ℕ) (T : LabelTree) whe
     handed_known g is = known rules guards n g (over g is) (inside_listed rules guards n g is)
 
     rule_known : (i : ℕ) (r : Rule) → slice_get rules i ≡ Some r → Known rules guards n r.guard
-    rule_known i r rule = handed_known r.guard (Contains-append_left (map (λ (r : Rule). r.guard) rules) guards r.guard (Contains-map (λ (r : Rule). r.guard) rules r (slice_get-Contains rules i r rule)))
+    rule_known i r rule = handed_known r.guard (Contains-append_left (map (λ (r : Rule). r.guard) rules) guards r.guard (Contains-map (λ (r : Rule). r.guard) rules r (Contains-at rules i r rule)))
 
     -- what the atom of a guard says
     guard_said : (steps : List RuleStep) (g : Guard) → Known rules guards n g → (w : List ℕ) → Says steps (at g) w → Holds (end_of T rules steps) w g

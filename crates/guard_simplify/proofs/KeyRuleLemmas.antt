@@ -1,11 +1,12 @@
 -- The rules of the formulas' keys are those of the formulas.
-use Rattle.std.proofs.Common.{◌≡◌, ℕ, suc, ◌+◌, false, List, [], ◌∷◌, ◌++◌, length, map, Contains, None, Some, refl, sym, ap, ◌∙◌, inl, inr, arith, append_assoc, length-append}
+use Rattle.std.proofs.Common.{◌≡◌, ℕ, suc, ◌+◌, false, List, [], ◌∷◌, ◌++◌, length, map, Contains, None, Some, refl, sym, ap, ◌∙◌, inl, inr, arith, length-append}
 use Rattle.std.specs.Prelude.{slice_get}
 use Rattle.std.specs.List.{flat_map}
 use Rattle.std.proofs.lemmas.Bool.{cases_Bool, cases_lt}
 use Rattle.std.proofs.lemmas.Option.{slice_get_within}
-use Rattle.tp_base.proofs.NamesLemmas.{Contains-at, slice_get-append_left, slice_get-push}
+use Rattle.std.proofs.lemmas.List.Concat.{flat_map-append}
 use Rattle.tp_base.proofs.Rising.{Contains-here, Contains-behind}
+use Rattle.tp_base.proofs.Lists.{Contains-at, slice_get-append_left, slice_get-push}
 use Rattle.simple_core.specs.declared.rules.Local.{Local}
 use Rattle.guard_sem.specs.Guards.{Guard, always, atom, all, any, parent, ancestor, child, descendant, somewhere, Guards, no_guards, guard, guards_of, parts, same_guard}
 use Rattle.guard_sem.specs.declared.rules.Rule.{Rule}
@@ -56,10 +57,6 @@ guards_placed guards = placed_all [] guards (λ i g at. cc)
 in_list : (gs : List Guard) → formulas_in (guards_of gs) ≡ flat_map formulas_of gs
 in_list [] = refl
 in_list (g ∷ gs) = ap (λ z. formulas_of g ++ z) (in_list gs)
-
-flat_map-append : {X Y : Type 0} (f : X → List Y) (xs ys : List X) → flat_map f (xs ++ ys) ≡ flat_map f xs ++ flat_map f ys
-flat_map-append f [] ys = refl
-flat_map-append f (x ∷ xs) ys = ap (λ z. f x ++ z) (flat_map-append f xs ys) ∙ sym (append_assoc (f x) (flat_map f xs) (flat_map f ys))
 
 pub formulas_numbered : (rules : List Rule) (guards : List Guard) → with_all (with_all [] (formulas_in (guards_of (map (λ r. r.guard) rules)))) (formulas_in (guards_of guards)) ≡ formulas rules guards
 formulas_numbered rules guards =

@@ -1,27 +1,12 @@
 -- Elements of lists without repeats, and their places.
 use Rattle.std.proofs.Common.{◌≡◌, ◌⊎◌, ◌↔◌, ℕ, ◌<◌, ◌==◌, Bool, true, List, [], ◌∷◌, length, fold, Contains, refl, sym, ap, ◌∙◌, subst, inl, inr, arith}
-use Rattle.std.specs.List.{flat_map}
 use Rattle.std.specs.Cmp.Derive.{both_true}
 use Rattle.std.proofs.lemmas.Bool.{cases_Bool, and_parts, eqb-true, eq-eqb}
-use Rattle.std.proofs.lemmas.List.Elements.{Contains-append_left, Contains-append_right, Contains-append_cases, Contains-push, Contains-push_cases}
+use Rattle.std.proofs.lemmas.List.Elements.{Contains-append_left, Contains-push, Contains-push_cases}
 use Rattle.tp_base.proofs.Rising.{Contains-here, Contains-behind, Contains-cons, Contains-none}
 use Rattle.guard_sem.proofs.SameGuards.{same_guard-sound, same_guard-itself}
 use Rattle.guard_simplify.specs.Firsts.{is_among, with_new, different, place_of, same_path}
 use Rattle.guard_simplify.specs.Auxiliaries.{Place, same_place, Auxiliary, formula, owner, seen, same_auxiliary}
-
-pub flat_map-Contains : {X Y : Type 0} (f : X → List Y) (xs : List X) (y : Y) → Contains (flat_map f xs) y → (x : X) × Contains xs x × Contains (f x) y
-flat_map-Contains f [] y is = absurd (Contains-none y is)
-flat_map-Contains f (x ∷ xs) y is = elim (Contains-append_cases (f x) (flat_map f xs) y is) [
-  | inl here ↦ (x, Contains-here x x xs refl, here)
-  | inr behind ↦ let rest = flat_map-Contains f xs y behind in (rest.0, Contains-behind rest.0 x xs rest.1, rest.2)
-]
-
-pub Contains-flat_map : {X Y : Type 0} (f : X → List Y) (xs : List X) (x : X) (y : Y) → Contains xs x → Contains (f x) y → Contains (flat_map f xs) y
-Contains-flat_map f [] x y is of = absurd (Contains-none x is)
-Contains-flat_map f (z ∷ xs) x y is of = elim ((Contains-cons x z xs).0 is) [
-  | inl here ↦ Contains-append_left (f z) (flat_map f xs) y (subst (λ w. Contains (f w) y) here of)
-  | inr behind ↦ Contains-append_right (f z) (flat_map f xs) y (Contains-flat_map f xs x y behind of)
-]
 
 module _ {X : Type 0} (same : X → X → Bool) (sound : (x y : X) → same x y ≡ true → x ≡ y) (itself : (x : X) → same x x ≡ true) where
   pub among-Contains : (x : X) (xs : List X) → is_among same x xs ≡ true → Contains xs x

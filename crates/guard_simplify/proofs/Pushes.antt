@@ -4,7 +4,7 @@ use Rattle.std.specs.Prelude.{slice_get, get_or}
 use Rattle.std.proofs.lemmas.List.{map-append, take_more}
 use Rattle.std.proofs.lemmas.List.Sums.{fold-append}
 use Rattle.std.proofs.lemmas.List.FromFn.{map-range_with_len_more}
-use Rattle.std.proofs.lemmas.Option.{slice_get_within, get_or_from_slice_get}
+use Rattle.tp_base.proofs.Lists.{take_next}
 use Rattle.simple_core.specs.declared.rules.Local.{Local}
 use Rattle.simple_core.specs.declared.rules.Spawn.{Spawn}
 use Rattle.guard_sem.specs.Guards.{Guard, guards_of}
@@ -17,15 +17,12 @@ use Rattle.guard_simplify.specs.ForestRules.{kind_among, children_spawned}
 use Rattle.guard_simplify.specs.SeenRules.{class_locals}
 use Rattle.guard_simplify.proofs.NumberedLemmas.{numbered_push}
 
-pub taken_next : {X : Type 0} (xs : List X) (i : ℕ) (x : X) → slice_get xs i ≡ Some x → take (i + 1) xs ≡ take i xs ++ x ∷ []
-taken_next xs i x at = take_more xs i x (slice_get_within xs i x at) ∙ ap (λ z. take i xs ++ z ∷ []) (get_or_from_slice_get xs i x x at)
-
 pub class_pushed : (number needs : ℕ) (classes : List ℕ) (old now new : List Local) (i a : ℕ) (set : List ℕ) → now ≡ old ++ class_locals number needs (take i classes) → set ≡ needs ∷ [] → slice_get classes i ≡ Some a
     → new ≡ now ++ record { needs = set; gives = a; stmt = Some number } ∷ [] → new ≡ old ++ class_locals number needs (take (i + 1) classes)
 class_pushed number needs classes old now new i a set before one at last =
     let rule : ℕ → Local = λ a. record { needs = needs ∷ []; gives = a; stmt = Some number } in
     let front = class_locals number needs (take i classes) in
-    let whole : class_locals number needs (take (i + 1) classes) ≡ front ++ rule a ∷ [] = ap (map rule) (taken_next classes i a at) ∙ map-append rule (take i classes) (a ∷ []) in
+    let whole : class_locals number needs (take (i + 1) classes) ≡ front ++ rule a ∷ [] = ap (map rule) (take_next classes i a at) ∙ map-append rule (take i classes) (a ∷ []) in
     let pushed : new ≡ now ++ rule a ∷ [] = last ∙ ap (λ (z : List ℕ). now ++ record { needs = z; gives = a; stmt = Some number } ∷ []) one in
     pushed ∙ ap (λ z. z ++ rule a ∷ []) before ∙ append_assoc old front (rule a ∷ []) ∙ ap (λ z. old ++ z) (sym whole)
 

@@ -9,12 +9,13 @@ use Rattle.tp_base.specs.declared.atoms.TheConstants.{MOST_ATOMS}
 use Rattle.tp_base.specs.Classes.{with_class}
 use Rattle.tp_base.proofs.ClassLemmas.{Contains-with_class, Contains-union_of}
 use Rattle.tp_base.proofs.Rising.{Contains-cons, Contains-none, All-from_Contains}
+use Rattle.tp_base.proofs.Lists.{Contains-at, flat_map-Contains}
 use Rattle.tree_sem.specs.Trees as tree
 use Rattle.tree_sem.specs.Trees.{Row, no_nodes, node, LabelTree, tree_of, length_of, node_at, label_at}
 use Rattle.tree_sem.specs.Order.{paths_from}
 use Rattle.tree_sem.specs.Paths.{parent_of, last_number}
 use Rattle.tree_sem.proofs.RowLemmas.{there, node_at-child, tree_of-number}
-use Rattle.tree_sem.proofs.PathLemmas.{parent_of-child}
+use Rattle.tree_sem.proofs.PathLemmas.{parent_of-child, last_number-child}
 use Rattle.tree_sem.proofs.NodeLemmas.{Contains-map, map-Contains, length-paths_from}
 use Rattle.simple_core.specs.declared.rules.Local.{Local}
 use Rattle.simple_core.specs.declared.rules.Link.{Link}
@@ -31,11 +32,10 @@ use Rattle.guard_simplify.specs.Firsts.{different}
 use Rattle.guard_simplify.specs.Auxiliaries.{formulas, forest_of, nodes_of, children_in, Place, same_place, by_rule, places, Auxiliary, formula, owner, seen, same_auxiliary, auxiliaries}
 use Rattle.guard_simplify.specs.Simplified.{atom_for, atom_of, kind_at, classes_of, formula_locals, formula_ups, formula_downs, action_locals, action_spawns, seen_local, seen_down, kind_above, label_in, kind_of, system}
 use Rattle.guard_simplify.specs.Law.{IsFor, IsOver, IsRuleOver}
-use Rattle.guard_simplify.proofs.NumberLemmas.{different-Contains, flat_map-Contains, place_within, same_auxiliary-sound, same_auxiliary-itself, same_place-sound, same_place-itself}
+use Rattle.guard_simplify.proofs.NumberLemmas.{different-Contains, place_within, same_auxiliary-sound, same_auxiliary-itself, same_place-sound, same_place-itself}
 use Rattle.guard_simplify.proofs.Meanings.{Known, KnownAll}
 use Rattle.guard_simplify.proofs.FormulaLemmas.{formula_known, known, inside_listed, seen_is}
 use Rattle.guard_simplify.proofs.ForestLemmas.{owner_is, by_rule-Contains, Contains-by_rule, node_is, spawn_cases, Beside, kinds_beside}
-use Rattle.guard_simplify.proofs.GoingBack.{slice_get-Contains}
 use Rattle.guard_simplify.proofs.Order.{earlier_place, place_first}
 use Rattle.tree_sem.specs.Nodes.{IsNode}
 
@@ -56,11 +56,6 @@ beside_back R (x ∷ xs) (y' ∷ ys) (suc j) y b at = beside_back R xs ys j y b.
 pub split_last : (k : ℕ) (q : List ℕ) → (p : List ℕ) × (m : ℕ) × (k ∷ q ≡ p ++ m ∷ [])
 split_last k [] = ([], k, refl)
 split_last k (l ∷ q) = let rest = split_last l q in (k ∷ rest.0, rest.1, ap (λ z. k ∷ z) rest.2)
-
-pub last_number-push : (p : List ℕ) (m : ℕ) → last_number (p ++ m ∷ []) ≡ m
-last_number-push [] m = refl
-last_number-push (k ∷ []) m = refl
-last_number-push (k ∷ l ∷ p) m = last_number-push (l ∷ p) m
 
 length_of-nodes : (row : Row) → length_of row ≤ tree.nodes_of row
 length_of-nodes no_nodes = omega arith
@@ -150,7 +145,7 @@ module _ (rules : List Rule) (guards : List Guard) (n : ℕ) where
       ap (λ (z : List ℕ). unwrap_or (option_map (children_in r) (parent_of z)) 0) split.2
       ∙ ap (λ (o : Option (List ℕ)). unwrap_or (option_map (children_in r) o) 0) (parent_of-child p m)
       ∙ ap (λ (o : Option LabelTree). unwrap_or (option_map (λ t. length_of t.below) o) 0) family.2 in
-      let number : last_number (x ∷ q) ≡ m = ap last_number split.2 ∙ last_number-push p m in
+      let number : last_number (x ∷ q) ≡ m = ap last_number split.2 ∙ last_number-child p m in
       let few = length_of-nodes family.0.below in
       let fewer = nodes_below p (forest_of r) family.0 family.2 in
       let all_nodes = length-paths_from (forest_of r).below 0 in
@@ -276,7 +271,7 @@ module _ (rules : List Rule) (guards : List Guard) (n : ℕ) where
     guard_known g is = known rules guards n g (over g is) (inside_listed rules guards n g is)
 
     rule_guard : (i : ℕ) (r : Rule) → slice_get rules i ≡ Some r → IsAtom (at r.guard)
-    rule_guard i r rule = known_atom r.guard (guard_known r.guard (Contains-append_left (map (λ (r : Rule). r.guard) rules) guards r.guard (Contains-map (λ (r : Rule). r.guard) rules r (slice_get-Contains rules i r rule))))
+    rule_guard i r rule = known_atom r.guard (guard_known r.guard (Contains-append_left (map (λ (r : Rule). r.guard) rules) guards r.guard (Contains-map (λ (r : Rule). r.guard) rules r (Contains-at rules i r rule))))
 
     handed : (g : Guard) → Contains (different same_guard guards) g → Contains guards g
     handed g is = (different-Contains same_guard same_guard-sound same_guard-itself guards g).0 is

@@ -8,6 +8,7 @@ use Rattle.std.proofs.lemmas.Option.{get_or_from_slice_get}
 use Rattle.tp_base.specs.declared.atoms.TheConstants.{MOST_ATOMS}
 use Rattle.tp_base.specs.Classes.{with_class}
 use Rattle.tp_base.proofs.Rising.{Contains-here, Contains-behind}
+use Rattle.tp_base.proofs.Lists.{map_at, map_alike}
 use Rattle.tree_sem.specs.Trees.{label_at}
 use Rattle.tree_sem.specs.Paths.{parent_of, last_number}
 use Rattle.tree_sem.proofs.NodeLemmas.{Contains-map}
@@ -38,18 +39,10 @@ use Rattle.guard_simplify.proofs.NumberLemmas.{different-Contains}
 use Rattle.guard_simplify.proofs.Numbering.{atom_for-owner, atom_for-seen, count_auxiliaries}
 use Rattle.guard_simplify.proofs.KeyRuleLemmas.{guards_placed, locals_by_keys, ups_by_keys, downs_by_keys}
 use Rattle.guard_simplify.proofs.ForestLemmas.{Contains-by_rule}
-use Rattle.guard_simplify.proofs.Order.{map_get}
 use Rattle.guard_simplify.proofs.RuleLists.{by_rule_same}
 use Rattle.guard_simplify.proofs.Soundness.{sound}
 use Rattle.guard_simplify.proofs.BackLaw.{each_rule_over, each_guard_over}
 use Rattle.guard_simplify.proofs.CountedLemmas.{map_map, place_numbers, one_guard}
-
-map_same : {X Y : Type 0} (f g : X → Y) (xs : List X) → ((x : X) → Contains xs x → f x ≡ g x) → map f xs ≡ map g xs
-map_same f g [] same = refl
-map_same f g (x ∷ xs) same =
-    let first = same x (Contains-here x x xs refl) in
-    let rest = map_same f g xs (λ y is. same y (Contains-behind y x xs is)) in
-    λ i. first i ∷ rest i
 
 flat_map_same : {X Y : Type 0} (f g : X → List Y) (xs : List X) → ((x : X) → Contains xs x → f x ≡ g x) → flat_map f xs ≡ flat_map g xs
 flat_map_same f g [] same = refl
@@ -132,7 +125,7 @@ module _ (rules : List Rule) (guards : List Guard) (n : ℕ) where
   kinds_same : by_rule (rule_kinds (places rules) (owners rules) first) 0 rules ≡ (system rules guards n).kinds
   kinds_same = by_rule_same (rule_kinds (places rules) (owners rules) first) (λ i r. map (kind_of rules guards n i r) (nodes_of r)) 0 rules (λ j r at'.
       let rule : slice_get rules (0 + j) ≡ Some r = subst (λ k. slice_get rules k ≡ Some r) {x = j} (omega arith) at' in
-      map_same (made_kind (places rules) (owners rules) first (0 + j) (forest_of r) (is_beside r.action)) (kind_of rules guards n (0 + j) r) (nodes_of r) (λ q is. kind_same (0 + j) r q rule is))
+      map_alike (made_kind (places rules) (owners rules) first (0 + j) (forest_of r) (is_beside r.action)) (kind_of rules guards n (0 + j) r) (nodes_of r) (λ q is. kind_same (0 + j) r q rule is))
 
   spawns_same : (i : ℕ) (r : Rule) (q : List ℕ) → slice_get rules i ≡ Some r → Contains (nodes_of r) q
       → node_spawns (places rules) (owners rules) first i (forest_of r) q ≡ spawns_below rules guards n i r (atom_for rules guards n (owner (i, q))) q
@@ -148,7 +141,7 @@ module _ (rules : List Rule) (guards : List Guard) (n : ℕ) where
   -- the atoms of the rules' guards
   module _ (of_rules : List ℕ) (are : of_rules ≡ map (λ (r : Rule). at r.guard) rules) where
     guard_at : (i : ℕ) (r : Rule) → slice_get rules i ≡ Some r → get_or of_rules i 0 ≡ at r.guard
-    guard_at i r rule = get_or_from_slice_get of_rules i (at r.guard) 0 (ap (λ z. slice_get z i) are ∙ map_get (λ (r : Rule). at r.guard) rules i r rule)
+    guard_at i r rule = get_or_from_slice_get of_rules i (at r.guard) 0 (ap (λ z. slice_get z i) are ∙ map_at (λ (r : Rule). at r.guard) rules i r rule)
 
     all_spawns_same : by_rule (rule_spawns (places rules) (owners rules) first of_rules) 0 rules ≡ (system rules guards n).child
     all_spawns_same = by_rule_same (rule_spawns (places rules) (owners rules) first of_rules) (action_spawns rules guards n) 0 rules (λ j r at'.
@@ -249,7 +242,7 @@ module _ (rules : List Rule) (guards : List Guard) (n : ℕ) where
     seen_same =
         ap (seen_of (first_seen c) c.seen.keys) is.of_guards
         ∙ map_map at (λ a. first_seen c + place_of (λ (x y : ℕ). x == y) a c.seen.keys) guards
-        ∙ map_same (λ g. first_seen c + place_of (λ (x y : ℕ). x == y) (at g) c.seen.keys) (λ g. atom_for rules guards n (seen g)) guards seen_one
+        ∙ map_alike (λ g. first_seen c + place_of (λ (x y : ℕ). x == y) (at g) c.seen.keys) (λ g. atom_for rules guards n (seen g)) guards seen_one
 
     -- what the whole answers
     visible_same : left_sides_of (counted_ups n c) ≡ (system rules guards n).visible

@@ -1,7 +1,5 @@
 -- Building trees token by token, as a loop does.
-use Rattle.std.proofs.Common.{◌≡◌, ℕ, zero, suc, ◌-◌, ◌<◌, List, [], ◌∷◌, ◌++◌, length, drop, Option, Some, None, Ok, Err, refl, sym, ap, ◌∙◌, arith, IsUtf8}
-use Rattle.std.specs.Str.Lossy.{utf8_valid_len}
-use Rattle.std.proofs.lemmas.Str.{utf8_valid_len-IsUtf8}
+use Rattle.std.proofs.Common.{◌≡◌, ℕ, zero, suc, ◌-◌, ◌<◌, List, [], ◌∷◌, ◌++◌, length, drop, Option, Some, None, Ok, Err, refl, sym, ap, ◌∙◌, arith}
 use Rattle.std.specs.Option.{option_to_list}
 use Rattle.text_bytes.specs.Rests.{IsRest}
 use Rattle.html_tokens.specs.Tokens.{Token, front, tokens_from}
@@ -10,11 +8,11 @@ use Rattle.html_subset.specs.Machine.{Machine, any_token, run}
 use Rattle.html_subset.specs.declared.faults.PageFault.{PageFault}
 use Rattle.tp_base.specs.Names.{Named}
 
-skips : (size n : ℕ) (bs : List ℕ) → tokens_from size n bs ≡ tokens_from size 0 (drop n bs)
+pub tokens_skip : (size n : ℕ) (bs : List ℕ) → tokens_from size n bs ≡ tokens_from size 0 (drop n bs)
 unfolding tokens_from
-skips size zero bs = refl
-skips size (suc n) [] = refl
-skips size (suc n) (b ∷ bs) = skips size n bs
+tokens_skip size zero bs = refl
+tokens_skip size (suc n) [] = refl
+tokens_skip size (suc n) (b ∷ bs) = tokens_skip size n bs
 
 one_more : (o : Option Token) (ts : List Token) (s : Machine) → run (option_to_list o ++ ts) s ≡ (any_token o s >>= run ts)
 unfolding run any_token
@@ -28,7 +26,7 @@ step size at [] after t s read here rest less = absurd (omega arith)
 step size at (b ∷ bs) after t s read here rest less =
     let more : length (b ∷ bs) - length after ≡ suc (length bs - length after) = omega arith in
     let last : drop (length bs - length after) bs ≡ after = ap (λ n. drop n (b ∷ bs)) (sym more) ∙ rest.last in
-    rw (← here, read, skips size (length bs - length after) bs, last) (one_more t (tokens_from size 0 after) s)
+    rw (← here, read, tokens_skip size (length bs - length after) bs, last) (one_more t (tokens_from size 0 after) s)
 
 -- ---- what a loop knows at each turn: `s` was built, and `rest` is left
 
@@ -48,6 +46,3 @@ pub ends : (size : ℕ) (rest : List ℕ) (s : Machine) (total : Outcome Machine
 unfolding tokens_from run
 ends size [] s total so_far none = sym so_far
 ends size (b ∷ bs) s total so_far none = absurd (omega arith)
-
-pub valid_len : (bs : List ℕ) → IsUtf8 bs → utf8_valid_len bs ≡ length bs
-valid_len bs text = utf8_valid_len-IsUtf8 bs text

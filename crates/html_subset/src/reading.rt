@@ -82,7 +82,7 @@ fn forest(alloc: Global, text: &[u8], atoms: &mut AtomTable) -> Result<Forest, P
 
 /// Reads a page: its tree has html at the root, and head and body below it. The names that were read before a refusal stay in the
 /// table. Linear in the file, on average, but for one sort of each node's atoms; html, head and body may have any number of tags.
-#[tactic(auto, unfolding(crate::specs::Reading::read_page), using(crate::proofs::ReadingSteps::valid_len, crate::proofs::Fronts::front_itself))]
+#[tactic(auto, unfolding(crate::specs::Reading::read_page), using(text_bytes::proofs::Utf8::valid_len, crate::proofs::Fronts::front_itself))]
 pub fn read_page(alloc: Global, text: &[u8], atoms: &mut AtomTable) -> Result<Tree, PageFault>
     ensures reads { Reads (λ t. t) result atoms.new (spec.read_page text.now atoms.old) }
     ensures over { IfOk result (λ t. IsTreeOver (length atoms.new) t) }
@@ -96,7 +96,7 @@ pub fn read_page(alloc: Global, text: &[u8], atoms: &mut AtomTable) -> Result<Tr
 
 /// Reads the markup that a script adds: trees next to one another. The names that were read before a refusal stay in the table.
 /// It costs what `read_page` costs.
-#[tactic(auto, unfolding(crate::specs::Reading::read_forest), using(crate::proofs::ReadingSteps::valid_len, crate::proofs::Fronts::front_itself))]
+#[tactic(auto, unfolding(crate::specs::Reading::read_forest), using(text_bytes::proofs::Utf8::valid_len, crate::proofs::Fronts::front_itself))]
 pub fn read_forest(alloc: Global, text: &[u8], atoms: &mut AtomTable) -> Result<Forest, PageFault>
     ensures reads { Reads (λ f. f.tops) result atoms.new (spec.read_forest text.now atoms.old) }
     ensures over { IfOk result (λ f. All (IsTreeOver (length atoms.new)) f.tops) }

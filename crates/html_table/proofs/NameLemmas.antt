@@ -11,15 +11,6 @@ use Rattle.indexmap.specs.IndexSet.{insert_key}
 pub itself : (q : List ℕ) → bytes_eq q q ≡ true
 itself q = (bytes_eq-Decides q q).1 refl
 
-pub turned : (p q : List ℕ) → bytes_eq p q ≡ bytes_eq q p
-turned p q = by (bytes_eq p q) (bytes_eq q p) refl refl
-  where
-    by : (a b : Bool) → bytes_eq p q ≡ a → bytes_eq q p ≡ b → a ≡ b
-    by true true e f = refl
-    by false false e f = refl
-    by true false e f = sym ((bytes_eq-Decides q p).1 (sym ((bytes_eq-Decides p q).0 e))) ∙ f
-    by false true e f = sym e ∙ (bytes_eq-Decides p q).1 (sym ((bytes_eq-Decides q p).0 f))
-
 -- keys that show the bytes of a name
 module _ {K : Type 0} (shown : K → List ℕ) where
   abbrev number : List K → List ℕ → ℕ

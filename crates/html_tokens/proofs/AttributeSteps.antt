@@ -42,11 +42,11 @@ given_more before a others = ap₂ (λ (id class : Option (List ℕ)). let g : G
 
 -- ---- one step
 
-skips : (n : ℕ) (bs : List ℕ) → attributes_from n bs ≡ attributes_from 0 (drop n bs)
+pub attributes_skip : (n : ℕ) (bs : List ℕ) → attributes_from n bs ≡ attributes_from 0 (drop n bs)
 unfolding attributes_from
-skips zero bs = refl
-skips (suc n) [] = refl
-skips (suc n) (b ∷ bs) = skips n bs
+attributes_skip zero bs = refl
+attributes_skip (suc n) [] = refl
+attributes_skip (suc n) (b ∷ bs) = attributes_skip n bs
 
 abbrev pub nothing : Given
 nothing = record { id = None; class = None }
@@ -73,7 +73,7 @@ unfolding attributes_from with_given
 adds before b behind a after other filler read rest less =
     let step : length (b ∷ behind) - length after ≡ suc (length behind - length after) = omega arith in
     let last : drop (length behind - length after) behind ≡ after = ap (λ n. drop n (b ∷ behind)) (sym step) ∙ rest.last in
-    rw (ne_eqb b 62 other, filler, read, skips (length behind - length after) behind, last) (joined (attributes_from 0 after))
+    rw (ne_eqb b 62 other, filler, read, attributes_skip (length behind - length after) behind, last) (joined (attributes_from 0 after))
   where
     read_on : Read (List Attribute) → Read (List Attribute)
     read_on r = r >>= λ others. Some (a ∷ others.0, others.1)

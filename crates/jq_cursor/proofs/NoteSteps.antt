@@ -1,5 +1,5 @@
 -- The arguments in the brackets of a file, noted word by word.
-use Rattle.std.proofs.Common.{◌≡◌, ℕ, zero, suc, ◌+◌, ◌-◌, ◌<◌, Bool, true, false, ◌&&◌, ◌||◌, if◌then◌else◌, List, [], ◌∷◌, ◌++◌, length, map, drop, take, reverse, codes, bytes_eq, nat_eq, Option, Some, None, Box, cond, refl, sym, ap, ◌∙◌, arith, append-nil, length-append}
+use Rattle.std.proofs.Common.{◌≡◌, ℕ, zero, suc, ◌+◌, ◌-◌, ◌<◌, Bool, true, false, ◌&&◌, if◌then◌else◌, List, [], ◌∷◌, ◌++◌, length, map, drop, take, reverse, codes, bytes_eq, nat_eq, Option, Some, None, Box, cond, refl, sym, ap, ◌∙◌, arith, append-nil, length-append}
 use Rattle.std.proofs.lemmas.List.{map-append, reverse-append}
 use Rattle.std.proofs.lemmas.Bool.{eqb-true}
 use Rattle.std.proofs.lemmas.Slice.Eq.{bytes_eq-Decides}
@@ -8,6 +8,7 @@ use Rattle.std.specs.Option.{option_copied}
 use Rattle.std.specs.Prelude.{IfSome}
 use denote.Bor.{Bor}
 use Rattle.std.specs.Global.{Global}
+use Rattle.tp_base.proofs.Truths.{and_false}
 use Rattle.jq_words.specs.declared.brackets.Bracket.{Bracket}
 use Rattle.jq_words.specs.Words.{Word, is_mark, is_mark_kind}
 use Rattle.jq_words.specs.Brackets.{is_empty, is_innermost, opened_by, closed_by, closes_outer, brackets_behind, ends_argument}
@@ -24,14 +25,6 @@ use Rattle.jq_cursor.proofs.SpanSteps.{more_one, ends_one, over, from_span}
 use Rattle.jq_cursor.proofs.OrderSteps.{same_rest}
 
 -- ---- marks
-
-and_false : (b : Bool) → (b && false) ≡ false
-and_false true = refl
-and_false false = refl
-
-or_false : (b : Bool) → (b || false) ≡ b
-or_false true = refl
-or_false false = refl
 
 second : (a b : Bool) → (a && b) ≡ true → b ≡ true
 second true b is = is
@@ -325,7 +318,7 @@ one_noted all old new p v note whole behind sorted known ends here given updates
 
 -- ---- the words behind
 
-dropped : (n : ℕ) (ws : List Word) → IsRest ws (drop n ws)
+pub dropped : (n : ℕ) (ws : List Word) → IsRest ws (drop n ws)
 dropped zero ws = itself ws
 dropped (suc n) [] = itself []
 dropped (suc n) (w ∷ ws) = of_rest (w ∷ ws) ws (drop n ws) (behind_first (w ∷ ws)) (dropped n ws)

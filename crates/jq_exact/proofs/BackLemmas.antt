@@ -1,6 +1,7 @@
 -- From which nodes a call leads to a node, by numbers.
 use Rattle.std.proofs.Common.{◌≡◌, ◌↔◌, ℕ, zero, suc, ◌<◌, ◌≤◌, List, [], ◌∷◌, ◌++◌, ◌⊎◌, length, take, map, true, Option, Some, None, Result, Ok, Err, IfOk, inl, inr, refl, sym, ap, ◌∙◌, subst, arith, length-append}
 use Rattle.tp_base.specs.declared.no_memory.NoMemory.{NoMemory}
+use Rattle.tp_base.proofs.Lists.{take_front}
 use Rattle.tree_sem.specs.Trees.{LabelTree}
 use Rattle.tree_sem.specs.Nodes.{IsNode}
 use Rattle.tree_sem.proofs.NodeLemmas.{IsNode-front}
@@ -29,10 +30,6 @@ cut : (x : List ℕ) (m : ℕ) → m < length x → (j : ℕ) × (q : List ℕ) 
 cut [] m lt = absurd (omega (arith, lt))
 cut (y ∷ x) zero lt = (y, x, refl)
 cut (y ∷ x) (suc m) lt = let rest = cut x m (omega (arith, lt)) in (rest.0, rest.1, ap (λ z. y ∷ z) rest.2)
-
-take_front : (w rest : List ℕ) → take (length w) (w ++ rest) ≡ w
-take_front [] rest = refl
-take_front (y ∷ w) rest = ap (λ z. y ∷ z) (take_front w rest)
 
 shorter : (w : List ℕ) (j : ℕ) (q : List ℕ) → length w < length (w ++ j ∷ q)
 shorter w j q = let long = length-append w (j ∷ q) in omega (arith, long)

@@ -1,6 +1,6 @@
 -- First nodes for all marked nodes at once.
 use Rattle.std.proofs.Common.{◌≡◌, ◌⊎◌, ◌↔◌, ℕ, suc, ◌+◌, ◌<◌, ◌≤◌, nat_lt, min, Bool, true, false, ◌&&◌, ◌||◌, IsTrue, List, [], ◌∷◌, ◌++◌, length, take, drop, map, get_or, Option, Some, None, IsNone, refl, sym, ap, ◌∙◌, subst, inl, inr, arith, append_assoc}
-use Rattle.std.proofs.lemmas.Bool.{cases_lt, or_cases, and_parts, and_from, false≢true, ltb-true, ltb-false}
+use Rattle.std.proofs.lemmas.Bool.{cases_lt, or_cases, and_parts, and_from, false≢true, ltb-true, ltb-false, or_parts}
 use Rattle.std.proofs.lemmas.List.{drop_more, take-append-drop}
 use Rattle.tree_sem.specs.Trees.{LabelTree, count_of}
 use Rattle.tree_sem.specs.Nodes.{IsNode}
@@ -22,7 +22,7 @@ use Rattle.jq_exact.specs.Firsts.{leads_back, adds, is_parted, are_parted, parte
 use Rattle.jq_exact.specs.Standing.{last_first}
 use Rattle.jq_exact.specs.Together.{is_first, asks_first, numbered, stood, FromNodes}
 use Rattle.jq_exact.proofs.NumberLemmas.{stood_next, number_there, number_past}
-use Rattle.jq_exact.proofs.TogetherLemmas.{is_made_same, both_ways, made_same, neither}
+use Rattle.jq_exact.proofs.TogetherLemmas.{is_made_same, both_ways, made_same}
 
 -- ---- node by node
 
@@ -127,7 +127,7 @@ pub no_first_parted : (calls : List ExactCall) → parted_or_first calls ≡ tru
 no_first_parted [] some none = refl
 no_first_parted (c ∷ calls) some none =
     let both = and_parts (is_parted c || is_first c) (parted_or_first calls) some in
-    let off = neither (is_first c) (asks_first calls) none in
+    let off = or_parts (is_first c) (asks_first calls) none in
     and_from (is_parted c) (are_parted calls) (one (is_parted c) (is_first c) both.0 off.0) (no_first_parted calls both.1 off.1)
   where
     one : (a b : Bool) → (a || b) ≡ true → b ≡ false → a ≡ true

@@ -1,6 +1,6 @@
 -- A chain is evaluated for all nodes that `this` may name at once: each call but one for a first node distributes over unions of sets.
-use Rattle.std.proofs.Common.{◌≡◌, ◌↔◌, ◌⊎◌, ℕ, suc, Bool, true, false, ◌||◌, IsTrue, List, [], ◌∷◌, ◌++◌, length, map, Option, Some, None, IsSome, Result, IfOk, refl, sym, ap, ◌∙◌, subst, inl, inr, arith}
-use Rattle.std.proofs.lemmas.Bool.{cases_eq, false≢true}
+use Rattle.std.proofs.Common.{◌≡◌, ◌↔◌, ◌⊎◌, ℕ, suc, Bool, true, false, IsTrue, List, [], ◌∷◌, ◌++◌, length, map, Option, Some, None, IsSome, Result, IfOk, refl, sym, ap, ◌∙◌, subst, inl, inr, arith}
+use Rattle.std.proofs.lemmas.Bool.{cases_eq, false≢true, or_parts}
 use Rattle.tree_sem.specs.Trees.{LabelTree, count_of, node_at}
 use Rattle.node_marks.specs.Marks.{IsMarked, mark, path_at}
 use Rattle.tp_base.specs.declared.no_memory.NoMemory.{NoMemory}
@@ -36,10 +36,6 @@ made_same t S L same (c ∷ earlier) v =
       λ m. is_made_same t (MadeExactly t L earlier) (MadeExactly t S earlier) (λ w. both_ways (before w)) c v m,
     )
 
-pub neither : (a b : Bool) → (a || b) ≡ false → (a ≡ false) × (b ≡ false)
-neither true b e = cc
-neither false b e = (refl, e)
-
 module _ (t : LabelTree) (U : Option (List ℕ) → Type 0) (some : (u : Option (List ℕ)) × U u) (S : Option (List ℕ) → List ℕ → Type 0) where
   union_once : (S : Option (List ℕ) → List ℕ → Type 0) (c : ExactCall) → is_first c ≡ false → (v : List ℕ)
       → IsMadeExactly t (λ w. (u : Option (List ℕ)) × U u × S u w) c v ↔ ((u : Option (List ℕ)) × U u × IsMadeExactly t (S u) c v)
@@ -54,7 +50,7 @@ module _ (t : LabelTree) (U : Option (List ℕ) → Type 0) (some : (u : Option 
   pub made_of_union : (calls : List ExactCall) → asks_first calls ≡ false → (v : List ℕ) → MadeExactly t (λ w. (u : Option (List ℕ)) × U u × S u w) calls v ↔ ((u : Option (List ℕ)) × U u × MadeExactly t (S u) calls v)
   made_of_union [] none v = (λ m. m, λ m. m)
   made_of_union (c ∷ earlier) none v =
-      let parts = neither (is_first c) (asks_first earlier) none in
+      let parts = or_parts (is_first c) (asks_first earlier) none in
       let A : List ℕ → Type 0 = MadeExactly t (λ w. (u : Option (List ℕ)) × U u × S u w) earlier in
       let B : List ℕ → Type 0 = λ w. (u : Option (List ℕ)) × U u × MadeExactly t (S u) earlier w in
       let same = made_of_union earlier parts.1 in
@@ -177,9 +173,6 @@ none_in_chain t named b test is chain r none =
 pub named_some : (t : LabelTree) (marks : List Bool) → ((u : Option (List ℕ)) × NamedBy t (Nodes marks) u) → (w : List ℕ) × IsMarked t marks w
 named_some t marks (None, named) = absurd named
 named_some t marks (Some w, named) = (w, named)
-
-pub some_named : (t : LabelTree) (marks : List Bool) (b : Bool) → IsTrue b ↔ ((w : List ℕ) × IsMarked t marks w) → IsTrue b ↔ ((u : Option (List ℕ)) × NamedBy t (Nodes marks) u)
-some_named t marks b any = (λ on. let found = any.0 on in (Some found.0, found.1), λ named. any.1 (named_some t marks named))
 
 -- ---- statements
 

@@ -1,12 +1,11 @@
 -- What is selected exactly is selected by the statement that is judged in its place.
 use Rattle.std.proofs.Common.{◌≡◌, ◌⊎◌, ℕ, zero, suc, List, [], ◌∷◌, ◌++◌, map, reverse, Option, Some, None, IsSomeAnd, slice_get, Contains, refl, sym, ap, ◌∙◌, subst, inl, inr, append-nil}
 use mathlib.Core.List.{reverse_aux}
-use Rattle.std.proofs.lemmas.List.Elements.{All-nil}
 use Rattle.tree_sem.specs.Nodes.{IsNode, HasAtoms}
 use Rattle.tree_sem.specs.Trees.{LabelTree, node_at}
 use Rattle.tree_sem.specs.declared.actions.Event.{Event}
 use Rattle.tree_sem.specs.declared.actions.Event.TheVariants.{Step, Take, Cut}
-use Rattle.tree_sem.proofs.RowLemmas.{there}
+use Rattle.tree_sem.proofs.NodeLemmas.{HasAtoms-none}
 use Rattle.sel_core.specs.Selectors.{Selector}
 use Rattle.jq_sem.specs.Statements as script
 use Rattle.jq_sem.specs.Statements.{Root, matched, Call, find, children, parent, parents, filter, has, around, near, add, back, IsMade, InRoot, InCalls, SelectedUnder}
@@ -19,10 +18,6 @@ use Rattle.jq_exact.specs.Exact.{IsMadeExactly, MadeExactly, set_before, stands,
 use Rattle.jq_exact.specs.Events.{IsLegalExactEvent, AreLegalExactEvents}
 use Rattle.jq_exact.specs.Laws.{IsNarrower, AreNarrower, ReachesLess}
 
--- a compound without atoms fits each node
-fits_all : (t : LabelTree) (v : List ℕ) → IsNode t v → HasAtoms t v []
-fits_all t v is = let at = there (node_at v t) is in rw at.1 (All-nil (Contains at.0.label))
-
 made_wide : (t : LabelTree) (S L : List ℕ → Type 0) → ((v : List ℕ) → L v → IsNode t v) → ((v : List ℕ) → S v → L v) → (c : ExactCall) (v : List ℕ) → IsMadeExactly t S c v → IsMade t L (wide_call c) v
 made_wide t S L node larger (plain c) v m = made_larger t S L larger c v m
 made_wide t S L node larger (closest cs) v m = (
@@ -33,7 +28,7 @@ made_wide t S L node larger (closest cs) v m = (
   ] m.2,
 )
 made_wide t S L node larger (siblings cs) v m = let other = m.1 in (m.0, other.0, other.1, other.2, other.3, larger (other.1 ++ other.3 ∷ []) other.5)
-made_wide t S L node larger first v m = let is = larger v m.0 in (inl (fits_all t v (node v is)), is)
+made_wide t S L node larger first v m = let is = larger v m.0 in (inl (HasAtoms-none t v (node v is)), is)
 
 calls_wide : (t : LabelTree) (u : Option (List ℕ)) (root : Root) (calls : List ExactCall) (v : List ℕ) → MadeExactly t (InRoot t u root) calls v → InCalls t u root (map wide_call calls) v
 calls_wide t u root [] v m = m

@@ -1,12 +1,14 @@
 -- The calls of a value, one by one.
 use Rattle.std.proofs.Common.{◌≡◌, ℕ, zero, suc, ◌-◌, ◌<◌, Bool, true, false, ◌&&◌, not, if◌then◌else◌, List, [], ◌∷◌, length, map, drop, refl, sym, ap, ◌∙◌, arith, codes}
 use Rattle.std.proofs.lemmas.List.{drop_all, length-drop}
+use Rattle.tp_base.proofs.Truths.{and_false}
 use Rattle.jq_words.specs.Words.{Word, is_mark, is_any_name, is_name_among, fits, first_is, spelled}
 use Rattle.jq_cursor.specs.Keywords.{jquery}
 use Rattle.jq_words.specs.Results.{IsRest}
-use Rattle.jq_words.proofs.Rests.{itself, of_rest, behind_first, two_passed}
+use Rattle.jq_words.proofs.Rests.{of_rest, behind_first, two_passed}
 use Rattle.jq_words.proofs.FitSteps.{fits_one}
 use Rattle.jq_cursor.specs.Lists.{Extent, extent}
+use Rattle.jq_cursor.proofs.NoteSteps.{dropped}
 use Rattle.jq_forms.specs.Values.{begins_bound, reads_with, reads_value, behind_extent, behind_list, is_known, is_chain_call, are_chain_calls}
 use Rattle.jq_forms.specs.declared.value_chains.TheConstants.{READ_BARE, READ_ONE, READ_SINGLE}
 
@@ -21,17 +23,13 @@ same_single = refl
 
 -- ---- one call
 
-never : (b : Bool) → (b && false) ≡ false
-never true = refl
-never false = refl
-
 pub no_call : (exact : Bool) (ws : List Word) → fits (is_any_name ∷ is_mark (codes "(") ∷ []) ws ≡ false → is_chain_call exact ws ≡ false
 unfolding is_chain_call
 no_call exact ws other = rw other refl
 
 pub unknown_call : (exact : Bool) (ws : List Word) → is_known exact (spelled ws) ≡ false → is_chain_call exact ws ≡ false
 unfolding is_chain_call
-unknown_call exact ws other = rw (other, never (fits (is_any_name ∷ is_mark (codes "(") ∷ []) ws)) refl
+unknown_call exact ws other = rw (other, and_false (fits (is_any_name ∷ is_mark (codes "(") ∷ []) ws)) refl
 
 pub other_call : (exact : Bool) (ws : List Word) → fits (is_any_name ∷ is_mark (codes "(") ∷ []) ws ≡ true → is_known exact (spelled ws) ≡ true
     → is_chain_call exact ws ≡ not (reads_value (spelled ws) (drop 1 (drop 1 ws)))
@@ -51,11 +49,6 @@ pub no_other_call : (exact : Bool) (ws : List Word) (e : Extent) → fits (is_an
 no_other_call exact ws e is known here reads = other_call exact ws is known ∙ ap not (reading ws e here ∙ reads)
 
 -- ---- all of them
-
-dropped : (n : ℕ) (ws : List Word) → IsRest ws (drop n ws)
-dropped zero ws = itself ws
-dropped (suc n) [] = itself []
-dropped (suc n) (w ∷ ws) = of_rest (w ∷ ws) ws (drop n ws) (behind_first (w ∷ ws)) (dropped n ws)
 
 nothing : (ws : List Word) → IsRest ws []
 nothing ws = record { shorter = omega arith; last = drop_all (length ws - 0) ws (omega arith) }

@@ -1,9 +1,10 @@
 -- Marks that are taken off, one by one, are told again by their places.
-use Rattle.std.proofs.Common.{◌≡◌, ℕ, zero, suc, ◌+◌, ◌<◌, ◌≤◌, ◌==◌, ◌&&◌, Bool, true, false, if◌then◌else◌, List, [], ◌∷◌, ◌++◌, length, map, Option, Some, None, refl, sym, ap, ◌∙◌, arith, append_assoc}
-use Rattle.std.proofs.lemmas.Bool.{eq-eqb, eqb-true}
-use Rattle.std.proofs.lemmas.List.{map-append, append-nil, length-append, length-map}
+use Rattle.std.proofs.Common.{◌≡◌, ℕ, zero, suc, ◌+◌, ◌<◌, ◌≤◌, ◌==◌, Bool, true, false, if◌then◌else◌, List, [], ◌∷◌, ◌++◌, length, map, Option, Some, None, refl, sym, ap, ◌∙◌, arith, append_assoc}
+use Rattle.std.proofs.lemmas.List.{map-append, append-nil, length-map}
 use Rattle.std.proofs.lemmas.List.Sums.{sum-map, sum_by-cons}
 use Rattle.tp_base.specs.declared.places.Place.{Place}
+use Rattle.tp_base.proofs.Truths.{and_false, same_number, other_number}
+use Rattle.tp_base.proofs.Lists.{length-push}
 use Rattle.tree_sem.specs.declared.actions.Action.{Action}
 use Rattle.jq_sem.specs.declared.chains.Call as code
 use Rattle.jq_sem.specs.declared.chains.Chain as code_chain
@@ -39,28 +40,14 @@ or_none : {A : Type 0} (o : Option A) → or_else o None ≡ o
 or_none None = refl
 or_none (Some x) = refl
 
-same_number : (n : ℕ) → (n == n) ≡ true
-same_number n = eq-eqb n n refl
-
-not_same : (a b : ℕ) (t : Bool) → (a == b) ≡ t → (a ≡ b → ⊥) → (a == b) ≡ false
-not_same a b true is other = absurd (other (eqb-true a b is))
-not_same a b false is other = is
-
-apart : (a b : ℕ) → (a ≡ b → ⊥) → (a == b) ≡ false
-apart a b other = not_same a b (a == b) refl other
-
 is_same-itself : (h : Option ℕ) → is_same h h ≡ true
 is_same-itself None = refl
 is_same-itself (Some n) = same_number n
 
-never : (b : Bool) → (b && false) ≡ false
-never true = refl
-never false = refl
-
 -- a mark tells nothing of another chain, nor of another call
 mark_apart : (g h : Option ℕ) (i j : ℕ) (kind : Option SharpKind) → is_same g h ≡ false → kind_at (mark_of g i kind) h j ≡ None
 mark_apart g h i j None other = refl
-mark_apart g h i j (Some k) other = rw (other, never (i == j)) refl
+mark_apart g h i j (Some k) other = rw (other, and_false (i == j)) refl
 
 mark_other : (h : Option ℕ) (i j : ℕ) (kind : Option SharpKind) → (i == j) ≡ false → kind_at (mark_of h i kind) h j ≡ None
 mark_other h i j None other = refl
@@ -84,7 +71,7 @@ marks_before : (h : Option ℕ) (i j : ℕ) (calls : List MarkedCall) → j < i 
 marks_before h i j [] before = refl
 marks_before h i j (c ∷ calls) before =
     kind_at-append (mark_of h i c.kind) (marks_of h (suc i) calls) h j
-    ∙ both_none _ _ (mark_other h i j c.kind (apart i j (λ is. omega (arith, before, is)))) (marks_before h (suc i) j calls (omega (arith, before)))
+    ∙ both_none _ _ (mark_other h i j c.kind (other_number i j (λ is. omega (arith, before, is)))) (marks_before h (suc i) j calls (omega (arith, before)))
 
 marks_there : (h : Option ℕ) (i n : ℕ) (calls : List MarkedCall) → kind_at (marks_of h i calls) h (i + n) ≡ kind_in calls n
 unfolding kind_in
@@ -98,7 +85,7 @@ marks_there h i zero (c ∷ calls) =
     ∙ or_none c.kind)
 marks_there h i (suc n) (c ∷ calls) =
     let place : i + suc n ≡ suc i + n = omega arith in
-    let other : (i == i + suc n) ≡ false = apart i (i + suc n) (λ is. omega (arith, is)) in
+    let other : (i == i + suc n) ≡ false = other_number i (i + suc n) (λ is. omega (arith, is)) in
     kind_at-append (mark_of h i c.kind) (marks_of h (suc i) calls) h (i + suc n)
     ∙ ap (λ o. or_else o (kind_at (marks_of h (suc i) calls) h (i + suc n))) (mark_other h i (i + suc n) c.kind other)
     ∙ ap (kind_at (marks_of h (suc i) calls) h) place
@@ -135,7 +122,7 @@ AreBefore sharp i = (h j : ℕ) → i ≤ h → kind_at sharp (Some h) j ≡ Non
 handlers_before : (i h j : ℕ) (chains : List MarkedChain) → h < i → kind_at (handlers_marks i chains) (Some h) j ≡ None
 handlers_before i h j [] before = refl
 handlers_before i h j (c ∷ chains) before =
-    let other : (i == h) ≡ false = apart i h (λ is. omega (arith, before, is)) in
+    let other : (i == h) ≡ false = other_number i h (λ is. omega (arith, before, is)) in
     kind_at-append (marks_of (Some i) 0 c.calls.items) (handlers_marks (suc i) chains) (Some h) j
     ∙ both_none _ _ (marks_apart (Some i) (Some h) 0 j c.calls.items other) (handlers_before (suc i) h j chains (omega (arith, before)))
 
@@ -157,7 +144,7 @@ first_kept before i c chains none j =
 
 one_before : (before : List Sharp) (i : ℕ) (c : MarkedChain) → AreBefore before i → AreBefore (before ++ marks_of (Some i) 0 c.calls.items) (suc i)
 one_before before i c none h j later =
-    let other : (i == h) ≡ false = apart i h (λ is. omega (arith, later, is)) in
+    let other : (i == h) ≡ false = other_number i h (λ is. omega (arith, later, is)) in
     kind_at-append before (marks_of (Some i) 0 c.calls.items) (Some h) j
     ∙ both_none _ _ (none h j (omega (arith, later))) (marks_apart (Some i) (Some h) 0 j c.calls.items other)
 
@@ -222,13 +209,10 @@ Judged judged left all = map call_of judged ++ map judged_of left ≡ map judged
 abbrev pub Marked : List Sharp → Option ℕ → ℕ → List MarkedCall → List Sharp → List MarkedCall → Type 0
 Marked marks h i left old all = marks ++ marks_of h i left ≡ old ++ marks_of h 0 all
 
-next_place : {A : Type 0} (xs : List A) (x : A) → length (xs ++ x ∷ []) ≡ suc (length xs)
-next_place xs x = omega (arith, length-append xs (x ∷ []))
-
 pub one_parted : (marks new old : List Sharp) (h : Option ℕ) (judged : List code.Call) (d : code.Call) (c : MarkedCall) (left all : List MarkedCall)
     → Marked marks h (length judged) (c ∷ left) old all → new ≡ marks ++ mark_of h (length judged) c.kind → Marked new h (length (judged ++ d ∷ [])) left old all
 one_parted marks new old h judged d c left all before is =
-    rw (is, next_place judged d) (append_assoc marks (mark_of h (length judged) c.kind) (marks_of h (suc (length judged)) left) ∙ before)
+    rw (is, length-push judged d) (append_assoc marks (mark_of h (length judged) c.kind) (marks_of h (suc (length judged)) left) ∙ before)
 
 pub one_judged : (judged : List code.Call) (c : MarkedCall) (left all : List MarkedCall) → Judged judged (c ∷ left) all → Judged (judged ++ c.call ∷ []) left all
 one_judged judged c left all before =
@@ -250,7 +234,7 @@ pub handler_parted : (marks new old : List Sharp) (judged : List code_chain.Chai
     → i ≡ length judged → MarkedChains marks (length judged) (c ∷ left) old all → new ≡ marks ++ marks_of (Some i) 0 c.calls.items
     → MarkedChains new (length (judged ++ d ∷ [])) left old all
 handler_parted marks new old judged d i c left all here before is =
-    rw (is, here, next_place judged d)
+    rw (is, here, length-push judged d)
     (append_assoc marks (marks_of (Some (length judged)) 0 c.calls.items) (handlers_marks (suc (length judged)) left) ∙ before)
 
 pub handler_judged : (judged : List code_chain.Chain) (d : code_chain.Chain) (c : MarkedChain) (left all : List MarkedChain) → chain_of d ≡ judged_chain c

@@ -1,16 +1,13 @@
 -- Roots that are one word.
 use Rattle.std.proofs.Common.{◌≡◌, ℕ, true, false, List, [], ◌∷◌, Ok, Err, refl, codes}
 use Rattle.jq_words.specs.declared.faults.ScriptFault.TheVariants.{ComplexArgument, ThisOutside}
-use Rattle.jq_words.specs.Words.{Word, is_name, is_any_name, is_name_among, is_one, place, spelled}
+use Rattle.jq_words.specs.Words.{Word, is_name, is_any_name, is_name_among, is_one, place}
 use Rattle.jq_words.proofs.FitSteps.{no_form, form}
 use Rattle.jq_cursor.specs.Keywords.{pages}
 use Rattle.jq_parts.specs.Bindings.{elements, everywhere}
 use Rattle.jq_parts.specs.Scopes.{Scope, this_chain, used}
 use Rattle.jq_parts.specs.Roots.{named_root}
-
-spelled_one : (w : Word) (ws : List Word) → ws ≡ w ∷ [] → spelled ws ≡ w.spelling
-unfolding spelled
-spelled_one w ws here = rw here refl
+use Rattle.jq_parts.proofs.TargetSteps.{spelled_one}
 
 module _ (size : ℕ) (scope : Scope) (ws : List Word) where
   pub no_root : is_one ws ≡ false → named_root size scope ws ≡ Err (ComplexArgument (place size ws))

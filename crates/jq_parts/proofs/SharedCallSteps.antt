@@ -2,6 +2,7 @@
 use Rattle.std.proofs.Common.{◌≡◌, ℕ, not, Bool, true, false, ◌||◌, List, [], ◌∷◌, ◌++◌, length, map, reverse, refl, sym, ap, ◌∙◌, nat_lt, arith, append_assoc}
 use Rattle.std.proofs.lemmas.Bool.Decides.{nat_tests}
 use Rattle.std.proofs.lemmas.List.{map-append, reverse-append}
+use Rattle.tp_base.proofs.Truths.{or_false}
 use Rattle.jq_sem.specs.Statements.{Root, Call, matched, back, standing}
 use Rattle.jq_sem.specs.Sharp.{ExactCall, ExactChain, wide_call}
 use Rattle.jq_sem.specs.Views.{call_of}
@@ -71,12 +72,8 @@ or_last : (a b c : Bool) → (a || (b || c)) ≡ ((a || b) || c)
 or_last true b c = refl
 or_last false b c = refl
 
-or_none : (b : Bool) → (b || false) ≡ b
-or_none true = refl
-or_none false = refl
-
 more_parents : (cs : List Call) (c : Call) → has_parents (cs ++ c ∷ []) ≡ (has_parents cs || is_parents c)
-more_parents [] c = or_none (is_parents c)
+more_parents [] c = or_false (is_parents c)
 more_parents (d ∷ cs) c = ap (λ b. is_parents d || b) (more_parents cs c) ∙ or_last (is_parents d) (has_parents cs) (is_parents c)
 
 pub one_of_parents : (before now : Bool) (cs : List MarkedCall) (c : MarkedCall) → before ≡ has_parents (map judged_of cs) → now ≡ (before || is_parents (call_of c.call))

@@ -1,16 +1,13 @@
 -- A word before a closing bracket, and no more.
 use Rattle.std.proofs.Common.{◌≡◌, ℕ, Bool, true, false, ◌&&◌, if◌then◌else◌, List, [], ◌∷◌, drop, bytes_eq, Err, refl, sym, ap, ◌∙◌, codes}
 use Rattle.std.proofs.lemmas.Slice.Eq.{bytes_eq-Decides}
+use Rattle.tp_base.proofs.Truths.{and_false}
 use Rattle.jq_words.specs.declared.faults.ScriptFault.TheVariants.{ComplexArgument}
 use Rattle.jq_words.specs.Words.{Word, is_mark, is_name, is_name_kind, is_any_name, is_among, is_name_among, is_form, is_one, place, spelled}
 use Rattle.jq_words.proofs.FitSteps.{no_form, form}
 use Rattle.jq_cursor.specs.Keywords.{jquery, pages, is_name_besides}
 use Rattle.jq_parts.specs.Scopes.{Scope}
 use Rattle.jq_parts.specs.Arguments.{named_target, bare_target, wrapped_target, wrapped_this, other_target}
-
-never : (b : Bool) → (b && false) ≡ false
-never true = refl
-never false = refl
 
 all_of : (b c : Bool) → c ≡ true → (b && (c && true)) ≡ b
 all_of true c is = rw is refl
@@ -43,7 +40,7 @@ other_closed p (v ∷ x ∷ []) c behind other = let same : x ≡ c = cc in rw s
 pub more_closed : (p : Word → Bool) (ws : List Word) → is_one (drop 1 ws) ≡ false → is_form (p ∷ is_mark (codes ")") ∷ []) ws ≡ false
 unfolding is_form
 more_closed p [] other = refl
-more_closed p (v ∷ []) other = never (p v)
+more_closed p (v ∷ []) other = and_false (p v)
 more_closed p (v ∷ x ∷ []) other = cc
 more_closed p (v ∷ x ∷ y ∷ ws) other = none_of_two (p v) (is_mark (codes ")") x) where
   none_of_two : (b c : Bool) → (b && (c && false)) ≡ false
@@ -75,7 +72,7 @@ among_one w = same_or w (bytes_eq (codes "this") w.spelling) (bytes_eq w.spellin
     same_or w true b is = ap (λ x. is_name_kind w.kind && x) is
     same_or w false b is = ap (λ x. is_name_kind w.kind && x) is
 
-spelled_one : (w : Word) (ws : List Word) → ws ≡ w ∷ [] → spelled ws ≡ w.spelling
+pub spelled_one : (w : Word) (ws : List Word) → ws ≡ w ∷ [] → spelled ws ≡ w.spelling
 unfolding spelled
 spelled_one w ws here = rw here refl
 

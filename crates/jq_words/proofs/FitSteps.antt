@@ -1,5 +1,6 @@
 -- The first words, one by one.
 use Rattle.std.proofs.Common.{◌≡◌, Bool, true, false, ◌&&◌, List, [], ◌∷◌, drop, refl, ap, ◌∙◌}
+use Rattle.tp_base.proofs.Truths.{and_true, and_false}
 use Rattle.jq_words.specs.Words.{Word, fits, first_is, is_form, is_one}
 
 pub fits_no : (p : Word → Bool) (ps : List (Word → Bool)) (ws : List Word) → first_is p ws ≡ false → fits (p ∷ ps) ws ≡ false
@@ -11,10 +12,6 @@ pub fits_then : (p : Word → Bool) (ps : List (Word → Bool)) (ws : List Word)
 unfolding fits first_is
 fits_then p ps [] is = cc
 fits_then p ps (w ∷ ws) is = rw is refl
-
-and_true : (b : Bool) → (b && true) ≡ b
-and_true true = refl
-and_true false = refl
 
 pub fits_one : (p : Word → Bool) (ws : List Word) → fits (p ∷ []) ws ≡ first_is p ws
 unfolding fits first_is
@@ -71,23 +68,15 @@ form_then_two p q ps [] is = cc
 form_then_two p q ps (w ∷ []) is = never (p w) (is_form ps []) is
 form_then_two p q ps (w ∷ v ∷ ws) is = and_more (p w) (q v) (is_form ps ws) is
 
-never_with : (b : Bool) → (b && false) ≡ false
-never_with true = refl
-never_with false = refl
-
 pub no_form : (p : Word → Bool) (ws : List Word) → is_one ws ≡ false → is_form (p ∷ []) ws ≡ false
 unfolding is_form
 no_form p [] none = refl
 no_form p (w ∷ []) none = cc
-no_form p (w ∷ v ∷ ws) none = never_with (p w)
-
-same : (b : Bool) → (b && true) ≡ b
-same true = refl
-same false = refl
+no_form p (w ∷ v ∷ ws) none = and_false (p w)
 
 pub form : (p : Word → Bool) (w : Word) (ws : List Word) → ws ≡ w ∷ [] → is_form (p ∷ []) ws ≡ p w
 unfolding is_form
-form p w ws here = rw here (same (p w))
+form p w ws here = rw here (and_true (p w))
 
 pub one_word : (w : Word) (ws : List Word) → ws ≡ w ∷ drop 1 ws → drop 1 ws ≡ [] → ws ≡ w ∷ []
 one_word w ws here none = here ∙ ap (λ r. w ∷ r) none

@@ -1,18 +1,15 @@
--- Tokens in order are within their text.
+-- Tokens in in_order_bounds are within their text.
 use Rattle.std.proofs.Common.{◌≡◌, ℕ, zero, suc, ◌≤◌, List, [], ◌∷◌, length, take, refl, ap, arith}
 use Rattle.js_scan.specs.declared.token.Token.{Token}
 use Rattle.js_scan.specs.Tokens.{InOrder}
+use Rattle.js_scan.proofs.TokensLemmas.{in_order_bounds}
 use Rattle.jq_words.specs.Words.{words_behind}
 
-pub order : (low high : ℕ) (ts : List Token) → InOrder low high ts → low ≤ high
-order low high [] sorted = sorted
-order low high (t ∷ ts) sorted = let behind = order t.to high ts sorted.2 in omega (arith, sorted.0, sorted.1, behind)
-
 pub first_within : (low high : ℕ) (t : Token) (ts : List Token) → InOrder low high (t ∷ ts) → t.to ≤ high
-first_within low high t ts sorted = order t.to high ts sorted.2
+first_within low high t ts sorted = in_order_bounds t.to high ts sorted.2
 
 pub front_in_order : (low high k : ℕ) (ts : List Token) → InOrder low high ts → InOrder low high (take k ts)
-front_in_order low high zero ts sorted = order low high ts sorted
+front_in_order low high zero ts sorted = in_order_bounds low high ts sorted
 front_in_order low high (suc k) [] sorted = sorted
 front_in_order low high (suc k) (t ∷ ts) sorted = (sorted.0, sorted.1, front_in_order t.to high k ts sorted.2)
 

@@ -1,10 +1,8 @@
 -- Reading tokens one after the other, as a loop does.
-use Rattle.std.proofs.Common.{◌≡◌, ℕ, zero, suc, ◌-◌, ◌+◌, ◌≤◌, ◌<◌, Bool, List, [], ◌∷◌, ◌++◌, length, take, drop, Option, Some, None, Ok, Err, refl, sym, ap, ◌∙◌, append_assoc, arith, IsUtf8}
+use Rattle.std.proofs.Common.{◌≡◌, ℕ, zero, suc, ◌-◌, ◌+◌, ◌≤◌, ◌<◌, Bool, List, [], ◌∷◌, ◌++◌, length, take, drop, Option, Some, None, Ok, Err, refl, sym, ap, ◌∙◌, append_assoc, arith}
 use Rattle.std.specs.List.{All}
 use Rattle.std.proofs.lemmas.List.{append-nil}
 use Rattle.std.proofs.lemmas.List.Elements.{All-cons, All-nil}
-use Rattle.std.specs.Str.Lossy.{utf8_valid_len}
-use Rattle.std.proofs.lemmas.Str.{utf8_valid_len-IsUtf8}
 use Rattle.js_scan.specs.declared.token.ScanFault.{ScanFault}
 use Rattle.js_scan.specs.declared.token.Token.{Token}
 use Rattle.js_scan.specs.declared.token.TokenKind.{TokenKind}
@@ -15,11 +13,11 @@ abbrev pub with_tokens : List Token → Outcome (List Token) → Outcome (List T
 with_tokens before r = r >>= λ ts. Ok (before ++ ts)
 
 -- the bytes that are left of a token are passed over
-skips : (size : ℕ) (divides : Bool) (n : ℕ) (bs : List ℕ) → tokens_from size divides n bs ≡ tokens_from size divides 0 (drop n bs)
+pub tokens_skip : (size : ℕ) (divides : Bool) (n : ℕ) (bs : List ℕ) → tokens_from size divides n bs ≡ tokens_from size divides 0 (drop n bs)
 unfolding tokens_from
-skips size divides zero bs = refl
-skips size divides (suc n) [] = refl
-skips size divides (suc n) (b ∷ bs) = skips size divides n bs
+tokens_skip size divides zero bs = refl
+tokens_skip size divides (suc n) [] = refl
+tokens_skip size divides (suc n) (b ∷ bs) = tokens_skip size divides n bs
 
 regroup : (before ts : List Token) (r : Outcome (List Token)) → with_tokens before (r >>= λ us. Ok (ts ++ us)) ≡ with_tokens (before ++ ts) r
 regroup before ts (Ok us) = ap (λ (all : List Token). Ok all) (simp append_assoc)
@@ -36,7 +34,7 @@ goes_on size divides at zero (b ∷ bs) before total kind so_far read here lt lo
 goes_on size divides at (suc len) (b ∷ bs) before total kind so_far read here lt low =
     let less : suc len - 1 ≡ len = omega arith in
     let next = divides_next kind (take (suc len) (b ∷ bs)) divides in
-    let one : tokens_from size divides 0 (b ∷ bs) ≡ (tokens_from size next 0 (drop len bs) >>= λ us. Ok (tokens_of kind at (at + suc len) ++ us)) = rw (← here, read, less, skips size next len bs) refl in
+    let one : tokens_from size divides 0 (b ∷ bs) ≡ (tokens_from size next 0 (drop len bs) >>= λ us. Ok (tokens_of kind at (at + suc len) ++ us)) = rw (← here, read, less, tokens_skip size next len bs) refl in
     sym (regroup before (tokens_of kind at (at + suc len)) (tokens_from size next 0 (drop len bs))) ∙ ap (with_tokens before) (sym one) ∙ so_far
 
 pub fails : (size : ℕ) (divides : Bool) (at : ℕ) (rest : List ℕ) (before : List Token) (total : Outcome (List Token)) (e : ScanFault)
@@ -70,7 +68,7 @@ stays_in_order low mid end ts (Some kind) ordered lt = InOrder-push low mid end 
 
 -- ---- for callers: each span lies in the file
 
-in_order_bounds : (low high : ℕ) (ts : List Token) → InOrder low high ts → low ≤ high
+pub in_order_bounds : (low high : ℕ) (ts : List Token) → InOrder low high ts → low ≤ high
 in_order_bounds low high [] ordered = ordered
 in_order_bounds low high (t ∷ ts) ordered = let later = in_order_bounds t.to high ts ordered.2 in omega (arith, ordered.0, ordered.1, later)
 
@@ -78,6 +76,3 @@ pub spans_within : (low high : ℕ) (ts : List Token) → InOrder low high ts �
 spans_within low high [] ordered = All-nil (λ t. (t.from < t.to) × (t.to ≤ high))
 spans_within low high (t ∷ ts) ordered =
     All-cons (λ t. (t.from < t.to) × (t.to ≤ high)) t ts (ordered.1, in_order_bounds t.to high ts ordered.2) (spans_within t.to high ts ordered.2)
-
-pub valid_len : (bs : List ℕ) → IsUtf8 bs → utf8_valid_len bs ≡ length bs
-valid_len bs text = utf8_valid_len-IsUtf8 bs text

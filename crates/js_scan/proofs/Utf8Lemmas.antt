@@ -10,6 +10,7 @@ use Rattle.std.proofs.lemmas.Str.{IsUtf8-drop, IsUtf8-take, IsUtf8-append, IsUtf
 use Rattle.std.proofs.lemmas.Str.Ascii.{IsAscii-nil, IsAscii-cons}
 use Rattle.std.specs.Prelude.{option_and_then}
 use Rattle.std.specs.Option.{option_map}
+use Rattle.std.proofs.lemmas.Bool.{and_parts}
 use Rattle.text_bytes.specs.Rests.{IsRest}
 use Rattle.js_scan.specs.declared.token.ScanFault.{ScanFault}
 use Rattle.js_scan.specs.declared.token.ScanFault.TheVariants.{BadString, Template}
@@ -67,11 +68,6 @@ low c k same lt = grind (arith, nat_tests)
 control : (c k b : ℕ) (bs : List ℕ) → IsUtf8 (c ∷ bs) → k < 128 → b < 128 → (c == k) ≡ true → Cuts (92 ∷ c ∷ bs) (Some (b ∷ [], 2))
 control c k b bs text lt lt_b same = stands_for c bs (b ∷ []) text (low c k same lt) (one_byte b lt_b)
 
-both : (x y : Bool) → (x && y) ≡ true → (x ≡ true) × (y ≡ true)
-both true true all = (refl, refl)
-both true false all = absurd (grind arith)
-both false y all = absurd (grind arith)
-
 hex_digit : (b : ℕ) → is_ascii_hexdigit b ≡ true → (b < 128) × (hex_value b < 16)
 hex_digit b digit = grind (arith, nat_tests)
 
@@ -82,7 +78,7 @@ pair_cut [] code text read = absurd (grind arith)
 pair_cut (h ∷ []) code text read = absurd (grind arith)
 pair_cut (h ∷ l ∷ bs) code text read =
     let found = when (is_ascii_hexdigit h && is_ascii_hexdigit l) (16 * hex_value h + hex_value l) code read in
-    let digits = both (is_ascii_hexdigit h) (is_ascii_hexdigit l) found.0 in
+    let digits = and_parts (is_ascii_hexdigit h) (is_ascii_hexdigit l) found.0 in
     let high = hex_digit h digits.0 in
     let less = hex_digit l digits.1 in
     (omega (arith, found.1), past_ascii l bs less.0 (past_ascii h (l ∷ bs) high.0 text))

@@ -163,7 +163,7 @@ fn tokens(alloc: Global, text: &[u8]) -> Result<Vec<Token>, ScanFault>
 
 /// The tokens of a script file, with a byte order mark at its front passed over. Linear in the file, in time
 /// and in memory.
-#[tactic(auto, using(crate::proofs::TokensLemmas::valid_len, crate::proofs::Utf8Lemmas::behind_ascii, crate::proofs::Spelling::all_spelled))]
+#[tactic(auto, using(text_bytes::proofs::Utf8::valid_len, crate::proofs::Utf8Lemmas::behind_ascii, crate::proofs::Spelling::all_spelled))]
 pub fn scan(alloc: Global, text: &[u8]) -> Result<Vec<Token>, ScanFault>
     ensures exact { Gives (λ v. v.items) result (spec.script_tokens text.now) }
     ensures in_order { IfOk result (λ v. spec.InOrder 0 (length text.now) v.items) }

@@ -1,8 +1,7 @@
 -- The trees of a forest, below the root that stands for the node that takes them.
-use Rattle.std.proofs.Common.{◌≡◌, ◌⊎◌, ℕ, zero, suc, ◌+◌, List, [], ◌∷◌, ◌++◌, length, fold, Contains, refl, ap, ◌∙◌, inl, inr, arith}
+use Rattle.std.proofs.Common.{◌≡◌, ◌⊎◌, ℕ, zero, suc, ◌+◌, List, [], ◌∷◌, ◌++◌, fold, Contains, refl, ap, ◌∙◌, inl, inr}
 use Rattle.std.specs.Prelude.{slice_get}
-use Rattle.tree_sem.specs.Trees.{Row, no_nodes, node, LabelTree, tree_of, length_of, push_tree}
-use Rattle.tree_sem.proofs.EditLemmas.{length_of-push_tree}
+use Rattle.tree_sem.specs.Trees.{no_nodes, node, LabelTree, tree_of, push_tree}
 use Rattle.tree_sem.proofs.GrowthLemmas.{all_pushed_stay}
 use Rattle.guard_sem.specs.declared.rules.Rule.{Rule}
 use Rattle.guard_simplify.specs.Auxiliaries.{forest_of, nodes_of}
@@ -14,13 +13,6 @@ row_get [] zero = refl
 row_get [] (suc k) = refl
 row_get (t ∷ tops) zero = all_pushed_stay tops (node t.label t.below no_nodes) 0 t refl
 row_get (t ∷ tops) (suc k) = shifted tops t.label t.below no_nodes k ∙ row_get tops k
-
-pub row_length : (tops : List LabelTree) (r : Row) → length_of (fold push_tree r tops) ≡ length_of r + length tops
-row_length [] r = omega arith
-row_length (t ∷ tops) r =
-    let rest = row_length tops (push_tree r t) in
-    let one = length_of-push_tree r t in
-    omega (arith, rest, one)
 
 -- a node of a forest is a top one, or a child of another
 pub path_cases : (r : Rule) (q : List ℕ) → Contains (nodes_of r) q → ((k : ℕ) × (q ≡ k ∷ [])) ⊎ ((x : ℕ) × (p : List ℕ) × (m : ℕ) × (q ≡ (x ∷ p) ++ m ∷ []))

@@ -3,9 +3,11 @@ use Rattle.std.proofs.Common.{◌≡◌, ℕ, ◌==◌, Bool, true, false, List,
 use Rattle.std.specs.Prelude.{slice_get}
 use Rattle.std.proofs.lemmas.Bool.{cases_Bool, eq-eqb, eqb-true}
 use Rattle.tp_base.proofs.Rising.{Contains-cons, Contains-none}
+use Rattle.tp_base.proofs.Lists.{Contains-at, at_Contains}
 use Rattle.tree_sem.specs.Trees.{no_nodes, node, LabelTree, tree_of, length_of, node_at}
 use Rattle.tree_sem.proofs.RowLemmas.{there, node_at-child, child_node_at}
-use Rattle.tree_sem.proofs.PathLemmas.{parent_of-child}
+use Rattle.tree_sem.proofs.PathLemmas.{parent_of-child, last_number-child}
+use Rattle.tree_sem.proofs.AddTreesLemmas.{length_of-push_trees}
 use Rattle.simple_core.specs.declared.rules.Kind.{Kind}
 use Rattle.simple_core.specs.declared.system.System.{System}
 use Rattle.guard_sem.specs.Guards.{Guard}
@@ -14,12 +16,11 @@ use Rattle.guard_simplify.specs.Auxiliaries.{forest_of, nodes_of, children_in, t
 use Rattle.guard_simplify.specs.Simplified.{kind_at, kind_above, kind_of, system}
 use Rattle.guard_simplify.specs.Law.{IsOver, IsRuleOver}
 use Rattle.guard_simplify.proofs.ForestLemmas.{node_is, is_node, place_there, beside_get}
-use Rattle.guard_simplify.proofs.GoingBack.{slice_get-Contains}
-use Rattle.guard_simplify.proofs.Soundness.{split_last, last_number-push, places_beside}
-use Rattle.guard_simplify.proofs.Placing.{kind_is, place_node, above_child, above_inner, places_once, there_at}
+use Rattle.guard_simplify.proofs.Soundness.{split_last, places_beside}
+use Rattle.guard_simplify.proofs.Placing.{kind_is, place_node, above_child, above_inner, places_once}
 use Rattle.proof_check.specs.Unfolding.{forest_children, is_below}
 use Rattle.judge.proofs.Meanings.{kind_tree}
-use Rattle.judge.proofs.ForestTrees.{row_get, row_length, path_cases}
+use Rattle.judge.proofs.ForestTrees.{row_get, path_cases}
 
 -- what is found passes the test, and is in the list
 find_some : {X : Type 0} (test : X → Bool) (xs : List X) (x : X) → find test xs ≡ Some x → Contains xs x × (test x ≡ true)
@@ -83,7 +84,7 @@ module _ (rules : List Rule) (guards : List Guard) (n : ℕ) (over : (g : Guard)
             let made : kind ≡ kind_of rules guards n p.0 r (k ∷ []) = of.3.made ∙ ap (kind_of rules guards n p.0 r) path in
             let here : node_at (k ∷ []) (forest_of r) ≡ Some x = subst (λ z. node_at z (forest_of r) ≡ Some x) path of.3.there in
             let row : tree_of ((forest_of r).below) k ≡ Some x = one_down (tree_of ((forest_of r).below) k) x here in
-            let long = row_length (tops_of r.action) no_nodes in
+            let long = length_of-push_trees (tops_of r.action) no_nodes in
             let count : kind.siblings ≡ length_of ((forest_of r).below) = ap (λ (z : Kind). z.siblings) made in
             (p, r, k, of.3.rule, path, of.3.node, made, sym (row_get (tops_of r.action) k) ∙ row ∙ ap Some (sym of.3.tree), omega (arith, long, count))
         | inr (y, q, m, path) ↦
@@ -130,7 +131,7 @@ module _ (rules : List Rule) (guards : List Guard) (n : ℕ) (over : (g : Guard)
             let child = child_node_at (y ∷ q) m (forest_of r) outer family.1 family.2 family.3 in
             let same : Some family.1 ≡ Some x = sym child ∙ here in
             let made : kind ≡ kind_of rules guards n p.0 r ((y ∷ q) ++ m ∷ []) = of.3.made ∙ ap (kind_of rules guards n p.0 r) path in
-            let last : kind.number ≡ m = ap (λ (z : Kind). z.number) made ∙ last_number-push (y ∷ q) m in
+            let last : kind.number ≡ m = ap (λ (z : Kind). z.number) made ∙ last_number-child (y ∷ q) m in
             record {
               outer = outer;
               its_tree = tree_here j (p.0, y ∷ q) r outer place of.3.rule family.2;
@@ -145,7 +146,7 @@ module _ (rules : List Rule) (guards : List Guard) (n : ℕ) (over : (g : Guard)
   kind_children j kind at = elim (find (is_below s j) s.kinds) as (λ o. find (is_below s j) s.kinds ≡ o → length_of (kind_tree rules j).below ≡ unwrap_or (option_map (λ (k : Kind). k.siblings) o) 0) [
     | Some k ↦ λ e.
         let found = find_some (is_below s j) s.kinds k e in
-        let place = there_at s.kinds k found.0 in
+        let place = at_Contains s.kinds k found.0 in
         let inner = inner_kind place.0 j k place.1 (above_is k found.1) in
         ap (λ (z : LabelTree). length_of z.below) inner.its_tree ∙ sym inner.count
     | None ↦ λ e.
@@ -175,5 +176,5 @@ module _ (rules : List Rule) (guards : List Guard) (n : ℕ) (over : (g : Guard)
             let once : kind_at rules guards n p ≡ j = places_once 0 rules (kind_at rules guards n p) j p (place_there rules guards n p.0 r p.1 is.rule is.node) is.place in
             let above : k.above ≡ Some j =
             ap (λ (z : Kind). z.above) found.2.2 ∙ above_inner rules guards n over rules_over p.0 r 0 p.1 is.node ∙ ap Some once in
-            absurd (find_none (is_below s j) s.kinds k e (slice_get-Contains s.kinds _ k found.1) (rw above (eq-eqb j j refl)))
+            absurd (find_none (is_below s j) s.kinds k e (Contains-at s.kinds _ k found.1) (rw above (eq-eqb j j refl)))
       ] refl

@@ -1,9 +1,8 @@
 -- The test is true exactly of the valid proofs.
 use Rattle.std.proofs.Common.{◌≡◌, ◌⊎◌, ℕ, zero, suc, ◌+◌, ◌<◌, min, Bool, true, false, not, IsTrue, is_some, ◌==◌, ◌&&◌, ◌||◌, nat_lt, List, [], ◌∷◌, ◌++◌, length, All, Contains, find, Option, Some, None, IsSome, IsSomeAnd, slice_get, inl, inr, refl, sym, ap, subst, arith}
 use Rattle.std.specs.Bool.{Decides}
-use Rattle.std.specs.Cmp.Derive.{both_true}
-use Rattle.std.proofs.lemmas.Bool.{and_parts, ltb-true, lt-ltb}
-use Rattle.std.proofs.lemmas.Bool.Decides.{Decides-eqb}
+use Rattle.std.proofs.lemmas.Bool.{ltb-true, lt-ltb}
+use Rattle.std.proofs.lemmas.Bool.Decides.{Decides-eqb, Decides-and}
 use Rattle.tp_base.specs.Classes.{has_class, all_among}
 use Rattle.tp_base.proofs.ClassLemmas.{has_class_is, all_among_is}
 use Rattle.tree_sem.specs.Trees.{LabelTree, node_at}
@@ -22,9 +21,6 @@ use Rattle.proof_check.specs.declared.proofs.Proof.{Proof}
 use Rattle.proof_check.specs.Unfolding.{entry_count}
 use Rattle.proof_check.specs.Validity.{MOST_STEPS, atoms_of, items_at, IsDown, Place, IsBelow, IsSound, AreSound, in_entry, at_page, ArePlaced, IsValid}
 use Rattle.proof_check.specs.Checks.{is_some_and, is_down, has_atom, is_inside, is_below, spawn_holds, is_sound, are_sound, are_placed, entries_hold, is_valid}
-
-decides_and : {P Q : Type 0} (a b : Bool) → Decides a P → Decides b Q → Decides (a && b) (P × Q)
-decides_and a b p q = (λ e. let parts = and_parts a b e in (p.0 parts.0, q.0 parts.1), λ h. both_true (p.1 h.0) (q.1 h.1))
 
 decides_some : {X : Type 0} (P : X → Type 0) (test : X → Bool) → ((x : X) → Decides (test x) (P x)) → (o : Option X) → Decides (is_some_and test o) ((x : X) × (o ≡ Some x) × P x)
 decides_some P test each None = (λ e. cc, λ h. let never = h.1 in cc)
@@ -71,12 +67,12 @@ below_decides place from spawn kind e entry =
     let b4 = all_among entry.parent (atoms_of place.here) in
     let b3 = has_atom from entry.items in
     let b2 = entry.kind == spawn.kind in
-    let d6 = decides_and b6 b7 (inside_decides kind.above place.kind) t7 in
-    let d5 = decides_and b5 (b6 && b7) (class_decides spawn.needs (atoms_of place.here)) d6 in
-    let d4 = decides_and b4 (b5 && (b6 && b7)) (all_decides entry.parent (atoms_of place.here)) d5 in
-    let d3 = decides_and b3 (b4 && (b5 && (b6 && b7))) (class_decides from (atoms_of entry.items)) d4 in
-    let d2 = decides_and b2 (b3 && (b4 && (b5 && (b6 && b7)))) (Decides-eqb entry.kind spawn.kind) d3 in
-    let d1 = decides_and (nat_lt e place.lower) (b2 && (b3 && (b4 && (b5 && (b6 && b7))))) (less_decides e place.lower) d2 in
+    let d6 = Decides-and b6 b7 (inside_decides kind.above place.kind) t7 in
+    let d5 = Decides-and b5 (b6 && b7) (class_decides spawn.needs (atoms_of place.here)) d6 in
+    let d4 = Decides-and b4 (b5 && (b6 && b7)) (all_decides entry.parent (atoms_of place.here)) d5 in
+    let d3 = Decides-and b3 (b4 && (b5 && (b6 && b7))) (class_decides from (atoms_of entry.items)) d4 in
+    let d2 = Decides-and b2 (b3 && (b4 && (b5 && (b6 && b7)))) (Decides-eqb entry.kind spawn.kind) d3 in
+    let d1 = Decides-and (nat_lt e place.lower) (b2 && (b3 && (b4 && (b5 && (b6 && b7))))) (less_decides e place.lower) d2 in
     decides_as (is_below place from spawn kind e entry) d1
     (λ h. record { lower = h.0; its_kind = h.1.0; gives = h.1.1.0; parent = h.1.1.1.0; spawns = h.1.1.1.1.0; inner = h.1.1.1.1.1.0; beside = h.1.1.1.1.1.1 })
     (λ h. (h.lower, (h.its_kind, (h.gives, (h.parent, (h.spawns, (h.inner, h.beside)))))))
@@ -87,17 +83,17 @@ module _ (system : System) where
   sound_decides entries place atom (Local l) =
       decides_as (is_sound system entries place atom (Local l))
       (decides_some (λ (r : rule.Local). (r.gives ≡ atom) × All (Contains (atoms_of place.here)) r.needs) (λ r. r.gives == atom && all_among r.needs (atoms_of place.here))
-      (λ r. decides_and (r.gives == atom) (all_among r.needs (atoms_of place.here)) (Decides-eqb r.gives atom) (all_decides r.needs (atoms_of place.here))) (slice_get system.local l))
+      (λ r. Decides-and (r.gives == atom) (all_among r.needs (atoms_of place.here)) (Decides-eqb r.gives atom) (all_decides r.needs (atoms_of place.here))) (slice_get system.local l))
       (λ h. (h.0, h.1, h.2.0, h.2.1)) (λ h. (h.0, h.1, (h.2, h.3)))
   sound_decides entries place atom (Up l) =
       decides_as (is_sound system entries place atom (Up l))
       (decides_some (λ (r : Link). (r.to ≡ atom) × Contains place.above r.from) (λ r. r.to == atom && has_class r.from place.above)
-      (λ r. decides_and (r.to == atom) (has_class r.from place.above) (Decides-eqb r.to atom) (class_decides r.from place.above)) (slice_get system.up l))
+      (λ r. Decides-and (r.to == atom) (has_class r.from place.above) (Decides-eqb r.to atom) (class_decides r.from place.above)) (slice_get system.up l))
       (λ h. (h.0, h.1, h.2.0, h.2.1)) (λ h. (h.0, h.1, (h.2, h.3)))
   sound_decides entries place atom (Down l (Real k)) =
       decides_as (is_sound system entries place atom (Down l (Real k)))
       (decides_some (λ (r : Link). (r.to ≡ atom) × Contains (place.child k) r.from) (λ r. r.to == atom && has_class r.from (place.child k))
-      (λ r. decides_and (r.to == atom) (has_class r.from (place.child k)) (Decides-eqb r.to atom) (class_decides r.from (place.child k))) (slice_get system.down l))
+      (λ r. Decides-and (r.to == atom) (has_class r.from (place.child k)) (Decides-eqb r.to atom) (class_decides r.from (place.child k))) (slice_get system.down l))
       (λ h. (h.0, h.1, h.2.0, h.2.1)) (λ h. (h.0, h.1, (h.2, h.3)))
   sound_decides entries place atom (Down l (Grown c e)) =
       let entry_part = λ (from : ℕ) (spawn : Spawn) (kind : Kind). decides_some (λ (entry : Entry). IsBelow place from spawn kind e entry) (λ entry. is_below place from spawn kind e entry) (λ entry. below_decides place from spawn kind e entry) (slice_get entries e) in
@@ -108,7 +104,7 @@ module _ (system : System) where
       decides_as (is_sound system entries place atom (Down l (Grown c e)))
       (decides_some (λ (r : Link). (r.to ≡ atom) × ((spawn : Spawn) × (slice_get system.child c ≡ Some spawn) × ((kind : Kind) × (slice_get system.kinds spawn.kind ≡ Some kind) × ((entry : Entry) × (slice_get entries e ≡ Some entry) × IsBelow place r.from spawn kind e entry))))
       (λ r. r.to == atom && is_some_and (spawn_holds system entries place r.from e) (slice_get system.child c))
-      (λ r. decides_and (r.to == atom) (is_some_and (spawn_holds system entries place r.from e) (slice_get system.child c)) (Decides-eqb r.to atom) (spawn_part r.from)) (slice_get system.down l))
+      (λ r. Decides-and (r.to == atom) (is_some_and (spawn_holds system entries place r.from e) (slice_get system.child c)) (Decides-eqb r.to atom) (spawn_part r.from)) (slice_get system.down l))
       (λ h. (h.0, h.1, h.2.0, h.2.1.0, h.2.1.1, h.2.1.2.0, h.2.1.2.1, h.2.1.2.2.0, h.2.1.2.2.1, h.2.1.2.2.2))
       (λ (r, at, to, spawn, at_spawn, kind, at_kind, entry, at_entry, below). (r, at, (to, (spawn, at_spawn, (kind, at_kind, (entry, at_entry, below))))))
 
@@ -116,7 +112,7 @@ module _ (system : System) where
   all_sound_decides entries [] place = (λ e. tt, λ h. refl)
   all_sound_decides entries (i ∷ items) place =
       let place' : Place = record place { here = place.here ++ i ∷ [] } in
-      decides_and (is_sound system entries place i.atom i.reason) (are_sound system entries place' items) (sound_decides entries place i.atom i.reason) (all_sound_decides entries items place')
+      Decides-and (is_sound system entries place i.atom i.reason) (are_sound system entries place' items) (sound_decides entries place i.atom i.reason) (all_sound_decides entries items place')
 
   some_decides : {X : Type 0} (o : Option X) → Decides (is_some o) (IsSome o)
   some_decides None = (λ e. e, λ h. h)
@@ -128,7 +124,7 @@ module _ (system : System) where
       let sound = is_sound system entries (at_page page (length entries) before i.at) i.item.atom i.item.reason in
       let rest = are_placed system entries page (before ++ i ∷ []) items in
       decides_as (is_some (node_at i.at page) && (sound && rest))
-      (decides_and (is_some (node_at i.at page)) (sound && rest) (some_decides (node_at i.at page)) (decides_and sound rest (sound_decides entries (at_page page (length entries) before i.at) i.item.atom i.item.reason) (all_placed_decides entries page items (before ++ i ∷ []))))
+      (Decides-and (is_some (node_at i.at page)) (sound && rest) (some_decides (node_at i.at page)) (Decides-and sound rest (sound_decides entries (at_page page (length entries) before i.at) i.item.atom i.item.reason) (all_placed_decides entries page items (before ++ i ∷ []))))
       (λ h. (h.0, h.1.0, h.1.1)) (λ h. (h.0, (h.1, h.2)))
 
   -- all entries from the number n on
@@ -142,8 +138,8 @@ module _ (system : System) where
       let kept = x.steps == min (entry_count system entries (suc n) n) MOST_STEPS in
       let later = entries_hold system entries (suc n) rest in
       decides_as (are_sound system entries (in_entry system n x) x.items && (kept && later))
-      (decides_and (are_sound system entries (in_entry system n x) x.items) (kept && later) (all_sound_decides entries x.items (in_entry system n x))
-      (decides_and kept later (Decides-eqb x.steps (min (entry_count system entries (suc n) n) MOST_STEPS)) (entries_decides entries rest (suc n))))
+      (Decides-and (are_sound system entries (in_entry system n x) x.items) (kept && later) (all_sound_decides entries x.items (in_entry system n x))
+      (Decides-and kept later (Decides-eqb x.steps (min (entry_count system entries (suc n) n) MOST_STEPS)) (entries_decides entries rest (suc n))))
       (λ h k entry at. each k entry at h)
       (λ h. let first = h 0 x refl in
       let here = subst (λ m. AreSound system entries (in_entry system m x) x.items × (x.steps ≡ min (entry_count system entries (suc m) m) MOST_STEPS)) {x = n + 0} (omega arith) first in
@@ -165,7 +161,7 @@ module _ (system : System) where
       let b2 = are_placed system proof.entries page [] proof.page in
       let b3 = has_atom target (items_at [] proof.page) in
       decides_as (b1 && (b2 && b3))
-      (decides_and b1 (b2 && b3) (entries_decides proof.entries proof.entries 0) (decides_and b2 b3 (all_placed_decides proof.entries page proof.page []) (class_decides target (atoms_of (items_at [] proof.page)))))
+      (Decides-and b1 (b2 && b3) (entries_decides proof.entries proof.entries 0) (Decides-and b2 b3 (all_placed_decides proof.entries page proof.page []) (class_decides target (atoms_of (items_at [] proof.page)))))
       (λ h. record {
         entries = λ n entry at. subst (λ m. AreSound system proof.entries (in_entry system m entry) entry.items) {x = 0 + n} (omega arith) (h.0 n entry at).0;
         page_items = h.1.0;

@@ -1,6 +1,8 @@
 -- The items of an entry against a table of known atoms, one after another.
 use Rattle.std.proofs.Common.{◌≡◌, ℕ, zero, suc, ◌<◌, Bool, true, false, is_some, if◌then◌else◌, ◌==◌, ◌&&◌, List, [], ◌∷◌, ◌++◌, ◌≤◌, min, length, take, drop, Option, Some, None, unwrap_or, slice_get, refl, sym, ap, subst, ◌∙◌, arith}
 use Rattle.std.proofs.lemmas.Bool.Decides.{Decides-eqb}
+use Rattle.tp_base.proofs.Truths.{and_false, other_number}
+use Rattle.tp_base.proofs.Lists.{take_suc, drop_at}
 use Rattle.simple_core.specs.declared.system.System.{System}
 use Rattle.proof_check.specs.declared.firsts.Firsts.{Firsts}
 use Rattle.proof_check.specs.declared.proofs.ProofItem.{ProofItem}
@@ -11,25 +13,8 @@ use Rattle.proof_check.specs.Validity.{MOST_STEPS, Place, AreSound, in_entry}
 use Rattle.proof_check.specs.Unfolding.{entry_count}
 use Rattle.proof_check.proofs.FirstLemmas.{first_has, first_push, IsNear, sound_same}
 
-pub drop_at : {X : Type 0} (xs : List X) (n : ℕ) (x : X) → slice_get xs n ≡ Some x → drop n xs ≡ x ∷ drop (suc n) xs
-drop_at [] n x at = cc
-drop_at (y ∷ xs) zero x at = let same : y ≡ x = cc in ap (λ z. z ∷ xs) same
-drop_at (y ∷ xs) (suc n) x at = drop_at xs n x at
-
-pub take_at : {X : Type 0} (xs : List X) (n : ℕ) (x : X) → slice_get xs n ≡ Some x → take (suc n) xs ≡ take n xs ++ x ∷ []
-take_at [] n x at = cc
-take_at (y ∷ xs) zero x at = let same : y ≡ x = cc in ap (λ z. z ∷ []) same
-take_at (y ∷ xs) (suc n) x at = ap (λ z. y ∷ z) (take_at xs n x at)
-
-pub not_same : (m n : ℕ) → (m ≡ n → ⊥) → (m == n) ≡ false
-not_same m n apart = elim (m == n) as (λ b. (m == n) ≡ b → b ≡ false) [ true ↦ λ e. absurd (apart ((Decides-eqb m n).0 e)) | false ↦ λ e. refl ] refl
-
 pub kept_below : (entries : List Entry) (n : ℕ) (old new : Firsts) → KnowsBelow old n entries → KeepsBut n old new → KnowsBelow new n entries
-kept_below entries n old new knows keeps e entry lt at a = keeps e a (not_same n e (λ s. omega (arith, lt, s))) ∙ knows e entry lt at a
-
-pub no_others : (b : Bool) → (b && false) ≡ false
-no_others true = refl
-no_others false = refl
+kept_below entries n old new knows keeps e entry lt at a = keeps e a (other_number n e (λ s. omega (arith, lt, s))) ∙ knows e entry lt at a
 
 -- an item more at the node
 pub knows_pushed : (old new : Firsts) (n : ℕ) (here : List ProofItem) (x : ProofItem) → KnowsOf old n here
@@ -45,7 +30,7 @@ knows_pushed old new n here x knows added others a =
           ∙ ap (λ b. if is_some (first_down here a) then first_down here a else if b then Some (is_down x.reason) else None) (sym e)
           ∙ sym (first_push here x a)
       | false ↦ λ e.
-          others n a (ap (λ b. n == n && b) e ∙ no_others (n == n)) ∙ knows a ∙ left (first_down here a)
+          others n a (ap (λ b. n == n && b) e ∙ and_false (n == n)) ∙ knows a ∙ left (first_down here a)
           ∙ ap (λ b. if is_some (first_down here a) then first_down here a else if b then Some (is_down x.reason) else None) (sym e)
           ∙ sym (first_push here x a)
     ] refl
@@ -91,7 +76,7 @@ module _ (system : System) (entries : List Entry) where
       ≡ (is_sound system entries (after_items n entry (take i items)) x.atom x.reason && are_sound system entries (after_items n entry (take (suc i) items)) (drop (suc i) items))
   sound_one n entry items i x at =
       ap (are_sound system entries (after_items n entry (take i items))) (drop_at items i x at)
-      ∙ ap (λ (h : List ProofItem). is_sound system entries (after_items n entry (take i items)) x.atom x.reason && are_sound system entries (after_items n entry h) (drop (suc i) items)) (sym (take_at items i x at))
+      ∙ ap (λ (h : List ProofItem). is_sound system entries (after_items n entry (take i items)) x.atom x.reason && are_sound system entries (after_items n entry h) (drop (suc i) items)) (sym (take_suc items i x at))
 
 pub drop_end : {X : Type 0} (xs : List X) (n : ℕ) → length xs ≤ n → drop n xs ≡ []
 drop_end [] zero past = refl

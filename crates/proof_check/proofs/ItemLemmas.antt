@@ -1,15 +1,11 @@
 -- Lists of items, and of the page's items at one node.
-use Rattle.std.proofs.Common.{◌≡◌, ◌⊎◌, ℕ, true, false, cond, List, [], ◌∷◌, ◌++◌, map, filter, Contains, Some, slice_get, bytes_eq, inl, inr, refl, arith}
+use Rattle.std.proofs.Common.{◌≡◌, ◌⊎◌, ℕ, true, false, cond, List, [], ◌∷◌, ◌++◌, map, filter, Contains, bytes_eq, inl, inr, refl, arith}
 use Rattle.std.proofs.lemmas.List.{map-append}
-use Rattle.std.proofs.lemmas.Option.{slice_get_within, get_or_from_slice_get}
 use Rattle.std.proofs.lemmas.List.Elements.{filter-append, Contains-push_cases, Contains-append_cases}
 use Rattle.std.proofs.lemmas.Slice.Eq.{bytes_eq-Decides}
 use Rattle.proof_check.specs.declared.proofs.ProofItem.{ProofItem}
 use Rattle.proof_check.specs.declared.proofs.PageItem.{PageItem}
 use Rattle.proof_check.specs.Validity.{atoms_of, items_at}
-
-pub slice_get-Contains : {X : Type 0} (xs : List X) (i : ℕ) (x : X) → slice_get xs i ≡ Some x → Contains xs x
-slice_get-Contains xs i x at = (i, slice_get_within xs i x at, get_or_from_slice_get xs i x x at)
 
 pub atoms_of-push : (here : List ProofItem) (i : ProofItem) → atoms_of (here ++ i ∷ []) ≡ atoms_of here ++ i.atom ∷ []
 atoms_of-push here i = map-append (λ (x : ProofItem). x.atom) here (i ∷ [])

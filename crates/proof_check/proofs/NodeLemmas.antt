@@ -8,6 +8,8 @@ use Rattle.std.specs.List.{list_any, position_or_len}
 use Rattle.std.specs.Str.{bytes_eq}
 use Rattle.indexmap.specs.IndexSet.{insert_key}
 use Rattle.tp_base.specs.Classes.{has_class}
+use Rattle.tp_base.proofs.Lists.{take_suc, drop_at}
+use Rattle.tp_base.proofs.Truths.{other_number}
 use Rattle.tree_sem.specs.Trees.{LabelTree, node_at}
 use Rattle.tree_sem.specs.Paths.{parent_of}
 use Rattle.simple_core.specs.declared.system.System.{System}
@@ -20,7 +22,7 @@ use Rattle.proof_check.specs.Checks.{is_down, is_sound, are_placed}
 use Rattle.proof_check.specs.Firsts.{first_down, first_in, KnowsOf, KnowsBelow, sound_by}
 use Rattle.proof_check.specs.Nodes.{number_in, HasAll, page_gives, KnowsPage, near_at_page}
 use Rattle.proof_check.specs.Validity.{atoms_of, items_at, at_page}
-use Rattle.proof_check.proofs.EntryLemmas.{drop_at, take_at, not_same, knows_pushed, keeps_pushed}
+use Rattle.proof_check.proofs.EntryLemmas.{knows_pushed, keeps_pushed}
 use Rattle.proof_check.proofs.FirstLemmas.{first_has, IsNear, sound_same}
 use Rattle.proof_check.proofs.ItemLemmas.{items_at-append}
 
@@ -92,7 +94,7 @@ page_pushed nodes old new n here x knows at added others v m number =
       | false ↦ λ e.
           let apart : n ≡ m → ⊥ = λ s. let same = same_node nodes x.at v m (at ∙ ap Some s) number in
           let never : true ≡ false = sym ((bytes_eq-Decides x.at v).1 same) ∙ e in cc in
-          λ a. keeps_pushed old new n x.item others m a (not_same n m apart) ∙ knows v m number a ∙ ap (λ l. first_down l a) (sym (append_none (items_at v here)))
+          λ a. keeps_pushed old new n x.item others m a (other_number n m apart) ∙ knows v m number a ∙ ap (λ l. first_down l a) (sym (append_none (items_at v here)))
     ] refl)
   where
     append_none : {X : Type 0} (xs : List X) → xs ++ [] ≡ xs
@@ -127,7 +129,7 @@ pub placed_one : (system : System) (entries : List Entry) (page : LabelTree) (it
 placed_one system entries page items i x at =
     ap (are_placed system entries page (take i items)) (drop_at items i x at)
     ∙ ap (λ (h : List PageItem). is_some (node_at x.at page) && (is_sound system entries (at_page page (length entries) (take i items) x.at) x.item.atom x.item.reason
-    && are_placed system entries page h (drop (suc i) items))) (sym (take_at items i x at))
+    && are_placed system entries page h (drop (suc i) items))) (sym (take_suc items i x at))
 
 pub number_of : (o : Option ℕ) → is_some o ≡ true → (n : ℕ) × (o ≡ Some n)
 number_of None is = cc

@@ -2,6 +2,8 @@
 use Rattle.std.proofs.Common.{◌≡◌, ◌⊎◌, ℕ, zero, suc, ◌<◌, ◌≤◌, Bool, true, false, min, ◌==◌, ◌&&◌, List, [], ◌∷◌, drop, Option, Some, None, option_map, unwrap_or, slice_get, inl, inr, refl, sym, ap, subst, ◌∙◌, arith}
 use Rattle.std.proofs.lemmas.Bool.{and_parts, cases_order}
 use Rattle.std.proofs.lemmas.Bool.Decides.{Decides-eqb}
+use Rattle.tp_base.proofs.Lists.{drop_at}
+use Rattle.tp_base.proofs.Truths.{other_number}
 use Rattle.simple_core.specs.declared.system.System.{System}
 use Rattle.proof_check.specs.declared.firsts.Firsts.{Firsts}
 use Rattle.proof_check.specs.declared.proofs.Entry.{Entry}
@@ -11,7 +13,7 @@ use Rattle.proof_check.specs.Kept.{kept_steps}
 use Rattle.proof_check.specs.Unfolding.{items_count, entry_count}
 use Rattle.proof_check.specs.Validity.{MOST_STEPS, AreSound, in_entry}
 use Rattle.proof_check.proofs.CheckLemmas.{all_sound_decides}
-use Rattle.proof_check.proofs.EntryLemmas.{AreRight, drop_at, not_same, kept_below}
+use Rattle.proof_check.proofs.EntryLemmas.{AreRight, kept_below}
 use Rattle.proof_check.proofs.StepLemmas.{items_same, items_kept, min_twice}
 
 pub below_or_same : (e n : ℕ) → e < suc n → (e < n) ⊎ (e ≡ n)
@@ -31,7 +33,7 @@ below_one entries n old new entry at below this keeps e other lt is = elim (belo
 ]
 
 pub empty_one : (n : ℕ) (old new : Firsts) → ((m : ℕ) → n ≤ m → KnowsOf old m []) → KeepsBut n old new → (m : ℕ) → suc n ≤ m → KnowsOf new m []
-empty_one n old new empty keeps m past a = keeps m a (not_same n m (λ s. omega (arith, past, s))) ∙ empty m (omega (arith, past)) a
+empty_one n old new empty keeps m past a = keeps m a (other_number n m (λ s. omega (arith, past, s))) ∙ empty m (omega (arith, past)) a
 
 module _ (system : System) (entries : List Entry) where
   count_none : (n e : ℕ) → slice_get entries e ≡ None → entry_count system entries n e ≡ 0

@@ -1,13 +1,15 @@
 -- Trees that get more classes at a node, or more children below it: what stays, and what is new.
-use Rattle.std.proofs.Common.{◌≡◌, ◌≢◌, ℕ, zero, suc, ◌+◌, List, [], ◌∷◌, ◌++◌, length, fold, Some, None, IsSome, Contains, option_and_then, option_map, slice_get, inl, inr, refl, sym, ap, ◌∙◌, subst, arith}
+use Rattle.std.proofs.Common.{◌≡◌, ◌≢◌, ℕ, ◌+◌, List, [], ◌∷◌, ◌++◌, length, fold, Some, None, IsSome, Contains, option_and_then, option_map, slice_get, inl, inr, refl, sym, ap, ◌∙◌, subst, arith}
 use Rattle.std.proofs.lemmas.Bool.{cases_order}
 use Rattle.tp_base.proofs.ClassLemmas.{union_of-keeps_left}
 use Rattle.tree_sem.specs.Trees.{Row, LabelTree, tree_of, length_of, push_tree, node_at, children_at, edit_at}
 use Rattle.tree_sem.specs.Actions.{add_classes, add_trees}
-use Rattle.tree_sem.proofs.EditLemmas.{tree_of-edit_tree, tree_of-edit_tree_other, length_of-edit_tree, node_at-edit_at, node_at-edit_at_below, tree_of-push_tree, length_of-push_tree}
+use Rattle.tree_sem.proofs.EditLemmas.{tree_of-edit_tree, tree_of-edit_tree_other, length_of-edit_tree, node_at-edit_at, node_at-edit_at_below}
 use Rattle.tree_sem.proofs.RowLemmas.{node_at-append, tree_of-past}
 use Rattle.tree_sem.specs.Growth.{Grows}
-use Rattle.proof_core.proofs.KeepLemmas.{keeps_itself, keeps_both, push_keeps, tree_of-pushed}
+use Rattle.tree_sem.proofs.AddTreesLemmas.{length_of-push_trees, tree_of-push_trees}
+use Rattle.tree_sem.proofs.WithinLemmas.{pushed_at}
+use Rattle.proof_core.proofs.KeepLemmas.{keeps_itself, keeps_both, push_keeps}
 
 pub add_classes_keeps : (cs : List ℕ) (s : LabelTree) → Grows s (add_classes cs s)
 add_classes_keeps cs s [] x at = let same : s ≡ x = cc in (add_classes cs s, refl, λ a has. union_of-keeps_left s.label cs a (subst (λ (z : LabelTree). Contains z.label a) (sym same) has))
@@ -52,22 +54,9 @@ children_elsewhere f each (k ∷ p) (m ∷ q) t other is = elim (cases_order m k
   | inr (inr more) ↦ ap (λ o. option_map (λ (n : LabelTree). length_of n.below) (option_and_then (node_at q) o)) (tree_of-edit_tree_other (edit_at p f) t.below k m (λ e. omega arith))
 ]
 
--- trees that are pushed one after another
-pub length_of-pushes : (tops : List LabelTree) (r : Row) → length_of (fold push_tree r tops) ≡ length_of r + length tops
-length_of-pushes [] r = omega arith
-length_of-pushes (u ∷ tops) r = omega (arith, length_of-pushes tops (push_tree r u), length_of-push_tree r u)
-
 pub tree_of-pushes : (tops : List LabelTree) (r : Row) (s : LabelTree) (m : ℕ) → tree_of r m ≡ Some s → tree_of (fold push_tree r tops) m ≡ Some s
 tree_of-pushes [] r s m at = at
-tree_of-pushes (u ∷ tops) r s m at = tree_of-pushes tops (push_tree r u) s m (tree_of-pushed r u s m at)
-
-pub tree_of-pushes_new : (tops : List LabelTree) (r : Row) (n : ℕ) (f : LabelTree) → slice_get tops n ≡ Some f → tree_of (fold push_tree r tops) (length_of r + n) ≡ Some f
-tree_of-pushes_new [] r n f at = cc
-tree_of-pushes_new (u ∷ tops) r zero f at =
-    let same : u ≡ f = cc in
-    subst (λ k. tree_of (fold push_tree (push_tree r u) tops) k ≡ Some f) {x = length_of r} (omega arith) (tree_of-pushes tops (push_tree r u) f (length_of r) (tree_of-push_tree r u ∙ ap Some same))
-tree_of-pushes_new (u ∷ tops) r (suc n) f at =
-    subst (λ k. tree_of (fold push_tree (push_tree r u) tops) k ≡ Some f) {x = length_of (push_tree r u) + n} (omega (arith, length_of-push_tree r u)) (tree_of-pushes_new tops (push_tree r u) n f at)
+tree_of-pushes (u ∷ tops) r s m at = tree_of-pushes tops (push_tree r u) s m (pushed_at r u s m at)
 
 pub add_trees_keeps : (tops : List LabelTree) (s : LabelTree) → Grows s (add_trees tops s)
 add_trees_keeps [] s = keeps_itself s
@@ -75,9 +64,6 @@ add_trees_keeps (u ∷ tops) s = keeps_both s (record s { below = push_tree s.be
 
 -- Trees that are added last below the node at v, which is s.
 module _ (v : List ℕ) (tops : List LabelTree) (t s : LabelTree) (at : node_at v t ≡ Some s) where
-  pub children_at-add_trees : children_at v (edit_at v (add_trees tops) t) ≡ Some (length_of s.below + length tops)
-  children_at-add_trees = rw (node_at-edit_at v (add_trees tops) t, at) (ap Some (length_of-pushes tops s.below))
-
   pub children_at-add_trees_other : (q : List ℕ) → q ≢ v → IsSome (node_at q t) → children_at q (edit_at v (add_trees tops) t) ≡ children_at q t
   children_at-add_trees_other q other is = children_elsewhere (add_trees tops) below v q t other is
     where
@@ -87,10 +73,6 @@ module _ (v : List ℕ) (tops : List LabelTree) (t s : LabelTree) (at : node_at 
             | None ↦ λ e h. cc
             | Some c ↦ λ e h. rw (tree_of-pushes tops s.below c m e)
           ] refl is
-
-  pub node_at-add_trees_new : (n : ℕ) (f : LabelTree) → slice_get tops n ≡ Some f → (q : List ℕ) → node_at (v ++ (length_of s.below + n) ∷ q) (edit_at v (add_trees tops) t) ≡ node_at q f
-  node_at-add_trees_new n f there q =
-      node_at-edit_at_below v ((length_of s.below + n) ∷ q) (add_trees tops) t s at ∙ ap (option_and_then (node_at q)) (tree_of-pushes_new tops s.below n f there)
 
   -- no node was there before
   pub node_at-add_trees_none : (n : ℕ) (q : List ℕ) → node_at (v ++ (length_of s.below + n) ∷ q) t ≡ None

@@ -1,12 +1,13 @@
 -- Edits that keep each node at its path, with at least its label.
-use Rattle.std.proofs.Common.{◌≡◌, ℕ, suc, zero, IsSomeAnd, List, [], ◌∷◌, ◌++◌, Some, None, IsSome, Contains, option_and_then, option_map, inl, inr, refl, sym, ap, ◌∙◌, subst, arith}
+use Rattle.std.proofs.Common.{◌≡◌, ℕ, IsSomeAnd, List, [], ◌∷◌, ◌++◌, Some, None, IsSome, Contains, option_and_then, option_map, inl, inr, refl, sym, ap, ◌∙◌, subst, arith}
 use Rattle.std.proofs.lemmas.Bool.{cases_order}
 use Rattle.tp_base.proofs.ClassLemmas.{with_class-keeps, with_class-there}
-use Rattle.tree_sem.specs.Trees.{Row, no_nodes, node, LabelTree, leaf, tree_of, length_of, push_tree, node_at, edit_at, add_class, add_child}
+use Rattle.tree_sem.specs.Trees.{node, LabelTree, leaf, tree_of, length_of, push_tree, node_at, edit_at, add_class, add_child}
 use Rattle.tree_sem.proofs.EditLemmas.{tree_of-edit_tree, tree_of-edit_tree_other, node_at-edit_at, node_at-edit_at_below, tree_of-push_tree}
 use Rattle.tree_sem.proofs.RowLemmas.{there}
 use Rattle.tree_sem.specs.Nodes.{HasAtom}
 use Rattle.tree_sem.specs.Growth.{Grows}
+use Rattle.tree_sem.proofs.WithinLemmas.{pushed_at}
 
 pub keeps_itself : (t : LabelTree) → Grows t t
 keeps_itself t q s at = (s, at, λ a has. has)
@@ -29,12 +30,6 @@ node_has t s v a at has = rw at has
 
 pub has_there : (t : LabelTree) (v : List ℕ) (a : ℕ) → HasAtom t v a → IsSome (node_at v t)
 has_there t v a has = rw (has_node t v a has).1 refl
-
-pub kept : (t u : LabelTree) → Grows t u → (q : List ℕ) (a : ℕ) → HasAtom t q a → HasAtom u q a
-kept t u keeps q a has =
-    let old = has_node t q a has in
-    let r = keeps q old.0 old.1 in
-    node_has u r.0 q a r.1 (r.2 a old.2)
 
 pub kept_node : (t u : LabelTree) → Grows t u → (q : List ℕ) → IsSome (node_at q t) → IsSome (node_at q u)
 kept_node t u keeps q is = let s = there (node_at q t) is in rw (keeps q s.0 s.1).1 refl
@@ -59,17 +54,12 @@ pub add_class_keeps : (b : ℕ) (s : LabelTree) → Grows s (add_class b s)
 add_class_keeps b s [] x at = let same : s ≡ x = cc in (add_class b s, refl, λ a has. with_class-keeps b s.label a (subst (λ (z : LabelTree). Contains z.label a) (sym same) has))
 add_class_keeps b s (k ∷ q) x at = (x, at, λ a has. has)
 
-pub tree_of-pushed : (ts : Row) (t s : LabelTree) (m : ℕ) → tree_of ts m ≡ Some s → tree_of (push_tree ts t) m ≡ Some s
-tree_of-pushed no_nodes t s m at = cc
-tree_of-pushed (node l below next) t s zero at = at
-tree_of-pushed (node l below next) t s (suc m) at = tree_of-pushed next t s m at
-
 pub push_keeps : (t s : LabelTree) → Grows s (record s { below = push_tree s.below t })
 push_keeps t s [] x at = let same : s ≡ x = cc in (record s { below = push_tree s.below t }, refl, λ a has. subst (λ (z : LabelTree). Contains z.label a) (sym same) has)
 push_keeps t s (k ∷ q) x at =
     elim (tree_of s.below k) as (λ o. tree_of s.below k ≡ o → option_and_then (node_at q) o ≡ Some x → (y : LabelTree) × (option_and_then (node_at q) (tree_of (push_tree s.below t) k) ≡ Some y) × ((a : ℕ) → Contains x.label a → Contains y.label a)) [
       | None ↦ λ e at. cc
-      | Some c ↦ λ e at. (x, rw (tree_of-pushed s.below t c k e) at, λ a has. has)
+      | Some c ↦ λ e at. (x, rw (pushed_at s.below t c k e) at, λ a has. has)
     ] refl at
 
 -- the node that an added class was added to has it

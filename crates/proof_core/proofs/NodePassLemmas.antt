@@ -1,16 +1,17 @@
 -- The items of a page that were passed, in their order.
-use Rattle.std.proofs.Common.{◌≡◌, ◌≤◌, ◌<◌, ◌+◌, ℕ, zero, suc, Bool, true, false, cond, nat_lt, is_some, if◌then◌else◌, ◌==◌, ◌&&◌, List, [], ◌∷◌, ◌++◌, length, map, take, find, filter, reverse, Option, Some, None, option_map, option_and_then, unwrap_or, slice_get, refl, sym, ap, subst, ◌∙◌, append_assoc, arith, length-append}
-use Rattle.std.proofs.lemmas.Bool.{ltb-true, ltb-false}
+use Rattle.std.proofs.Common.{◌≡◌, ◌≤◌, ◌+◌, ℕ, zero, suc, Bool, true, false, cond, nat_lt, is_some, if◌then◌else◌, ◌==◌, ◌&&◌, List, [], ◌∷◌, ◌++◌, length, map, take, find, filter, reverse, Option, Some, None, option_map, option_and_then, unwrap_or, slice_get, refl, sym, ap, subst, ◌∙◌, append_assoc, arith, length-append}
+use Rattle.std.proofs.lemmas.Bool.{ltb-true, ltb-false, and_parts}
 use Rattle.std.proofs.lemmas.Bool.Decides.{Decides-eqb}
 use Rattle.std.proofs.lemmas.List.{append-nil, map-append, length-take}
 use Rattle.std.proofs.lemmas.List.Elements.{filter-append}
 use Rattle.std.proofs.lemmas.Option.{slice_get_past}
 use Rattle.std.proofs.Math.Seq.{take-append_seam}
+use Rattle.tp_base.proofs.Lists.{past_end, slice_get-take}
 use Rattle.proof_core.specs.declared.node_passes.NodePass.{NodePass}
 use Rattle.proof_core.specs.NodePasses.{Seen, way_on, seen_one, seen_from, all_seen, passed_to, seen_at, first_at}
 use Rattle.proof_core.specs.Passes.{first_place}
 use Rattle.proof_check.specs.Unfolding.{Passed, child_for, end_for}
-use Rattle.proof_core.proofs.PassLemmas.{past, find_place, first_new, first_known}
+use Rattle.proof_core.proofs.PassLemmas.{find_place, first_new, first_known}
 
 -- one item more
 pub seen_push : (before : List Seen) (here : List NodePass) (p : NodePass) → seen_from before (here ++ p ∷ []) ≡ seen_from before here ++ seen_one (seen_from before here) p ∷ []
@@ -32,17 +33,10 @@ slice_get_seam : {X : Type 0} (xs ys : List X) (x : X) → slice_get (xs ++ x �
 slice_get_seam [] ys x = refl
 slice_get_seam (y ∷ xs) ys x = let n : length (y ∷ xs) ≡ suc (length xs) = omega arith in ap (slice_get (y ∷ (xs ++ x ∷ ys))) n ∙ slice_get_seam xs ys x
 
-slice_get_below : {X : Type 0} (xs : List X) (i n : ℕ) → n < i → slice_get (take i xs) n ≡ slice_get xs n
-slice_get_below [] zero n lt = refl
-slice_get_below [] (suc i) n lt = refl
-slice_get_below (x ∷ xs) zero n lt = absurd (omega arith)
-slice_get_below (x ∷ xs) (suc i) zero lt = refl
-slice_get_below (x ∷ xs) (suc i) (suc n) lt = slice_get_below xs i n (omega arith)
-
 slice_get_take : {X : Type 0} (xs : List X) (i n : ℕ) → slice_get (take i xs) n ≡ option_and_then (slice_get xs) (if nat_lt n i then Some n else None)
 slice_get_take xs i n =
     elim (nat_lt n i) as (λ b. nat_lt n i ≡ b → slice_get (take i xs) n ≡ option_and_then (slice_get xs) (if b then Some n else None)) [
-      | true ↦ λ e. slice_get_below xs i n (ltb-true n i e)
+      | true ↦ λ e. slice_get-take xs i n (ltb-true n i e)
       | false ↦ λ e. slice_get_past (take i xs) n (omega (arith, length-take i xs, ltb-false n i e))
     ] refl
 
@@ -78,8 +72,8 @@ walk_on here i p at =
     earlier (Some n) = slice_get_take (all_seen here) i n
 
 pub walk_past : (here : List NodePass) (i : ℕ) → length here ≤ i → way_on (all_seen here) (Some i) ≡ []
-walk_past here i past =
-    let n : length (all_seen here) ≤ i = omega (arith, past, length-seen [] here) in
+walk_past here i past_end =
+    let n : length (all_seen here) ≤ i = omega (arith, past_end, length-seen [] here) in
     ap (λ o. unwrap_or (option_map (λ (s : Seen). s.way) o) []) (slice_get_past (all_seen here) i n)
 
 -- the first item with an atom at a node
@@ -144,7 +138,7 @@ child_at here n a v = ap (λ o. unwrap_or (option_and_then (λ (p : Passed). p.c
     same i =
         elim (slice_get here i) as (λ o. slice_get here i ≡ o → option_and_then (λ (s : Seen). s.child) (slice_get (all_seen here) i) ≡ option_and_then (λ (p : NodePass). p.pass.child) o) [
           | Some p ↦ λ e. ap (option_and_then (λ (s : Seen). s.child)) (seen_there here i p e)
-          | None ↦ λ e. ap (option_and_then (λ (s : Seen). s.child)) (slice_get_past (all_seen here) i (omega (arith, length-seen [] here, past here i e)))
+          | None ↦ λ e. ap (option_and_then (λ (s : Seen). s.child)) (slice_get_past (all_seen here) i (omega (arith, length-seen [] here, past_end here i e)))
         ] refl
 
     by : (o : Option ℕ) → option_and_then (λ (p : Passed). p.child) (option_map (passed_to v) (option_and_then (slice_get (all_seen here)) o)) ≡ option_and_then (λ (p : NodePass). p.pass.child) (option_and_then (slice_get here) o)
@@ -155,12 +149,8 @@ child_at here n a v = ap (λ o. unwrap_or (option_and_then (λ (p : Passed). p.c
 abbrev is_spot : ℕ × ℕ → NodePass → Bool
 is_spot k p = p.node == k.0 && p.pass.atom == k.1
 
-both : (b c : Bool) → (b && c) ≡ true → (b ≡ true) × (c ≡ true)
-both true c e = (refl, e)
-both false c e = cc
-
 same_spot : (p : NodePass) (n a : ℕ) → (p.node == n && p.pass.atom == a) ≡ true → (p.node ≡ n) × (p.pass.atom ≡ a)
-same_spot p n a e = let r = both (p.node == n) (p.pass.atom == a) e in ((Decides-eqb p.node n).0 r.0, (Decides-eqb p.pass.atom a).0 r.1)
+same_spot p n a e = let r = and_parts (p.node == n) (p.pass.atom == a) e in ((Decides-eqb p.node n).0 r.0, (Decides-eqb p.pass.atom a).0 r.1)
 
 pub node_new : (old new : ℕ → ℕ → Option ℕ) (here : List NodePass) (p : NodePass) → ((n a : ℕ) → old n a ≡ first_at here n a) → old p.node p.pass.atom ≡ None
     → ((n a : ℕ) → new n a ≡ (if p.node == n && p.pass.atom == a then Some (length here) else old n a)) → (n a : ℕ) → new n a ≡ first_at (here ++ p ∷ []) n a

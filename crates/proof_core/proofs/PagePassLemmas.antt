@@ -4,6 +4,8 @@ use Rattle.std.proofs.lemmas.Bool.Decides.{Decides-eqb}
 use Rattle.std.proofs.lemmas.List.{append-nil}
 use Rattle.std.proofs.lemmas.Slice.Eq.{bytes_eq-Decides}
 use Rattle.std.specs.Str.{bytes_eq}
+use Rattle.tp_base.proofs.Lists.{drop_at}
+use Rattle.tp_base.proofs.Truths.{other_number}
 use Rattle.proof_check.specs.NodePaths.{NodePaths}
 use Rattle.proof_core.specs.declared.page_passes.PageNode.{PageNode}
 use Rattle.proof_core.specs.declared.node_passes.NodePass.{NodePass}
@@ -18,13 +20,12 @@ use Rattle.proof_core.specs.NodePasses.{way_on, seen_one, all_seen, passed_to, s
 use Rattle.proof_core.specs.PagePasses.{seen_in, item_seen, unfold_at}
 use Rattle.proof_core.specs.Trails.{number_for, with_forest_of}
 use Rattle.proof_check.specs.Unfolding.{Progress, Passed, child_for, end_for, from_of, spawned, needed_by, down_item, unfold_page, unfold_entry, entry_count}
-use Rattle.tree_sem.proofs.CountLemmas.{length-node_at}
+use Rattle.tree_sem.proofs.CountLemmas.{length-node_at, length_of-nodes_of}
 use Rattle.tree_sem.specs.declared.tree_fault.TheConstants.{MOST_NODES}
-use Rattle.tree_sem.specs.Trees.{Row, no_nodes, node, LabelTree, length_of, nodes_of, count_of, node_at, children_at}
+use Rattle.tree_sem.specs.Trees.{node, LabelTree, length_of, count_of, node_at, children_at}
 use Rattle.tree_sem.specs.TreeNodes.{TreeNode, node_of}
 use Rattle.simple_core.specs.declared.system.System.{System}
 use Rattle.proof_check.proofs.CountLemmas.{page_steps, entry_steps}
-use Rattle.proof_check.proofs.EntryLemmas.{drop_at, not_same}
 use Rattle.proof_check.proofs.NodeLemmas.{same_node}
 use Rattle.proof_core.proofs.NodePassLemmas.{seen_at-push, end_at}
 use Rattle.proof_core.proofs.WalkLemmas.{grown_is}
@@ -52,7 +53,7 @@ seen_pushed nodes here p v n at number q =
             let this : (p.node == m) ≡ true = (Decides-eqb p.node m).1 (number ∙ same) in
             seen_at-push here p m q ∙ ap (λ b. seen_at here m q ++ (if b then passed_to q x ∷ [] else [])) this ∙ ap (λ w. seen_at here m q ++ passed_to w x ∷ []) (sym is)
         | false ↦ λ e.
-            let other : (p.node == m) ≡ false = not_same p.node m (λ s. let one = same_node nodes v q m (at ∙ ap Some (sym number ∙ s)) some in let never : true ≡ false = sym ((bytes_eq-Decides v q).1 one) ∙ e in cc) in
+            let other : (p.node == m) ≡ false = other_number p.node m (λ s. let one = same_node nodes v q m (at ∙ ap Some (sym number ∙ s)) some in let never : true ≡ false = sym ((bytes_eq-Decides v q).1 one) ∙ e in cc) in
             seen_at-push here p m q ∙ ap (λ b. seen_at here m q ++ (if b then passed_to q x ∷ [] else [])) other ∙ append-nil (seen_at here m q)
       ] refl
     ] refl
@@ -89,16 +90,11 @@ module _ (s : System) (es : List Entry) (page : LabelTree) where
       let same : length (rest (drop i items) passed done).0.steps ≡ length (rest (drop (suc i) items) passed' r.0).0.steps = ap (λ xs. length (rest xs passed done).0.steps) (drop_at items i x at) in
       omega (arith, short, same, page_steps s u (entry_count s es (length es)) (entry_steps s es (length es)) page (drop (suc i) items) passed' r.0)
 
--- a node has fewer children than the tree has nodes
-length-nodes_of : (r : Row) → length_of r ≤ nodes_of r
-length-nodes_of no_nodes = omega arith
-length-nodes_of (node l below next) = omega (arith, length-nodes_of next)
-
 pub few_children : (page : LabelTree) (v : List ℕ) → count_of page ≤ MOST_NODES → unwrap_or (children_at v page) 0 ≤ MOST_NODES
 few_children page v few =
     elim (node_at v page) as (λ o. node_at v page ≡ o → unwrap_or (option_map (λ (n : LabelTree). length_of n.below) o) 0 ≤ MOST_NODES) [
       | None ↦ λ e. omega arith
-      | Some n ↦ λ e. omega (arith, few, length-node_at v page n e, length-nodes_of n.below)
+      | Some n ↦ λ e. omega (arith, few, length-node_at v page n e, length_of-nodes_of n.below)
     ] refl
 
 -- as many as the node tells that was looked up, and none where there is no node

@@ -1,5 +1,5 @@
 -- The first items with an atom among those that were passed at a node.
-use Rattle.std.proofs.Common.{◌≡◌, ◌≤◌, ℕ, zero, suc, Bool, true, false, cond, is_some, if◌then◌else◌, ◌==◌, List, [], ◌∷◌, ◌++◌, length, find, reverse, Option, Some, None, option_map, option_and_then, unwrap_or, slice_get, Bor, refl, sym, ap, subst, ◌∙◌, append_assoc, arith}
+use Rattle.std.proofs.Common.{◌≡◌, ℕ, zero, suc, Bool, true, false, cond, is_some, if◌then◌else◌, ◌==◌, List, [], ◌∷◌, ◌++◌, length, find, reverse, Option, Some, None, option_map, option_and_then, unwrap_or, slice_get, Bor, refl, sym, ap, subst, ◌∙◌, append_assoc, arith}
 use Rattle.std.proofs.lemmas.Bool.Decides.{Decides-eqb}
 use Rattle.std.proofs.lemmas.List.{append-nil, reverse-append}
 use Rattle.std.specs.Option.{option_copied}
@@ -8,11 +8,6 @@ use Rattle.proof_core.specs.declared.passes.Pass.{Pass}
 use Rattle.proof_core.specs.Passes.{first_place, passed_of, seen, way_for, named_for}
 use Rattle.proof_check.specs.Unfolding.{Passed, child_for, end_for}
 use Rattle.proof_core.specs.Worlds.{or_first}
-
-pub past : {X : Type 0} (xs : List X) (i : ℕ) → slice_get xs i ≡ None → length xs ≤ i
-past [] i at = omega arith
-past (x ∷ xs) zero at = cc
-past (x ∷ xs) (suc i) at = omega (arith, past xs i at)
 
 pub find_place : {X : Type 0} (test : X → Bool) (xs : List X) → find test xs ≡ option_and_then (slice_get xs) (first_place test xs)
 find_place test [] = refl

@@ -3,6 +3,7 @@ use Rattle.std.proofs.Common.{◌≡◌, ℕ, zero, suc, ◌<◌, List, [], ◌�
 use Rattle.std.proofs.lemmas.List.{append_assoc}
 use Rattle.std.proofs.lemmas.List.Elements.{All-contains}
 use Rattle.tp_base.proofs.Rising.{All-from_Contains}
+use Rattle.tp_base.proofs.Lists.{Contains-at}
 use Rattle.tree_sem.specs.Trees.{LabelTree, leaf, node_at, label_at, add_class, add_child}
 use Rattle.tree_sem.specs.Paths.{parent_of}
 use Rattle.tree_sem.proofs.RowLemmas.{there}
@@ -20,8 +21,9 @@ use Rattle.proof_check.specs.declared.proofs.PageItem.{PageItem}
 use Rattle.proof_check.specs.declared.proofs.Proof.{Proof}
 use Rattle.proof_check.specs.Validity.{atoms_of, items_at, Place, IsSound, AreSound, in_entry, at_page, ArePlaced, IsValid}
 use Rattle.tree_sem.specs.Growth.{Grows}
-use Rattle.proof_core.proofs.KeepLemmas.{keeps_itself, keeps_both, node_has, kept, kept_node, edit_keeps, add_class_keeps, push_keeps, has_added, new_child}
-use Rattle.proof_check.proofs.ItemLemmas.{slice_get-Contains, atoms_of-cases, page_cases}
+use Rattle.tree_sem.proofs.GrowthLemmas.{HasAtom-grows}
+use Rattle.proof_core.proofs.KeepLemmas.{keeps_itself, keeps_both, node_has, kept_node, edit_keeps, add_class_keeps, push_keeps, has_added, new_child}
+use Rattle.proof_check.proofs.ItemLemmas.{atoms_of-cases, page_cases}
 
 -- an item stands at v in t, with what its place says
 pub record Stands (t : LabelTree) (place : Place) (v : List ℕ) : Type 0 where
@@ -34,10 +36,10 @@ pub record Stands (t : LabelTree) (place : Place) (v : List ℕ) : Type 0 where
 stands_kept : (t u : LabelTree) (place : Place) (v : List ℕ) → Grows t u → Stands t place v → Stands u place v
 stands_kept t u place v keeps stands = record {
   node = kept_node t u keeps v stands.node;
-  label = λ a is. kept t u keeps v a (stands.label a is);
-  here = λ a is. kept t u keeps v a (stands.here a is);
-  above = λ a is. let r = stands.above a is in (r.0, r.1, r.2, kept t u keeps r.0 a r.3);
-  child = λ n a is. kept t u keeps (v ++ n ∷ []) a (stands.child n a is);
+  label = λ a is. HasAtom-grows t u keeps v a (stands.label a is);
+  here = λ a is. HasAtom-grows t u keeps v a (stands.here a is);
+  above = λ a is. let r = stands.above a is in (r.0, r.1, r.2, HasAtom-grows t u keeps r.0 a r.3);
+  child = λ n a is. HasAtom-grows t u keeps (v ++ n ∷ []) a (stands.child n a is);
 }
 
 all_has : (t : LabelTree) (v xs : List ℕ) → IsSome (node_at v t) → ((a : ℕ) → Contains xs a → HasAtom t v a) → IsSomeAnd (label_at v t) (λ label. All (Contains label) xs)
@@ -90,27 +92,27 @@ module _ (system : System) where
         → (u : LabelTree) × Derived t u × HasAtom u v atom
     item_made place v t atom Start can stands sound = (t, derived_itself t, stands.label atom sound)
     item_made place v t atom (Local l) can stands (rule, at, gives, needs) =
-        let legal : IsLegal system t (by_local rule v) = (slice_get-Contains system.local l rule at, all_has t v rule.needs stands.node (λ a is. stands.here a (All-contains (Contains (atoms_of place.here)) rule.needs a needs is))) in
+        let legal : IsLegal system t (by_local rule v) = (Contains-at system.local l rule at, all_has t v rule.needs stands.node (λ a is. stands.here a (All-contains (Contains (atoms_of place.here)) rule.needs a needs is))) in
         (after_step system t (by_local rule v), one_step t (by_local rule v) legal, subst (λ z. HasAtom (after_step system t (by_local rule v)) v z) gives (has_added v rule.gives t stands.node))
     item_made place v t atom (Up l) can stands (link, at, gives, above) =
         let up = stands.above link.from above in
-        let legal : IsLegal system t (by_up link v) = (slice_get-Contains system.up l link at, stands.node, up.0, up.1, up.2, up.3) in
+        let legal : IsLegal system t (by_up link v) = (Contains-at system.up l link at, stands.node, up.0, up.1, up.2, up.3) in
         (after_step system t (by_up link v), one_step t (by_up link v) legal, subst (λ z. HasAtom (after_step system t (by_up link v)) v z) gives (has_added v link.to t stands.node))
     item_made place v t atom (Down l (Real k)) can stands (link, at, gives, child) =
-        let legal : IsLegal system t (by_down link v) = (slice_get-Contains system.down l link at, k, stands.child k link.from child) in
+        let legal : IsLegal system t (by_down link v) = (Contains-at system.down l link at, k, stands.child k link.from child) in
         (after_step system t (by_down link v), one_step t (by_down link v) legal, subst (λ z. HasAtom (after_step system t (by_down link v)) v z) gives (has_added v link.to t stands.node))
     item_made place v t atom (Down l (Grown c e)) can stands (link, at, gives, spawn, at_spawn, kind, at_kind, entry, at_entry, below) =
-        let spawns : IsLegal system t (by_spawn spawn v) = (slice_get-Contains system.child c spawn at_spawn, stands.here spawn.needs below.spawns) in
+        let spawns : IsLegal system t (by_spawn spawn v) = (Contains-at system.child c spawn at_spawn, stands.here spawn.needs below.spawns) in
         let t1 = after_step system t (by_spawn spawn v) in
         let keeps : Grows t t1 = step_keeps t (by_spawn spawn v) in
         let new = new_child v (kind_label system spawn.kind) t stands.node in
         let label : kind_label system spawn.kind ≡ kind_label system entry.kind = ap (kind_label system) (sym below.its_kind) in
         let made = can e entry below.lower at_entry t1 v new.0 (rw new.1 refl)
         (λ a is. node_has t1 (leaf (kind_label system spawn.kind)) (v ++ new.0 ∷ []) a new.1 (rw label is))
-        (λ a is. kept t t1 keeps v a (stands.here a (All-contains (Contains (atoms_of place.here)) entry.parent a below.parent is))) in
+        (λ a is. HasAtom-grows t t1 keeps v a (stands.here a (All-contains (Contains (atoms_of place.here)) entry.parent a below.parent is))) in
         let u = made.0 in
         let node : IsSome (node_at v u) = kept_node t1 u (derived_keeps t1 u made.1) v (kept_node t t1 keeps v stands.node) in
-        let legal : IsLegal system u (by_down link v) = (slice_get-Contains system.down l link at, new.0, made.2 link.from below.gives) in
+        let legal : IsLegal system u (by_down link v) = (Contains-at system.down l link at, new.0, made.2 link.from below.gives) in
         let w = after_step system u (by_down link v) in (
           w,
           derived_both t u w (derived_both t t1 u (one_step t (by_spawn spawn v) spawns) made.1) (one_step u (by_down link v) legal),
@@ -154,7 +156,7 @@ module _ (system : System) where
       page_made page (i ∷ items) before t keeps has (node, sound_item, placed) =
           let first = item_made (at_page page (length entries) before i.at) i.at t i.item.atom i.item.reason (can_make (length entries)) (record {
             node = kept_node page t keeps i.at node;
-            label = λ a is. kept page t keeps i.at a (labelled page i.at a is);
+            label = λ a is. HasAtom-grows page t keeps i.at a (labelled page i.at a is);
             here = has i.at;
             above = λ a is. at_parent page before i.at t has a is;
             child = λ n a is. has (i.at ++ n ∷ []) a is;
@@ -162,7 +164,7 @@ module _ (system : System) where
           let u = first.0 in
           let more = derived_keeps t u first.1 in
           let rest = page_made page items (before ++ i ∷ []) u (keeps_both page t u keeps more)
-          (λ v a is. elim (page_cases v before i a is) [ inl old ↦ kept t u more v a (has v a old) | inr new ↦ subst (λ z. HasAtom u z a) new.0 (subst (λ z. HasAtom u i.at z) new.1 first.2) ]) placed in
+          (λ v a is. elim (page_cases v before i a is) [ inl old ↦ HasAtom-grows t u more v a (has v a old) | inr new ↦ subst (λ z. HasAtom u z a) new.0 (subst (λ z. HasAtom u i.at z) new.1 first.2) ]) placed in
           (rest.0, derived_both t u rest.0 first.1 rest.1, λ v a is. rest.2 v a (rw (append_assoc before (i ∷ []) items) is))
         where
           labelled : (page : LabelTree) (v : List ℕ) (a : ℕ) → Contains (unwrap_or (label_at v page) []) a → HasAtom page v a

@@ -1,8 +1,9 @@
 -- What is known of the real tree while a proof is unfolded: the invariant, and that each step keeps it.
-use Rattle.std.proofs.Common.{◌≡◌, ◌≢◌, ◌⊎◌, ℕ, zero, suc, ◌+◌, true, false, if◌then◌else◌, cond, ◌==◌, List, [], ◌∷◌, ◌++◌, length, Contains, Some, None, IsSome, find, option_map, slice_get, bytes_eq, inl, inr, refl, sym, ap, ◌∙◌, subst, arith}
+use Rattle.std.proofs.Common.{◌≡◌, ◌≢◌, ℕ, zero, suc, ◌+◌, true, false, if◌then◌else◌, cond, ◌==◌, List, [], ◌∷◌, ◌++◌, length, Contains, Some, None, IsSome, find, option_map, slice_get, bytes_eq, inl, inr, refl, sym, ap, ◌∙◌, subst, arith}
 use Rattle.std.proofs.lemmas.Bool.Decides.{Decides-eqb}
 use Rattle.std.proofs.lemmas.List.{append_assoc}
 use Rattle.std.proofs.lemmas.Slice.Eq.{bytes_eq-Decides}
+use Rattle.tp_base.proofs.Lists.{same_or_other}
 use Rattle.tree_sem.specs.declared.actions.Step.{Step}
 use Rattle.tree_sem.specs.Trees.{LabelTree, node_at, length_of, children_at, edit_at}
 use Rattle.tree_sem.specs.Actions.{add_classes, add_trees}
@@ -12,9 +13,10 @@ use Rattle.proof_check.specs.declared.proofs.ProofItem.{ProofItem}
 use Rattle.proof_check.specs.Unfolding.{Progress, Passed, with_step, with_children}
 use Rattle.proof_check.specs.Validity.{atoms_of, IsDown, Place}
 use Rattle.tree_sem.specs.Growth.{Grows}
+use Rattle.tree_sem.proofs.AddTreesLemmas.{children_at-add_trees, node_at-add_trees_new}
 use Rattle.proof_core.specs.Readings.{end_by, AreLegalBy, step_at, Reading, IsReading}
 use Rattle.proof_core.proofs.KeepLemmas.{keeps_itself, keeps_both, kept_node, edit_keeps}
-use Rattle.proof_core.proofs.GrowthLemmas.{add_classes_keeps, children_at-add_classes, add_trees_keeps, children_at-add_trees, children_at-add_trees_other, node_at-add_trees_new, node_at-add_trees_none}
+use Rattle.proof_core.proofs.GrowthLemmas.{add_classes_keeps, children_at-add_classes, add_trees_keeps, children_at-add_trees_other, node_at-add_trees_none}
 
 pub with_children-same : (v : List ℕ) (n : ℕ) (added : List ℕ → ℕ) → with_children v n added v ≡ added v + n
 with_children-same v n added = ap (λ b. if b then added v + n else added v) ((bytes_eq-Decides v v).1 refl)
@@ -22,12 +24,6 @@ with_children-same v n added = ap (λ b. if b then added v + n else added v) ((b
 pub with_children-other : (v q : List ℕ) (n : ℕ) (added : List ℕ → ℕ) → v ≢ q → with_children v n added q ≡ added q
 with_children-other v q n added other =
     elim (bytes_eq v q) as (λ b. bytes_eq v q ≡ b → (if b then added q + n else added q) ≡ added q) [ true ↦ λ e. absurd (other ((bytes_eq-Decides v q).0 e)) | false ↦ λ e. refl ] refl
-
-pub same_path : (v q : List ℕ) → (v ≡ q) ⊎ (v ≢ q)
-same_path v q = elim (bytes_eq v q) as (λ b. bytes_eq v q ≡ b → (v ≡ q) ⊎ (v ≢ q)) [
-  | true ↦ λ e. inl ((bytes_eq-Decides v q).0 e)
-  | false ↦ λ e. inr (λ same. let never = (bytes_eq-Decides v q).1 same in cc)
-] refl
 
 pub end_by-append : (after : LabelTree → Step → LabelTree) (t : LabelTree) (xs : List Step) (s : Step) → end_by after t (xs ++ s ∷ []) ≡ after (end_by after t xs) s
 end_by-append after t [] s = refl
@@ -191,7 +187,7 @@ module _ (r : Reading) (page : LabelTree) where
       pub forest_later : IsLater done forest_done
       forest_later = record {
         keeps = forest_keeps;
-        counts = λ q n c. elim (same_path v q) [
+        counts = λ q n c. elim (same_or_other v q) [
           | inl same ↦
               let c' : Counted done v n = subst (λ z. Counted done z n) (sym same) c in
               let here : Some (length_of the_node.0.below) ≡ Some (n + done.added v) = sym (ap (option_map (λ (n : LabelTree). length_of n.below)) the_node.1) ∙ c' in
@@ -212,7 +208,7 @@ module _ (r : Reading) (page : LabelTree) where
       pub forest_good : IsGood forest_done
       forest_good = record {
         legal = legal_append r.Legal r.after page done.steps step good.legal legal;
-        fresh = λ q none. elim (same_path v q) [
+        fresh = λ q none. elim (same_or_other v q) [
           | inl same ↦ let is : IsSome (node_at v (now forest_done)) = kept_node (now done) (now forest_done) forest_keeps v node in let is' : IsSome (node_at q (now forest_done)) = subst (λ z. IsSome (node_at z (now forest_done))) same is in
               let never : IsSome {T = LabelTree} None = rw none at is' in cc
           | inr other ↦ with_children-other v q (length trees) done.added other ∙ good.fresh q (gone q none)

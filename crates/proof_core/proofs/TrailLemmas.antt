@@ -4,6 +4,7 @@ use Rattle.std.proofs.lemmas.Slice.Eq.{bytes_eq-Decides}
 use Rattle.std.specs.Map.{lookup}
 use Rattle.std.specs.Str.{bytes_eq}
 use Rattle.indexmap.specs.IndexMap.{insert_entry}
+use Rattle.tp_base.proofs.Lists.{bytes_eq-sym}
 use Rattle.simple_core.specs.declared.rules.Kind.{Kind}
 use Rattle.simple_core.specs.declared.rules.Local as rule
 use Rattle.simple_core.specs.declared.system.System.{System}
@@ -11,15 +12,6 @@ use Rattle.simple_core.specs.declared.system.TheConstants.{MOST_KINDS}
 use Rattle.proof_core.specs.Trails.{no_progress, grown_at, step_of_forest}
 use Rattle.proof_check.specs.Unfolding.{Progress, with_children, with_step, after_local}
 use Rattle.proof_core.specs.Walks.{IsFew}
-
-bytes_eq-sym : (xs ys : List ℕ) → bytes_eq xs ys ≡ bytes_eq ys xs
-bytes_eq-sym xs ys = elim (bytes_eq xs ys) as (λ b. bytes_eq xs ys ≡ b → b ≡ bytes_eq ys xs) [
-  | true ↦ λ e. sym ((bytes_eq-Decides ys xs).1 (sym ((bytes_eq-Decides xs ys).0 e)))
-  | false ↦ λ e. elim (bytes_eq ys xs) as (λ b. bytes_eq ys xs ≡ b → false ≡ b) [
-    | true ↦ λ f. let never : true ≡ false = sym ((bytes_eq-Decides xs ys).1 (sym ((bytes_eq-Decides ys xs).0 f))) ∙ e in cc
-    | false ↦ λ f. refl
-  ] refl
-] refl
 
 pub lookup-inserted : (es : List (Vec ℕ Global × ℕ)) (k : Vec ℕ Global) (w : ℕ) (q : List ℕ)
     → lookup (λ x. bytes_eq q x.items) (insert_entry (λ x y. bytes_eq x.items y.items) es k w) ≡ (if bytes_eq k.items q then Some w else lookup (λ x. bytes_eq q x.items) es)

@@ -3,6 +3,7 @@ use Rattle.std.proofs.Common.{◌≡◌, ◌⊎◌, ℕ, zero, suc, ◌+◌, ◌
 use Rattle.std.proofs.lemmas.List.{append_assoc}
 use Rattle.std.proofs.lemmas.List.Elements.{All-contains}
 use Rattle.std.proofs.lemmas.Slice.Eq.{bytes_eq-Decides}
+use Rattle.tp_base.proofs.Lists.{Contains-at}
 use Rattle.tree_sem.specs.declared.actions.Step.{Step}
 use Rattle.tree_sem.specs.Paths.{parent_of}
 use Rattle.tree_sem.specs.Trees.{LabelTree, node_at, label_at, length_of, children_at, edit_at}
@@ -25,7 +26,7 @@ use Rattle.proof_check.specs.Validity.{atoms_of, items_at, IsDown, Place, IsBelo
 use Rattle.tree_sem.specs.Growth.{Grows}
 use Rattle.proof_core.specs.Readings.{end_by, AreLegalBy, step_at, Reading, IsReading}
 use Rattle.proof_core.proofs.KeepLemmas.{keeps_itself, keeps_both, kept_node}
-use Rattle.proof_check.proofs.ItemLemmas.{slice_get-Contains, items_at-append}
+use Rattle.proof_check.proofs.ItemLemmas.{items_at-append}
 use Rattle.proof_core.proofs.TrackLemmas.{now, Counted, IsGood, IsLater, IsBrought, IsTracked, AreTracked, IsReached, later_itself, later_twice, are_tracked_later, reached_later, tracked_push, tracked_find, end_by-append, act_later, forest_done, forest_good, forest_later, forest_keeps, forest_brought}
 
 module _ (r : Reading) (page : LabelTree) (reading : IsReading r page) where
@@ -175,10 +176,10 @@ module _ (r : Reading) (page : LabelTree) (reading : IsReading r page) where
         tracked = plain_tracked done v i (at.label i.atom sound) (λ e. absurd (at.no_target (subst (λ z. Contains place.label z) e sound))) (λ d. subst IsDown same d);
       }
       reason_unfolded done place v base passed real i (Local l) same can good at (rule, at_rule, gives, needs) =
-          let made = local_unfolded done place v base passed real i rule (λ d. subst IsDown same d) good at (slice_get-Contains r.system.local l rule at_rule) gives needs in
+          let made = local_unfolded done place v base passed real i rule (λ d. subst IsDown same d) good at (Contains-at r.system.local l rule at_rule) gives needs in
           rw at_rule made
       reason_unfolded done place v base passed real i (Up l) same can good at (link, at_link, to, above) =
-          let in' = slice_get-Contains r.system.up l link at_link in
+          let in' = Contains-at r.system.up l link at_link in
           let up = at.above link.from above in
           let node : IsSome (node_at (up.0 ++ up.1 ∷ []) (now r page done)) = subst (λ z. IsSome (node_at z (now r page done))) up.2 at.node in
           let means : r.Means (now r page done) (up.0 ++ up.1 ∷ []) link.to = reading.up link in' (now r page done) up.0 up.1 node up.3 in
@@ -188,7 +189,7 @@ module _ (r : Reading) (page : LabelTree) (reading : IsReading r page) where
             tracked = plain_tracked done v i (subst (λ z. r.Means (now r page done) v z) to (subst (λ z. r.Means (now r page done) z link.to) (sym up.2) means)) (λ e. absurd (reading.target_up link in' (to ∙ e))) (λ d. subst IsDown same d);
           }
       reason_unfolded done place v base passed real i (Down l (Real k)) same can good at (link, at_link, to, child) =
-          let in' = slice_get-Contains r.system.down l link at_link in
+          let in' = Contains-at r.system.down l link at_link in
           let c = at.child k in
           let is : Contains (atoms_of c.0) link.from = rw (← c.1) child in
           let made : IsUnfolded done v i (down_item r.system i link.from k (v ++ k ∷ []) (done, real k)) = record {
@@ -198,7 +199,7 @@ module _ (r : Reading) (page : LabelTree) (reading : IsReading r page) where
           } in
           subst (λ o. IsUnfolded done v i (down_item r.system i (from_of o) k (v ++ k ∷ []) (done, real k))) (sym at_link) made
       reason_unfolded done place v base passed real i (Down l (Grown c e)) same can good at (link, at_link, to, spawn, at_spawn, kind, at_kind, entry, at_entry, below) =
-          let made = grown_unfolded done place v base passed real i link e spawn kind entry can good at (slice_get-Contains r.system.down l link at_link) to (slice_get-Contains r.system.child c spawn at_spawn) at_kind at_entry below in
+          let made = grown_unfolded done place v base passed real i link e spawn kind entry can good at (Contains-at r.system.down l link at_link) to (Contains-at r.system.child c spawn at_spawn) at_kind at_entry below in
           let is_kind : spawned r.system c ≡ Some kind = ap (λ o. option_and_then (λ (s : Spawn). slice_get r.system.kinds s.kind) o) at_spawn ∙ at_kind in
           let is_atom : needed_by r.system c ≡ spawn.needs = ap (λ o. unwrap_or (option_map (λ (s : Spawn). s.needs) o) 0) at_spawn in
           let is_from : from_of (slice_get r.system.down l) ≡ link.from = ap from_of at_link in

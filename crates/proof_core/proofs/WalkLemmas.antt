@@ -1,6 +1,7 @@
 -- A walk goes on as the unfolding of its entries does.
 use Rattle.std.proofs.Common.{◌≡◌, ◌≤◌, ℕ, zero, suc, ◌-◌, List, [], ◌∷◌, ◌++◌, length, map, drop, take, Some, None, option_map, unwrap_or, slice_get, refl, sym, ap, subst, ◌∙◌, append_assoc, arith, length-append}
 use Rattle.std.proofs.lemmas.List.{append-nil, map-append}
+use Rattle.tp_base.proofs.Lists.{drop_none, past_end, take_front, drop_at}
 use Rattle.simple_core.specs.declared.rules.Kind.{Kind}
 use Rattle.simple_core.specs.declared.system.System.{System}
 use Rattle.proof_core.specs.declared.passes.Pass.{Pass}
@@ -17,20 +18,12 @@ use Rattle.proof_core.specs.Trails.{number_for, with_forest_of}
 use Rattle.proof_check.specs.Unfolding.{Progress, Passed, child_for, from_of, spawned, needed_by, forest_children, number_at, down_item, grown_item, unfold_reason, unfold_item, unfold_items, unfold_entry, entry_count}
 use Rattle.proof_core.specs.Walks.{Outcome, level_items, level_base, on_from, level_rest, frame_pass, frame_rest, frames_rest, rest_of, node_of, GoesOn}
 use Rattle.proof_check.proofs.CountLemmas.{items_steps, entry_steps}
-use Rattle.proof_check.proofs.EntryLemmas.{drop_at, drop_end}
-use Rattle.proof_core.proofs.PassLemmas.{past, child-seen, passed_down}
-
-drop_none : {X : Type 0} (xs : List X) → drop 0 xs ≡ xs
-drop_none [] = refl
-drop_none (x ∷ xs) = refl
+use Rattle.proof_check.proofs.EntryLemmas.{drop_end}
+use Rattle.proof_core.proofs.PassLemmas.{child-seen, passed_down}
 
 take_none : {X : Type 0} (xs : List X) → take 0 xs ≡ []
 take_none [] = refl
 take_none (x ∷ xs) = refl
-
-take_front : {X : Type 0} (xs ys : List X) → take (length xs) (xs ++ ys) ≡ xs
-take_front [] ys = take_none ys
-take_front (x ∷ xs) ys = let n : length (x ∷ xs) ≡ suc (length xs) = omega arith in ap (λ z. take z (x ∷ (xs ++ ys))) n ∙ ap (λ zs. x ∷ zs) (take_front xs ys)
 
 take_push : (xs : List ℕ) (x : ℕ) → take (length (xs ++ x ∷ []) - 1) (xs ++ x ∷ []) ≡ xs
 take_push xs x = let n : length (xs ++ x ∷ []) - 1 ≡ length xs = omega (arith, length-append xs (x ∷ [])) in ap (λ z. take z (xs ++ x ∷ [])) n ∙ take_front xs (x ∷ [])
@@ -71,7 +64,7 @@ module _ (s : System) (es : List Entry) where
       → level_rest s es level v done ≡ (done, seen v level.here)
   level_ends level v done none =
       ap (λ xs. unfold_items s (unfold_entry s es (level.depth - 1)) xs (level_base s es level.entry) v (seen v level.here) done)
-      (drop_end (level_items es level.depth level.entry) (length level.here) (past (level_items es level.depth level.entry) (length level.here) none))
+      (drop_end (level_items es level.depth level.entry) (length level.here) (past_end (level_items es level.depth level.entry) (length level.here) none))
 
   -- the next item of a level
   abbrev pub next_item : Level → ProofItem → List ℕ → Progress → Progress × Passed

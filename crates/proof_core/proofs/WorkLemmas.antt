@@ -1,5 +1,6 @@
 -- Each turn of a walk leaves less work.
-use Rattle.std.proofs.Common.{◌≡◌, ◌<◌, ◌≤◌, ℕ, zero, suc, ◌+◌, ◌-◌, List, [], ◌∷◌, ◌++◌, length, drop, Some, slice_get, refl, ap, ◌∙◌, arith, length-append}
+use Rattle.std.proofs.Common.{◌≡◌, ◌<◌, ◌≤◌, ℕ, zero, suc, ◌+◌, ◌-◌, List, [], ◌∷◌, ◌++◌, length, Some, slice_get, refl, ap, ◌∙◌, arith, length-append}
+use Rattle.tp_base.proofs.Lists.{drop_none, drop_at}
 use Rattle.proof_core.specs.declared.passes.Pass.{Pass}
 use Rattle.proof_check.specs.declared.proofs.Below.TheVariants.{Real, Grown}
 use Rattle.proof_check.specs.declared.proofs.Reason.{Reason}
@@ -10,7 +11,6 @@ use Rattle.proof_core.specs.declared.walks.Frame.{Frame}
 use Rattle.proof_core.specs.declared.walks.Level.{Level}
 use Rattle.proof_core.specs.declared.walks.Walk.{Walk}
 use Rattle.proof_core.specs.Walks.{level_items, reason_work, items_work, entry_work, work_from, frame_work, frames_work, walk_work}
-use Rattle.proof_check.proofs.EntryLemmas.{drop_at}
 
 some_work : (inside : ℕ → ℕ) (reason : Reason) → 0 < reason_work inside reason
 some_work inside Start = omega arith
@@ -18,10 +18,6 @@ some_work inside (Local l) = omega arith
 some_work inside (Up l) = omega arith
 some_work inside (Down l (Real k)) = omega arith
 some_work inside (Down l (Grown c e)) = omega arith
-
-drop_none : {X : Type 0} (xs : List X) → drop 0 xs ≡ xs
-drop_none [] = refl
-drop_none (x ∷ xs) = refl
 
 module _ (es : List Entry) where
   frames_more : (fs : List Frame) (f : Frame) → frames_work es (fs ++ f ∷ []) ≡ frames_work es fs + frame_work es f

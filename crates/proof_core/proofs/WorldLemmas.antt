@@ -3,14 +3,13 @@ use Rattle.std.proofs.Common.{◌≡◌, ◌<◌, ◌≤◌, ℕ, suc, Bool, tru
 use Rattle.std.proofs.lemmas.Bool.Decides.{Decides-eqb}
 use Rattle.std.specs.Prelude.{Result, Ok, Err, OnOk}
 use Rattle.std.proofs.lemmas.List.Elements.{All-contains}
+use Rattle.tp_base.proofs.Lists.{Contains-at, drop_at}
 use Rattle.simple_core.specs.declared.rules.Kind.{Kind}
 use Rattle.simple_core.specs.declared.rules.Spawn.{Spawn}
 use Rattle.simple_core.specs.declared.system.System.{System}
 use Rattle.simple_core.specs.declared.system.TheConstants.{MOST_KINDS}
 use Rattle.proof_check.specs.Unfolding.{spawned}
 use Rattle.proof_core.specs.Worlds.{or_first, is_under, siblings_below, HasFewSiblings}
-use Rattle.proof_check.proofs.EntryLemmas.{drop_at}
-use Rattle.proof_check.proofs.ItemLemmas.{slice_get-Contains}
 
 pub or_none : {X : Type 0} (o : Option X) → o ≡ or_first o None
 or_none None = refl
@@ -71,7 +70,7 @@ few_siblings s few_all test =
       | None ↦ λ e. omega arith
       | Some k ↦ λ e.
           let r = find_in test s.kinds k e in
-          (All-contains (λ (x : Kind). (x.number < x.siblings) × (x.siblings ≤ MOST_KINDS)) s.kinds k few_all (slice_get-Contains s.kinds r.0 k r.1)).1
+          (All-contains (λ (x : Kind). (x.number < x.siblings) × (x.siblings ≤ MOST_KINDS)) s.kinds k few_all (Contains-at s.kinds r.0 k r.1)).1
     ] refl
 
 pub few_spawned : (s : System) → HasFewSiblings s.kinds → (c : ℕ) (kind : Kind) → spawned s c ≡ Some kind → (kind.number < MOST_KINDS) × (kind.siblings ≤ MOST_KINDS)
@@ -79,6 +78,6 @@ few_spawned s few_all c kind is =
     elim (slice_get s.child c) as (λ o. option_and_then (λ (x : Spawn). slice_get s.kinds x.kind) o ≡ Some kind → (kind.number < MOST_KINDS) × (kind.siblings ≤ MOST_KINDS)) [
       | None ↦ λ e. cc
       | Some x ↦ λ e.
-          let few = All-contains (λ (y : Kind). (y.number < y.siblings) × (y.siblings ≤ MOST_KINDS)) s.kinds kind few_all (slice_get-Contains s.kinds x.kind kind e) in
+          let few = All-contains (λ (y : Kind). (y.number < y.siblings) × (y.siblings ≤ MOST_KINDS)) s.kinds kind few_all (Contains-at s.kinds x.kind kind e) in
           (omega (arith, few.0, few.1), few.1)
     ] is

@@ -5,6 +5,7 @@ use Rattle.std.specs.Option.{option_to_list}
 use Rattle.std.specs.List.Sorted.{IsStrictlyIncreasing}
 use Rattle.std.proofs.lemmas.List.{length-map, map-append}
 use Rattle.std.proofs.lemmas.Option.{slice_get_within}
+use Rattle.tp_base.proofs.Lists.{Contains-at, element_at}
 use Rattle.tree_sem.specs.Trees.{LabelTree}
 use Rattle.tree_sem.specs.Order.{Before}
 use Rattle.simple_core.specs.declared.system.System.{System}
@@ -17,7 +18,6 @@ use Rattle.proof_check.specs.declared.proofs.PageItem.{PageItem}
 use Rattle.proof_check.specs.declared.proofs.Proof.{Proof}
 use Rattle.proof_check.specs.Unfolding.{entry_count}
 use Rattle.proof_check.specs.Validity.{MOST_STEPS}
-use Rattle.proof_check.proofs.ItemLemmas.{slice_get-Contains}
 use Rattle.proof_needs.specs.declared.needs.Choice.{Choice}
 use Rattle.proof_needs.specs.declared.needs.Choice.TheVariants.{Start, Local, Up, Real, Spawn}
 use Rattle.proof_needs.specs.declared.spots.Spot.{Spot}
@@ -45,7 +45,6 @@ use Rattle.proof_maker.proofs.ChoiceLemmas.{Contains-slice_get}
 use Rattle.proof_maker.proofs.CompleteLemmas.{on_page, on_added, parent_is}
 use Rattle.proof_maker.proofs.EntryCounts.{steps_right}
 use Rattle.proof_maker.proofs.PostLemmas.{number_is}
-use Rattle.proof_needs.proofs.PlaceLemmas.{there_at}
 use Rattle.proof_maker.proofs.ValidLemmas.{walked_lower}
 
 map_at : {X Y : Type 0} (f : X → Y) (xs : List X) (k : ℕ) (y : Y) → slice_get (map f xs) k ≡ Some y → (x : X) × (slice_get xs k ≡ Some x) × (f x ≡ y)
@@ -103,7 +102,7 @@ module _ (s : System) (page : LabelTree) (target : ℕ) (known : Pair → Type 0
       subst (λ k. slice_get entry_triples k ≡ Some t) (sym place) (at_map triple_of_entry made.order e.0 m e.1 ∙ ap Some (triple_is m t at))
 
   draft_at : (i : ℕ) (w : Want) → slice_get n.wants.keys i ≡ Some w → (d : Draft) × (slice_get n.drafts.items i ≡ Some d)
-  draft_at i w at = there_at n.drafts.items i (subst (λ k. i < k) (sym whole) (slice_get_within n.wants.keys i w at))
+  draft_at i w at = element_at n.drafts.items i (subst (λ k. i < k) (sym whole) (slice_get_within n.wants.keys i w at))
 
   -- what an item says of a want that is listed
   abbrev made_item : ℕ → ProofItem
@@ -128,7 +127,7 @@ module _ (s : System) (page : LabelTree) (target : ℕ) (known : Pair → Type 0
   item_right i w at listed =
       let d = draft_at i w at in
       let draft = list.each_draft i w d.0 at d.1 in
-      let wanted = list.wanted w (slice_get-Contains n.wants.keys i w at) in
+      let wanted = list.wanted w (Contains-at n.wants.keys i w at) in
       let atom = atom_is i w at in
       let right = reason_right (spot_of w.spot) d.0.round d.0.choice d.0.triple draft.triple (λ m named. numbered.closed i m w d.0 at d.1 named listed) in
       let choice : chosen s (setting_at s page (spot_of w.spot)) (path_at s page (spot_of w.spot)) (made_item i).atom d.0.round ≡ reason_of d.0.choice =
@@ -193,7 +192,7 @@ module _ (s : System) (page : LabelTree) (target : ℕ) (known : Pair → Type 0
     dealt : IsDealt n.wants.keys n.drafts.items (λ q. q ≡ Added m) AtomTie wants
     dealt =
         let within : m < length made.orders.triples.items = let lt = slice_get_within triples m t at_t in let same = length-map n.triples.keys triple_of in let count = made.dealt.count in omega (arith, lt, same, count) in
-        let o = there_at made.orders.triples.items m within in
+        let o = element_at made.orders.triples.items m within in
         let is : wants ≡ o.0.wants.items = ap (λ q. unwrap_or (option_map (λ (x : Order). x.wants.items) q) []) o.1 in
         subst (IsDealt n.wants.keys n.drafts.items (λ q. q ≡ Added m) AtomTie) (sym is) (made.dealt.each m o.0 o.1)
 
@@ -214,7 +213,7 @@ module _ (s : System) (page : LabelTree) (target : ℕ) (known : Pair → Type 0
         record { place = i.0; want = w.0; from = w.1; same = i.2 }
 
     tie : (x : Tie) × (slice_get n.ties.items m ≡ Some x)
-    tie = there_at n.ties.items m (subst (λ k. m < k) (sym list.tie_count) (slice_get_within triples m t at_t))
+    tie = element_at n.ties.items m (subst (λ k. m < k) (sym list.tie_count) (slice_get_within triples m t at_t))
 
     parent_same : entry.parent ≡ tie.0.above
     parent_same = is.parent tie.0 tie.1
@@ -224,7 +223,7 @@ module _ (s : System) (page : LabelTree) (target : ℕ) (known : Pair → Type 0
       kind = is.kind t at_t;
       each = λ k x at_x.
           let i = item_from k x at_x in
-          let listed : IsListed made.order i.want.spot = subst (IsListed made.order) (sym i.from.spot) (slice_get-Contains made.order e m at) in
+          let listed : IsListed made.order i.want.spot = subst (IsListed made.order) (sym i.from.spot) (Contains-at made.order e m at) in
           let right = item_right i.place i.want i.from.at listed in
           subst (IsItem s page target entry_triples (added t)) i.same (subst (λ q. IsItem s page target entry_triples q (made_item i.place)) (spot_added m t at_t i.want.spot i.from.spot) right);
       all = λ a need.
@@ -336,10 +335,10 @@ module _ (s : System) (page : LabelTree) (target : ℕ) (known : Pair → Type 0
       item_names i w.0 w.1.at)
 
   triple_there : (e m : ℕ) → slice_get made.order e ≡ Some m → (t : Triple) × (slice_get triples m ≡ Some t)
-  triple_there e m at = there_at triples m (numbered.inside m (slice_get-Contains made.order e m at))
+  triple_there e m at = element_at triples m (numbered.inside m (Contains-at made.order e m at))
 
   entry_there : (e m : ℕ) → slice_get made.order e ≡ Some m → (entry : Entry) × (slice_get p.entries e ≡ Some entry)
-  entry_there e m at = there_at p.entries e (subst (λ k. e < k) (sym made.entries.long) (slice_get_within made.order e m at))
+  entry_there e m at = element_at p.entries e (subst (λ k. e < k) (sym made.entries.long) (slice_get_within made.order e m at))
 
   names_are : (e m : ℕ) → slice_get made.order e ≡ Some m → entry_names p.entries e ≡ map number (names_in n.drafts.items made.orders.triples.items m)
   names_are e m at =

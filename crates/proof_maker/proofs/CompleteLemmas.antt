@@ -1,10 +1,10 @@
 -- A worklist that is worked off has all that is needed.
 use Rattle.std.proofs.Common.{◌≡◌, ◌↔◌, ℕ, List, [], ◌∷◌, ◌++◌, length, Contains, Option, Some, None, slice_get, refl, sym, ap, ◌∙◌, subst, arith}
 use Rattle.std.proofs.lemmas.Option.{slice_get_within}
+use Rattle.tp_base.proofs.Lists.{Contains-at}
 use Rattle.tree_sem.specs.Trees.{LabelTree}
 use Rattle.simple_core.specs.declared.system.System.{System}
 use Rattle.simple_core.specs.Pairs.{Pair}
-use Rattle.proof_check.proofs.ItemLemmas.{slice_get-Contains}
 use Rattle.proof_needs.specs.declared.needs.Choice.{Choice}
 use Rattle.proof_needs.specs.declared.needs.Choice.TheVariants.{Start, Local, Up, Real, Spawn}
 use Rattle.proof_needs.specs.declared.spots.Spot.{Spot}
@@ -188,7 +188,7 @@ module _ (s : System) (page : LabelTree) (target : ℕ) (known : Pair → Type 0
   complete spot b (by_entry p a r l c x m k need choice need' choice') listed =
       let f = complete p a need listed in
       let ch = child p a r l c choice f in
-      let g = complete (added (triple_by s page p r l c)) x need' (slice_get-Contains triples ch.number (triple_by s page p r l c) ch.at) in
+      let g = complete (added (triple_by s page p r l c)) x need' (Contains-at triples ch.number (triple_by s page p r l c) ch.at) in
       entry_found p r l c k x m f.where_is f.is_spot f.same ch choice' g
 
   -- at a node of the page, and at an added node of the list
@@ -200,7 +200,7 @@ module _ (s : System) (page : LabelTree) (target : ℕ) (known : Pair → Type 0
 
   pub on_added : (n : ℕ) (t : Triple) (a : ℕ) → slice_get triples n ≡ Some t → Needed s page target (added t) a → Contains wants (want_of (Added n) a)
   on_added n t a at need =
-      let f = complete (added t) a need (slice_get-Contains triples n t at) in
+      let f = complete (added t) a need (Contains-at triples n t at) in
       let m = added_of f.where_is t f.is_spot f.same in
       subst (λ z. Contains wants (want_of z a)) (m.is_added ∙ ap Added (list.triples_distinct m.number n t m.at at)) f.wanted
 
@@ -210,7 +210,7 @@ module _ (s : System) (page : LabelTree) (target : ℕ) (known : Pair → Type 0
     where
       from : IsNeededAbove s page target (added t) b → Contains tie.above b
       from (a, r, l, need, choice, same) =
-          let f = complete (added t) a need (slice_get-Contains triples n t at) in
+          let f = complete (added t) a need (Contains-at triples n t at) in
           let m = added_of f.where_is t f.is_spot f.same in
           let one : m.number ≡ n = list.triples_distinct m.number n t m.at at in
           let d = drafted (added t) a r (by_up l) choice f in

@@ -1,6 +1,7 @@
 -- The beginning and the end of the worklist, and what is made of it.
 use Rattle.std.proofs.Common.{◌≡◌, ℕ, ◌<◌, List, [], length, Contains, Option, Some, None, IsSome, IsSomeAnd, slice_get, inl, inr, refl, sym, subst, arith}
 use Rattle.std.proofs.lemmas.Option.{slice_get_within}
+use Rattle.tp_base.proofs.Lists.{Contains-at}
 use Rattle.tree_sem.specs.Trees.{LabelTree, node_at, label_at}
 use Rattle.tree_sem.specs.Nodes.{HasAtom}
 use Rattle.simple_core.specs.declared.system.System.{System}
@@ -8,7 +9,6 @@ use Rattle.simple_core.specs.Pairs.{Pair}
 use Rattle.simple_core.proofs.PageLemmas.{closed_is}
 use Rattle.closed_page.specs.ClosedPages.{ClosedPage, IsClosedPage}
 use Rattle.proof_check.specs.declared.proofs.ProofItem.{ProofItem}
-use Rattle.proof_check.proofs.ItemLemmas.{slice_get-Contains}
 use Rattle.proof_needs.specs.declared.needs.Choice.{Choice}
 use Rattle.proof_needs.specs.declared.needs.Choice.TheVariants.{Start, Local, Up, Real, Spawn}
 use Rattle.proof_needs.specs.declared.spots.Spot.TheVariants.{Page}
@@ -104,7 +104,7 @@ item_is s page target known nodes triples ties wants drafts list listed number i
     let item : ProofItem = record { atom = w.atom; reason = reason_with number d.choice d.triple } in
     let same : item ≡ item_at wants drafts number i = rw (at, at') refl in
     subst (IsItem s page target listed spot) same (record {
-      needed = (list.wanted w (slice_get-Contains wants i w at)).needed;
+      needed = (list.wanted w (Contains-at wants i w at)).needed;
       round = d.round;
       first = draft.chosen.first;
       reason = subst (λ z. IsReason s page target listed spot d.round z (reason_with number d.choice d.triple)) (sym draft.chosen.choice) (by_choice spot d.round d.choice d.triple draft.triple numbered);

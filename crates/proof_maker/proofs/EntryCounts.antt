@@ -4,6 +4,7 @@ use Rattle.std.specs.List.{flat_map}
 use Rattle.std.proofs.lemmas.List.Elements.{Contains-append_left, Contains-append_right}
 use Rattle.std.proofs.lemmas.List.Sums.{sum_by-cons}
 use Rattle.std.proofs.lemmas.Option.{slice_get_within}
+use Rattle.tp_base.proofs.Lists.{element_at}
 use Rattle.simple_core.specs.declared.rules.Kind.{Kind}
 use Rattle.simple_core.specs.declared.system.System.{System}
 use Rattle.proof_check.specs.declared.proofs.Below.TheVariants.{Real, Grown}
@@ -15,7 +16,6 @@ use Rattle.proof_check.specs.Kept.{kept_steps}
 use Rattle.proof_check.specs.Unfolding.{spawned, spawn_count, reason_count, items_count, entry_count}
 use Rattle.proof_check.specs.Validity.{MOST_STEPS}
 use Rattle.proof_maker.specs.Needs.{named_by}
-use Rattle.proof_needs.proofs.PlaceLemmas.{there_at}
 use Rattle.proof_maker.proofs.ValidLemmas.{slice_get-take}
 
 abbrev names_of : List ProofItem → List ℕ
@@ -93,7 +93,7 @@ module _ (s : System) where
           alike f is =
               let less = lower e f entry at is in
               let within = slice_get_within entries e entry at in
-              let other = there_at entries f (omega (arith, less, within)) in
+              let other = element_at entries f (omega (arith, less, within)) in
               ap (λ x. min x MOST_STEPS) (kept_at e f other.0 less other.1 ∙ before f other.0 less other.1)
               ∙ twice (entry_count s entries (suc f) f) MOST_STEPS ∙ deep MOST_STEPS f f (suc f) e (omega arith) (omega arith) less
 

@@ -2,11 +2,11 @@
 use Rattle.std.proofs.Common.{◌≡◌, ℕ, zero, suc, ◌<◌, List, [], ◌∷◌, length, Contains, Option, Some, None, IsSomeAnd, option_map, option_and_then, option_to_list, unwrap_or, slice_get, inl, inr, refl, sym, ap, ◌∙◌, subst, arith}
 use Rattle.std.proofs.lemmas.Option.{slice_get_within}
 use Rattle.std.proofs.lemmas.List.{length-map}
+use Rattle.tp_base.proofs.Lists.{Contains-at}
 use Rattle.tree_sem.specs.Trees.{LabelTree}
 use Rattle.simple_core.specs.declared.system.System.{System}
 use Rattle.simple_core.specs.Pairs.{Pair}
 use Rattle.simple_core.specs.Rounds.{IsFirst}
-use Rattle.proof_check.proofs.ItemLemmas.{slice_get-Contains}
 use Rattle.proof_needs.specs.declared.needs.Choice.{Choice}
 use Rattle.proof_needs.specs.declared.needs.Choice.TheVariants.{Start, Local, Up, Real, Spawn}
 use Rattle.proof_needs.specs.declared.spots.Spot.{Spot}
@@ -148,7 +148,7 @@ module _ (s : System) (page : LabelTree) (target : ℕ) (known : Pair → Type 0
         let t = there_at triples k (omega (arith, count, lt)) in
         let named = draft_names i.0 f w.0 d.0 w.1 d.1 d.2 in
         let spot : spot_in nodes triples w.0.spot ≡ added t.0 = ap (spot_in nodes triples) w.2 ∙ ap (λ o. added (unwrap_or o no_triple)) t.1 in
-        let need : Needed s page target (added t.0) w.0.atom = subst (λ p. Needed s page target p w.0.atom) spot (list.wanted w.0 (slice_get-Contains wants i.0 w.0 w.1)).needed in
+        let need : Needed s page target (added t.0) w.0.atom = subst (λ p. Needed s page target p w.0.atom) spot (list.wanted w.0 (Contains-at wants i.0 w.0 w.1)).needed in
         let chosen : IsChosen s page (added t.0) w.0.atom d.0.round (by_spawn named.link named.spawn) = subst (λ p. IsChosen s page p w.0.atom d.0.round (by_spawn named.link named.spawn)) spot named.chosen in
         let at' : slice_get triples f ≡ Some (triple_by s page (added t.0) d.0.round named.link named.spawn) = subst (λ p. slice_get triples f ≡ Some (triple_by s page p d.0.round named.link named.spawn)) spot named.at in
         falls s page target t.0 w.0.atom d.0.round named.link named.spawn (rank k) (rank f) need chosen (rank_first k t.0 t.1) (rank_first f (triple_by s page (added t.0) d.0.round named.link named.spawn) at')

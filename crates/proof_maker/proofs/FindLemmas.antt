@@ -8,10 +8,11 @@ use Rattle.std.proofs.Common.{◌≡◌, ℕ, zero, suc, ◌+◌, ◌<◌, ◌�
 use Rattle.std.specs.List.{flat_map, range_with_len}
 use Rattle.std.proofs.lemmas.Bool.{cases_lt}
 use Rattle.std.proofs.lemmas.Option.{slice_get-get_or}
+use Rattle.tp_base.proofs.Lists.{drop_at}
 use Rattle.simple_core.specs.declared.rules.Link.{Link}
 use Rattle.simple_core.specs.declared.rules.Local as rule
 use Rattle.simple_core.specs.Pairs.{Pair}
-use Rattle.proof_check.proofs.EntryLemmas.{drop_at, drop_end}
+use Rattle.proof_check.proofs.EntryLemmas.{drop_end}
 use Rattle.proof_maker.specs.declared.worlds.Place.{Place}
 use Rattle.proof_maker.specs.declared.worlds.World.{World}
 use Rattle.proof_needs.specs.Choices.{Choice, by_local, by_up, by_real, by_spawn, from_down, ways_down, ways}

@@ -5,6 +5,7 @@
 use Rattle.std.proofs.Common.{◌≡◌, ℕ, suc, ◌<◌, List, length, Contains, find, get_or, slice_get, Option, Some, None, option_map, unwrap_or, sym, ap, ◌∙◌, subst}
 use denote.Bor.{Bor}
 use Rattle.std.proofs.lemmas.Option.{slice_get-get_or}
+use Rattle.tp_base.proofs.Lists.{map_at}
 use Rattle.tree_sem.specs.Trees.{LabelTree}
 use Rattle.simple_core.specs.declared.system.System.{System}
 use Rattle.simple_core.specs.Rounds.{IsFirst}
@@ -18,7 +19,6 @@ use Rattle.proof_maker.specs.Glances.{IsGlanceAt, IsGlance}
 use Rattle.proof_needs.specs.Triples.{Triple, page_node, added}
 use Rattle.proof_maker.specs.Reasons.{reason_of, found_reason}
 use Rattle.proof_needs.specs.Spots.{triple_of, triples_in}
-use Rattle.proof_needs.proofs.SetLemmas.{slice_get_map}
 
 module _ (s : System) (set : Setting) (v : List ℕ) (a round before : ℕ) (later : round ≡ suc before) (o : Option Found) (is : option_map found_reason o ≡ find (stands s set before v) (ways s set v a)) where
   pub chosen_found : (f : Found) → o ≡ Some f → found_reason f ≡ chosen s set v a round
@@ -36,7 +36,7 @@ pub key_triple : (keys list : List TripleKey) (n : ℕ) (k : TripleKey) (t : Tri
 key_triple keys list n k t same less is at =
     let less' : n < length list = subst (λ xs. n < length xs) (sym same) less in
     let there : slice_get keys n ≡ Some k = ap (λ xs. slice_get xs n) (sym same) ∙ slice_get-get_or list n k less' ∙ ap Some (sym is) in
-    let seen : slice_get (triples_in keys) n ≡ Some (triple_of k) = slice_get_map triple_of keys n k there in
+    let seen : slice_get (triples_in keys) n ≡ Some (triple_of k) = map_at triple_of keys n k there in
     let both : Some (triple_of k) ≡ Some t = sym seen ∙ at in
     cc
 

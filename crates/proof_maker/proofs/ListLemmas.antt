@@ -1,10 +1,10 @@
 -- A worklist whose lists grow.
 use Rattle.std.proofs.Common.{◌≡◌, ◌⊎◌, ℕ, zero, suc, ◌<◌, ◌≤◌, List, [], ◌∷◌, ◌++◌, length, Contains, Option, Some, None, IsSome, slice_get, slice_set, inl, inr, refl, sym, ap, ◌∙◌, subst, arith}
 use Rattle.std.proofs.lemmas.Option.{slice_get_within}
+use Rattle.tp_base.proofs.Lists.{Contains-at}
 use Rattle.tree_sem.specs.Trees.{LabelTree, node_at}
 use Rattle.simple_core.specs.declared.system.System.{System}
 use Rattle.simple_core.specs.Pairs.{Pair}
-use Rattle.proof_check.proofs.ItemLemmas.{slice_get-Contains}
 use Rattle.proof_needs.specs.declared.needs.Choice.{Choice}
 use Rattle.proof_needs.specs.declared.needs.Choice.TheVariants.{Start, Local, Up, Real, Spawn}
 use Rattle.proof_needs.specs.declared.spots.Spot.{Spot}
@@ -29,7 +29,7 @@ there_at (x ∷ xs) zero lt = (x, refl)
 there_at (x ∷ xs) (suc i) lt = there_at xs i (omega arith)
 
 pub more_of : {X : Type 0} (old new : List X) → IsMore old new → (x : X) → Contains old x → Contains new x
-more_of old new more x is = let i = Contains-slice_get old x is in slice_get-Contains new i.0 x (more i.0 x i.1)
+more_of old new more x is = let i = Contains-slice_get old x is in Contains-at new i.0 x (more i.0 x i.1)
 
 pub same_more : {X : Type 0} (xs : List X) → IsMore xs xs
 same_more xs i x at = at
@@ -201,10 +201,10 @@ module _ (s : System) (page : LabelTree) where
             few = let few = list.few in longer few;
             each_draft = λ i w d at at'.
                 let old = old_want i w d at at' in
-                draft_more nodes nodes' triples triples' later.nodes_more later.triples_more w d (list.wanted w (slice_get-Contains wants i w old)).spot (list.each_draft i w d old at');
+                draft_more nodes nodes' triples triples' later.nodes_more later.triples_more w d (list.wanted w (Contains-at wants i w old)).spot (list.each_draft i w d old at');
             followed = λ i w d at at'.
                 let old = old_want i w d at at' in
-                followed_more nodes nodes' triples ties ties' wants wants' later.nodes_more later.ties_more kept w.spot (list.wanted w (slice_get-Contains wants i w old)).spot d.choice d.triple (list.followed i w d old at');
+                followed_more nodes nodes' triples ties ties' wants wants' later.nodes_more later.ties_more kept w.spot (list.wanted w (Contains-at wants i w old)).spot d.choice d.triple (list.followed i w d old at');
           }
         where
           longer : length drafts ≤ length wants → length drafts ≤ length wants'

@@ -3,13 +3,13 @@ use Rattle.std.proofs.Common.{◌≡◌, ℕ, ◌-◌, ◌<◌, true, List, [], 
 use Rattle.std.proofs.lemmas.Option.{slice_get_within}
 use Rattle.std.proofs.lemmas.List.Elements.{Contains-append_right}
 use Rattle.tp_base.proofs.ClassLemmas.{with_class-there}
+use Rattle.tp_base.proofs.Lists.{Contains-at}
 use Rattle.tree_sem.specs.Trees.{LabelTree}
 use Rattle.tree_sem.specs.Paths.{parent_of}
 use Rattle.tree_sem.proofs.PathLemmas.{IsSome-parent_of}
 use Rattle.simple_core.specs.declared.system.System.{System}
 use Rattle.simple_core.specs.Pairs.{Pair, Asked}
 use Rattle.simple_core.specs.Labels.{visible_in}
-use Rattle.proof_check.proofs.ItemLemmas.{slice_get-Contains}
 use Rattle.proof_needs.specs.declared.needs.Choice.{Choice}
 use Rattle.proof_needs.specs.declared.needs.Choice.TheVariants.{Start, Local, Up, Real, Spawn}
 use Rattle.proof_needs.specs.declared.spots.Spot.{Spot}
@@ -41,8 +41,8 @@ module _ (s : System) (page : LabelTree) (target : ℕ) (known : Pair → Type 0
     (list : IsWorklist s page target known nodes triples ties wants drafts) where
   -- what a spot is
   spot_there : (u : Spot) → IsSpot nodes triples u → IsLive s page target known (spot_in nodes triples u)
-  spot_there (Page n) lt = let x = there_at nodes n lt in rw x.1 (list.nodes_there x.0 (slice_get-Contains nodes n x.0 x.1))
-  spot_there (Added n) lt = let x = there_at triples n lt in rw x.1 (list.triples_known x.0 (slice_get-Contains triples n x.0 x.1))
+  spot_there (Page n) lt = let x = there_at nodes n lt in rw x.1 (list.nodes_there x.0 (Contains-at nodes n x.0 x.1))
+  spot_there (Added n) lt = let x = there_at triples n lt in rw x.1 (list.triples_known x.0 (Contains-at triples n x.0 x.1))
 
   spawn_used : (u : Spot) → IsSpot nodes triples u → (a r l c : ℕ) → Needed s page target (spot_in nodes triples u) a → IsChosen s page (spot_in nodes triples u) a r (by_spawn l c) → Used s page target (triple_by s page (spot_in nodes triples u) r l c)
   spawn_used (Page n) lt a r l c need choice = by_page (unwrap_or (slice_get nodes n) []) a r l c need choice
@@ -50,7 +50,7 @@ module _ (s : System) (page : LabelTree) (target : ℕ) (known : Pair → Type 0
       let x = there_at triples n lt in
       let is : spot_in nodes triples (Added n) ≡ added x.0 = rw x.1 refl in
       subst (λ z. Used s page target (triple_by s page z r l c)) (sym is)
-      (by_triple x.0 a r l c (list.triples_used x.0 (slice_get-Contains triples n x.0 x.1)) (subst (λ z. Needed s page target z a) is need) (subst (λ z. IsChosen s page z a r (by_spawn l c)) is choice))
+      (by_triple x.0 a r l c (list.triples_used x.0 (Contains-at triples n x.0 x.1)) (subst (λ z. Needed s page target z a) is need) (subst (λ z. IsChosen s page z a r (by_spawn l c)) is choice))
 
   -- the next want and the reason for it, where the triple of a spawn is entered
   module _ (w : Want) (wanted : Contains wants w) (r : ℕ) where
@@ -92,7 +92,7 @@ module _ (s : System) (page : LabelTree) (target : ℕ) (known : Pair → Type 0
       let p = parent_comes s page target x.0 a r l choice' in
       let at = f.1 x.0 p.path x.1 p.above in
       let need = by_parent x.0 p.path a r l (subst (λ z. Needed s page target z a) same is.needed) choice' p.above in
-      let there = IsSome-parent_of x.0 p.path page p.above (list.nodes_there x.0 (slice_get-Contains nodes n x.0 x.1)) in
+      let there = IsSome-parent_of x.0 p.path page p.above (list.nodes_there x.0 (Contains-at nodes n x.0 x.1)) in
       subst (λ z. IsNext w wanted r nodes' z wants' (Up l) None) (sym f.0) (follow_node w wanted r p.path (from_up s l) nodes' wants' (Up l) at
       (node_wanted s page target known nodes triples ties wants drafts list p.path (from_up s l) nodes' wants' at there need p.comes) (λ v q at_v above.
       let one : x.0 ≡ v = let old = at.of_nodes.more n x.0 x.1 in cc in
@@ -161,7 +161,7 @@ module _ (s : System) (page : LabelTree) (target : ℕ) (known : Pair → Type 0
 module _ (s : System) (page : LabelTree) (target : ℕ) (known : Pair → Type 0) (nodes nodes' : List (List ℕ)) (triples triples' : List Triple) (ties ties₁ ties' : List Tie) (wants wants' : List Want) (drafts : List Draft)
     (list : IsWorklist s page target known nodes triples ties wants drafts) (own : AreOwn triples wants) (w : Want) (next : slice_get wants (length drafts) ≡ Some w) where
   wanted : Contains wants w
-  wanted = slice_get-Contains wants (length drafts) w next
+  wanted = Contains-at wants (length drafts) w next
 
   is_wanted : IsWanted s page target nodes triples w
   is_wanted = list.wanted w wanted
@@ -202,7 +202,7 @@ module _ (s : System) (page : LabelTree) (target : ℕ) (known : Pair → Type 0
       subst (λ z. IsWorklist s page target known z triples' ties' wants' (drafts ++ record { round = r; choice = Spawn l c; triple = Some n } ∷ []) × AreOwn triples' wants') (sym f.0) (done, own_next t e' g.0.wants_more g.1)
     where
       own_next : (t : Triple) → IsEntered t triples triples' ties ties₁ n → IsMore wants wants' → Contains wants' (want_of (Added n) t.atom) → AreOwn triples' wants'
-      own_next t e more has m u at = elim (e.of_triples.within u (slice_get-Contains triples' m u at)) [
+      own_next t e more has m u at = elim (e.of_triples.within u (Contains-at triples' m u at)) [
         | inl old ↦
             let j = Contains-slice_get triples u old in
             let one : j.0 ≡ m = e.of_triples.distinct list.triples_distinct j.0 m u (e.of_triples.more j.0 u j.1) at in

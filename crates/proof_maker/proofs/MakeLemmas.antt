@@ -5,6 +5,7 @@ use Rattle.std.proofs.lemmas.List.{length-map}
 use Rattle.std.proofs.lemmas.List.FromFn.{length-range_with_len}
 use Rattle.std.proofs.lemmas.Option.{slice_get_within, slice_get-get_or}
 use Rattle.tp_base.proofs.Rising.{All-from_Contains}
+use Rattle.tp_base.proofs.Lists.{Contains-at, element_at, push_cases}
 use Rattle.tree_sem.specs.Trees.{LabelTree}
 use Rattle.simple_core.specs.declared.system.System.{System}
 use Rattle.simple_core.specs.Pairs.{Pair}
@@ -30,7 +31,6 @@ use Rattle.proof_maker.proofs.CanonLemmas.{canonical}
 use Rattle.proof_maker.proofs.ChoiceLemmas.{Contains-slice_get}
 use Rattle.proof_maker.proofs.FallLemmas.{named_below, numbered}
 use Rattle.proof_needs.proofs.OrderLemmas.{all_at}
-use Rattle.proof_needs.proofs.PlaceLemmas.{at_Contains, push_at, there_at}
 use Rattle.proof_maker.proofs.UsedLemmas.{no_longer}
 
 -- one entry more
@@ -38,14 +38,14 @@ pub entries_next : (n : Needs) (order : List ℕ) (s : System) (orders : List Or
     → IsMade n order (wants_of orders m) m entry → entry.steps ≡ min (items_count s (kept_steps entries) entry.items) MOST_STEPS → AreEntries n order s orders (i + 1) (entries ++ entry ∷ [])
 entries_next n order s orders i m entries entry at are is steps = record {
   long = let long = are.long in let more = length-push entries entry in omega (arith, long, more);
-  made = λ e k x at_k at_x. elim (push_at entries entry e x at_x) [
+  made = λ e k x at_k at_x. elim (push_cases entries entry e x at_x) [
     | inl old ↦ are.made e k x at_k old
     | inr (last, same) ↦
         let place : e ≡ i = last ∙ are.long in
         let one : m ≡ k = let a = ap (slice_get order) (sym place) in let b = at in cc in
         subst (λ z. IsMade n order (wants_of orders z) z x) one (subst (IsMade n order (wants_of orders m) m) same is)
   ];
-  steps = λ e x at_x. elim (push_at entries entry e x at_x) [
+  steps = λ e x at_x. elim (push_cases entries entry e x at_x) [
     | inl old ↦ are.steps e x old ∙ ap (λ xs. min (items_count s (kept_steps xs) x.items) MOST_STEPS) (sym (take-push entries entry e (let lt = slice_get_within entries e x old in omega (arith, lt))))
     | inr (last, same) ↦
         let whole : entries ≡ take e (entries ++ entry ∷ []) = sym (take-push entries entry e (omega (arith, last)) ∙ take_whole entries e (omega (arith, last))) in
@@ -95,11 +95,11 @@ module _ (n : Needs) (makeable : IsMakeable n) (o : Orders) (dealt : AreDealt n 
   page_nodes = All-from_Contains (IsNodeWant n) o.page.wants.items (λ i is.
       let k = Contains-slice_get o.page.wants.items i is in
       let w = dealt.page.each k.0 i k.1 in
-      let v = node_there w.0.spot w.2 (makeable.sortable.spots w.0 (at_Contains n.wants.keys i w.0 w.1)) in
+      let v = node_there w.0.spot w.2 (makeable.sortable.spots w.0 (Contains-at n.wants.keys i w.0 w.1)) in
       (w.0, v.0, w.1, v.1))
     where
       node_there : (q : Spot) → IsOnPage q → IsSpot (paths_in n.nodes.keys) (triples_in n.triples.keys) q → (v : List ℕ) × (slice_get (paths_in n.nodes.keys) (node_of q) ≡ Some v)
-      node_there (Page m) on within = there_at (paths_in n.nodes.keys) m within
+      node_there (Page m) on within = element_at (paths_in n.nodes.keys) m within
       node_there (Added m) on within = absurd on
 
   module _ (order : List ℕ) (toured : AreToured n o order) where

@@ -4,6 +4,7 @@ use Rattle.std.specs.List.{flat_map}
 use Rattle.std.proofs.lemmas.List.{map-append, take_all}
 use Rattle.std.proofs.lemmas.Option.{slice_get_within, slice_get_past}
 use Rattle.tp_base.proofs.Rising.{same_members, All-from_Contains}
+use Rattle.tp_base.proofs.Lists.{Contains-at}
 use Rattle.tree_sem.specs.Trees.{LabelTree}
 use Rattle.tree_sem.specs.Order.{Before}
 use Rattle.tree_sem.proofs.NodeLemmas.{Contains-map, map-Contains}
@@ -18,7 +19,6 @@ use Rattle.proof_check.specs.declared.proofs.PageItem.{PageItem}
 use Rattle.proof_check.specs.declared.proofs.Proof.{Proof}
 use Rattle.proof_check.specs.Unfolding.{items_count, entry_count}
 use Rattle.proof_check.specs.Validity.{MOST_STEPS, atoms_of}
-use Rattle.proof_check.proofs.ItemLemmas.{slice_get-Contains}
 use Rattle.proof_needs.specs.Choices.{Choice, at_start, by_local, by_up, by_real, by_spawn, chosen}
 use Rattle.proof_maker.specs.Needs.{setting_at, path_at, labels_at, triple_by, Needed, Walks, done, seen, new, named_by, entry_names, IsReason, IsItem, Comes, IsEntryOf, IsCanonical}
 use Rattle.proof_needs.specs.Triples.{Triple, Spot, page_node, added}
@@ -243,7 +243,7 @@ module _ (s : System) (page : LabelTree) (target : ℕ) where
       subst (λ z. Needed s page target (added t) z) (sym m.2) (is.each at.0 m.0 at.1).needed
 
   atoms_from : (ts : List Triple) (t : Triple) (x : Entry) → IsEntryOf s page target ts t x → (a : ℕ) → Needed s page target (added t) a → Contains (atoms_of x.items) a
-  atoms_from ts t x is a need = let f = is.all a need in subst (Contains (atoms_of x.items)) f.3 (Contains-map (λ (i : ProofItem). i.atom) x.items f.1 (slice_get-Contains x.items f.0 f.1 f.2))
+  atoms_from ts t x is a need = let f = is.all a need in subst (Contains (atoms_of x.items)) f.3 (Contains-map (λ (i : ProofItem). i.atom) x.items f.1 (Contains-at x.items f.0 f.1 f.2))
 
   same_atoms : (ts ts' : List Triple) (t : Triple) (x y : Entry) → IsEntryOf s page target ts t x → IsEntryOf s page target ts' t y → atoms_of x.items ≡ atoms_of y.items
   same_atoms ts ts' t x y is is' =
@@ -280,7 +280,7 @@ module _ (s : System) (page : LabelTree) (target : ℕ) where
   keys_from proof made k need =
       let f = made.all k.0 k.1 need in
       let same : key_of f.1 ≡ k = λ i. (f.3 i, f.4 i) in
-      subst (Contains (map key_of proof.page)) same (Contains-map key_of proof.page f.1 (slice_get-Contains proof.page f.0 f.1 f.2))
+      subst (Contains (map key_of proof.page)) same (Contains-map key_of proof.page f.1 (Contains-at proof.page f.0 f.1 f.2))
 
   same_page_keys : (p q : Proof) → IsCanonical s page target p → IsCanonical s page target q → map key_of p.page ≡ map key_of q.page
   same_page_keys p q made made' =

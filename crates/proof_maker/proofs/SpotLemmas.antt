@@ -2,6 +2,7 @@
 use Rattle.std.proofs.Common.{◌≡◌, ℕ, ◌-◌, ◌<◌, List, length, Contains, Some, slice_get, refl, sym, subst}
 use Rattle.std.specs.List.Sorted.{IsStrictlyIncreasing}
 use Rattle.tp_base.proofs.ClassLemmas.{IsStrictlyIncreasing-cut_to}
+use Rattle.tp_base.proofs.Lists.{Contains-at}
 use Rattle.tree_sem.specs.Trees.{LabelTree}
 use Rattle.simple_core.specs.declared.system.System.{System}
 use Rattle.simple_core.specs.Pairs.{Pair}
@@ -9,7 +10,6 @@ use Rattle.simple_core.specs.Rounds.{grown}
 use Rattle.simple_core.specs.Pages.{page_round}
 use Rattle.simple_core.proofs.RoundLemmas.{grown-rises}
 use Rattle.simple_core.proofs.PageLemmas.{page-rises}
-use Rattle.proof_check.proofs.ItemLemmas.{slice_get-Contains}
 use Rattle.proof_maker.specs.declared.glances.Glance.{Glance}
 use Rattle.proof_needs.specs.declared.spots.Spot.{Spot}
 use Rattle.proof_needs.specs.declared.spots.Spot.TheVariants.{Page, Added}
@@ -36,7 +36,7 @@ module _ (s : System) (page : LabelTree) (target : ℕ) (known : Pair → Type 0
       let is = list.wanted (want_of (Page n) a) in' in
       let x = there_at nodes n is.spot in
       let same : spot_in nodes triples (Page n) ≡ page_node x.0 = rw x.1 refl in
-      record { path = x.0; at = x.1; node = list.nodes_there x.0 (slice_get-Contains nodes n x.0 x.1); comes = subst (λ z. IsComing s page target z a) same is.comes }
+      record { path = x.0; at = x.1; node = list.nodes_there x.0 (Contains-at nodes n x.0 x.1); comes = subst (λ z. IsComing s page target z a) same is.comes }
 
   pub triple_looked : (n a : ℕ) → Contains wants (want_of (Added n) a) → IsTripleAt s page known triples n a
   triple_looked n a in' =
@@ -46,8 +46,8 @@ module _ (s : System) (page : LabelTree) (target : ℕ) (known : Pair → Type 0
       record {
         triple = t.0;
         at = t.1;
-        pair = list.triples_known t.0 (slice_get-Contains triples n t.0 t.1);
-        rises = used_rises s page target t.0 (list.triples_used t.0 (slice_get-Contains triples n t.0 t.1));
+        pair = list.triples_known t.0 (Contains-at triples n t.0 t.1);
+        rises = used_rises s page target t.0 (list.triples_used t.0 (Contains-at triples n t.0 t.1));
         comes = subst (λ z. IsComing s page target z a) same is.comes;
       }
 

@@ -4,10 +4,10 @@ use Rattle.std.proofs.lemmas.Bool.{and_parts}
 use Rattle.std.proofs.lemmas.List.Elements.{All-contains}
 use Rattle.tp_base.specs.Classes.{has_class}
 use Rattle.tp_base.proofs.ClassLemmas.{Contains-has_class, all_among-All, Contains-cut_to}
+use Rattle.tp_base.proofs.Lists.{Contains-at}
 use Rattle.tree_sem.specs.Trees.{LabelTree, node_at, length_of, tree_of}
 use Rattle.tree_sem.specs.Paths.{parent_of}
 use Rattle.tree_sem.proofs.RowLemmas.{there, tree_of-within, child_node_at}
-use Rattle.proof_check.proofs.ItemLemmas.{slice_get-Contains}
 use Rattle.simple_core.specs.declared.rules.Spawn.{Spawn}
 use Rattle.simple_core.specs.declared.system.System.{System}
 use Rattle.simple_core.specs.Pairs.{Pair, Asked}
@@ -133,7 +133,7 @@ module _ (s : System) (page : LabelTree) where
         let needs : spawn_needs s c ≡ spawn.needs = ap (λ o. unwrap_or (option_map (λ (x : Spawn). x.needs) o) 0) at in
         let kind : spawn.kind ≡ spawn_kind s c = sym (ap (λ o. unwrap_or (option_map (λ (x : Spawn). x.kind) o) 0) at) in
         let has : Contains label spawn.needs = subst (Contains label) needs (Contains-has_class (spawn_needs s c) label parts.0) in
-        let adds : Contains (kinds_at s label) (spawn_kind s c) = is-kinds_at s label (spawn_kind s c) (record { spawn = spawn; listed = slice_get-Contains s.child c spawn at; needs = has; kind = kind }) in
+        let adds : Contains (kinds_at s label) (spawn_kind s c) = is-kinds_at s label (spawn_kind s c) (record { spawn = spawn; listed = Contains-at s.child c spawn at; needs = has; kind = kind }) in
         subst (λ m. known (spawn_kind s c, visible_in s (labels_at s page spot m))) (sym level) (of_spot spot live asks k (spawn_kind s c) adds)
       where
         of_spot : (spot : Spot) → IsLive known spot → AsksAt s known spot → (k j : ℕ) → Contains (kinds_at s (labels_at s page spot k)) j → known (j, visible_in s (labels_at s page spot k))

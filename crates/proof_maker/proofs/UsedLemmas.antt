@@ -3,13 +3,13 @@ use Rattle.std.proofs.Common.{◌≡◌, ◌↔◌, ℕ, zero, suc, ◌<◌, ◌
 use Rattle.std.specs.List.{flat_map}
 use Rattle.std.proofs.lemmas.Bool.{cases_order}
 use Rattle.std.proofs.lemmas.Option.{slice_get_within}
+use Rattle.tp_base.proofs.Lists.{Contains-at}
 use Rattle.tree_sem.specs.Trees.{LabelTree}
 use Rattle.simple_core.specs.declared.system.System.{System}
 use Rattle.simple_core.specs.Rounds.{IsFirst}
 use Rattle.proof_check.specs.declared.proofs.ProofItem.{ProofItem}
 use Rattle.proof_check.specs.declared.proofs.PageItem.{PageItem}
 use Rattle.proof_check.specs.declared.proofs.Proof.{Proof}
-use Rattle.proof_check.proofs.ItemLemmas.{slice_get-Contains}
 use Rattle.proof_needs.specs.Choices.{Choice, at_start, by_local, by_up, by_real, by_spawn, chosen}
 use Rattle.proof_maker.specs.Needs.{setting_at, path_at, labels_at, IsChosen, triple_by, Walks, done, seen, new, named_by, entry_names, IsReason, IsItem, IsCanonical, Used, by_page, by_triple, UsesMore}
 use Rattle.proof_needs.specs.Triples.{Triple, Spot, page_node, added}
@@ -119,7 +119,7 @@ module _ (s : System) (page : LabelTree) (target : ℕ) (proof : Proof) (made : 
           item_named (added u) f.1 (is.each f.0 f.1 f.2) a r l c f.3 choice
 
       from : (t : Triple) → Used s page target t → Contains made.triples t
-      from t used = let f = found t used in slice_get-Contains made.triples f.0 t f.1
+      from t used = let f = found t used in Contains-at made.triples f.0 t f.1
 
 -- a list of different elements of another is no longer than it
 abbrev without : {X : Type 0} → List X → ℕ → List X
@@ -135,7 +135,7 @@ length-without (x ∷ xs) (suc k) lt = ap suc (length-without xs k (omega arith)
 without-Contains : {X : Type 0} (xs : List X) (k j : ℕ) (x : X) → slice_get xs j ≡ Some x → (j ≡ k → ⊥) → Contains (without xs k) x
 without-Contains [] k j x at other = cc
 without-Contains (y ∷ xs) zero zero x at other = absurd (other refl)
-without-Contains (y ∷ xs) zero (suc j) x at other = slice_get-Contains xs j x at
+without-Contains (y ∷ xs) zero (suc j) x at other = Contains-at xs j x at
 without-Contains (y ∷ xs) (suc k) zero x at other = (0, omega arith, let same : y ≡ x = cc in same)
 without-Contains (y ∷ xs) (suc k) (suc j) x at other = let r = without-Contains xs k j x at (λ e. other (ap suc e)) in (suc r.0, omega (arith, r.1), r.2)
 

@@ -10,13 +10,13 @@ use Rattle.std.proofs.lemmas.Slice.Eq.{bytes_eq-Decides}
 use Rattle.tp_base.specs.Classes.{has_class}
 use Rattle.tp_base.proofs.ClassLemmas.{Contains-has_class, all_among-All, Contains-cut_to}
 use Rattle.tp_base.proofs.Rising.{All-from_Contains}
+use Rattle.tp_base.proofs.Lists.{Contains-at}
 use Rattle.tree_sem.specs.Trees.{LabelTree, node_at, label_at, children_at, length_of, tree_of}
 use Rattle.tree_sem.proofs.RowLemmas.{there, tree_of-within, child_node_at}
 use Rattle.tree_sem.proofs.PathLemmas.{IsSome-parent_of}
 use Rattle.tree_sem.specs.Paths.{parent_of}
 use Rattle.tree_sem.specs.Nodes.{HasAtom}
 use Rattle.tree_sem.proofs.NodeLemmas.{Contains-map, map-Contains}
-use Rattle.proof_check.proofs.ItemLemmas.{slice_get-Contains}
 use Rattle.simple_core.specs.declared.rules.Kind.{Kind}
 use Rattle.simple_core.specs.declared.rules.Link.{Link}
 use Rattle.simple_core.specs.declared.rules.Local as rule
@@ -145,8 +145,8 @@ module _ (s : System) (page : LabelTree) where
       where
         by_choice : (r : ℕ) (w : Choice) → IsWay s (setting_at s page spot) (path_at s page spot) y.atom w → IsReason s page target made.triples spot r w y.reason → IsDown y.reason
         by_choice r at_start way reason = absurd way
-        by_choice r (by_local l) (rule, at, gives) reason = absurd (no_local rule (slice_get-Contains s.local l rule at) gives)
-        by_choice r (by_up l) (link, at, to) reason = absurd (no_up link (slice_get-Contains s.up l link at) to)
+        by_choice r (by_local l) (rule, at, gives) reason = absurd (no_local rule (Contains-at s.local l rule at) gives)
+        by_choice r (by_up l) (link, at, to) reason = absurd (no_up link (Contains-at s.up l link at) to)
         by_choice r (by_real l n) way reason = subst IsDown (sym reason) tt
         by_choice r (by_spawn l c) way reason = subst IsDown (sym reason.2) tt
 
@@ -171,7 +171,7 @@ module _ (s : System) (page : LabelTree) where
     there_at (x ∷ xs) (suc i) lt = there_at xs i (omega arith)
 
     has_atom : (items : List ProofItem) (i : ℕ) (x : ProofItem) → slice_get items i ≡ Some x → Contains (atoms_of items) x.atom
-    has_atom items i x at = Contains-map (λ (y : ProofItem). y.atom) items x (slice_get-Contains items i x at)
+    has_atom items i x at = Contains-map (λ (y : ProofItem). y.atom) items x (Contains-at items i x at)
 
     module _ (spot : Spot) (place : Place) (i : ProofItem) where
       -- what the entry of a spawn needs of the spot
@@ -209,7 +209,7 @@ module _ (s : System) (page : LabelTree) where
           let kind_is : spawn_kind s c ≡ spawn.kind = ap (λ o. unwrap_or (option_map (λ (r : Spawn). r.kind) o) 0) at_spawn in
           let needs_is : spawn_needs s c ≡ spawn.needs = ap (λ o. unwrap_or (option_map (λ (r : Spawn). r.needs) o) 0) at_spawn in
           let from_is : from_down s l ≡ link.from = ap (λ o. unwrap_or (option_map (λ (r : Link). r.from) o) 0) at_link in
-          let in' : Contains s.child spawn = slice_get-Contains s.child c spawn at_spawn in
+          let in' : Contains s.child spawn = Contains-at s.child c spawn at_spawn in
           let kind = there_at s.kinds spawn.kind (All-contains (λ (x : Spawn). x.kind < length s.kinds) s.child spawn sound.spawned in') in
           let entry = there_at proof.entries e (subst (λ n. e < n) (sym made.count) (slice_get_within made.triples e t at_triple)) in
           let is_entry = made.entries e t entry.0 at_triple entry.1 in
@@ -329,7 +329,7 @@ module _ (s : System) (page : LabelTree) where
           items = λ y is. let j = Contains-slice_get (take i entry.items) y is in is_entry.each j.0 y (slice_get-untake entry.items i j.0 y j.1);
           above = λ l k round choice has. (is_entry.parent (from_up s l)).1 (x.atom, item.round, l, item.needed, choice, refl);
           child = λ l m k round choice lt' has. absurd (omega arith);
-          lower = λ l c e same. lowers.0 n e lt (rw at (Contains-flat_map (λ (y : ProofItem). named_by y.reason) entry.items x e (slice_get-Contains entry.items i x at_x) (subst (λ z. Contains (named_by z) e) (sym same) (0, omega arith, refl))));
+          lower = λ l c e same. lowers.0 n e lt (rw at (Contains-flat_map (λ (y : ProofItem). named_by y.reason) entry.items x e (Contains-at entry.items i x at_x) (subst (λ z. Contains (named_by z) e) (sym same) (0, omega arith, refl))));
           kind = ap Some is_entry.kind;
         }))
 
@@ -431,7 +431,7 @@ module _ (s : System) (page : LabelTree) where
                 subst (λ q. IsItem s page target made.triples (page_node q) y) z.3 (subst (λ w. IsItem s page target made.triples (page_node z.1.at) w) z.4 one);
             above = λ l k round choice has. at_parent i x at item l k round choice has;
             child = λ l n k round choice lt has. page_earlier i x at item (x.at ++ n ∷ []) (from_down s l) k round has (by_child x.at x.item.atom item.round l n item.needed choice);
-            lower = λ l c e same. lowers.1 e (Contains-flat_map (λ (y : PageItem). named_by y.item.reason) proof.page x e (slice_get-Contains proof.page i x at) (subst (λ z. Contains (named_by z) e) (sym same) (0, omega arith, refl)));
+            lower = λ l c e same. lowers.1 e (Contains-flat_map (λ (y : PageItem). named_by y.item.reason) proof.page x e (Contains-at proof.page i x at) (subst (λ z. Contains (named_by z) e) (sym same) (0, omega arith, refl)));
             kind = refl;
           }),
         ))

@@ -15,6 +15,7 @@ use Rattle.std.proofs.lemmas.Option.{slice_get-get_or}
 use Rattle.tp_base.specs.Classes.{has_class, with_class, cut_to}
 use Rattle.tp_base.proofs.Rising.{All-from_Contains}
 use Rattle.tp_base.proofs.ClassLemmas.{has_class-Contains, Contains-has_class, Contains-with_class, IsStrictlyIncreasing-with_class, Contains-cut_to, IsStrictlyIncreasing-cut_to, same_members}
+use Rattle.tp_base.proofs.Lists.{take_suc, drop_at}
 use Rattle.tree_sem.specs.Trees.{LabelTree, node_at, children_at}
 use Rattle.tree_sem.specs.Paths.{parent_of}
 use Rattle.tree_sem.proofs.PathLemmas.{parent_of-take}
@@ -34,7 +35,7 @@ use Rattle.closed_page.specs.ClosedPages.{ClosedPage, IsClosedPage, round_of}
 use Rattle.closed_page.specs.FirstChildren.{came_by}
 use Rattle.closed_page.proofs.ChildLemmas.{range_agree}
 use Rattle.closed_page.proofs.LabelledLemmas.{child_number}
-use Rattle.proof_check.proofs.EntryLemmas.{drop_at, drop_end, take_at}
+use Rattle.proof_check.proofs.EntryLemmas.{drop_end}
 use Rattle.proof_maker.specs.declared.worlds.Place.{Place}
 use Rattle.proof_maker.specs.declared.worlds.Place.TheVariants.{Node, Added}
 use Rattle.proof_maker.specs.declared.worlds.World.{World}
@@ -178,7 +179,7 @@ module _ (visible own : List ℕ) where
   seen_start = record { rises = λ k within. absurd (omega (arith, within)); each = λ a. (λ is. absurd (nothing a is), λ both. absurd (nothing a both.0)) }
 
   longer : (i a : ℕ) → slice_get visible i ≡ Some a → take (i + 1) visible ≡ take i visible ++ a ∷ []
-  longer i a at = let next : i + 1 ≡ suc i = omega arith in ap (λ n. take n visible) next ∙ take_at visible i a at
+  longer i a at = let next : i + 1 ≡ suc i = omega arith in ap (λ n. take n visible) next ∙ take_suc visible i a at
 
   pub seen_more : (label : List ℕ) (i a : ℕ) → slice_get visible i ≡ Some a → true ≡ has_class a own → IsSeen visible own label i → IsSeen visible own (with_class a label) (i + 1)
   seen_more label i a at here is = record {

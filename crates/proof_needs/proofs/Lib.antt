@@ -1,4 +1,3 @@
-pub mod PlaceLemmas
 pub mod SetLemmas
 pub mod KeyLemmas
 pub mod RisingLemmas

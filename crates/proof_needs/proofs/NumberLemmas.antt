@@ -11,6 +11,7 @@ use Rattle.std.proofs.lemmas.List.Elements.{All-append, All-push, All-cons, All-
 use Rattle.std.proofs.lemmas.List.Folds.{list_any-append}
 use Rattle.std.proofs.lemmas.Map.Views.{Contains-from_any, list_any-from_Contains}
 use Rattle.std.proofs.lemmas.Option.{slice_get_read}
+use Rattle.tp_base.proofs.Truths.{or_false}
 use Rattle.proof_needs.specs.declared.numbers.Task.{Task}
 use Rattle.proof_needs.specs.declared.numbers.Task.TheVariants.{Visit, Number}
 use Rattle.proof_needs.specs.Numbers.{Walk, entering, numbering, Tour, done, known, new, nothing_entered, Tours, names_at, AreBelow, IsTaskBelow, IsVisited, IsTaken, Left, room}
@@ -126,15 +127,11 @@ any_there xs t is = list_any-from_Contains nat_eq_equiv t xs is
 pub not_any : (xs : List ℕ) (t : ℕ) → (¬ Contains xs t) → list_any (eqb t) xs ≡ false
 not_any xs t never = elim (cases_Bool (list_any (eqb t) xs)) [ inl e ↦ absurd (never (any_is xs t e)) | inr e ↦ e ]
 
-or_cases : (b : Bool) → (b || false) ≡ b
-or_cases true = refl
-or_cases false = refl
-
 -- entering another leaves the tests as they were
 any_other : (xs : List ℕ) (k t : ℕ) → (k ≡ t → ⊥) → list_any (eqb k) (xs ++ t ∷ []) ≡ list_any (eqb k) xs
 any_other xs k t other = elim (eqb_tells k t) [
   | inl same ↦ absurd (other same.1)
-  | inr apart ↦ list_any-append (eqb k) xs (t ∷ []) ∙ ap (λ b. list_any (eqb k) xs || (b || false)) apart.0 ∙ or_cases (list_any (eqb k) xs)
+  | inr apart ↦ list_any-append (eqb k) xs (t ∷ []) ∙ ap (λ b. list_any (eqb k) xs || (b || false)) apart.0 ∙ or_false (list_any (eqb k) xs)
 ]
 
 any_itself : (xs : List ℕ) (t : ℕ) → list_any (eqb t) (xs ++ t ∷ []) ≡ true

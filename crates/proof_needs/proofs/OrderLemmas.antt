@@ -4,8 +4,8 @@ use Rattle.std.proofs.lemmas.Bool.Decides.{Decides-eqb}
 use Rattle.std.proofs.lemmas.List.{map-append, length-map}
 use Rattle.std.proofs.lemmas.Option.{slice_get_within, get_or_from_slice_get}
 use Rattle.tp_base.proofs.Rising.{All-from_Contains}
+use Rattle.tp_base.proofs.Lists.{Contains-at, at_Contains, element_at, take_suc}
 use Rattle.tree_sem.specs.Order.{Before}
-use Rattle.proof_needs.proofs.PlaceLemmas.{take_at, at_Contains, Contains_at, there_at}
 use Rattle.proof_needs.specs.declared.spots.Spot.{Spot}
 use Rattle.proof_needs.specs.declared.spots.Spot.TheVariants.{Page, Added}
 use Rattle.proof_needs.specs.declared.spots.Want.{Want}
@@ -127,7 +127,7 @@ module _ (n : Needs) where
           let a = sorted.all i (slice_get_within n.wants.keys i w at) in
           let there : slice_get places a.0 ≡ Some i = at_map rs a.0 a.1 a.2 ∙ ap Some a.3 in
           let f = filter_there (λ i. p (spot_at n.wants.keys i)) places a.0 i there (ap p (spot_is i w at) ∙ from w.spot passes) in
-          at_Contains (filter (λ i. p (spot_at n.wants.keys i)) places) f.0 i f.1;
+          Contains-at (filter (λ i. p (spot_at n.wants.keys i)) places) f.0 i f.1;
       ordered = λ k l i j w x d e less at_k at_l at_w at_x at_d at_e.
           let f = filter_far (λ i. p (spot_at n.wants.keys i)) places k l i j less at_k at_l in
           let q = map_at rs f.0 i f.3 in
@@ -166,8 +166,8 @@ module _ (n : Needs) where
     one_node : (q r : Spot) → IsOnPage q → IsOnPage r → IsSpot (paths_in n.nodes.keys) (triples_in n.triples.keys) q → IsSpot (paths_in n.nodes.keys) (triples_in n.triples.keys) r
         → steps_in (paths_in n.nodes.keys) q ≡ steps_in (paths_in n.nodes.keys) r → q ≡ r
     one_node (Page m) (Page l) on on' within within' same =
-        let v = there_at (paths_in n.nodes.keys) m within in
-        let u = there_at (paths_in n.nodes.keys) l within' in
+        let v = element_at (paths_in n.nodes.keys) m within in
+        let u = element_at (paths_in n.nodes.keys) l within' in
         let v_is : unwrap_or (slice_get (paths_in n.nodes.keys) m) [] ≡ v.0 = ap (λ o. unwrap_or o []) v.1 in
         let u_is : unwrap_or (slice_get (paths_in n.nodes.keys) l) [] ≡ u.0 = ap (λ o. unwrap_or o []) u.1 in
         let alike : v.0 ≡ u.0 = sym v_is ∙ same ∙ u_is in
@@ -179,7 +179,7 @@ module _ (n : Needs) where
     page_tie i j w x at_w at_x on on' (inl before) = inl (subst (λ v. Before v (path_at (paths_in n.nodes.keys) x)) (page_steps w.spot on) (subst (λ v. Before (steps_to w) v) (page_steps x.spot on') before))
     page_tie i j w x at_w at_x on on' (inr (alike, inl less)) = inr (sym (page_steps w.spot on) ∙ alike ∙ page_steps x.spot on', less)
     page_tie i j w x at_w at_x on on' (inr (alike, inr (equal, less))) =
-        let spots = one_node w.spot x.spot on on' (sortable.spots w (at_Contains n.wants.keys i w at_w)) (sortable.spots x (at_Contains n.wants.keys j x at_x)) alike in
+        let spots = one_node w.spot x.spot on on' (sortable.spots w (Contains-at n.wants.keys i w at_w)) (sortable.spots x (Contains-at n.wants.keys j x at_x)) alike in
         absurd (one_want i j w x at_w at_x spots equal less)
 
     pub atom_tie : (m i j : ℕ) (w x : Want) → slice_get n.wants.keys i ≡ Some w → slice_get n.wants.keys j ≡ Some x → w.spot ≡ Added m → x.spot ≡ Added m → IsLater w x i j → AtomTie w x
@@ -215,7 +215,7 @@ module _ (n : Needs) where
   -- what dealing looks up
   pub ranks_within : (rs : List Rank) → AreSorted n rs → All (λ (r : Rank). r.want < length n.wants.keys) rs
   ranks_within rs sorted = All-from_Contains (λ (r : Rank). r.want < length n.wants.keys) rs (λ r is.
-      let k = Contains_at rs r is in
+      let k = at_Contains rs r is in
       let rank = sorted.each k.0 r k.1 in
       slice_get_within n.wants.keys r.want rank.wanted rank.at)
 
@@ -231,7 +231,7 @@ pub from_next : (wants : List Want) (count : ℕ) (rs : List Rank) (i : ℕ) (r 
     → IsWithWant (spot_at wants r.want) r.want o o' → AreFrom wants count (map (λ (q : Rank). q.want) (take (suc i) rs)) o'
 from_next wants count rs i r o o' at from with_one =
     let more : map (λ (q : Rank). q.want) (take (suc i) rs) ≡ map (λ (q : Rank). q.want) (take i rs) ++ r.want ∷ [] =
-    ap (map (λ (q : Rank). q.want)) (take_at rs i r at) ∙ map-append (λ (q : Rank). q.want) (take i rs) (r ∷ []) in
+    ap (map (λ (q : Rank). q.want)) (take_suc rs i r at) ∙ map-append (λ (q : Rank). q.want) (take i rs) (r ∷ []) in
     subst (λ places. AreFrom wants count places o') (sym more) (record {
       page = with_one.page ∙ ap (kept (is_on_page (spot_at wants r.want)) r.want) from.page ∙ sym (filter_push (λ j. is_on_page (spot_at wants j)) (map (λ (q : Rank). q.want) (take i rs)) r.want);
       each = λ m. with_one.each m ∙ ap (kept (is_added m (spot_at wants r.want)) r.want) (from.each m) ∙ sym (filter_push (λ j. is_added m (spot_at wants j)) (map (λ (q : Rank). q.want) (take i rs)) r.want);

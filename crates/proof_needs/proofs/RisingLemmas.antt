@@ -7,7 +7,7 @@ use Rattle.std.proofs.lemmas.Option.{slice_get-get_or}
 use Rattle.tp_base.specs.Classes.{with_class}
 use Rattle.tp_base.proofs.Rising.{Contains-cons, Contains-none, Contains-here, Contains-behind, rises_head, rises_tail}
 use Rattle.tp_base.proofs.ClassLemmas.{with_class-above}
-use Rattle.proof_needs.proofs.PlaceLemmas.{drop_at}
+use Rattle.tp_base.proofs.Lists.{drop_at}
 
 with_last : (xs : List ℕ) (a : ℕ) → ((x : ℕ) → Contains xs x → x < a) → with_class a xs ≡ xs ++ a ∷ []
 with_last [] a below = refl

@@ -2,7 +2,7 @@
 --     with_itself, with_pushed    a list with what it has, and with one element more
 --     with_then                   two steps are one
 --     insert_with                 a key that is inserted, as what is seen of the keys
-use Rattle.std.proofs.Common.{◌≡◌, ◌⊎◌, ℕ, zero, suc, ◌+◌, ◌<◌, ◌≤◌, Bool, true, false, ◌||◌, if◌then◌else◌, List, [], ◌∷◌, ◌++◌, length, map, take, Contains, Some, slice_get, get_or, inl, inr, refl, sym, ap, ◌∙◌, subst, arith}
+use Rattle.std.proofs.Common.{◌≡◌, ◌⊎◌, ℕ, zero, suc, ◌+◌, ◌<◌, ◌≤◌, Bool, true, false, if◌then◌else◌, List, [], ◌∷◌, ◌++◌, length, map, take, Contains, Some, slice_get, get_or, inl, inr, refl, sym, ap, ◌∙◌, subst, arith}
 use Rattle.std.specs.List.{list_any}
 use Rattle.std.proofs.lemmas.Bool.{or_parts}
 use Rattle.std.proofs.lemmas.List.{map-append, take_more, take_all}
@@ -11,8 +11,8 @@ use Rattle.std.proofs.lemmas.Option.{slice_get_within, get_or_from_slice_get}
 use Rattle.indexmap.specs.IndexSet.{insert_key}
 use Rattle.tree_sem.proofs.NodeLemmas.{Contains-map, map-Contains}
 use Rattle.tp_base.proofs.Rising.{Contains-none}
+use Rattle.tp_base.proofs.Lists.{Contains-at, at_Contains, any_Contains, Contains-only}
 use Rattle.proof_needs.specs.Sets.{AreDistinct, IsMore, IsWith}
-use Rattle.proof_needs.proofs.PlaceLemmas.{at_Contains, Contains_at}
 
 pub more_then : {X : Type 0} (a b c : List X) → IsMore a b → IsMore b c → IsMore a c
 more_then a b c first second i x at = second i x (first i x at)
@@ -21,10 +21,6 @@ pub more_pushed : {X : Type 0} (xs : List X) (x : X) → IsMore xs (xs ++ x ∷ 
 more_pushed [] x i y at = cc
 more_pushed (z ∷ xs) x zero y at = at
 more_pushed (z ∷ xs) x (suc i) y at = more_pushed xs x i y at
-
-only : {X : Type 0} (x y : X) → Contains (x ∷ []) y → y ≡ x
-only x y (zero, within, at) = sym at
-only x y (suc k, within, at) = absurd (omega (arith, within))
 
 -- where the longer list has an element: in the old part, or at the end
 pushed_at : {X : Type 0} (xs : List X) (x : X) (i : ℕ) (y : X) → slice_get (xs ++ x ∷ []) i ≡ Some y → (slice_get xs i ≡ Some y) ⊎ ((i ≡ length xs) × (y ≡ x))
@@ -40,10 +36,10 @@ pub distinct_pushed : {X : Type 0} (xs : List X) (x : X) → (Contains xs x → 
 distinct_pushed xs x new distinct i j y at at' = elim (pushed_at xs x i y at) [
   | inl first ↦ elim (pushed_at xs x j y at') [
     | inl second ↦ distinct i j y first second
-    | inr (place, same) ↦ absurd (new (subst (Contains xs) same (at_Contains xs i y first)))
+    | inr (place, same) ↦ absurd (new (subst (Contains xs) same (Contains-at xs i y first)))
   ]
   | inr (place, same) ↦ elim (pushed_at xs x j y at') [
-    | inl second ↦ absurd (new (subst (Contains xs) same (at_Contains xs j y second)))
+    | inl second ↦ absurd (new (subst (Contains xs) same (Contains-at xs j y second)))
     | inr (place', same') ↦ place ∙ sym place'
   ]
 ]
@@ -59,14 +55,14 @@ with_pushed xs x new = record {
   more = more_pushed xs x;
   within = λ y is. elim (Contains-append_cases xs (x ∷ []) y is) [
     | inl old ↦ inl old
-    | inr last ↦ inr (only x y last)
+    | inr last ↦ inr (sym (Contains-only x y last))
   ];
   all = λ y same. subst (Contains (xs ++ x ∷ [])) (sym same) (Contains-append_right xs (x ∷ []) x (0, omega arith, refl));
   distinct = distinct_pushed xs x new;
 }
 
 pub more_Contains : {X : Type 0} (xs ys : List X) → IsMore xs ys → (x : X) → Contains xs x → Contains ys x
-more_Contains xs ys more x is = let at = Contains_at xs x is in at_Contains ys at.0 x (more at.0 x at.1)
+more_Contains xs ys more x is = let at = at_Contains xs x is in Contains-at ys at.0 x (more at.0 x at.1)
 
 pub with_then : {X : Type 0} (P Q : X → Type 0) (a b c : List X) → IsWith a P b → IsWith b Q c → IsWith a (λ x. P x ⊎ Q x) c
 with_then P Q a b c first second = record {
@@ -96,13 +92,6 @@ with_same P Q a b to from is = record {
   distinct = is.distinct;
 }
 
-any_there : {X : Type 0} (p : X → Bool) (xs : List X) → list_any p xs ≡ true → (x : X) × Contains xs x × (p x ≡ true)
-any_there p [] any = cc
-any_there {X} p (y ∷ xs) any = elim (p y) as (λ b. p y ≡ b → (b || list_any p xs) ≡ true → (x : X) × Contains (y ∷ xs) x × (p x ≡ true)) [
-  | true ↦ λ e h. (y, (0, omega arith, refl), e)
-  | false ↦ λ e h. let r = any_there p xs h in (r.0, (suc r.1.0, omega (arith, r.1.1), r.1.2), r.2)
-] refl any
-
 none_there : {X : Type 0} (p : X → Bool) (xs : List X) → list_any p xs ≡ false → (x : X) → Contains xs x → p x ≡ true → ⊥
 none_there p [] none x is pass = Contains-none x is
 none_there p (y ∷ xs) none x (zero, within, at) pass = let both : true ≡ false = sym pass ∙ ap p (sym at) ∙ (or_parts (p y) (list_any p xs) none).0 in cc
@@ -113,17 +102,12 @@ module _ {K X : Type 0} (eq : K → K → Bool) (f : K → X) (sound : (k l : K)
   pub insert_with : (ks : List K) (k : K) → IsWith (map f ks) (λ x. x ≡ f k) (map f (insert_key eq ks k))
   insert_with ks k = elim (list_any (eq k) ks) as (λ b. list_any (eq k) ks ≡ b → IsWith (map f ks) (λ x. x ≡ f k) (map f (if b then ks else ks ++ k ∷ []))) [
     | true ↦ λ any.
-        let r = any_there (eq k) ks any in
+        let r = any_Contains (eq k) ks any in
         with_itself (map f ks) (f k) (subst (Contains (map f ks)) (sym (sound k r.0 r.2)) (Contains-map f ks r.0 r.1))
     | false ↦ λ none.
         let new : Contains (map f ks) (f k) → ⊥ = λ is. let m = map-Contains f ks (f k) is in none_there (eq k) ks none m.0 m.1 (same k m.0 m.2) in
         subst (IsWith (map f ks) (λ x. x ≡ f k)) (sym (map-append f ks (k ∷ []))) (with_pushed (map f ks) (f k) new)
   ] refl
-
-pub slice_get_map : {X Y : Type 0} (f : X → Y) (xs : List X) (i : ℕ) (x : X) → slice_get xs i ≡ Some x → slice_get (map f xs) i ≡ Some (f x)
-slice_get_map f [] i x at = cc
-slice_get_map f (y ∷ xs) zero x at = let same : y ≡ x = cc in ap (λ z. Some (f z)) same
-slice_get_map f (y ∷ xs) (suc i) x at = slice_get_map f xs i x at
 
 map_itself : {X : Type 0} (xs : List X) → map (λ (x : X). x) xs ≡ xs
 map_itself [] = refl
@@ -155,7 +139,7 @@ module _ {X Y : Type 0} (f : Y → X) (ys : List Y) (a : List X) where
       ])
       (λ x of. elim (Contains-append_cases (take i ys) (y ∷ []) of.0 of.1) [
         | inl old ↦ inl (of.0, old, of.2)
-        | inr last ↦ inr (of.2 ∙ ap f (only y of.0 last))
+        | inr last ↦ inr (of.2 ∙ ap f (sym (Contains-only y of.0 last)))
       ])
       (with_then (IsOf (take i ys)) (λ x. x ≡ f y) a b c before step))
 

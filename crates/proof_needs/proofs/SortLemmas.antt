@@ -13,10 +13,10 @@ use Rattle.std.proofs.lemmas.Cmp.{on_total, then_total, nat_cmp_total}
 use Rattle.std.proofs.lemmas.List.Sorted.{sorted_far, ranks_by, Contains-permutation, IsPermutation-sym}
 use Rattle.std.proofs.lemmas.Map.Keys.{IsDistinct-IsPermutation, IsDistinct-from_apart, apart_from_distinct}
 use Rattle.std.proofs.lemmas.Option.{slice_get_within, get_or_from_slice_get, slice_get-get_or}
+use Rattle.tp_base.proofs.Lists.{Contains-at, at_Contains, element_at, push_cases}
 use Rattle.tree_sem.specs.Order.{Before}
 use Rattle.proof_needs.specs.declared.orders.Rank.{Rank}
 use Rattle.proof_needs.specs.declared.needs.Needs.{Needs}
-use Rattle.proof_needs.proofs.PlaceLemmas.{at_Contains, Contains_at, there_at, push_at}
 use Rattle.proof_needs.specs.Orders.{IsRank, AreRanks, IsBefore, AreSorted}
 
 -- of two paths one is before the other, or they are the same
@@ -114,7 +114,7 @@ ranks_start n = record { long = refl; each = λ i r at. cc }
 pub ranks_next : (n : Needs) (k : ℕ) (rs : List Rank) (r : Rank) → AreRanks n k rs → IsRank n k r → AreRanks n (k + 1) (rs ++ r ∷ [])
 ranks_next n k rs r ranks one = record {
   long = let long = ranks.long in omega (arith, long, length-push rs r);
-  each = λ i q at. elim (push_at rs r i q at) [
+  each = λ i q at. elim (push_cases rs r i q at) [
     | inl old ↦ ranks.each i q old
     | inr (last, same) ↦ subst (λ j. IsRank n j q) (sym (last ∙ ranks.long)) (subst (IsRank n k) same one)
   ];
@@ -144,12 +144,12 @@ ranks_distinct n count rs ranks = IsDistinct-from_apart (λ (q r : Rank). q.want
 pub sorted_is : (n : Needs) (rs rs' : List Rank) → AreRanks n (length n.wants.keys) rs → IsPermutation rs rs' → IsSorted rank_cmp rs' → AreSorted n rs'
 sorted_is n rs rs' ranks moved sorted = record {
   each = λ k r at.
-      let i = Contains_at rs r (Contains-permutation rs' rs r (IsPermutation-sym rs rs' moved) (at_Contains rs' k r at)) in
+      let i = at_Contains rs r (Contains-permutation rs' rs r (IsPermutation-sym rs rs' moved) (Contains-at rs' k r at)) in
       let rank = ranks.each i.0 r i.1 in
       subst (λ j. IsRank n j r) (sym rank.place) rank;
   all = λ i within.
-      let r = there_at rs i (subst (λ m. i < m) (sym ranks.long) within) in
-      let k = Contains_at rs' r.0 (Contains-permutation rs rs' r.0 moved (at_Contains rs i r.0 r.1)) in
+      let r = element_at rs i (subst (λ m. i < m) (sym ranks.long) within) in
+      let k = at_Contains rs' r.0 (Contains-permutation rs rs' r.0 moved (Contains-at rs i r.0 r.1)) in
       (k.0, r.0, k.1, (ranks.each i r.0 r.1).place);
   ordered = λ k l q r less at_k at_l.
       let within = slice_get_within rs' l r at_l in

@@ -1,5 +1,5 @@
 -- What is written to one tie.
-use Rattle.std.proofs.Common.{◌≡◌, ◌⊎◌, ℕ, ◌-◌, List, [], ◌∷◌, ◌++◌, length, take, get_or, Some, Result, Ok, Err, OnOk, slice_get, slice_set, inl, inr, refl, sym, ap, ◌∙◌, subst, arith}
+use Rattle.std.proofs.Common.{◌≡◌, ◌⊎◌, ℕ, ◌-◌, List, [], ◌∷◌, ◌++◌, length, take, get_or, Some, Result, Ok, Err, OnOk, slice_get, slice_set, refl, sym, ap, ◌∙◌, subst, arith}
 use Rattle.std.proofs.lemmas.Option.{get_or_from_slice_get}
 use Rattle.tp_base.specs.Classes.{with_class}
 use Rattle.tree_sem.specs.Paths.{parent_of}
@@ -11,19 +11,7 @@ use Rattle.proof_needs.specs.declared.needs.Tie.{Tie}
 use Rattle.proof_needs.specs.Following.{IsAbove, IsUsed}
 use Rattle.proof_needs.specs.Sets.{IsWith}
 use Rattle.proof_needs.specs.Wants.{want_of, IsOfEach, IsAtEach}
-use Rattle.proof_needs.proofs.SetLemmas.{more_Contains}
-
--- one list after another
-with_then : {X : Type 0} (P Q : X → Type 0) (xs ys zs : List X) → IsWith xs P ys → IsWith ys Q zs → IsWith xs (λ x. P x ⊎ Q x) zs
-with_then P Q xs ys zs first second = record {
-  more = λ i x at. second.more i x (first.more i x at);
-  within = λ x is. elim (second.within x is) [
-    | inl before ↦ elim (first.within x before) [ inl old ↦ inl old | inr one ↦ inr (inl one) ]
-    | inr two ↦ inr (inr two)
-  ];
-  all = λ x is. elim is [ inl one ↦ more_Contains ys zs second.more x (first.all x one) | inr two ↦ second.all x two ];
-  distinct = λ d. second.distinct (first.distinct d);
-}
+use Rattle.proof_needs.proofs.SetLemmas.{with_then}
 
 -- the tie that was lent is that of the list
 lent : (ties : List Tie) (n : ℕ) (tie was : Tie) → slice_get ties n ≡ Some tie → was ≡ get_or ties n was → was ≡ tie

@@ -3,8 +3,11 @@ use Rattle.std.proofs.Common.{◌≡◌, ◌≢◌, ℕ, ◌+◌, ◌<◌, ◌==
 use Rattle.std.specs.List.{filter, flat_map}
 use Rattle.std.specs.List.Sorted.{IsStrictlyIncreasing}
 use Rattle.std.proofs.lemmas.List.{take_more}
+use Rattle.std.proofs.lemmas.List.Concat.{flat_map-append, flat_map_single}
+use Rattle.std.proofs.lemmas.List.Sums.{fold-append}
 use Rattle.tree_sem.proofs.NodeLemmas.{map-Contains}
 use Rattle.tp_base.proofs.Rising.{All-from_Contains}
+use Rattle.tp_base.proofs.Lists.{flat_map-Contains}
 use Rattle.simple_core.proofs.Members.{filter-Contains}
 use Rattle.class_diagrams.specs.References.{Reference, leaf_reference}
 use Rattle.class_diagrams.specs.declared.faults.DiagramFault.{DiagramFault}
@@ -22,19 +25,14 @@ use Rattle.pushdown_sym.specs.Adding.{AreIn, Adds, of_down}
 use Rattle.simple_core.specs.Givers.{places_from, places_in}
 use Rattle.pushdown_sym.specs.Givers.{of_place, AreMakers}
 use Rattle.pushdown_sym.specs.Children.{child_by, children_by, children_of, stands, standing_by, standing_each, standing_of, with_child, different, term_of}
-use Rattle.pushdown_sym.proofs.AddLemmas.{cells_same, flat_map-append}
-use Rattle.pushdown_sym.proofs.CellLemmas.{flat_map_found}
+use Rattle.pushdown_sym.proofs.AddLemmas.{cells_same}
 use Rattle.pushdown_sym.proofs.GiverLemmas.{filtered_places}
-use Rattle.pushdown_sym.proofs.LinkLemmas.{map-as-flat, map-append, filtered_flat}
+use Rattle.pushdown_sym.proofs.LinkLemmas.{map-append, filtered_flat}
 use Rattle.pushdown_sym.proofs.DifferentLemmas.{fold_is, firsts_among, different_add}
 use Rattle.pushdown_sym.proofs.PlaceLemmas.{enough_places}
 use Rattle.pushdown_sym.proofs.StandingLemmas.{standing_add, standing_are, none_standing}
 
 -- ### one more, in a loop
-
-fold-append : {X Y : Type 0} (f : Y → X → Y) (z : Y) (xs ys : List X) → fold f z (xs ++ ys) ≡ fold f (fold f z xs) ys
-fold-append f z [] ys = refl
-fold-append f z (x ∷ xs) ys = fold-append f (f z x) xs ys
 
 taken : {X : Type 0} (xs : List X) (i : ℕ) (x : X) → i < length xs → x ≡ get_or xs i x → take (i + 1) xs ≡ take i xs ++ x ∷ []
 taken xs i x less item = take_more xs i x less ∙ (λ n. take i xs ++ sym item n ∷ [])
@@ -52,7 +50,7 @@ with_more f start xs i x now new less item before more =
 
 child_in : (ts : List Tree) (s : System) (cells : Entries) (a : ℕ) → AreIn ts cells → (c : Child) → Contains (children_of s cells a) c → IsIn ts c.diagram
 child_in ts s cells a inside c there =
-    let of = flat_map_found (children_by cells s.child) (filter (λ (l : Link). l.to == a) s.down) c there in
+    let of = flat_map-Contains (children_by cells s.child) (filter (λ (l : Link). l.to == a) s.down) c there in
     let spawn = map-Contains (child_by cells of.0) s.child c of.2 in
     subst (λ (d : Child). IsIn ts d.diagram) (sym spawn.2) (inside spawn.0.kind of.0.from)
 
@@ -105,7 +103,7 @@ children_add s cells j a c d g r children arena inside within are adds =
     subst (λ (ts : List Term). Adds c d g ts r) (terms_are c.branches s cells j a)
     (standing_add c d cells j g arena (children_of s cells a) r
     (different_add c d cells j arena inside g within (standing_of s cells a) r
-    (subst (λ (ts : List Term). Adds c d g ts r) (map-as-flat (term_of c.branches cells j) children ∙ ap (map (term_of c.branches cells j)) are) adds)))
+    (subst (λ (ts : List Term). Adds c d g ts r) (flat_map_single (term_of c.branches cells j) children ∙ ap (map (term_of c.branches cells j)) are) adds)))
 
 -- ### those that stand
 

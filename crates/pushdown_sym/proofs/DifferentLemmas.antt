@@ -4,6 +4,8 @@ use Rattle.std.specs.List.{list_any}
 use Rattle.std.proofs.lemmas.Bool.{cases_Bool, and_parts, eqb-true}
 use Rattle.std.proofs.lemmas.List.Elements.{Contains-append_cases}
 use Rattle.tp_base.proofs.Rising.{Contains-here, Contains-cons, Contains-none}
+use Rattle.tp_base.proofs.Lists.{any_Contains}
+use Rattle.tp_base.proofs.Truths.{or_again}
 use Rattle.class_diagrams.specs.References.{Reference}
 use Rattle.class_diagrams.specs.declared.faults.DiagramFault.{DiagramFault}
 use Rattle.class_diagrams.specs.Numbers.{number_of}
@@ -23,7 +25,6 @@ use Rattle.pushdown_sym.specs.Terms.{Term, disjunction, disjunctions}
 use Rattle.pushdown_sym.specs.Adding.{AreIn, Adds}
 use Rattle.pushdown_sym.specs.Children.{same_child, with_child, different, term_of}
 use Rattle.pushdown_sym.proofs.AddLemmas.{covered_behind}
-use Rattle.pushdown_sym.proofs.Tests.{any_found}
 
 same_child-true : (c d : Child) → same_child c d ≡ true → c ≡ d
 same_child-true c d same =
@@ -58,11 +59,6 @@ firsts_among seen (d ∷ cs) c there = elim (cases_Bool (list_any (same_child d)
 
 -- ### what is there already adds nothing
 
-or_again : (v w : Bool) → ((v || w) || w) ≡ (v || w)
-or_again true w = refl
-or_again false true = refl
-or_again false false = refl
-
 or_kept : (v w u : Bool) → (v || w) ≡ v → ((v || u) || w) ≡ (v || u)
 or_kept true w u kept = refl
 or_kept false true u kept = let wrong : true ≡ false = kept in cc
@@ -96,7 +92,7 @@ module _ (f : Child → Term) where
 
   found_there : (t : Tree) (seen : List Child) (c : Child) → AreThere t seen → list_any (same_child c) seen ≡ true → tor t (f c).tree ≡ t
   found_there t seen c there some =
-      let found = any_found (same_child c) seen some in
+      let found = any_Contains (same_child c) seen some in
       subst (λ (e : Child). tor t (f e).tree ≡ t) (sym (same_child-true c found.0 found.2)) (there found.0 found.1).0
 
   abbrev terms_of : List Child → List Term

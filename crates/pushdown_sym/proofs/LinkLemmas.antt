@@ -79,10 +79,6 @@ no_child a cells j c sofar arena within none = record {
 
 -- ### links from children
 
-pub map-as-flat : {X Y : Type 0} (g : X → Y) (xs : List X) → flat_map (λ x. g x ∷ []) xs ≡ map g xs
-map-as-flat g [] = refl
-map-as-flat g (x ∷ xs) = ap (λ ys. g x ∷ ys) (map-as-flat g xs)
-
 -- ### atoms with their diagrams
 
 pub map-append : {X Y : Type 0} (g : X → Y) (xs ys : List X) → map g (xs ++ ys) ≡ map g xs ++ map g ys

@@ -2,7 +2,7 @@
 use Rattle.std.proofs.Common.{◌≡◌, ℕ, suc, ◌<◌, ◌==◌, true, List, [], ◌∷◌, ◌++◌, map, length, Contains, Result, Ok, Err, IfOk, refl, ap, ◌∙◌}
 use Rattle.std.specs.List.{filter, flat_map}
 use Rattle.std.proofs.lemmas.List.Elements.{All-contains}
-use Rattle.tp_base.proofs.Rising.{Contains-here, Contains-behind}
+use Rattle.tp_base.proofs.Lists.{map_alike}
 use Rattle.class_diagrams.specs.References.{Reference}
 use Rattle.class_diagrams.specs.declared.faults.DiagramFault.{DiagramFault}
 use Rattle.class_diagrams.specs.Trees.{Tree, leaf, tand}
@@ -18,10 +18,6 @@ use Rattle.pushdown_sym.specs.CellMap.{Entries, trees_in}
 use Rattle.pushdown_sym.specs.Rounds.{cell}
 use Rattle.pushdown_sym.specs.Laws.{Tells}
 use Rattle.pushdown_sym.specs.Terms.{CellTrees, conjunction, conjunctions, local_term, down_term, terms, up_terms, disjunction, disjunctions, next_tree, partial_results}
-
-map-same : {X Y : Type 0} (g h : X → Y) (xs : List X) → ((x : X) → Contains xs x → g x ≡ h x) → map g xs ≡ map h xs
-map-same g h [] same = refl
-map-same g h (x ∷ xs) same = λ i. same x (Contains-here x x xs refl) i ∷ map-same g h xs (λ y there. same y (Contains-behind y x xs there)) i
 
 flat-same : {X Y : Type 0} (g h : X → List Y) (xs : List X) → ((x : X) → g x ≡ h x) → flat_map g xs ≡ flat_map h xs
 flat-same g h xs same = λ i. flat_map (λ x. same x i) xs
@@ -48,10 +44,10 @@ module _ (s : System) (sound : IsSound s) (now other : CellTrees) (j : ℕ) (kin
 
   pub terms-same : (a : ℕ) → terms s now j a ≡ terms s other j a
   terms-same a = λ i.
-      map-same (local_term now j) (local_term other j) (filter (λ (r : Local). r.gives == a) s.local) (λ r _. local-same r) i
+      map_alike (local_term now j) (local_term other j) (filter (λ (r : Local). r.gives == a) s.local) (λ r _. local-same r) i
       ++ up_terms s a
       ++ flat-same (λ (l : Link). map (down_term now j l) s.child) (λ (l : Link). map (down_term other j l) s.child) (filter (λ (l : Link). l.to == a) s.down)
-      (λ l. map-same (down_term now j l) (down_term other j l) s.child (down-same l)) i
+      (λ l. map_alike (down_term now j l) (down_term other j l) s.child (down-same l)) i
 
   pub next_tree-same : (a : ℕ) → next_tree s now j a ≡ next_tree s other j a
   unfolding next_tree

@@ -2,6 +2,7 @@
 use Rattle.std.proofs.Common.{◌≡◌, ℕ, Bool, true, false, ◌&&◌, ◌||◌, ◌==◌, List, Contains, refl, sym, ap, ◌∙◌, inl, inr}
 use Rattle.std.specs.List.{list_any, list_all}
 use Rattle.std.proofs.lemmas.Bool.{eqb-true}
+use Rattle.tp_base.proofs.Truths.{or_again}
 use Rattle.class_diagrams.specs.Trees.{eval, IsOrdered}
 use Rattle.class_diagrams.proofs.TreeLemmas.{same_where_agree}
 use Rattle.diagram_ops.specs.Compositions.{tcompose}
@@ -19,11 +20,6 @@ use Rattle.pushdown_sym.proofs.CellLemmas.{IsOrdered-next_tree}
 same_where : (b : Bool) (v w : Bool) → (b ≡ true → v ≡ w) → (b && v) ≡ (b && w)
 same_where true v w same = same refl
 same_where false v w same = refl
-
-absorbed : (v w : Bool) → ((v || w) || w) ≡ (v || w)
-absorbed true w = refl
-absorbed false true = refl
-absorbed false false = refl
 
 module _ (s : System) (before now : CellTrees) (j a : ℕ) (same : IsUnchangedFor s before now j a)
     (visible : (i b : ℕ) → AllAtoms (Contains s.visible) (before i b)) where
@@ -62,6 +58,6 @@ module _ (s : System) (before now : CellTrees) (j a : ℕ) (same : IsUnchangedFo
       eval-next_tree s now j a p
       ∙ (λ i. eval (at i) p || (local_same p i || by_up_links s now j a p || down_same p i))
       ∙ ap (λ b. b || (by_local_rules s before j a p || by_up_links s now j a p || by_down_links s before j a p)) (eval-next_tree s before j a p)
-      ∙ absorbed (eval (before j a) p) (by_local_rules s before j a p || by_up_links s now j a p || by_down_links s before j a p)
+      ∙ or_again (eval (before j a) p) (by_local_rules s before j a p || by_up_links s now j a p || by_down_links s before j a p)
       ∙ sym (eval-next_tree s before j a p)
       ∙ ap (λ t. eval t p) (sym at))

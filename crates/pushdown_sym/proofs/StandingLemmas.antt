@@ -1,7 +1,8 @@
 -- Terms of the children that stand give what those of all give.
-use Rattle.std.proofs.Common.{◌≡◌, ◌==◌, ℕ, Bool, true, false, not, List, [], ◌∷◌, ◌++◌, map, filter, Result, refl, sym, ap, subst, ◌∙◌, inl, inr}
+use Rattle.std.proofs.Common.{◌≡◌, ◌==◌, ℕ, Bool, true, false, List, [], ◌∷◌, ◌++◌, map, filter, Result, refl, sym, ap, subst, ◌∙◌, inl, inr}
 use Rattle.std.specs.List.{flat_map}
-use Rattle.std.proofs.lemmas.Bool.{cases_Bool}
+use Rattle.std.proofs.lemmas.Bool.{cases_Bool, not-false}
+use Rattle.std.proofs.lemmas.List.Elements.{filter-append}
 use Rattle.class_diagrams.specs.References.{Reference, leaf_reference}
 use Rattle.class_diagrams.specs.declared.faults.DiagramFault.{DiagramFault}
 use Rattle.class_diagrams.specs.Trees.{Tree, leaf, branch, tand, tor}
@@ -57,15 +58,11 @@ tand-none (leaf true) = refl
 tand-none (leaf false) = refl
 tand-none (branch a l h) = refl
 
-not_true : (b : Bool) → not b ≡ false → b ≡ true
-not_true true fails = refl
-not_true false fails = cc
-
 module _ (a b : Arena) (cells : Entries) (j : ℕ) (start : Reference) (arena : IsArena a) where
   false_term : (c : Child) → stands c ≡ false → (term_of a.branches cells j c).tree ≡ leaf false
   false_term c fails =
       let now = trees_in a.branches cells j in
-      let none : c.diagram ≡ leaf_reference false = false_is c.diagram (not_true (is_false c.diagram) fails) in
+      let none : c.diagram ≡ leaf_reference false = false_is c.diagram (not-false (is_false c.diagram) fails) in
       ap (λ p. tand (now c.needs) (tcompose (tree_at a.branches p) now)) none ∙ tand-none (now c.needs)
 
   pub standing_add : (cs : List Child) (r : Result Reference DiagramFault) → Adds a b start (map (term_of a.branches cells j) (filter stands cs)) r → Adds a b start (map (term_of a.branches cells j) cs) r
@@ -76,13 +73,6 @@ module _ (a b : Arena) (cells : Entries) (j : ℕ) (start : Reference) (arena : 
       (covered-filter f stands false_term t cs) (brings_itself a (disjunctions t (map f cs)) arena) (disjunction-filter f stands false_term t cs) adds
 
 -- ### found link by link
-
-filter-append : {X : Type 0} (p : X → Bool) (xs ys : List X) → filter p (xs ++ ys) ≡ filter p xs ++ filter p ys
-filter-append p [] ys = refl
-filter-append p (x ∷ xs) ys = elim (cases_Bool (p x)) [
-  | inl here ↦ rw here (ap (λ zs. x ∷ zs) (filter-append p xs ys))
-  | inr other ↦ rw other (filter-append p xs ys)
-]
 
 filter-flat_map : {X Y : Type 0} (p : Y → Bool) (f g : X → List Y) → ((x : X) → filter p (f x) ≡ g x) → (xs : List X) → filter p (flat_map f xs) ≡ flat_map g xs
 filter-flat_map p f g same [] = refl

@@ -1,8 +1,9 @@
 -- What a round gives to a cell.
-use Rattle.std.proofs.Common.{◌≡◌, ℕ, Bool, true, false, ◌&&◌, ◌||◌, ◌==◌, cond, List, [], ◌∷◌, ◌++◌, map, refl, ap, ◌∙◌}
+use Rattle.std.proofs.Common.{◌≡◌, ℕ, Bool, true, false, ◌&&◌, ◌||◌, ◌==◌, List, [], ◌∷◌, ◌++◌, map, refl, sym, ap, ◌∙◌}
 use Rattle.std.specs.List.{filter, list_any, list_all}
 use Rattle.std.proofs.lemmas.List.Folds.{list_any-append}
 use Rattle.tp_base.specs.Classes.{has_class}
+use Rattle.tp_base.proofs.Truths.{or_false, or_assoc, cond_itself}
 use Rattle.class_diagrams.specs.Trees.{Tree, leaf, eval, tand, tor, variable}
 use Rattle.class_diagrams.proofs.CombineLemmas.{eval-tand, eval-tor}
 use Rattle.diagram_ops.specs.Compositions.{tcompose}
@@ -16,17 +17,9 @@ and_assoc : (u v w : Bool) → ((u && v) && w) ≡ (u && (v && w))
 and_assoc true v w = refl
 and_assoc false v w = refl
 
-or_assoc : (u v w : Bool) → ((u || v) || w) ≡ (u || (v || w))
-or_assoc true v w = refl
-or_assoc false v w = refl
-
 and_true : (v : Bool) → v ≡ (v && true)
 and_true true = refl
 and_true false = refl
-
-or_false : (v : Bool) → v ≡ (v || false)
-or_false true = refl
-or_false false = refl
 
 eval-conjunction : (now : CellTrees) (j : ℕ) (sofar : Tree) (atoms p : List ℕ)
     → eval (conjunction now j sofar atoms) p ≡ (eval sofar p && list_all (λ a. eval (now j a) p) atoms)
@@ -37,15 +30,11 @@ eval-conjunction now j sofar (a ∷ atoms) p =
     ∙ and_assoc (eval sofar p) (eval (now j a) p) (list_all (λ a. eval (now j a) p) atoms)
 
 eval-disjunction : (sofar : Tree) (ts : List Term) (p : List ℕ) → eval (disjunction sofar ts) p ≡ (eval sofar p || list_any (λ t. eval t.tree p) ts)
-eval-disjunction sofar [] p = or_false (eval sofar p)
+eval-disjunction sofar [] p = sym (or_false (eval sofar p))
 eval-disjunction sofar (t ∷ ts) p =
     eval-disjunction (tor sofar t.tree) ts p
     ∙ ap (λ b. b || list_any (λ t. eval t.tree p) ts) (eval-tor sofar t.tree p)
     ∙ or_assoc (eval sofar p) (eval t.tree p) (list_any (λ t. eval t.tree p) ts)
-
-cond_itself : (v : Bool) → cond v true false ≡ v
-cond_itself true = refl
-cond_itself false = refl
 
 -- ### what the rules give under a label
 

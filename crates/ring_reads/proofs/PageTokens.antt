@@ -1,20 +1,19 @@
 -- The tokens of a page's line.
-use Rattle.std.proofs.Common.{◌≡◌, ℕ, zero, suc, ◌+◌, ◌-◌, ◌==◌, Bool, false, nat_eq, List, [], ◌∷◌, ◌++◌, length, take, drop, codes, Some, None, refl, ap, ◌∙◌, arith, length-append, append_assoc}
+use Rattle.std.proofs.Common.{◌≡◌, ℕ, suc, ◌+◌, ◌-◌, ◌==◌, Bool, false, nat_eq, List, [], ◌∷◌, ◌++◌, length, take, drop, codes, Some, None, refl, ap, ◌∙◌, arith, length-append, append_assoc}
 use Rattle.std.specs.List.{ends_with}
 use Rattle.std.proofs.lemmas.Bool.{ne_eqb}
 use Rattle.std.proofs.Math.Seq.{drop-append-add}
+use Rattle.tp_base.proofs.Lists.{take_front}
+use Rattle.html_subset.proofs.ReadingSteps.{tokens_skip}
 use Rattle.html_tokens.specs.Bytes.{is_filler, is_not}
 use Rattle.html_tokens.specs.Attributes.{Attribute, Read, ◌>>=◌, past_blank, quoted, value, behind_equals, attribute, attributes_from, attributes, value_of, firsts_besides, others_in}
 use Rattle.html_tokens.specs.Names.{is_raw}
 use Rattle.html_tokens.specs.Markup.{begins_markup, behind_text}
 use Rattle.html_tokens.specs.Tokens.{Token, text, start, stop, StartTag, tag, behind_start, start_tag, end_tag, end_markup, markup, front, tokens_from}
+use Rattle.html_tokens.proofs.AttributeSteps.{attributes_skip}
 use Rattle.ring_reads.proofs.Digits.{Each, whole_prefix, IsLast, drop_before}
 
 -- ---- attributes
-
-take_front : (xs ys : List ℕ) → take (length xs) (xs ++ ys) ≡ xs
-take_front [] ys = refl
-take_front (x ∷ xs) ys = ap (λ zs. x ∷ zs) (take_front xs ys)
 
 quoted_is : (value rest : List ℕ) → Each (is_not 34) value → quoted 34 (value ++ 34 ∷ rest) ≡ Some (value, rest)
 unfolding quoted
@@ -33,12 +32,6 @@ class_is value rest each = ap (λ (o : Read (List ℕ)). o >>= λ v. Some (named
 id_is : (value rest : List ℕ) → Each (is_not 34) value → attribute (codes "id=\"" ++ (value ++ 34 ∷ rest)) ≡ Some (named (codes "id") value, rest)
 unfolding attribute behind_equals past_blank value
 id_is value rest each = ap (λ (o : Read (List ℕ)). o >>= λ v. Some (named (codes "id") v.0, v.1)) (quoted_is value rest each)
-
-attributes_skip : (n : ℕ) (bs : List ℕ) → attributes_from n bs ≡ attributes_from 0 (drop n bs)
-unfolding attributes_from
-attributes_skip zero bs = refl
-attributes_skip (suc n) [] = refl
-attributes_skip (suc n) (b ∷ bs) = attributes_skip n bs
 
 one_attribute : (b : ℕ) (bs : List ℕ) (a : Attribute) (after : List ℕ) → (b == 62) ≡ false → is_filler b ≡ false → attribute (b ∷ bs) ≡ Some (a, after) → IsLast bs after
     → attributes_from 0 (b ∷ bs) ≡ (attributes_from 0 after >>= λ others. Some (a ∷ others.0, others.1))
@@ -109,12 +102,6 @@ unfolding front begins_markup behind_text
 line_end at [] fresh = (10 ∷ [], refl)
 line_end at (a ∷ []) fresh = absurd fresh
 line_end at (a ∷ b ∷ bs) fresh = (take (1 + suc (suc (length bs)) - suc (suc (length bs))) (10 ∷ a ∷ b ∷ bs), rw (fresh.0, fresh.1) refl)
-
-tokens_skip : (size n : ℕ) (bs : List ℕ) → tokens_from size n bs ≡ tokens_from size 0 (drop n bs)
-unfolding tokens_from
-tokens_skip size zero bs = refl
-tokens_skip size (suc n) [] = refl
-tokens_skip size (suc n) (b ∷ bs) = tokens_skip size n bs
 
 pub one_token : (size b : ℕ) (bs : List ℕ) (t : Token) (rest : List ℕ) → front (size - length (b ∷ bs)) (b ∷ bs) ≡ (Some t, rest) → IsLast bs rest → tokens_from size 0 (b ∷ bs) ≡ t ∷ tokens_from size 0 rest
 unfolding tokens_from

@@ -10,6 +10,7 @@ use Rattle.js_scan.specs.Bytes.{is_plain}
 use Rattle.js_scan.specs.Texts.{next_piece, text_from}
 use Rattle.js_scan.specs.Tokens.{text_front, front, mark_front, divides_next, tokens_from}
 use Rattle.js_scan.specs.Marks.{mark_len}
+use Rattle.js_scan.proofs.TokensLemmas.{tokens_skip}
 use Rattle.jq_words.specs.Words.{Word, words_behind}
 use Rattle.ring_reads.specs.RingWords.{quoted_text, line_words}
 use Rattle.ring_reads.proofs.Digits.{Each, IsLast, drop_before}
@@ -81,12 +82,6 @@ pub record Scans (P : List Word → Type 0) (text : List ℕ) (end : ℕ) (divid
   pub tokens : List Token
   pub read : tokens_from (length text) divides 0 bs ≡ Ok tokens
   pub holds : P (words_behind text end tokens)
-
-tokens_skip : (size : ℕ) (divides : Bool) (n : ℕ) (bs : List ℕ) → tokens_from size divides n bs ≡ tokens_from size divides 0 (drop n bs)
-unfolding tokens_from
-tokens_skip size divides zero bs = refl
-tokens_skip size divides (suc n) [] = refl
-tokens_skip size divides (suc n) (b ∷ bs) = tokens_skip size divides n bs
 
 pub part_behind : (text front rest : List ℕ) → IsLast text (front ++ rest) → IsLast text rest
 part_behind text front rest last = record { before = last.before ++ front; is = last.is ∙ sym (append_assoc last.before front rest) }

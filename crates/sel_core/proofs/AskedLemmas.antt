@@ -1,18 +1,19 @@
 -- An attribute part that is read has a name and a value that can be written.
 use Rattle.std.proofs.Common.{◌≡◌, inl, inr, ◌⊎◌, ℕ, ◌+◌, ◌<◌, Bool, true, false, ◌==◌, ◌&&◌, ◌||◌, not, if◌then◌else◌, nat_lt, List, [], ◌∷◌, ◌++◌, take, drop, map, Option, None, Some, IfSome, option_map, refl, sym, ap, subst, ◌∙◌, arith}
-use Rattle.std.proofs.lemmas.Bool.{cases_lt, lt-ltb, le-ltb, eqb-true}
+use Rattle.std.proofs.lemmas.Bool.{cases_lt, lt-ltb, le-ltb, eqb-true, and_parts}
 use Rattle.std.proofs.lemmas.Bool.Decides.{nat_tests}
 use Rattle.std.proofs.lemmas.List.{map-append}
 use Rattle.std.proofs.lemmas.Str.Ascii.{lowercase-lowercase}
 use Rattle.std.specs.Char.{to_ascii_lowercase}
 use Rattle.std.specs.List.{prefix_len, list_all, list_any}
+use Rattle.std.proofs.lemmas.Option.{same_Some}
 use Rattle.text_bytes.specs.Attributes.{is_set_apart, with_value}
 use Rattle.tp_base.specs.declared.atoms.AtomKind.TheVariants as kind
 use Rattle.sel_core.specs.Bytes.{in_name, name_len, behind_gap}
 use Rattle.sel_core.specs.Grammar.{Word, Front, in_quotes, is_quote, before_quote, quoted, name_front, value_at, behind_bracket, ended_part, valued_part, with_equals, behind_name, unless_apart, attribute_part}
 use Rattle.sel_core.specs.Readable.{IsName, IsAsked, IsQuoted, asked_name}
 use Rattle.sel_core.specs.SelectorText.{quote_for}
-use Rattle.sel_core.proofs.ByteRuns.{both_parts, run_passes, all_by, all_of_run}
+use Rattle.sel_core.proofs.ByteRuns.{run_passes, all_by, all_of_run}
 use Rattle.sel_core.proofs.Lowered as low
 use Rattle.sel_core.proofs.NameLemmas.{not_byte, name_begins}
 
@@ -29,9 +30,6 @@ pub record IsAskedWord (w : Word) : Type 0 where
   pub apart : is_set_apart name ≡ false
   pub plain : IfSome value IsPlain
 
-some_same : {X : Type 0} (x y : X) → Some x ≡ Some y → x ≡ y
-some_same x y e = cc
-
 -- ---- values
 
 name_plain : (quote : ℕ) → in_name quote ≡ false → (b : ℕ) → in_name b ≡ true → in_quotes quote b ≡ true
@@ -47,7 +45,7 @@ named_plain value n = quote_plain (list_any (λ b. b == 34) value) value (all_of
 -- a string in double quotes has none in it
 none_in : (value : List ℕ) → list_all (in_quotes 34) value ≡ true → list_any (λ b. b == 34) value ≡ false
 none_in [] h = refl
-none_in (b ∷ value) h = let parts = both_parts (in_quotes 34 b) (list_all (in_quotes 34) value) h in rw (first (b == 34) (b == 92) (b == 10) parts.0) (none_in value parts.1)
+none_in (b ∷ value) h = let parts = and_parts (in_quotes 34 b) (list_all (in_quotes 34) value) h in rw (first (b == 34) (b == 92) (b == 10) parts.0) (none_in value parts.1)
   where
     first : (x y z : Bool) → not (x || y || z) ≡ true → x ≡ false
     first true y z h = let wrong : false ≡ true = h in absurd cc
@@ -57,7 +55,7 @@ none_in (b ∷ value) h = let parts = both_parts (in_quotes 34 b) (list_all (in_
 other_quotes : (value : List ℕ) → list_all (in_quotes 39) value ≡ true → list_any (λ b. b == 34) value ≡ false → list_all (in_quotes 34) value ≡ true
 other_quotes [] h none = refl
 other_quotes (b ∷ value) h none =
-    let parts = both_parts (in_quotes 39 b) (list_all (in_quotes 39) value) h in
+    let parts = and_parts (in_quotes 39 b) (list_all (in_quotes 39) value) h in
     let none_here = neither (b == 34) (list_any (λ c. c == 34) value) none in
     rw (swapped (b == 34) (b == 39) (b == 92) (b == 10) parts.0 none_here.0) (other_quotes value parts.1 none_here.1)
   where
@@ -95,7 +93,7 @@ before_plain quote text [] v q h is = absurd cc
 before_plain quote text (b ∷ rest) v q h is = by (b == quote) is
   where
     by : (c : Bool) → ◌≡◌ {A = Front (List ℕ)} (if c then Some (text, rest) else None) (Some v) → IsPlain v.0
-    by true some = subst (λ (p : List ℕ × List ℕ). IsPlain p.0) (some_same (text, rest) v some) (quoted_plain quote text q h)
+    by true some = subst (λ (p : List ℕ × List ℕ). IsPlain p.0) (same_Some (text, rest) v some) (quoted_plain quote text q h)
     by false none = absurd cc
 
 front_named : (bs : List ℕ) (v : List ℕ × List ℕ) → name_front bs ≡ Some v → IsName v.0
@@ -103,7 +101,7 @@ unfolding name_front
 front_named bs v is = elim (cases_lt 0 (name_len bs)) [
   | inl some ↦
       let found : ◌≡◌ {A = Front (List ℕ)} (Some (take (name_len bs) bs, drop (name_len bs) bs)) (Some v) = rw (lt-ltb 0 (name_len bs) some) at is in
-      subst (λ (p : List ℕ × List ℕ). IsName p.0) (some_same (take (name_len bs) bs, drop (name_len bs) bs) v found) (low.name_front bs some)
+      subst (λ (p : List ℕ × List ℕ). IsName p.0) (same_Some (take (name_len bs) bs, drop (name_len bs) bs) v found) (low.name_front bs some)
   | inr none ↦ absurd (let no : ◌≡◌ {A = Front (List ℕ)} None (Some v) = rw (le-ltb 0 (name_len bs) none) at is in cc)
 ]
 
@@ -125,7 +123,7 @@ module _ (name : List ℕ) (n : IsName name) (apart : is_set_apart name ≡ fals
       by : (o : Option (List ℕ)) → ◌≡◌ {A = Front Word} (option_map (λ rest. ((kind.Attr, asked_name name value), rest)) o) (Some w) → IsAskedWord w.0
       by None none = absurd cc
       by (Some rest) some =
-          record { name = name; value = value; is = ap (λ (p : Word × List ℕ). p.0) (sym (some_same ((kind.Attr, asked_name name value), rest) w some)); is_name = n; apart = apart; plain = plain }
+          record { name = name; value = value; is = ap (λ (p : Word × List ℕ). p.0) (sym (same_Some ((kind.Attr, asked_name name value), rest) w some)); is_name = n; apart = apart; plain = plain }
 
   valued_asked : (o : Front (List ℕ)) (w : Word × List ℕ) → IfSome o (λ v. IsPlain v.0) → valued_part name o ≡ Some w → IsAskedWord w.0
   valued_asked None w plain is = absurd cc

@@ -5,11 +5,11 @@ use Rattle.text_bytes.specs.Marks.{behind_mark}
 use Rattle.text_bytes.specs.Rests.{IsRest}
 use Rattle.sel_core.specs.Bytes.{is_passed, behind_close, behind_gap}
 
-skips : (blanks : Bool) (n : ℕ) (bs : List ℕ) → behind_gap blanks n bs ≡ behind_gap blanks 0 (drop n bs)
+pub gap_skip : (blanks : Bool) (n : ℕ) (bs : List ℕ) → behind_gap blanks n bs ≡ behind_gap blanks 0 (drop n bs)
 unfolding behind_gap
-skips blanks zero bs = refl
-skips blanks (suc n) [] = refl
-skips blanks (suc n) (b ∷ bs) = skips blanks n bs
+gap_skip blanks zero bs = refl
+gap_skip blanks (suc n) [] = refl
+gap_skip blanks (suc n) (b ∷ bs) = gap_skip blanks n bs
 
 pub passes : (blanks : Bool) (b : ℕ) (bs : List ℕ) → is_passed blanks b ≡ true → behind_gap blanks 0 (b ∷ bs) ≡ behind_gap blanks 0 bs
 unfolding behind_gap
@@ -23,7 +23,7 @@ behind_comment blanks b (c ∷ bs) other opens rest =
     let r = behind_close bs in
     let step : suc (length bs) - length r ≡ suc (length bs - length r) = omega (arith, rest.shorter) in
     let last : drop (length (c ∷ bs) - length r) (c ∷ bs) ≡ r = ap (λ n. drop n (c ∷ bs)) step ∙ rest.last in
-    rw (other, opens, skips blanks (length (c ∷ bs) - length r) (c ∷ bs), last) refl
+    rw (other, opens, gap_skip blanks (length (c ∷ bs) - length r) (c ∷ bs), last) refl
 
 pub stops : (blanks : Bool) (b : ℕ) (bs : List ℕ) → is_passed blanks b ≡ false → starts_with nat_eq (b ∷ bs) (codes "/*") ≡ false → behind_gap blanks 0 (b ∷ bs) ≡ b ∷ bs
 unfolding behind_gap

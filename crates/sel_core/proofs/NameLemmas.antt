@@ -5,6 +5,7 @@ use Rattle.std.proofs.lemmas.List.Folds.{prefix_len-append}
 use Rattle.std.proofs.Math.Seq.{take-append_seam, drop-append_seam}
 use Rattle.std.specs.List.{starts_with, prefix_len}
 use Rattle.tp_base.specs.declared.atoms.AtomKind.{AtomKind}
+use Rattle.tp_base.proofs.Truths.{not_both}
 use Rattle.text_bytes.specs.Rests.{IsRest}
 use Rattle.text_bytes.specs.Blanks.{is_blank}
 use Rattle.sel_core.specs.Bytes.{starts_name, in_name, begins_name, name_len, behind_gap}
@@ -12,12 +13,9 @@ use Rattle.sel_core.specs.Grammar.{name_at}
 use Rattle.sel_core.specs.Readable.{IsName}
 use Rattle.sel_core.proofs.Gaps.{stops}
 
-true_false : (c : Bool) → c ≡ true → c ≡ false → ⊥
-true_false c t f = let no : true ≡ false = sym t ∙ f in cc
-
 -- a byte that passes a test is none that doesn't
 pub not_byte : (p : ℕ → Bool) (k b : ℕ) → p k ≡ false → p b ≡ true → (b == k) ≡ false
-not_byte p k b fails passes = ne_eqb b k (λ e. true_false (p b) passes (ap p e ∙ fails))
+not_byte p k b fails passes = ne_eqb b k (λ e. not_both (p b) passes (ap p e ∙ fails))
 
 -- a byte with which a name may begin
 abbrev pub is_start : ℕ → Bool
@@ -35,7 +33,7 @@ pub start_of_byte : (b : ℕ) (bs : List ℕ) → is_start b ≡ true → IsStar
 start_of_byte b bs h = (no_blank b h, not_byte is_start 47 b refl h, not_byte is_start 62 b refl h)
 
 pub no_comment : (b : ℕ) (bs : List ℕ) → (b == 47) ≡ false → starts_with nat_eq (b ∷ bs) (codes "/*") ≡ false
-no_comment b bs no_slash = rw (ne_eqb 47 b (λ e. true_false (b == 47) (eq-eqb b 47 (sym e)) no_slash)) refl
+no_comment b bs no_slash = rw (ne_eqb 47 b (λ e. not_both (b == 47) (eq-eqb b 47 (sym e)) no_slash)) refl
 
 -- such a text is behind each gap already
 pub no_gap : (blanks : Bool) (bs : List ℕ) → IsStart bs → behind_gap blanks 0 bs ≡ bs
@@ -57,7 +55,7 @@ pub name_begins : (name : List ℕ) → IsName name → (begins_name name ≡ tr
 unfolding name_len
 name_begins name n = len_begins (begins_name name) (prefix_len in_name name) (length name) n.whole n.some
 
-begins_more : (name rest : List ℕ) → begins_name name ≡ true → begins_name (name ++ rest) ≡ true
+pub begins_more : (name rest : List ℕ) → begins_name name ≡ true → begins_name (name ++ rest) ≡ true
 unfolding begins_name
 begins_more [] rest h = cc
 begins_more (b ∷ []) [] h = h

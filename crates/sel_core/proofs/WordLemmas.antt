@@ -1,15 +1,10 @@
 -- Words without regard to case.
-use Rattle.std.proofs.Common.{IsTrue, ◌≡◌, ◌↔◌, ℕ, Bool, true, false, nat_eq, length, List, [], ◌∷◌, map, refl, sym, ◌∙◌, arith}
+use Rattle.std.proofs.Common.{IsTrue, ◌≡◌, ◌↔◌, ℕ, Bool, nat_eq, length, List, [], ◌∷◌, map, sym, ◌∙◌, arith}
 use Rattle.std.proofs.lemmas.Bool.{ne_eqb}
 use Rattle.std.proofs.lemmas.Slice.Eq.{bytes_eq-Decides}
 use Rattle.std.specs.Char.{to_ascii_lowercase}
+use Rattle.tp_base.proofs.Truths.{same_test}
 use Rattle.sel_core.specs.Grammar.{is_word, is_empty}
-
-same_test : (b c : Bool) → (b ≡ true → c ≡ true) → (c ≡ true → b ≡ true) → b ≡ c
-same_test true true f g = refl
-same_test true false f g = sym (f refl)
-same_test false true f g = g refl
-same_test false false f g = refl
 
 pub is_word_by : (b : Bool) (name word : List ℕ) → IsTrue b ↔ (map to_ascii_lowercase name ≡ map to_ascii_lowercase word) → b ≡ is_word name (map to_ascii_lowercase word)
 is_word_by b name word same =

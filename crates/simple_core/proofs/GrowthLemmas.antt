@@ -4,6 +4,7 @@ use Rattle.std.proofs.lemmas.List.Elements.{All-contains}
 use Rattle.tp_base.specs.Classes.{with_class}
 use Rattle.tp_base.proofs.ClassLemmas.{Contains-with_class, Contains-cut_to}
 use Rattle.tp_base.proofs.Rising.{All-from_Contains}
+use Rattle.tp_base.proofs.Lists.{some_and, same_or_other, some_not_none}
 use Rattle.tree_sem.specs.Trees.{LabelTree, length_of, node_at, label_at, children_at, edit_at, add_class, add_child}
 use Rattle.tree_sem.specs.Nodes.{HasAtom}
 use Rattle.tree_sem.specs.Paths.{parent_of}
@@ -21,16 +22,12 @@ use Rattle.simple_core.specs.Rounds.{InRest}
 use Rattle.simple_core.specs.Pages.{InClosed}
 use Rattle.simple_core.specs.SimpleSteps.{SimpleStep, by_local, by_up, by_down, by_spawn, IsLegal, after_step, end_of, AreLegal}
 use Rattle.simple_core.specs.Growth.{IsAdded, IsGrown}
-use Rattle.simple_core.proofs.Members.{Among, among_all, all_among_each, same_or_other}
+use Rattle.simple_core.proofs.Members.{Among, among_all, all_among_each}
 use Rattle.simple_core.proofs.LabelLemmas.{is-kinds_at, kinds_at-more, visible_in-more}
 use Rattle.simple_core.proofs.RoundLemmas.{is-set_of, rest_start, rest_local, rest_up, rest_down, rest_more}
 use Rattle.simple_core.proofs.PageLemmas.{closed_start, closed_local, closed_up, closed_real, closed_added}
 
 -- a value that is there, with what holds of it
-some_and : {X : Type 0} (P : X → Type 0) (o : Option X) → IsSomeAnd o P → (x : X) × (o ≡ Some x) × P x
-some_and P None h = absurd h
-some_and P (Some x) h = (x, refl, h)
-
 and_some : {X : Type 0} (P : X → Type 0) (o : Option X) (x : X) → o ≡ Some x → P x → IsSomeAnd o P
 and_some P o x is holds = subst (λ z. IsSomeAnd z P) (sym is) holds
 
@@ -51,10 +48,6 @@ node_there v t is = elim (node_at v t) as (λ o. IsSome o → (n : LabelTree) ×
 
 there_or_not : (v : List ℕ) (t : LabelTree) → IsSome (node_at v t) ⊎ IsNone (node_at v t)
 there_or_not v t = elim (node_at v t) as (λ o. IsSome o ⊎ IsNone o) [ None ↦ inr refl | Some n ↦ inl refl ]
-
-not_both : {X : Type 0} (o : Option X) → IsSome o → IsNone o → ⊥
-not_both None is none = cc
-not_both (Some x) is none = cc
 
 -- paths with one parent
 same_parent : (v p q : List ℕ) (n m : ℕ) → v ≡ p ++ n ∷ [] → v ≡ q ++ m ∷ [] → p ≡ q
@@ -104,14 +97,14 @@ module _ (s : System) (t u : LabelTree) (grown_u : IsGrown s t u) where
   kept_now : (v : List ℕ) → IsSome (node_at v t) → (now : List ℕ) × (label_at v u ≡ Some now) × All (InClosed s t v) now
   kept_now v is =
       let l = label_there v t is in
-      let now = some_and (λ now. All (Contains now) l.0 × All (InClosed s t v) now) (label_at v u) (grown_u.kept v l.0 l.1) in
+      let now = some_and (label_at v u) (λ now. All (Contains now) l.0 × All (InClosed s t v) now) (grown_u.kept v l.0 l.1) in
       (now.0, now.1, now.2.1)
 
   -- an atom that is there is closed, or comes to rest
   kept_has : (v : List ℕ) (a : ℕ) → IsSome (node_at v t) → HasAtom u v a → InClosed s t v a
   kept_has v a is has =
       let now = kept_now v is in
-      let l = some_and (λ label. Contains label a) (label_at v u) has in
+      let l = some_and (label_at v u) (λ label. Contains label a) has in
       let same : now.0 ≡ l.0 = cc in
       All-contains (InClosed s t v) now.0 a now.2 (subst (λ (z : List ℕ). Contains z a) (sym same) l.2)
 
@@ -121,7 +114,7 @@ module _ (s : System) (t u : LabelTree) (grown_u : IsGrown s t u) where
       → IsGrown s t (edit_at w (add_class a) u)
   one_atom w a if_page if_added = record {
     kept = λ v label at.
-        let was = some_and (λ now. All (Contains now) label × All (InClosed s t v) now) (label_at v u) (grown_u.kept v label at) in
+        let was = some_and (label_at v u) (λ now. All (Contains now) label × All (InClosed s t v) now) (grown_u.kept v label at) in
         let now = later u w a v was.0 (same_or_other v w) was.1 in
         and_some (λ now. All (Contains now) label × All (InClosed s t v) now) (label_at v (edit_at w (add_class a) u)) now.0 now.1 (
           among_all label now.0 (λ x there. now.2.more x (all_among_each label was.0 was.2.0 x there)),
@@ -167,7 +160,7 @@ module _ (s : System) (t u : LabelTree) (grown_u : IsGrown s t u) where
 
   local_step : (r : Local) (w : List ℕ) → Contains s.local r → IsSomeAnd (label_at w u) (λ label. All (Contains label) r.needs) → IsGrown s t (edit_at w (add_class r.gives) u)
   local_step r w listed needs =
-      let l = some_and (λ label. All (Contains label) r.needs) (label_at w u) needs in
+      let l = some_and (label_at w u) (λ label. All (Contains label) r.needs) needs in
       one_atom w r.gives
       (λ is. closed_local s t w r listed (All-from_Contains (InClosed s t w) r.needs (λ x there. kept_has w x is (and_some (λ label. Contains label x) (label_at w u) l.0 l.1 (all_among_each r.needs l.0 l.2 x there)))))
       (λ label at none x.
@@ -178,7 +171,7 @@ module _ (s : System) (t u : LabelTree) (grown_u : IsGrown s t u) where
   up_step : IsSound s → (l : Link) (w p : List ℕ) (n : ℕ) → Contains s.up l → w ≡ p ++ n ∷ [] → HasAtom u p l.from → IsGrown s t (edit_at w (add_class l.to) u)
   up_step sound l w p n listed place has =
       let above : parent_of w ≡ Some p = ap parent_of place ∙ parent_of-child p n in
-      let at = some_and (λ label. Contains label l.from) (label_at p u) has in
+      let at = some_and (label_at p u) (λ label. Contains label l.from) has in
       one_atom w l.to
       (λ is. closed_up s t w p l above listed (kept_has p l.from (parent_there p n t (subst (λ z. IsSome (node_at z t)) place is)) has))
       (λ label at_w none x.
@@ -188,7 +181,7 @@ module _ (s : System) (t u : LabelTree) (grown_u : IsGrown s t u) where
 
   down_step : (l : Link) (w : List ℕ) (n : ℕ) → Contains s.down l → HasAtom u (w ++ n ∷ []) l.from → IsGrown s t (edit_at w (add_class l.to) u)
   down_step l w n listed has =
-      let at = some_and (λ label. Contains label l.from) (label_at (w ++ n ∷ []) u) has in
+      let at = some_and (label_at (w ++ n ∷ []) u) (λ label. Contains label l.from) has in
       one_atom w l.to
       (λ is. elim (there_or_not (w ++ n ∷ []) t) [
         | inl real ↦ let m = child_number w n t real in closed_real s t w n m.0 l m.1 m.2 listed (kept_has (w ++ n ∷ []) l.from real has)
@@ -200,7 +193,7 @@ module _ (s : System) (t u : LabelTree) (grown_u : IsGrown s t u) where
       ])
       (λ label at_w none y.
       let gone : IsNone (node_at (w ++ n ∷ []) t) = elim (there_or_not (w ++ n ∷ []) t) [
-        | inl real ↦ absurd (not_both (node_at w t) (parent_there w n t real) none)
+        | inl real ↦ absurd (some_not_none (node_at w t) (parent_there w n t real) none)
         | inr none ↦ none
       ] in
       let x = grown_u.added (w ++ n ∷ []) at.0 at.1 gone in
@@ -211,14 +204,14 @@ module _ (s : System) (t u : LabelTree) (grown_u : IsGrown s t u) where
 
   spawn_step : (c : Spawn) (w : List ℕ) → Contains s.child c → HasAtom u w c.needs → IsGrown s t (edit_at w (add_child (kind_label s c.kind)) u)
   spawn_step c w listed has =
-      let label_w = some_and (λ label. Contains label c.needs) (label_at w u) has in
+      let label_w = some_and (label_at w u) (λ label. Contains label c.needs) has in
       let parent = node_there w u (there_label w u label_w.0 label_w.1) in
       let u' = edit_at w (add_child (kind_label s c.kind)) u in
       let new = w ++ length_of parent.0.below ∷ [] in
       let old : (v : List ℕ) → IsSome (node_at v u) → label_at v u' ≡ label_at v u = λ v is. label_at-add_child_old w v (kind_label s c.kind) u is in
       record {
         kept = λ v label at.
-            let was = some_and (λ now. All (Contains now) label × All (InClosed s t v) now) (label_at v u) (grown_u.kept v label at) in
+            let was = some_and (label_at v u) (λ now. All (Contains now) label × All (InClosed s t v) now) (grown_u.kept v label at) in
             and_some (λ now. All (Contains now) label × All (InClosed s t v) now) (label_at v u') was.0 (old v (there_label v u was.0 was.1) ∙ was.1) was.2;
         added = λ v label at none. elim (IsSome-add_child w v (kind_label s c.kind) u parent.0 parent.1 (there_label v u' label at)) [
           | inl is ↦
@@ -262,7 +255,7 @@ pub page_grown : (s : System) (t : LabelTree) → IsGrown s t t
 page_grown s t = record {
   kept = λ v label at. and_some (λ now. All (Contains now) label × All (InClosed s t v) now) (label_at v t) label at
       (among_all label label (λ x there. there), All-from_Contains (InClosed s t v) label (λ x there. closed_start s t v label at x there));
-  added = λ v label at none. absurd (not_both (node_at v t) (there_label v t label at) none);
+  added = λ v label at none. absurd (some_not_none (node_at v t) (there_label v t label at) none);
 }
 
 pub steps_grown : (s : System) (t u : LabelTree) → IsSound s → (steps : List SimpleStep) → AreLegal s u steps → IsGrown s t u → IsGrown s t (end_of s u steps)

@@ -5,7 +5,8 @@ use Rattle.tp_base.specs.declared.atoms.TheConstants.{MOST_ATOMS}
 use Rattle.tp_base.specs.declared.atom_table.AtomFault.{AtomFault}
 use Rattle.tp_base.specs.declared.atom_table.AtomFault.TheVariants.{TooManyAtoms, Memory}
 use Rattle.tp_base.specs.Names.{Named, place_in, with_name}
-use Rattle.tp_base.proofs.NamesLemmas.{with_name-Some, with_name-None, with_name-at, with_name-below_limit, Contains-at}
+use Rattle.tp_base.proofs.NamesLemmas.{with_name-Some, with_name-None, with_name-at, with_name-below_limit}
+use Rattle.tp_base.proofs.Lists.{Contains-at}
 
 -- the answer is that of `with_name`, and the refusal its refusal
 pub record IsAnswer (ns ms : List Named) (n : Named) (r : Result ℕ AtomFault) : Type 0 where

@@ -1,8 +1,10 @@
 pub mod ClassLemmas
 pub mod Fronts
+pub mod Lists
 pub mod NamesLemmas
 pub mod Rising
 pub mod LossLemmas
+pub mod Truths
 mod Interned
 mod PlaceLemmas
 mod StoredNames

@@ -1,16 +1,17 @@
 -- What `with_name` answers, for callers of `intern`.
-use Rattle.std.proofs.Common.{◌≡◌, ℕ, zero, suc, ◌<◌, ◌≤◌, true, List, [], ◌∷◌, ◌++◌, length, get_or, slice_get, Contains, Option, Some, None, ◌⊎◌, ◌↔◌, refl, sym, ap, ◌∙◌, subst, inl, inr, arith, rules, length-append, append-nil}
+use Rattle.std.proofs.Common.{◌≡◌, ℕ, ◌<◌, ◌≤◌, true, List, [], ◌∷◌, ◌++◌, length, get_or, slice_get, Contains, Some, None, ◌⊎◌, ◌↔◌, refl, sym, ap, ◌∙◌, subst, inl, inr, arith, rules, length-append, append-nil}
 use Rattle.std.specs.Cmp.Derive.{both_true}
 use Rattle.std.specs.Str.{bytes_eq}
 use Rattle.std.proofs.lemmas.Bool.{and_parts, both_ways, cases_lt, cases_order, le-ltb, lt-ltb}
 use Rattle.std.proofs.lemmas.Slice.Eq.{bytes_eq-Decides}
-use Rattle.std.proofs.lemmas.Option.{slice_get-get_or, slice_get_within, get_or_from_slice_get}
+use Rattle.std.proofs.lemmas.Option.{slice_get-get_or, slice_get_within, some_pair_parts}
 use Rattle.std.proofs.lemmas.List.Quantifiers.{position-Some}
 use Rattle.std.proofs.lemmas.List.Sums.{fails_before_first}
 use Rattle.std.specs.List.{position_or_len}
 use Rattle.tp_base.specs.declared.atoms.TheConstants.{MOST_ATOMS}
 use Rattle.tp_base.specs.contracts.atoms.AtomKind.{the_type}
 use Rattle.tp_base.specs.Names.{Named, is_name, place_in, placed, with_name, IsDistinct, IsTable}
+use Rattle.tp_base.proofs.Lists.{Contains-at, slice_get-append_left, slice_get-push}
 use denote.Enum.Bare.{sameb, same_true, true_same}
 
 -- `is_name` tells whether two names are one
@@ -24,22 +25,6 @@ is_name-same m n h =
 pub same-is_name : (m n : Named) → m ≡ n → is_name m n ≡ true
 same-is_name m n e =
     both_true (true_same the_type m.0 n.0 (ap (λ (x : Named). x.0) e)) ((bytes_eq-Decides m.1 n.1).1 (ap (λ (x : Named). x.1) e))
-
--- lists that are read by `slice_get`
-pub Contains-at : {X : Type 0} (xs : List X) (i : ℕ) (x : X) → slice_get xs i ≡ Some x → Contains xs x
-Contains-at xs i x e = (i, slice_get_within xs i x e, get_or_from_slice_get xs i x x e)
-
-pub at_Contains : {X : Type 0} (xs : List X) (x : X) → Contains xs x → (i : ℕ) × (slice_get xs i ≡ Some x)
-at_Contains xs x there = (there.0, slice_get-get_or xs there.0 x there.1 ∙ ap Some there.2)
-
-pub slice_get-append_left : {X : Type 0} (xs ys : List X) (i : ℕ) → i < length xs → slice_get (xs ++ ys) i ≡ slice_get xs i
-slice_get-append_left [] ys i h = absurd (omega arith)
-slice_get-append_left (x ∷ xs) ys zero h = refl
-slice_get-append_left (x ∷ xs) ys (suc i) h = slice_get-append_left xs ys i (omega arith)
-
-pub slice_get-push : {X : Type 0} (xs : List X) (x : X) → slice_get (xs ++ x ∷ []) (length xs) ≡ Some x
-slice_get-push [] x = refl
-slice_get-push (y ∷ xs) x = slice_get-push xs x
 
 -- in a list without repeats a name has one place
 pub same_place : (ns : List Named) (i j : ℕ) (n : Named) → IsDistinct ns → slice_get ns i ≡ Some n → slice_get ns j ≡ Some n → i ≡ j
@@ -57,11 +42,6 @@ pub same_name : (ns : List Named) (i j : ℕ) (m n : Named) → i ≡ j → slic
 same_name ns i j m n same at_i at_j =
     let both : Some m ≡ Some n = sym at_i ∙ ap (λ k. slice_get ns k) same ∙ at_j in
     cc
-
-some_pair : {A B : Type 0} (a c : A) (b d : B) → ◌≡◌ {A = Option (A × B)} (Some (a, b)) (Some (c, d)) → (a ≡ c) × (b ≡ d)
-some_pair {A} {B} a c b d e =
-    let pair : ◌≡◌ {A = A × B} (a, b) (c, d) = cc in
-    (ap (λ (p : A × B). p.0) pair, ap (λ (p : A × B). p.1) pair)
 
 module _ (ns : List Named) (n : Named) where
   -- the place of a name has the name
@@ -89,12 +69,12 @@ module _ (ns : List Named) (n : Named) where
   with_name-Some a ms e =
       elim (place_in ns n) as (λ o. place_in ns n ≡ o → placed o ns n ≡ Some (a, ms) → ((slice_get ns a ≡ Some n) × (ms ≡ ns)) ⊎ ((Contains ns n → ⊥) × (length ns < MOST_ATOMS) × (a ≡ length ns) × (ms ≡ ns ++ n ∷ []))) [
         | Some i ↦ λ found is.
-            let same = some_pair i a ns ms is in
+            let same = some_pair_parts i a ns ms is in
             inl (subst (λ k. slice_get ns k ≡ Some n) same.0 (place_in-Some i found), sym same.1)
         | None ↦ λ none is.
             elim (cases_lt (length ns) MOST_ATOMS) [
               | inl room ↦
-                  let same = some_pair (length ns) a (ns ++ n ∷ []) ms (rw (lt-ltb (length ns) MOST_ATOMS room) at is) in
+                  let same = some_pair_parts (length ns) a (ns ++ n ∷ []) ms (rw (lt-ltb (length ns) MOST_ATOMS room) at is) in
                   inr (place_in-None none, room, sym same.0, sym same.1)
               | inr full ↦ absurd (let none_some = rw (le-ltb (length ns) MOST_ATOMS full) at is in cc)
             ]

@@ -1,5 +1,5 @@
 -- What a binary search says in a list that rises.
-use Rattle.std.proofs.Common.{◌≡◌, ℕ, zero, suc, ◌<◌, ◌≤◌, Bool, true, false, List, [], ◌∷◌, length, get_or, Result, Ok, Err, is_ok, IsTrue, Contains, ◌↔◌, refl, sym, ap, ◌∙◌, arith}
+use Rattle.std.proofs.Common.{◌≡◌, ℕ, zero, suc, ◌<◌, ◌≤◌, List, [], ◌∷◌, length, get_or, Result, Ok, Err, is_ok, IsTrue, Contains, ◌↔◌, refl, sym, ap, ◌∙◌, arith}
 use Rattle.std.specs.List.{insert}
 use Rattle.std.specs.Ordering.{nat_cmp}
 use Rattle.std.specs.List.Sorted.{IsStrictlyIncreasing, IsBinarySearchResult}
@@ -9,12 +9,7 @@ use Rattle.std.proofs.lemmas.List.{get_or_default}
 use Rattle.tp_base.specs.Classes.{has_class, with_class}
 use Rattle.tp_base.proofs.Rising.{rises_between}
 use Rattle.tp_base.proofs.ClassLemmas.{has_class-Contains, Contains-has_class, with_class-below, with_class-above}
-
--- two tests that hold of the same facts are one
-same_test : (a b : Bool) → (a ≡ true → b ≡ true) → (b ≡ true → a ≡ true) → a ≡ b
-same_test true b f g = sym (f refl)
-same_test false true f g = g refl
-same_test false false f g = refl
+use Rattle.tp_base.proofs.Truths.{same_test}
 
 -- x would go at place i: smaller numbers before it, and greater ones from it on
 pub record IsGap (xs : List ℕ) (x i : ℕ) : Type 0 where

@@ -49,11 +49,11 @@ children_at-add_trees_other p q tops t other is =
     below s [] more is = absurd (more refl)
     below s (m ∷ r) more is = ap (option_map (λ (n : LabelTree). length_of n.below)) (old_below tops s m r is)
 
-length_of-push_trees : (tops : List LabelTree) (r : Row) → length_of (fold push_tree r tops) ≡ length_of r + length tops
+pub length_of-push_trees : (tops : List LabelTree) (r : Row) → length_of (fold push_tree r tops) ≡ length_of r + length tops
 length_of-push_trees [] r = omega arith
 length_of-push_trees (t ∷ tops) r = omega (arith, length_of-push_trees tops (push_tree r t), length_of-push_tree r t)
 
-tree_of-push_trees : (tops : List LabelTree) (r : Row) (i : ℕ) (top : LabelTree) → slice_get tops i ≡ Some top → tree_of (fold push_tree r tops) (length_of r + i) ≡ Some top
+pub tree_of-push_trees : (tops : List LabelTree) (r : Row) (i : ℕ) (top : LabelTree) → slice_get tops i ≡ Some top → tree_of (fold push_tree r tops) (length_of r + i) ≡ Some top
 tree_of-push_trees [] r i top at = cc
 tree_of-push_trees (t ∷ tops) r zero top at =
     let number : length_of r + 0 ≡ length_of r = omega arith in

@@ -118,7 +118,7 @@ classes_both classes s x within = (
 )
 
 -- the trees of a row, and then more trees: an old one or a new one
-push_cases : (r : Row) (t : LabelTree) (j : ℕ) (y : LabelTree) → tree_of (push_tree r t) j ≡ Some y → (tree_of r j ≡ Some y) ⊎ (t ≡ y)
+pub push_cases : (r : Row) (t : LabelTree) (j : ℕ) (y : LabelTree) → tree_of (push_tree r t) j ≡ Some y → (tree_of r j ≡ Some y) ⊎ (t ≡ y)
 push_cases no_nodes t zero y at = let same : t ≡ y = cc in inr same
 push_cases no_nodes t (suc j) y at = cc
 push_cases (node l below next) t zero y at = inl at

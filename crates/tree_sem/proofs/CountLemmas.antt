@@ -2,10 +2,14 @@
 use Rattle.std.proofs.Common.{◌≡◌, ℕ, zero, suc, ◌+◌, ◌≤◌, List, [], ◌∷◌, length, Some, None, option_and_then, fold, refl, sym, ap, subst, arith}
 use Rattle.std.specs.List.{sum_by}
 use Rattle.std.proofs.lemmas.List.Sums.{sum_by-cons}
-use Rattle.tree_sem.specs.Trees.{Row, no_nodes, node, LabelTree, leaf, tree_of, edit_tree, node_at, edit_at, push_tree, nodes_of, count_of, add_class, add_child}
+use Rattle.tree_sem.specs.Trees.{Row, no_nodes, node, LabelTree, leaf, tree_of, edit_tree, node_at, edit_at, push_tree, length_of, nodes_of, count_of, add_class, add_child}
 use Rattle.tree_sem.specs.Cuts.{drop_tree, drop_child}
 use Rattle.tree_sem.specs.Actions.{add_classes, add_trees}
 use Rattle.tree_sem.proofs.EditLemmas.{edit_at-none}
+
+pub length_of-nodes_of : (r : Row) → length_of r ≤ nodes_of r
+length_of-nodes_of no_nodes = omega arith
+length_of-nodes_of (node l below next) = omega (arith, length_of-nodes_of next)
 
 pub nodes_of-push_tree : (f : Row) (t : LabelTree) → nodes_of (push_tree f t) ≡ nodes_of f + count_of t
 nodes_of-push_tree no_nodes t = omega arith

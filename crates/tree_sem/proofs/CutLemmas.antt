@@ -4,7 +4,7 @@ use Rattle.std.specs.List.Sorted.{IsStrictlyIncreasing}
 use Rattle.std.proofs.lemmas.Bool.{cases_eq}
 use Rattle.std.proofs.lemmas.Option.{slice_get_within, slice_get_read}
 use Rattle.slab.specs.Slab.{Slab, get, ContainsKey, slab_len, with_value}
-use Rattle.tp_base.proofs.NamesLemmas.{slice_get-append_left, slice_get-push}
+use Rattle.tp_base.proofs.Lists.{slice_get-append_left, slice_get-push}
 use Rattle.tree_sem.specs.declared.slots.Slot.{Slot}
 use Rattle.tree_sem.specs.Cuts.{drop_tree, drop_child}
 use Rattle.tree_sem.specs.Trees.{node, LabelTree, tree_of, edit_at, count_of}

@@ -1,18 +1,13 @@
 -- The node at a path is cut off its parent.
 use Rattle.std.proofs.Common.{◌≡◌, ◌↔◌, ℕ, zero, suc, ◌-◌, ◌<◌, ◌≤◌, Bool, true, false, List, [], ◌∷◌, ◌++◌, length, take, Some, None, IsSome, IsTrue, option_map, option_and_then, unwrap_or, slice_get, refl, sym, ap, ◌∙◌, subst, length-append, arith}
-use Rattle.tp_base.proofs.NamesLemmas.{slice_get-push}
+use Rattle.tp_base.proofs.Lists.{slice_get-push}
 use Rattle.tree_sem.specs.Cuts.{drop_tree, drop_child, cut_at}
 use Rattle.tree_sem.specs.Nodes.{IsNode}
 use Rattle.tree_sem.specs.Paths.{last_number}
 use Rattle.tree_sem.specs.Trees.{Row, no_nodes, node, LabelTree, tree_of, length_of, node_at, edit_at}
 use Rattle.tree_sem.proofs.EditLemmas.{edit_at-none, edit_at-same}
-use Rattle.tree_sem.proofs.PathLemmas.{parent_of-take, child_of_parent}
+use Rattle.tree_sem.proofs.PathLemmas.{parent_of-take, child_of_parent, last_number-child}
 use Rattle.tree_sem.proofs.RowLemmas.{node_at-append, tree_of-past, tree_of-within}
-
-last_number-child : (p : List ℕ) (k : ℕ) → last_number (p ++ k ∷ []) ≡ k
-last_number-child [] k = refl
-last_number-child (j ∷ []) k = refl
-last_number-child (j ∷ m ∷ p) k = last_number-child (m ∷ p) k
 
 drop_tree-past : (r : Row) (k : ℕ) → length_of r ≤ k → drop_tree r k ≡ r
 drop_tree-past no_nodes k past = refl

@@ -2,6 +2,7 @@
 use Rattle.std.proofs.Common.{◌≡◌, ◌≢◌, ◌⊎◌, ℕ, zero, suc, List, [], ◌∷◌, ◌++◌, Option, Some, None, IsSome, ◌↔◌, option_map, option_and_then, refl, sym, ap, ◌∙◌, inl, inr, append-nil, arith}
 use Rattle.std.proofs.lemmas.Bool.{cases_order}
 use Rattle.tp_base.specs.Classes.{with_class}
+use Rattle.tp_base.proofs.Lists.{same_or_other}
 use Rattle.tree_sem.specs.Trees.{Row, no_nodes, node, LabelTree, leaf, tree_of, length_of, push_tree, edit_tree, node_at, label_at, children_at, edit_at, add_class, add_child}
 use Rattle.tree_sem.proofs.RowLemmas.{node_at-append, tree_of-past}
 
@@ -232,19 +233,6 @@ IsSome-add_class p q a t =
 -- a child leaves the nodes that were there
 pub IsSome-add_child_old : (p q l : List ℕ) (t : LabelTree) → IsSome (node_at q t) → IsSome (node_at q (edit_at p (add_child l) t))
 IsSome-add_child_old p q l t is = seen_there (λ n. n.label) (node_at q t) (node_at q (edit_at p (add_child l) t)) (sym (label_at-add_child_old p q l t is)) is
-
-same_or_other : (xs ys : List ℕ) → (xs ≡ ys) ⊎ (xs ≢ ys)
-same_or_other [] [] = inl refl
-same_or_other [] (y ∷ ys) = inr (λ e. cc)
-same_or_other (x ∷ xs) [] = inr (λ e. cc)
-same_or_other (x ∷ xs) (y ∷ ys) = elim (same_or_other xs ys) [
-  | inr other ↦ inr (λ e. other (cc))
-  | inl same ↦ elim (cases_order x y) [
-    | inl first ↦ inl (λ i. first i ∷ same i)
-    | inr (inl less) ↦ inr (λ e. let first : x ≡ y = cc in omega arith)
-    | inr (inr more) ↦ inr (λ e. let first : x ≡ y = cc in omega arith)
-  ]
-]
 
 -- and adds one
 pub IsSome-add_child : (p q l : List ℕ) (t s : LabelTree) → node_at p t ≡ Some s → IsSome (node_at q (edit_at p (add_child l) t)) → IsSome (node_at q t) ⊎ (q ≡ p ++ length_of s.below ∷ [])

@@ -1,6 +1,7 @@
 -- Which fault a call gives.
-use Rattle.std.proofs.Common.{◌≡◌, ◌↔◌, ℕ, ◌<◌, ◌≤◌, Bool, true, false, IsTrue, inl, inr, arith, refl, sym, ◌∙◌, Option, Some, None, IsNone, IsSome, Result, Ok, Err, OnOk, IsErrOf, IsErrAnd}
+use Rattle.std.proofs.Common.{◌≡◌, ◌↔◌, ℕ, ◌<◌, ◌≤◌, inl, inr, arith, refl, sym, ◌∙◌, Option, Some, None, IsNone, IsSome, Result, Ok, Err, OnOk, IsErrOf, IsErrAnd}
 use Rattle.std.proofs.lemmas.Bool.{cases_lt}
+use Rattle.tp_base.proofs.Truths.{not_so}
 use Rattle.tree_sem.specs.declared.tree_fault.TreeFault.{TreeFault}
 use Rattle.tree_sem.specs.declared.tree_fault.TreeFault.TheVariants.{NoSuchNode, TooManyNodes, Memory}
 
@@ -20,10 +21,6 @@ no_node_fault X P = (λ same. let other : NoSuchNode ≡ TooManyNodes = cc in cc
 -- where a node is there, a full tree is not said to lack it
 pub full_fault : {T X : Type 0} (o : Option X) (x : X) → o ≡ Some x → IsErrOf {T = T} {E = TreeFault} (Err TooManyNodes) NoSuchNode ↔ IsNone o
 full_fault o x there = (λ same. let other : TooManyNodes ≡ NoSuchNode = cc in cc, λ none. let some : IsNone (Some x) = rw there at none in cc)
-
--- what a test that failed says
-pub not_so : (P : Type 0) (b : Bool) → IsTrue b ↔ P → b ≡ false → P → ⊥
-not_so P b same no_test p = let yes : b ≡ true = same.1 p in cc
 
 -- a count that doesn't fit is past the limit
 pub past : (count needed most : ℕ) → count ≡ needed → (needed ≤ most → ⊥) → most < count

@@ -56,7 +56,7 @@ image_inside t u c d k l v w at at' image = record {
       (found.0, rw at' at found.1, found.2);
 }
 
-one_down : (l : ℕ) (o : Option LabelTree) (x : LabelTree) → option_and_then (node_at []) o ≡ Some x → o ≡ Some x
+pub one_down : (l : ℕ) (o : Option LabelTree) (x : LabelTree) → option_and_then (node_at []) o ≡ Some x → o ≡ Some x
 one_down l None x is = cc
 one_down l (Some y) x is = is
 

@@ -2,7 +2,7 @@
 use Rattle.std.proofs.Common.{◌≡◌, ◌↔◌, ℕ, zero, suc, ◌+◌, List, [], ◌∷◌, ◌++◌, length, take, map, Contains, Some, None, IsSome, IsSomeAnd, All, option_map, option_and_then, refl, sym, ap, ◌∙◌, subst, inl, inr, arith, length-append}
 use Rattle.std.proofs.Math.Seq.{take-length}
 use Rattle.std.proofs.lemmas.List.{length-map, get_or-map, take-append-le}
-use Rattle.std.proofs.lemmas.List.Elements.{Contains-append_left, Contains-append_right, Contains-append_cases, Contains-push_cases}
+use Rattle.std.proofs.lemmas.List.Elements.{All-nil, Contains-append_left, Contains-append_right, Contains-append_cases, Contains-push_cases}
 use Rattle.tree_sem.specs.Trees.{Row, no_nodes, node, LabelTree, tree_of, nodes_of, count_of, node_at}
 use Rattle.tree_sem.specs.Nodes.{IsNode, HasAtom, HasAtoms}
 use Rattle.tree_sem.specs.Order.{paths_from, paths_of}
@@ -134,6 +134,14 @@ HasAtoms-node t v wanted has =
       | None ↦ λ has. absurd has
       | Some s ↦ λ has. refl
     ] has
+
+-- each node has all of no atoms
+pub HasAtoms-none : (t : LabelTree) (v : List ℕ) → IsNode t v → HasAtoms t v []
+HasAtoms-none t v is =
+    elim (node_at v t) as (λ o. IsSome o → IsSomeAnd (option_map (λ (n : LabelTree). n.label) o) (λ l. All (Contains l) [])) [
+      | None ↦ λ is. cc
+      | Some s ↦ λ is. All-nil (Contains s.label)
+    ] is
 
 -- a front of a node's path is a node's
 pub IsNode-front : (t : LabelTree) (p q : List ℕ) → IsNode t (p ++ q) → IsNode t p

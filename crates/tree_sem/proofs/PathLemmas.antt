@@ -2,7 +2,7 @@
 use Rattle.std.proofs.Common.{◌≡◌, ℕ, zero, suc, ◌+◌, ◌-◌, ◌<◌, ◌≤◌, List, [], ◌∷◌, ◌++◌, length, take, drop, Some, None, IsSome, option_map, option_and_then, refl, sym, ap, ◌∙◌, length-take-le, arith}
 use Rattle.std.proofs.lemmas.List.{take-append-drop, take_all}
 use Rattle.tree_sem.specs.Trees.{LabelTree, node_at}
-use Rattle.tree_sem.specs.Paths.{parent_of}
+use Rattle.tree_sem.specs.Paths.{parent_of, last_number}
 use Rattle.tree_sem.proofs.RowLemmas.{node_at-append, node_at-child}
 
 pub take_take : (m n : ℕ) (p : List ℕ) → m ≤ n → take m (take n p) ≡ take m p
@@ -15,6 +15,17 @@ pub parent_of-child : (v : List ℕ) (k : ℕ) → parent_of (v ++ k ∷ []) ≡
 parent_of-child [] k = refl
 parent_of-child (l ∷ []) k = refl
 parent_of-child (l ∷ m ∷ v) k = ap (option_map (λ (p : List ℕ). l ∷ p)) (parent_of-child (m ∷ v) k)
+
+-- the parent's path from a child's
+pub same_parent : (q v : List ℕ) (m k : ℕ) → q ++ m ∷ [] ≡ v ++ k ∷ [] → q ≡ v
+same_parent q v m k same =
+    let both : Some q ≡ Some v = sym (parent_of-child q m) ∙ ap parent_of same ∙ parent_of-child v k in
+    cc
+
+pub last_number-child : (p : List ℕ) (k : ℕ) → last_number (p ++ k ∷ []) ≡ k
+last_number-child [] k = refl
+last_number-child (j ∷ []) k = refl
+last_number-child (j ∷ m ∷ p) k = last_number-child (m ∷ p) k
 
 -- only the root has no parent
 pub parent_of-none : (v : List ℕ) → parent_of v ≡ None → v ≡ []

@@ -1,17 +1,17 @@
 -- What a table says of its nodes.
-use Rattle.std.proofs.Common.{◌≡◌, ℕ, ◌<◌, ◌≤◌, List, [], ◌∷◌, length, take, Option, Some, None, IsSome, IfSome, Result, IfOk, option_map, option_and_then, slice_get, refl, sym, ap, ◌∙◌, subst, inl, inr, arith}
+use Rattle.std.proofs.Common.{◌≡◌, ℕ, ◌<◌, List, [], ◌∷◌, length, take, Option, Some, None, IsSome, IfSome, Result, IfOk, option_map, option_and_then, slice_get, refl, sym, ap, ◌∙◌, subst, inl, inr, arith}
 use Rattle.std.specs.List.Sorted.{IsStrictlyIncreasing}
 use Rattle.std.proofs.Math.Seq.{take-length}
 use Rattle.slab.specs.Slab.{Slab, get, ContainsKey}
 use Rattle.tree_sem.specs.declared.slots.Slot.{Slot}
 use Rattle.tree_sem.specs.declared.tree_fault.TheConstants.{MOST_NODES}
 use Rattle.tree_sem.specs.declared.tree_fault.TreeFault.{TreeFault}
-use Rattle.tree_sem.specs.Trees.{Row, no_nodes, node, LabelTree, leaf, node_at, label_at, length_of, nodes_of}
+use Rattle.tree_sem.specs.Trees.{no_nodes, node, LabelTree, leaf, node_at, label_at, length_of}
 use Rattle.tree_sem.specs.Nodes.{AllRise}
 use Rattle.tree_sem.specs.Arena.{row_by, place_from}
 use Rattle.tree_sem.specs.Table.{kids_in, label_in, parent_in, tree_in, most_levels, IsForest, IsTable}
 use Rattle.tree_sem.proofs.ArenaLemmas.{unrolled, node_at-tree_to, last_step, length_of-row_by}
-use Rattle.tree_sem.proofs.CountLemmas.{length-node_at}
+use Rattle.tree_sem.proofs.CountLemmas.{length-node_at, length_of-nodes_of}
 
 pub most_levels_are : most_levels ≡ MOST_NODES
 unfolding most_levels
@@ -56,11 +56,6 @@ module _ (slots : Slab Slot) (forest : IsForest slots) where
 
       pub children_there : option_map (λ n. length_of n.below) (node_at p (tree_in slots 0)) ≡ Some (length (kids_in slots j))
       children_there = rw node_there (ap Some kids_there)
-
--- there are no more children than nodes
-length_of-nodes_of : (r : Row) → length_of r ≤ nodes_of r
-length_of-nodes_of no_nodes = omega arith
-length_of-nodes_of (node l below next) = omega (arith, length_of-nodes_of next)
 
 pub few_children : (slots : Slab Slot) → IsTable slots → (p : List ℕ) (j : ℕ) → Some j ≡ place_from (kids_in slots) 0 p → length (kids_in slots j) < MOST_NODES
 few_children slots table p j at =

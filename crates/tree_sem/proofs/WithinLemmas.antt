@@ -84,7 +84,7 @@ add_class_within a t = (All-with_class a t.label, (within_itself t).1)
 pub add_classes_within : (classes : List ℕ) (t : LabelTree) → IsWithin t (add_classes classes t)
 add_classes_within classes t = (All-union_of t.label classes, (within_itself t).1)
 
-pushed_at : (ts : Row) (t s : LabelTree) (m : ℕ) → tree_of ts m ≡ Some s → tree_of (push_tree ts t) m ≡ Some s
+pub pushed_at : (ts : Row) (t s : LabelTree) (m : ℕ) → tree_of ts m ≡ Some s → tree_of (push_tree ts t) m ≡ Some s
 pushed_at no_nodes t s m at = cc
 pushed_at (node l below next) t s zero at = at
 pushed_at (node l below next) t s (suc m) at = pushed_at next t s m at

@@ -1,10 +1,11 @@
 -- A status past a budget comes of an answer that is left open, and that of a budget that doesn't suffice, or of steps that may be illegal.
 use Rattle.std.proofs.Common.{if◌then◌else◌, ◌≡◌, ◌⊎◌, ℕ, zero, suc, ◌+◌, ◌<◌, ◌||◌, nat_lt, Bool, true, false, List, [], ◌∷◌, ◌++◌, length, map, take, drop, get_or, Contains, refl, sym, ap, ◌∙◌, inl, inr, subst, arith, length-append}
 use Rattle.std.specs.List.{list_any}
-use Rattle.std.proofs.lemmas.Bool.{true≢false, cases_Bool, or_left, or_right}
+use Rattle.std.proofs.lemmas.Bool.{true≢false, cases_Bool, or_cases}
 use Rattle.std.proofs.lemmas.List.{map-append, length-map}
 use Rattle.std.proofs.lemmas.List.Elements.{Contains-append_left, Contains-append_right}
 use Rattle.tp_base.proofs.Rising.{Contains-here, Contains-behind, Contains-cons, Contains-none}
+use Rattle.tp_base.proofs.Lists.{any_Contains, Contains-any}
 use Rattle.tree_sem.specs.Trees.{LabelTree}
 use Rattle.tree_sem.proofs.NodeLemmas.{Contains-map, map-Contains}
 use Rattle.sel_core.specs.Selectors.{Selector}
@@ -35,25 +36,6 @@ budget_open : (a b : Bool) → status_by a b ≡ status.Budget → a ≡ true
 budget_open true b is = refl
 budget_open false true is = cc
 budget_open false false is = cc
-
-one_of : (a b : Bool) → (a || b) ≡ true → (a ≡ true) ⊎ (b ≡ true)
-one_of true b is = inl refl
-one_of false b is = inr is
-
--- a list has what some of it is
-found : {X : Type 0} (test : X → Bool) (xs : List X) → list_any test xs ≡ true → (x : X) × Contains xs x × (test x ≡ true)
-found test [] is = absurd (true≢false (sym is))
-found test (x ∷ xs) is = elim (one_of (test x) (list_any test xs) is) [
-  | inl here ↦ (x, Contains-here x x xs refl, here)
-  | inr behind ↦ let rest = found test xs behind in (rest.0, Contains-behind rest.0 x xs rest.1, rest.2)
-]
-
-any_there : {X : Type 0} (test : X → Bool) (xs : List X) (x : X) → Contains xs x → test x ≡ true → list_any test xs ≡ true
-any_there test [] x there is = absurd (Contains-none x there)
-any_there test (y ∷ xs) x there is = elim ((Contains-cons x y xs).0 there) [
-  | inl same ↦ or_left (test y) (list_any test xs) (subst (λ z. test z ≡ true) same is)
-  | inr behind ↦ or_right (test y) (list_any test xs) (any_there test xs x behind is)
-]
 
 -- ---- what is left open of a goal is past a budget
 
@@ -112,7 +94,7 @@ module _ (t : LabelTree) (ss : List Statement) (guards : List Guard) (n : ℕ) (
       let many : length own ≡ length s.handlers + 1 = length-map {B = Goal} (probes s) selecting ∙ probes_counted s in
       let right' = subst (λ (z : List Goal). AreRightFor t ss guards n limits z answers) parts right in
       let among' : (g : Goal) → Contains (own ++ others) g → Contains goals g = λ g there. among g (subst (λ (z : List Goal). Contains z g) (sym parts) there) in
-      elim (one_of (dead.is_open (dead.verdict_of (length s.handlers) answers)) (list_any dead.is_open (dead.verdicts stmts (drop (length s.handlers + 1) answers))) is) [
+      elim (or_cases (dead.is_open (dead.verdict_of (length s.handlers) answers)) (list_any dead.is_open (dead.verdicts stmts (drop (length s.handlers + 1) answers))) is) [
         | inl here ↦
             let at = right_at (own ++ others) answers (length s.handlers) right' (omega (arith, many, length-append own others)) in
             elim (own_open (get_or answers (length s.handlers) spent) (dead.dead_behind 0 (take (length s.handlers) answers)) (never_open 0 (take (length s.handlers) answers)) here) [
@@ -256,23 +238,23 @@ module _ (t : Task) (said : List Said) (all : (x : Said) → Contains said x →
   pub left_open : status_of t said ≡ status.Budget → HasMaybe t said ⊎ OverOn t said
   left_open is =
       let open' = budget_open (list_any is_open (lines_in t.mode said) || list_any dead.is_open (verdicts_in t.mode said)) _ is in
-      elim (one_of (list_any is_open (lines_in t.mode said)) (list_any dead.is_open (verdicts_in t.mode said)) open') [
+      elim (or_cases (list_any is_open (lines_in t.mode said)) (list_any dead.is_open (verdicts_in t.mode said)) open') [
         | inl line ↦
-            let a = found is_open (lines_in t.mode said) line in
-            elim (open_is a.0 a.2) [ inl maybe' ↦ inl (any_there is_maybe (lines_in t.mode said) a.0 a.1 maybe') | inr undecided ↦ inr (over_by_line a.0 (line_from t.mode said a.0 a.1) undecided) ]
+            let a = any_Contains is_open (lines_in t.mode said) line in
+            elim (open_is a.0 a.2) [ inl maybe' ↦ inl (Contains-any is_maybe (lines_in t.mode said) a.0 a.1 maybe') | inr undecided ↦ inr (over_by_line a.0 (line_from t.mode said a.0 a.1) undecided) ]
         | inr verdict ↦ inr (over_by_verdict t.mode refl said (λ x there. there) verdict)
       ]
 
   -- within all budgets each line is decided
   pub all_decided : ¬ OverOn t said → list_any is_undecided (lines_in t.mode said) ≡ false
   all_decided never = elim (cases_Bool (list_any is_undecided (lines_in t.mode said))) [
-    | inl some ↦ let a = found is_undecided (lines_in t.mode said) some in absurd (never (over_by_line a.0 (line_from t.mode said a.0 a.1) a.2))
+    | inl some ↦ let a = any_Contains is_undecided (lines_in t.mode said) some in absurd (never (over_by_line a.0 (line_from t.mode said a.0 a.1) a.2))
     | inr none ↦ none
   ]
 
   pub doubt_sharp : HasMaybe t said → (x : Said) × Contains said x × (any_sharp x.inputs.exact ≡ true)
   doubt_sharp has =
-      let a = found is_maybe (lines_in t.mode said) has in
+      let a = any_Contains is_maybe (lines_in t.mode said) has in
       let from = line_from t.mode said a.0 a.1 in
       let i = from.0.inputs in
       (from.0, from.1, items_sharp i.tree i.exact i.stmts (guards_in t.mode i) (length i.names) t.limits i.sheet.items from.0.items (all from.0 from.1).right a.0 from.2 a.2)

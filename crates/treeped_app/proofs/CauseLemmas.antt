@@ -8,6 +8,7 @@ use Rattle.tp_base.proofs.Rising.{Contains-here, Contains-behind, Contains-cons,
 use Rattle.tp_io.specs.Files.{Load}
 use Rattle.tp_io.specs.Sinks.{Adds, Rose}
 use Rattle.tp_base.specs.declared.places.TheConstants.{MOST_BYTES}
+use Rattle.tp_base.proofs.Truths.{or_assoc}
 use Rattle.run_ends.specs.declared.status.Status.{Status}
 use Rattle.run_ends.specs.declared.status.Status.TheVariants as status
 use Rattle.run_ends.specs.declared.refusals.JudgeRefusal.{JudgeRefusal}
@@ -103,10 +104,6 @@ module _ (err : Put) (s : Status) where
 
 abbrev any_failed : List Load → Bool
 any_failed loads = list_any (λ (l : Load). l.failed) loads
-
-or_assoc : (a b c : Bool) → ((a || b) || c) ≡ (a || (b || c))
-or_assoc true b c = refl
-or_assoc false b c = refl
 
 any_joined : (xs ys : List Load) → any_failed (xs ++ ys) ≡ (any_failed xs || any_failed ys)
 any_joined [] ys = refl

@@ -1,7 +1,9 @@
 -- What the best answers of a site say of each page.
 use Rattle.std.proofs.Common.{◌≡◌, ◌↔◌, ◌⊎◌, ℕ, zero, suc, ◌<◌, ◌≤◌, List, [], ◌∷◌, length, map, Contains, Option, Some, slice_get, Ok, refl, sym, ap, ◌∙◌, subst, inl, inr, arith}
 use Rattle.std.proofs.lemmas.Option.{slice_get_within}
+use Rattle.css_prune.proofs.AlikeLemmas.{alike_length}
 use Rattle.tp_base.proofs.Rising.{Contains-cons, Contains-none, Contains-here, Contains-behind}
+use Rattle.tp_base.proofs.Lists.{element_at}
 use Rattle.tree_sem.specs.Trees.{LabelTree}
 use Rattle.sel_core.specs.Selectors.{Selector}
 use Rattle.sel_core.specs.declared.faults.Skip.{Skip}
@@ -23,11 +25,6 @@ use Rattle.css_read.specs.Shapes.{IsAlikeOutcome, IsAlike, AreAlike}
 use Rattle.treeped_app.proofs.SheetLemmas.{one_sheet_read}
 
 -- ---- at a place of a list
-
-got : {A : Type 0} (xs : List A) (k : ℕ) → k < length xs → (x : A) × (slice_get xs k ≡ Some x)
-got [] k less = absurd (omega (arith, less))
-got (x ∷ xs) zero less = (x, refl)
-got (x ∷ xs) (suc k) less = got xs k (omega (arith, less))
 
 abbrev lists_of : List Said → List (List Answer)
 lists_of said = map (λ (s : Said). s.items) said
@@ -53,12 +50,6 @@ alike_at (i ∷ items) (j ∷ others) zero x y are at at' =
     let two : j ≡ y = cc in
     subst (λ (z : Item). IsAlike z y) one (subst (λ (z : Item). IsAlike i z) two are.0)
 alike_at (i ∷ items) (j ∷ others) (suc k) x y are at at' = alike_at items others k x y are.1 at at'
-
-alike_many : (items others : List Item) → AreAlike items others → length items ≡ length others
-alike_many [] [] is = refl
-alike_many [] (j ∷ others) is = absurd is
-alike_many (i ∷ items) [] is = absurd is
-alike_many (i ∷ items) (j ∷ others) is = ap suc (alike_many items others is.1)
 
 module _ (t : LabelTree) (exact : List ExactStatement) (stmts : List Statement) (guards : List Guard) (n : ℕ) (limits : Limits) where
   pub right_many : (items : List Item) (answers : List Answer) → AreRightExactly t exact stmts guards n limits items answers → length answers ≡ length items
@@ -115,7 +106,7 @@ module _ (r : Run) (t : Task) (said : List Said) (whole : IsWhole r t said) wher
   many : (a b : Said) → Contains said a → Contains said b → length a.items ≡ length b.items
   many a b there there' =
       right_many a.inputs.tree a.inputs.exact a.inputs.stmts (guards_in t.mode a.inputs) (length a.inputs.names) t.limits a.inputs.sheet.items a.items (right_on a there)
-      ∙ alike_many a.inputs.sheet.items b.inputs.sheet.items (alike a b there there')
+      ∙ alike_length a.inputs.sheet.items b.inputs.sheet.items (alike a b there there')
       ∙ sym (right_many b.inputs.tree b.inputs.exact b.inputs.stmts (guards_in t.mode b.inputs) (length b.inputs.names) t.limits b.inputs.sheet.items b.items (right_on b there'))
 
   first_many : (all : List Said) → ((s : Said) → Contains all s → Contains said s) → IsSite (lists_of all) (site_on all)
@@ -148,7 +139,7 @@ module _ (r : Run) (t : Task) (said : List Said) (whole : IsWhole r t said) wher
     answer_on s there =
         let place = place_of said s there in
         let within : k < length s.items = omega (arith, slice_get_within (site_on said).items k b at, site.one_length place.0 s.items place.1) in
-        let a = got s.items k within in
+        let a = element_at s.items k within in
         (a.0, a.1, best.best place.0 a.0 (s.items, place.1, a.1))
 
     unused_there : (s : Said) → Contains said s → b.answer ≡ unused → (a : Answer) → slice_get s.items k ≡ Some a → 4 ≤ rank a → a ≡ unused

@@ -1,7 +1,8 @@
 -- Statements and their marks, apart and together.
-use Rattle.std.proofs.Common.{◌≡◌, ℕ, suc, ◌||◌, Bool, true, false, List, [], ◌∷◌, ◌++◌, length, map, Option, Some, None, refl, sym, ap, ◌∙◌, subst, append_assoc, append-nil, arith, length-append}
+use Rattle.std.proofs.Common.{◌≡◌, ℕ, suc, ◌||◌, false, List, [], ◌∷◌, ◌++◌, length, map, Option, Some, None, refl, sym, ap, ◌∙◌, subst, append_assoc, append-nil, arith, length-append}
 use Rattle.std.specs.List.{list_any}
 use Rattle.std.proofs.lemmas.List.{map-append}
+use Rattle.std.proofs.lemmas.Bool.{or_parts}
 use Rattle.jq_sem.specs.declared.sharp.ExactStmt.{ExactStmt}
 use Rattle.jq_sem.specs.declared.sharp.Sharp.{Sharp}
 use Rattle.jq_sem.specs.declared.stmts.Stmt.{Stmt}
@@ -138,13 +139,9 @@ no_mark : (m : List Sharp) (s : Stmt) → has_marks m ≡ false → is_sharp_sta
 no_mark [] s none = ap is_sharp_statement (unmarked s) ∙ statement_plain (statement_of s)
 no_mark (x ∷ m) s none = cc
 
-neither : (a b : Bool) → (a || b) ≡ false → (a ≡ false) × (b ≡ false)
-neither true b e = cc
-neither false b e = (refl, e)
-
 pub none_marked : (stmts : List Stmt) (sharp : List (List Sharp)) → list_any has_marks sharp ≡ false → list_any is_sharp_statement (marked stmts sharp) ≡ false
 none_marked stmts [] none = statements_plain (statements_of stmts)
 none_marked [] (m ∷ sharp) none = refl
 none_marked (s ∷ stmts) (m ∷ sharp) none =
-    let both = neither (has_marks m) (list_any has_marks sharp) none in
+    let both = or_parts (has_marks m) (list_any has_marks sharp) none in
     ap (λ b. b || list_any is_sharp_statement (marked stmts sharp)) (no_mark m s both.0) ∙ none_marked stmts sharp both.1

@@ -5,6 +5,7 @@ use Rattle.tp_base.specs.declared.places.Place.{Place}
 use Rattle.tp_base.proofs.Rising.{Contains-cons, Contains-none}
 use Rattle.std.specs.List.{list_any}
 use Rattle.std.proofs.lemmas.Bool.{true≢false}
+use Rattle.css_prune.proofs.AlikeLemmas.{alike_length}
 use Rattle.tp_io.specs.Files.{Load}
 use Rattle.tp_io.specs.Sinks.{Adds, AddsPrefix}
 use Rattle.tp_base.specs.declared.places.TheConstants.{MOST_BYTES}
@@ -133,12 +134,6 @@ as_many places [] (a ∷ answers) rep = absurd rep
 as_many places (i ∷ items) [] rep = absurd rep
 as_many places (i ∷ items) (a ∷ answers) rep = ap suc (as_many places items answers rep.1)
 
-alike_many : (items others : List Item) → AreAlike items others → length items ≡ length others
-alike_many [] [] is = refl
-alike_many [] (j ∷ others) is = absurd is
-alike_many (i ∷ items) [] is = absurd is
-alike_many (i ∷ items) (j ∷ others) is = ap suc (alike_many items others is.1)
-
 better_many : (bs cs : List sites.Best) → length bs ≡ length cs → length (sites.all_better bs cs) ≡ length bs
 better_many [] [] e = refl
 better_many [] (c ∷ cs) e = refl
@@ -157,7 +152,7 @@ kept_read sheet seen is = subst (λ (z : List ℕ). IsSheetOf z (inputs_of seen.
 pub can_add : (sheet : List ℕ) (seen : Seen) (mode : Mode) (limits : Limits) (k : Option ℕ) (s : Said) → IsKept sheet seen → s.texts.sheet ≡ sheet → IsSaidOf mode limits k s → length s.items ≡ length seen.site.items
 can_add sheet seen mode limits k s can same is =
     let alike = one_sheet_read can.mode mode can.page k can.texts s.texts (inputs_of seen.last) s.inputs (can.same ∙ sym same) can.read is.read in
-    as_many (places_of s.inputs) s.inputs.sheet.items s.items (rep_of mode limits s is.answers) ∙ sym (alike_many (inputs_of seen.last).sheet.items s.inputs.sheet.items alike.items) ∙ sym can.many
+    as_many (places_of s.inputs) s.inputs.sheet.items s.items (rep_of mode limits s is.answers) ∙ sym (alike_length (inputs_of seen.last).sheet.items s.inputs.sheet.items alike.items) ∙ sym can.many
 
 -- and then another one
 pub added_can : (sheet : List ℕ) (old new : Seen) (mode : Mode) (limits : Limits) (k : ℕ) (s : Said) → IsKept sheet old → s.texts.sheet ≡ sheet → IsSaidOf mode limits (Some k) s → HasNext s old new → IsKept sheet new

@@ -2,7 +2,7 @@
 use Rattle.std.proofs.Common.{◌≡◌, ℕ, zero, suc, ◌+◌, ◌<◌, ◌||◌, Bool, true, false, List, [], ◌∷◌, length, map, drop, get_or, take, Option, Some, None, slice_get, unwrap_or, option_map, refl, sym, ap, ◌∙◌, arith}
 use Rattle.std.specs.List.{list_any}
 use Rattle.std.proofs.lemmas.List.{length-map}
-use Rattle.std.proofs.lemmas.Option.{unwrap_or-slice_get}
+use Rattle.std.proofs.lemmas.Option.{unwrap_or-slice_get, slice_get-map}
 use Rattle.usage_report.specs.declared.answers.Answer as code
 use Rattle.usage_report.specs.Answers.{Answer, used, maybe, used_unshown, unused, skipped, spent}
 use Rattle.usage_report.specs.Views.{answer_of}
@@ -56,11 +56,6 @@ one_so q n answers =
     ∙ ap (λ a. is_so_of q (Some a)) (sym (unwrap_or-slice_get answers n spent))
     ∙ or_spent q (slice_get answers n)
 
-map_get : {X Y : Type 0} (f : X → Y) (xs : List X) (n : ℕ) → slice_get (map f xs) n ≡ option_map f (slice_get xs n)
-map_get f [] n = refl
-map_get f (x ∷ xs) zero = refl
-map_get f (x ∷ xs) (suc n) = map_get f xs n
-
 map_drop : {X Y : Type 0} (f : X → Y) (xs : List X) (n : ℕ) → drop n (map f xs) ≡ map f (drop n xs)
 map_drop f xs zero = refl
 map_drop f [] (suc n) = refl
@@ -75,7 +70,7 @@ first_so : (q : Question) (s : Stmt) (stmts : List Stmt) (answers : List code.An
 first_so q s stmts answers =
     let many : length (map chain_of s.handlers) ≡ length s.handlers = length-map s.handlers chain_of in
     ap (λ n. is_so q (dead.verdict_of n (map answer_of answers)) || list_any (is_so q) (dead.verdicts (statements_of stmts) (drop (n + 1) (map answer_of answers)))) many
-    ∙ ap (λ b. b || list_any (is_so q) (dead.verdicts (statements_of stmts) (drop (length s.handlers + 1) (map answer_of answers)))) (one_so q (length s.handlers) (map answer_of answers) ∙ ap (is_so_of q) (map_get answer_of answers (length s.handlers)))
+    ∙ ap (λ b. b || list_any (is_so q) (dead.verdicts (statements_of stmts) (drop (length s.handlers + 1) (map answer_of answers)))) (one_so q (length s.handlers) (map answer_of answers) ∙ ap (is_so_of q) (slice_get-map answer_of answers (length s.handlers)))
     ∙ ap (λ xs. is_so_of q (option_map answer_of (slice_get answers (length s.handlers))) || list_any (is_so q) (dead.verdicts (statements_of stmts) xs)) (map_drop answer_of answers (length s.handlers + 1))
 
 -- from the k-th statement on
@@ -84,10 +79,6 @@ pub next_so : (q : Question) (stmts : List Stmt) (k : ℕ) (s : Stmt) (answers :
 next_so q [] k s answers within at = absurd (omega (arith, within))
 next_so q (x ∷ stmts) zero s answers within at = rw at (first_so q x stmts answers)
 next_so q (x ∷ stmts) (suc k) s answers within at = next_so q stmts k s answers (omega (arith, within)) at
-
-pub or_true : (a b : Bool) → a ≡ true → (a || b) ≡ true
-or_true true b e = refl
-or_true false b e = cc
 
 pub or_false : (a b : Bool) → a ≡ false → (a || b) ≡ b
 or_false true b e = cc

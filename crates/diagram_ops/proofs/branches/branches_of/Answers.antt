@@ -1,15 +1,16 @@
 use Rattle.std.proofs.Common.{◌≡◌, arith, List, ◌∙◌, sym, ap, subst, Some, get_or}
 use Rattle.std.specs.List.{IsDistinct}
 use Rattle.std.proofs.lemmas.Option.{slice_get-get_or}
+use Rattle.std.proofs.lemmas.List.{nil_from_length}
 use Rattle.class_diagrams.specs.References.{Reference}
 use Rattle.class_diagrams.proofs.ReferenceLemmas.{ref_eq}
 use Rattle.diagram_ops.specs.Walks.{with_branch}
-use Rattle.diagram_ops.proofs.WalkLemmas.{walk_start, walk_end, walk_short, nil_of, none_different}
+use Rattle.diagram_ops.proofs.WalkLemmas.{walk_start, walk_end, walk_short, none_different}
 use Rattle.diagram_ops.proofs.branches.branches_of.Goals as goal
 
 pub loop-next-init : goal.loop-next-init
 loop-next-init c =
-    let none = nil_of c.new-seen.result.keys c.new-seen.ensures.len in
+    let none = nil_from_length c.new-seen.result.keys c.new-seen.ensures.len in
     walk_start c.args.d.now.branches c.args.f c.see.new.seen.keys c.requires
     (c.in_ok-see.ensures.keys ∙ ap (λ (ks : List Reference). with_branch c.args.d.now.branches ks c.args.f) none)
     (c.in_ok-see.ensures.different (subst (λ (ks : List Reference). IsDistinct ref_eq ks) (sym none) none_different))

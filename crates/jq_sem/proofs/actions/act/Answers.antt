@@ -1,8 +1,9 @@
 use Rattle.std.proofs.Common.{refl}
+use Rattle.tp_base.proofs.Lists.{some_not_none}
 use Rattle.tree_sem.specs.Trees.{node_at}
 use Rattle.tree_sem.specs.Actions as spec
 use Rattle.jq_sem.proofs.SetLemmas.{so, not_so}
-use Rattle.jq_sem.proofs.RunLemmas.{not_there, not_both, change_ok, change_no_such, change_many, change_full, change_fits, change_err}
+use Rattle.jq_sem.proofs.RunLemmas.{not_there, change_ok, change_no_such, change_many, change_full, change_fits, change_err}
 use Rattle.jq_sem.proofs.actions.act.Goals as goal
 
 pub returns-then-not-is_node-clause-no_such_node : goal.returns-then-not-is_node-clause-no_such_node
@@ -18,7 +19,7 @@ pub returns-clause-no_such_node : goal.returns-clause-no_such_node
 returns-clause-no_such_node c =
     let node = so c.is_node.result c.is_node.ensures.test c.if-not-is_node.false in (
       λ e. absurd (change_no_such c.args.tree.now (spec.act c.args.s.now.action c.args.at.now c.args.tree.now) c.act_at.new.tree c.act_at.result c.act_at.ensures e),
-      λ none. absurd (not_both (node_at c.args.at.now c.args.tree.now) node none),
+      λ none. absurd (some_not_none (node_at c.args.at.now c.args.tree.now) node none),
     )
 
 pub returns-clause-too_many_nodes : goal.returns-clause-too_many_nodes

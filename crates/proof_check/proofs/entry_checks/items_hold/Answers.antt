@@ -1,10 +1,11 @@
 use Rattle.std.proofs.Common.{◌≡◌, ◌≤◌, suc, length, take, drop, unwrap_or, Some, false, ◌&&◌, ◌∙◌, refl, sym, ap, subst, true, arith}
 use Rattle.std.proofs.lemmas.List.{take_all}
 use Rattle.std.proofs.lemmas.Option.{slice_get_read}
+use Rattle.tp_base.proofs.Lists.{take_suc}
 use Rattle.proof_check.specs.Checks.{are_sound}
 use Rattle.proof_check.specs.Firsts.{KnowsOf, first_in}
 use Rattle.proof_check.specs.Validity.{in_entry}
-use Rattle.proof_check.proofs.EntryLemmas.{after_items, item_sound, sound_one, kept_below, knows_pushed, keeps_pushed, keeps_both, take_at, drop_end}
+use Rattle.proof_check.proofs.EntryLemmas.{after_items, item_sound, sound_one, kept_below, knows_pushed, keeps_pushed, keeps_both, drop_end}
 use Rattle.proof_check.proofs.entry_checks.items_hold.Goals as goal
 
 pub returns-then-not-item_holds-clause-test : goal.returns-then-not-item_holds-clause-test
@@ -42,7 +43,7 @@ loop-item-preserved c =
     = c.loop-item.invariant.so_far ∙ sound_one s es n c.args.entry.now items i x at
     ∙ ap (λ b. b && are_sound s es (after_items s es n c.args.entry.now (take (suc i) items)) (drop (suc i) items)) (sym same ∙ sym c.item_holds.ensures ∙ c.if-not-item_holds.false) in
     let known : KnowsOf new n (take (suc i) items) = λ a.
-    subst (λ h. KnowsOf new n h) (sym (take_at items i x at)) (knows_pushed old new n (take i items) x c.loop-item.invariant.here added c.in_ok-add.ensures.others) a in
+    subst (λ h. KnowsOf new n h) (sym (take_suc items i x at)) (knows_pushed old new n (take i items) x c.loop-item.invariant.here added c.in_ok-add.ensures.others) a in
     record {
       so_far = subst (λ m. are_sound s es (in_entry s n c.args.entry.now) c.args.entry.now.items ≡ are_sound s es (after_items s es n c.args.entry.now (take m items)) (drop m items)) {x = suc i} (omega arith) next;
       here = subst (λ m. KnowsOf new n (take m items)) {x = suc i} (omega arith) known;

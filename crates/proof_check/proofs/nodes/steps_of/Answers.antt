@@ -1,5 +1,5 @@
 use Rattle.std.proofs.Common.{◌≡◌, ◌<◌, take, suc, ◌++◌, ◌∷◌, [], sym, ap, subst, ◌∙◌, arith}
-use Rattle.proof_check.proofs.EntryLemmas.{take_at}
+use Rattle.tp_base.proofs.Lists.{take_suc}
 use Rattle.proof_check.proofs.nodes.steps_of.Goals as goal
 
 pub loop-i-preserved : goal.loop-i-preserved
@@ -8,5 +8,5 @@ loop-i-preserved c =
     let i = c.loop-i.i in
     record {
       so_far = subst (λ m. c.push.new.self.items ≡ take m v) {x = suc i} (omega arith)
-          (c.in_ok-push.ensures.items ∙ ap (λ xs. xs ++ c.at.result ∷ []) c.loop-i.invariant.so_far ∙ sym (take_at v i c.at.result c.at.ensures));
+          (c.in_ok-push.ensures.items ∙ ap (λ xs. xs ++ c.at.result ∷ []) c.loop-i.invariant.so_far ∙ sym (take_suc v i c.at.result c.at.ensures));
     }

@@ -1,11 +1,12 @@
 use Rattle.std.proofs.Common.{◌≡◌, ◌≤◌, ◌<◌, suc, length, take, drop, [], true, false, is_some, ◌&&◌, ◌∙◌, refl, sym, ap, subst, arith}
 use Rattle.std.proofs.lemmas.List.{take_all}
 use Rattle.std.proofs.lemmas.Option.{slice_get_read}
+use Rattle.tp_base.proofs.Lists.{take_suc}
 use Rattle.tree_sem.specs.Trees.{node_at}
 use Rattle.proof_check.specs.Checks.{is_sound, are_placed, has_atom}
 use Rattle.proof_check.specs.Nodes.{KnowsPage, number_in, page_gives}
 use Rattle.proof_check.specs.Validity.{items_at, at_page}
-use Rattle.proof_check.proofs.EntryLemmas.{take_at, drop_end}
+use Rattle.proof_check.proofs.EntryLemmas.{drop_end}
 use Rattle.proof_check.proofs.NodeLemmas.{page_gives_is, page_pushed, page_sound, placed_one, number_of, and_left, and_not}
 use Rattle.proof_check.proofs.page_checks.page_holds.Goals as goal
 
@@ -47,7 +48,7 @@ loop-i-preserved c =
     let added = c.in_ok-item_placed.ensures.added number.0 number.1 c.if-not-branch.false in
     let others = c.in_ok-item_placed.ensures.others number.0 number.1 c.if-not-branch.false in
     let knows : KnowsPage g.nodes.now new (take (suc i) items) = λ v m is_number.
-    subst (λ h. KnowsPage g.nodes.now new h) (sym (take_at items i x at)) (page_pushed g.nodes.now old new number.0 (take i items) x c.loop-i.invariant.knows number.1 added others) v m is_number in
+    subst (λ h. KnowsPage g.nodes.now new h) (sym (take_suc items i x at)) (page_pushed g.nodes.now old new number.0 (take i items) x c.loop-i.invariant.knows number.1 added others) v m is_number in
     record {
       so_far = subst (λ m. are_placed s es page [] items ≡ are_placed s es page (take m items) (drop m items)) {x = suc i} (omega arith) next;
       knows = subst (λ m. KnowsPage g.nodes.now new (take m items)) {x = suc i} (omega arith) knows;

@@ -1,5 +1,5 @@
 use Rattle.std.proofs.Common.{◌≡◌, length, Some, slice_get, arith}
-use Rattle.proof_check.proofs.ItemLemmas.{slice_get-Contains}
+use Rattle.tp_base.proofs.Lists.{Contains-at}
 use Rattle.proof_needs.specs.Spots.{paths_in, triples_in}
 use Rattle.proof_maker.proofs.WorkLemmas.{next_is, tie_index, next_working}
 use Rattle.proof_maker.proofs.looking.look.Goals as goal
@@ -13,7 +13,7 @@ follow-requires g c =
     let list = c.requires.working.list in
     record {
       ties = tie_index c.args.world.now.system.now c.in_ok-glance.glance.below (paths_in n.nodes.keys) (triples_in n.triples.keys) (triples_in c.enter.new.needs.triples.keys) n.ties.items c.enter.new.needs.ties.items list.tie_count
-          w.spot (list.wanted w (slice_get-Contains n.wants.keys (length n.drafts.items) w next)).spot c.in_ok-glance.glance.choice c.in_ok-triple.triple c.in_ok-triple.ensures.enters;
+          w.spot (list.wanted w (Contains-at n.wants.keys (length n.drafts.items) w next)).spot c.in_ok-glance.glance.choice c.in_ok-triple.triple c.in_ok-triple.ensures.enters;
     }
 
 pub returns-clause-working : goal.returns-clause-working

@@ -1,14 +1,15 @@
 use Rattle.std.proofs.Common.{◌≡◌, Some, Vec, ℕ, Global, sym, ap, ◌∙◌, subst}
+use Rattle.tp_base.proofs.Lists.{map_at}
 use Rattle.proof_needs.specs.Sets.{IsWith}
 use Rattle.proof_needs.specs.Spots.{paths_in}
 use Rattle.proof_needs.proofs.KeyLemmas.{steps_eq, steps_sound, steps_same}
-use Rattle.proof_needs.proofs.SetLemmas.{insert_with, slice_get_map}
+use Rattle.proof_needs.proofs.SetLemmas.{insert_with}
 use Rattle.proof_needs.proofs.spots.node_number.Goals as goal
 
 pub returns-clause-number : goal.returns-clause-number
 returns-clause-number c =
     let is = c.in_ok-number.ensures.stored in
-    slice_get_map (λ (k : Vec ℕ Global). k.items) c.insert_full.new.self.keys c.in_ok-number.number is.0 is.1
+    map_at (λ (k : Vec ℕ Global). k.items) c.insert_full.new.self.keys c.in_ok-number.number is.0 is.1
     ∙ ap Some (sym (steps_sound c.in_ok-steps.steps is.0 is.2) ∙ c.in_ok-steps.ensures)
 
 pub returns-clause-nodes : goal.returns-clause-nodes

@@ -1,5 +1,6 @@
 use Rattle.std.proofs.Common.{arith}
-use Rattle.sel_core.proofs.FitLemmas.{not_so, so}
+use Rattle.tp_base.proofs.Truths.{not_so}
+use Rattle.sel_core.proofs.FitLemmas.{so}
 use Rattle.sel_core.proofs.Groups.{reached_front, reached_child, leaves_inside, fits_not, no_parent}
 use Rattle.sel_core.proofs.matching.placed.Goals as goal
 

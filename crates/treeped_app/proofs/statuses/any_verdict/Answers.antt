@@ -1,7 +1,8 @@
 use Rattle.std.proofs.Common.{rules, ◌≡◌, ◌+◌, ◌<◌, suc, true, false, drop, length, option_map, slice_get, sym, ap, ◌∙◌, arith}
+use Rattle.std.proofs.lemmas.Bool.{or_left}
 use Rattle.usage_report.specs.Views.{answer_of}
 use Rattle.treeped_app.specs.Verdicts.{is_so_of}
-use Rattle.treeped_app.proofs.VerdictLemmas.{any_so, next_so, or_true, or_false}
+use Rattle.treeped_app.proofs.VerdictLemmas.{any_so, next_so, or_false}
 use Rattle.treeped_app.proofs.statuses.any_verdict.Goals as goal
 
 pub returns-then-is_so : goal.returns-then-is_so
@@ -11,7 +12,7 @@ returns-then-is_so c =
     let left = c.statements.left.now in
     let within : c.statements.stmt-index < length c.args.stmts.now = search rules in
     let own : is_so_of q (option_map answer_of (slice_get left (length stmt.handlers))) ≡ true = search rules in
-    sym (sym c.statements.invariant ∙ next_so q c.args.stmts.now c.statements.stmt-index stmt left within c.stmt-item.is ∙ or_true _ _ own)
+    sym (sym c.statements.invariant ∙ next_so q c.args.stmts.now c.statements.stmt-index stmt left within c.stmt-item.is ∙ or_left _ _ own)
 
 pub statements-preserved : goal.statements-preserved
 statements-preserved c =

@@ -1,11 +1,12 @@
 use Rattle.std.proofs.Common.{◌+◌, ◌*◌, ◌<◌, length, All, refl, ap, arith}
 use Rattle.std.specs.List.{sum_by}
+use Rattle.tp_base.proofs.Truths.{not_so}
 use Rattle.tree_sem.specs.declared.tree_fault.TheConstants.{MOST_NODES}
 use Rattle.tree_sem.specs.Trees.{count_of, edit_each}
 use Rattle.tree_sem.specs.Nodes.{IsNode}
 use Rattle.tree_sem.specs.Actions.{add_trees}
 use Rattle.tree_sem.proofs.EachLemmas.{count_of-edit_each}
-use Rattle.tree_sem.proofs.FaultLemmas.{not_so, past, fits, not_too_many}
+use Rattle.tree_sem.proofs.FaultLemmas.{past, fits, not_too_many}
 use Rattle.tree_sem.proofs.label_tree.Tree.add_trees_to_each.Goals as goal
 
 pub returns-then-not-has_room-clause-too_many_nodes : goal.returns-then-not-has_room-clause-too_many_nodes
