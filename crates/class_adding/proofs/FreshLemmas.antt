@@ -5,7 +5,7 @@ use Rattle.std.specs.List.{flat_map, range_with_len}
 use Rattle.std.proofs.lemmas.List.{get_or_past, get_or_default}
 use Rattle.std.proofs.lemmas.List.Elements.{Contains-append_left, Contains-append_right, Contains-append_cases}
 use Rattle.tp_base.specs.Classes.{with_class, union_of}
-use Rattle.tp_base.proofs.ClassLemmas.{Contains-union_of, Contains-with_class}
+use Rattle.tp_base.proofs.ClassLemmas.{Contains-union_of, Contains-with_class, IsStrictlyIncreasing-union_of}
 use Rattle.tp_base.proofs.Rising.{Contains-none, Contains-here, Contains-cons}
 use Rattle.tree_sem.specs.Trees.{LabelTree, node_at, children_at}
 use Rattle.tree_sem.specs.Paths.{parent_of}
@@ -37,6 +37,7 @@ more_union own given found old right whole = record {
   kept = λ y there. (Contains-union_of old found y).1 (inl there);
   right = λ y there. elim ((Contains-union_of old found y).0 there) [ inl before ↦ inl before | inr new ↦ inr (right y new) ];
   whole = λ y there. elim (whole y there) [ inl known ↦ inl known | inr new ↦ inr ((Contains-union_of old found y).1 (inr new)) ];
+  rises = IsStrictlyIncreasing-union_of old found;
 }
 
 more_of : (own given found old new : List ℕ) → new ≡ union_of old found → ((y : ℕ) → Contains found y → Contains given y) → ((y : ℕ) → Contains given y → Contains own y ⊎ Contains found y) → IsMore own given old new
@@ -53,11 +54,12 @@ more_then own xs ys a b c first second = record {
     | inl one ↦ elim (first.whole y one) [ inl known ↦ inl known | inr new ↦ inr (second.kept y new) ]
     | inr other ↦ second.whole y other
   ];
+  rises = λ up. second.rises (first.rises up);
 }
 
 -- nothing that isn't there
 pub more_none : (own given old : List ℕ) → ((y : ℕ) → Contains given y → Contains own y) → IsMore own given old old
-more_none own given old there = record { kept = λ y h. h; right = λ y h. inl h; whole = λ y h. inl (there y h) }
+more_none own given old there = record { kept = λ y h. h; right = λ y h. inl h; whole = λ y h. inl (there y h); rises = λ up. up }
 
 pub more_all : (own given old new : List ℕ) → new ≡ union_of old given → IsMore own given old new
 more_all own given old new is = more_of own given given old new is (λ y h. h) (λ y h. inr h)

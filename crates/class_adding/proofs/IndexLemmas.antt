@@ -218,6 +218,7 @@ ruled rules rows label fresh start first next row index met at_first is_first is
       kept = λ y there. (Contains-union_of start (xs ++ ys) y).1 (inl there);
       right = λ y there. elim ((Contains-union_of start (xs ++ ys) y).0 there) [ inl old ↦ inl old | inr new ↦ inr (right y new) ];
       whole = λ y there. elim (whole y there) [ inl known ↦ inl known | inr new ↦ inr ((Contains-union_of start (xs ++ ys) y).1 (inr new)) ];
+      rises = IsStrictlyIncreasing-union_of start (xs ++ ys);
     })
 
 -- ---- making the index of rules

@@ -1,6 +1,6 @@
 -- What the last round brought, and what is still to come of it. Of each node, by its number, `fresh` has the atoms that the last
 -- round brought: what only older atoms give is in the labels.
---     IsMore own given old new   new is old with what is given, but for some of what is in own
+--     IsMore own given old new   new is old with what is given, but for some of what is in own, and rises where old does
 --     AreMet rules own fresh     own has what rules give that need some atom, and no fresh one
 --     AreFollowed links own label fresh   own has what the label gives by links that look at no fresh atom
 --     AreUnseen links atoms      no link looks at one of the atoms
@@ -10,6 +10,7 @@
 --     IsResting ..               this is so of each label that neither wakes nor asks anew, and it has what its children give
 use Rattle.std.specs.Prelude.{◌≡◌, ◌⊎◌, ◌<◌, ◌^◌, ℕ, List, [], ◌∷◌, ◌++◌, Option, Some, None, length, get_or, false, All, Contains, IfSome}
 use Rattle.std.specs.List.{flat_map}
+use Rattle.std.specs.List.Sorted.{IsStrictlyIncreasing}
 use Rattle.tree_sem.specs.Trees.{LabelTree}
 use Rattle.simple_core.specs.declared.system.System.{System}
 use Rattle.simple_core.specs.declared.rules.Local.{Local}
@@ -25,6 +26,7 @@ pub record IsMore (own given old new : List ℕ) : Type 0 where
   pub kept : (y : ℕ) → Contains old y → Contains new y
   pub right : (y : ℕ) → Contains new y → Contains old y ⊎ Contains given y
   pub whole : (y : ℕ) → Contains given y → Contains own y ⊎ Contains new y
+  pub rises : IsStrictlyIncreasing old → IsStrictlyIncreasing new
 
 -- the atoms of `given` that aren't in own
 pub record AreNewIn (own given news : List ℕ) : Type 0 where

@@ -2,7 +2,7 @@
 ghost use Rattle.std.specs.Prelude.{◌≡◌, ◌<◌, ◌↔◌, length, None, All, Contains, IfOk, OnOk, OnErr, IfSome, IsSome, IsErrOf};
 ghost use Rattle.simple_core.specs.Systems.{IsSound};
 ghost use Rattle.simple_core.specs.Pairs.{Pair, Asked};
-ghost use Rattle.simple_core.specs.Knowledge.{KeepsAsking, IsToldBy, TellsAfter, TellsWithin};
+ghost use Rattle.simple_core.specs.Knowledge.{KeepsAsking, IsToldBy, TellsAfter, TellsWithin, KeepsRoom};
 ghost use Rattle.closed_page.specs.ClosedPages.{IsClosedPage};
 ghost use Rattle.class_adding.specs.declared.looking.Look.{Look};
 ghost use Rattle.class_adding.specs.Work.{IsWorking};
@@ -83,6 +83,7 @@ pub(crate) fn fill<S: Summaries>(
     requires made { S.system sums.old ≡ system.now }
     requires lawful { KeepsAsking system.now (S.known sums.old) }
     requires tells { IsToldBy (S.told sums.old) (S.known sums.old) }
+    requires keeps_room { KeepsRoom system.now (S.room sums.old) (S.told sums.old) (S.spent_on sums.old) }
     ensures closed { OnOk result (IsClosedPage system.now page.now (record { labels = filling.new.labels.labels; firsts = firsts_of filling.new.firsts.items })) }
     ensures nodes { OnOk result (AreOfNodes filling.new.labels.nodes filling.new.firsts.items) }
     ensures asked { OnOk result ((q : Pair) → Asked system.now page.now q → S.known sums.new q) }
@@ -91,6 +92,7 @@ pub(crate) fn fill<S: Summaries>(
     ensures within { TellsWithin system.now (S.told sums.old) (S.told sums.new) (Asked system.now page.now) }
     ensures system { S.system sums.new ≡ S.system sums.old }
     ensures room { S.room sums.new ≡ S.room sums.old }
+    ensures keeps_room { KeepsRoom system.now (S.room sums.new) (S.told sums.new) (S.spent_on sums.new) }
     ensures spent { S.spent_on sums.old ≡ None → (IsErrOf result GainFault.Spent ↔ IsSome (S.spent_on sums.new)) }
     ensures stays_spent { IsSome (S.spent_on sums.old) → S.spent_on sums.new ≡ S.spent_on sums.old }
     ensures spent_on { S.spent_on sums.old ≡ None → IfSome (S.spent_on sums.new) (λ q. Asked system.now page.now q) }

@@ -1,5 +1,6 @@
 //! The rules of a system, found by the atoms that they look at.
 ghost use Rattle.std.specs.Prelude.{◌≡◌, ◌≢◌, ◌++◌, ◌+◌, ℕ, Contains, IfOk, OnOk, IsFalse};
+ghost use Rattle.std.specs.List.Sorted.{IsStrictlyIncreasing};
 ghost use Rattle.tp_base.specs.Classes.{all_among, union_of};
 ghost use Rattle.simple_core.specs.Labels.{given_by_rules, given_by_links};
 ghost use Rattle.simple_core.specs.declared.rules.Link.{Link};
@@ -84,6 +85,7 @@ impl<'a> IndexedSystem<'a> {
 
     /// Adds what the label of the parent gives.
     pub(crate) fn add_up(&self, label: &ClassSet, next: &mut Gathered) -> Result<(), NoMemory>
+        requires { IsStrictlyIncreasing next.old }
         ensures { OnOk result (next.new ≡ union_of next.old (given_by_links self.now.up label.now)) }
     {
         add_linked(self.system.up.items(), &self.up, label, next)
@@ -91,6 +93,7 @@ impl<'a> IndexedSystem<'a> {
 
     /// Adds what the label of a child gives.
     pub(crate) fn add_down(&self, label: &ClassSet, next: &mut Gathered) -> Result<(), NoMemory>
+        requires { IsStrictlyIncreasing next.old }
         ensures { OnOk result (next.new ≡ union_of next.old (given_by_links self.now.down label.now)) }
     {
         add_linked(self.system.down.items(), &self.down, label, next)
@@ -269,10 +272,10 @@ fn add_linked(
     label: &ClassSet,
     next: &mut Gathered,
 ) -> Result<(), NoMemory>
-    requires { AreLinksAt links.now index.now }
+    requires index { AreLinksAt links.now index.now }
+    requires rises { IsStrictlyIncreasing next.old }
     ensures { OnOk result (next.new ≡ union_of next.old (given_by_links links.now label.now)) }
 {
-    next.rises();
     for i in 0..label.len() {
         let atom = label.at(i);
         add_links(links, index.of(atom.0 as usize), next)?;

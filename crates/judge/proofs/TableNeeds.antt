@@ -48,12 +48,11 @@ module _ (s : System) (page : LabelTree) where
   closed_within (Err e) old known pairs none told few = tt
 
   -- The table was spent.
-  pub spent_needs : {X : Type 0} (r : Result X GainFault) (s' : System) (old known : List Pair) (pairs' pairs : ℕ) (spent : Option Pair) → s' ≡ s → pairs' ≡ pairs → old ≡ []
+  pub spent_needs : {X : Type 0} (r : Result X GainFault) (old known : List Pair) (pairs' pairs : ℕ) (spent : Option Pair) → pairs' ≡ pairs → old ≡ []
       → IsErrOf r Spent → OnErr r (TellsWithin s (Some old) (Some known) (Asked s page)) → (IsErrOf r Spent ↔ IsSome spent) → IfSome spent (λ q. Asked s page q)
-      → IfSome spent (λ q. HasMore (Needed s' (λ r. Contains known r ⊎ (r ≡ q))) pairs') → HasMore (Needed s (Asked s page)) pairs
-  spent_needs r s' old known pairs' pairs None same same' none is within both asked more = absurd (let h : IsSome {T = Pair} None = both.0 is in cc)
-  spent_needs r s' old known pairs' pairs (Some q) same same' none is within both asked more =
+      → IfSome spent (λ q. HasMore (Needed s (λ r. Contains known r ⊎ (r ≡ q))) pairs') → HasMore (Needed s (Asked s page)) pairs
+  spent_needs r old known pairs' pairs None same none is within both asked more = absurd (let h : IsSome {T = Pair} None = both.0 is in cc)
+  spent_needs r old known pairs' pairs (Some q) same none is within both asked more =
       let told : (x : Pair) → Contains known x → Needed s (λ y. Contains old y ⊎ Asked s page y) x = subst (λ z. OnErr z (TellsWithin s (Some old) (Some known) (Asked s page))) is within in
       let told' : (x : Pair) → Contains known x → Needed s AskedAnew x = subst (λ (z : List Pair). (x : Pair) → Contains known x → Needed s (λ y. Contains z y ⊎ Asked s page y) x) none told in
-      let more' : HasMore (Needed s (λ r. Contains known r ⊎ (r ≡ q))) pairs' = subst (λ (z : System). HasMore (Needed z (λ r. Contains known r ⊎ (r ≡ q))) pairs') same more in
-      more_needed known q pairs told' asked (subst (λ z. HasMore (Needed s (λ r. Contains known r ⊎ (r ≡ q))) z) same' more')
+      more_needed known q pairs told' asked (subst (λ z. HasMore (Needed s (λ r. Contains known r ⊎ (r ≡ q))) z) same more)

@@ -30,10 +30,7 @@ pub(crate) fn close_within(
     ensures few { OnOk result (¬ HasMore (Needed system.now (Asked system.now page.now)) sums.old.pairs) }
     ensures spent { IsErrOf result GainFault.Spent → HasMore (Needed system.now (Asked system.now page.now)) sums.old.pairs }
 {
-    let closing = close_page(alloc, page, system, sums);
-    // Its contract says that what the table knows is within its limit.
-    let _ = sums.limit();
-    closing
+    close_page(alloc, page, system, sums)
 }
 
 /// Closes the page by diagrams. It costs what `close_page` costs over them.

@@ -1,9 +1,9 @@
 //! Summaries in a table of pairs, with a limit on them.
-ghost use Rattle.std.specs.Prelude.{◌≡◌, ◌⊎◌, ◌↔◌, ◌<◌, ◌≤◌, ◌^◌, ◌∷◌, [], List, length, None, Contains, All, IfOk, OnOk, OnErr, IfSome, IsSome, IsErrOf};
+ghost use Rattle.std.specs.Prelude.{◌≡◌, ◌↔◌, ◌<◌, ◌^◌, ◌∷◌, [], List, length, None, Contains, All, IfOk, OnOk, OnErr, IfSome, IsSome, IsErrOf};
 ghost use Rattle.simple_core.specs.Systems.{IsSound};
-ghost use Rattle.simple_core.specs.Pairs.{Pair, Needed, HasMore};
+ghost use Rattle.simple_core.specs.Pairs.{Pair};
 ghost use Rattle.simple_core.specs.Rounds.{grown, IsRest, IsFirst};
-ghost use Rattle.simple_core.specs.Knowledge.{KeepsAsking, TellsAfter, IsToldBy};
+ghost use Rattle.simple_core.specs.Knowledge.{KeepsAsking, TellsAfter, IsToldBy, KeepsRoom};
 
 use crate::asking::{ask, first_at};
 use crate::pair_table::Table;
@@ -62,15 +62,6 @@ impl PlainSummaries {
             table: Table::new(alloc),
             spent: None,
         })
-    }
-
-    /// How many pairs are known at most. What is known and the pair on which the table was spent, if it was, need more.
-    pub fn limit(&self) -> u32
-        ensures limit { result ≡ self.now.pairs }
-        ensures few { length self.now.known ≤ self.now.pairs }
-        ensures too_many { IfSome self.now.spent (λ q. HasMore (Needed self.now.system (λ r. Contains self.now.known r ⊎ (r ≡ q))) self.now.pairs) }
-    {
-        self.pairs
     }
 }
 

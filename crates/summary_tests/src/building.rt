@@ -6,14 +6,6 @@ ghost use Rattle.class_diagrams.specs.Arena.{IsIn};
 use class_diagrams::{DiagramFault, Diagrams, Ref};
 use tp_base::Atom;
 
-/// The diagram that is the same for every set.
-pub fn always(d: &Diagrams, value: bool) -> Ref
-    ensures { IsIn d.now.branches result }
-{
-    let _ = d;
-    Diagrams::leaf(value)
-}
-
 /// The diagram of the sets that have the atom.
 pub fn one(d: &mut Diagrams, atom: u32) -> Result<Ref, DiagramFault>
     ensures inside { IfOk result (IsIn d.new.branches) }

@@ -1,6 +1,6 @@
 ghost use Rattle.std.specs.Prelude.{◌≤◌};
 
-use crate::building::{always, either};
+use crate::building::either;
 use class_diagrams::{DiagramFault, Diagrams};
 use diagram_ops::{compose, size, support};
 use limits::MOST_BRANCHES;
@@ -25,7 +25,7 @@ fn swapped_is_the_other(alloc: Global, d: &mut Diagrams) -> Result<bool, Diagram
 fn certain_is_certain(alloc: Global, d: &mut Diagrams) -> Result<bool, DiagramFault> {
     let one_of = either(d, 1, 2)?;
     let c = d.var(C)?;
-    let top = always(d, true);
+    let top = Diagrams::leaf(true);
     Ok(compose(alloc, d, one_of, &[(A, c), (B, top)])? == top)
 }
 
@@ -35,7 +35,7 @@ fn full_keeps_all(alloc: Global, d: &mut Diagrams) -> Result<bool, DiagramFault>
     let c = d.var(C)?;
     let one_of = either(d, 1, 2)?;
     let is_full = compose(alloc, d, one_of, &[(A, b), (B, c)]) == Err(DiagramFault::Full);
-    let is_kept = d.branch(one_of) == Some((A, b, always(d, true)));
+    let is_kept = d.branch(one_of) == Some((A, b, Diagrams::leaf(true)));
     Ok(is_full && is_kept && d.held() == 4)
 }
 

@@ -3,7 +3,7 @@ ghost use Rattle.std.specs.Prelude.{IfOk, OnOk};
 ghost use Rattle.class_diagrams.specs.References.{Reference};
 ghost use Rattle.class_diagrams.specs.Arena.{IsIn};
 
-use crate::building::{always, either, one};
+use crate::building::{either, one};
 use class_diagrams::{DiagramFault, Diagrams, Ref};
 use simple_core::System;
 use std::alloc::Global;
@@ -75,7 +75,7 @@ pub fn diagram_of(d: &mut Diagrams, when: When) -> Result<Ref, DiagramFault>
     ensures stays { (p : Reference) → IsIn d.old.branches p → OnOk result (IsIn d.new.branches p) }
 {
     match when {
-        When::Fixed(value) => Ok(always(d, value)),
+        When::Fixed(value) => Ok(Diagrams::leaf(value)),
         When::One(atom) => one(d, atom),
         When::Two(first, second) => either(d, first, second),
         When::Four(first, second, third, fourth) => any_of(d, (first, second), (third, fourth)),

@@ -1,4 +1,4 @@
-ghost use Rattle.std.specs.Prelude.{◌≡◌, [], Contains, IfOk, OnOk};
+ghost use Rattle.std.specs.Prelude.{◌≡◌, [], None, Contains, IfOk, OnOk};
 ghost use Rattle.simple_core.specs.Systems.{IsSound};
 
 use crate::answers::{END, ask, sound_of};
@@ -24,6 +24,7 @@ fn asking_of(alloc: Global, script: Script, pairs: u32) -> Result<Asking, GainFa
     ensures sound { IfOk result (λ a. IsSound a.system) }
     ensures system { IfOk result (λ a. a.sums.system ≡ a.system) }
     ensures known { IfOk result (λ a. a.sums.known ≡ []) }
+    ensures unspent { IfOk result (λ a. a.sums.spent ≡ None) }
 {
     let system = sound_of(alloc, script)?;
     let sums = PlainSummaries::new(alloc, &system, pairs)?;
@@ -249,7 +250,7 @@ fn knows_what_a_question_needs(rt: HostRuntime) -> Result<(), Fail> {
     Ok(())
 }
 
-#[tactic(auto, using(crate::proofs::NothingKnown::keeps_none, crate::proofs::NothingKnown::told_none))]
+#[tactic(auto, using(crate::proofs::NothingKnown::keeps_none, crate::proofs::NothingKnown::told_none, need_table::proofs::PlainLemmas::room_unused))]
 fn closed_page(
     alloc: Global,
     script: Script,

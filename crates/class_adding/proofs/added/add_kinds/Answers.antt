@@ -59,7 +59,7 @@ kinds-preserved g c =
 
 pub returns-clause-given : goal.returns-clause-given
 returns-clause-given g c =
-    given_all c.args.system.now c.args.k c.args.own.now c.args.seen.now c.kinds.next c.args.next.now c.args.kinds.now c.kinds.rest.now c.rises.ensures c.requires.kinds c.in_default.ensures.cases c.requires.seen c.kinds.invariant.asking.given
+    given_all c.args.system.now c.args.k c.args.own.now c.args.seen.now c.kinds.next c.args.next.now c.args.kinds.now c.kinds.rest.now c.requires.rises c.requires.kinds c.in_default.ensures.cases c.requires.seen c.kinds.invariant.asking.given
 
 pub returns-clause-sleeps : goal.returns-clause-sleeps
 returns-clause-sleeps g c = waking_all c.args.system.now c.args.k c.args.own.now c.args.seen.now c.kinds.wake c.kinds.rest.now c.kinds.invariant.waking c.in_default.ensures.cases c.requires.seen

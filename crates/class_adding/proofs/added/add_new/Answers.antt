@@ -24,32 +24,32 @@ returns-clause-remembered g c =
 pub returns-in_err-gain-clause-went : goal.returns-in_err-gain-clause-went
 returns-in_err-gain-clause-went g c = went_gain c.args.system.now (g.S.Summaries.known c.args.sums.now) (g.S.Summaries.known c.gain.new.self) (g.S.Summaries.told c.args.sums.now) (g.S.Summaries.told c.gain.new.self)
     (g.S.Summaries.system c.args.sums.now) (g.S.Summaries.system c.gain.new.self) (g.S.Summaries.spent_on c.args.sums.now) (g.S.Summaries.spent_on c.gain.new.self) (c.args.kind, c.args.seen.now) c.gain.result
-    c.requires.ready.made c.gain.ensures.kept c.gain.ensures.closed c.gain.ensures.told c.gain.ensures.refused c.gain.ensures.tells c.gain.ensures.system c.gain.ensures.stays_spent c.gain.ensures.spent_here
+    c.requires.ready.made c.gain.ensures.kept c.gain.ensures.closed c.gain.ensures.told c.gain.ensures.refused c.gain.ensures.tells c.gain.ensures.system c.gain.ensures.stays_spent c.gain.ensures.spent_here c.gain.ensures.keeps_room
 
 pub returns-in_err-found-clause-went : goal.returns-in_err-found-clause-went
 returns-in_err-found-clause-went g c = went_gain c.args.system.now (g.S.Summaries.known c.args.sums.now) (g.S.Summaries.known c.gain.new.self) (g.S.Summaries.told c.args.sums.now) (g.S.Summaries.told c.gain.new.self)
     (g.S.Summaries.system c.args.sums.now) (g.S.Summaries.system c.gain.new.self) (g.S.Summaries.spent_on c.args.sums.now) (g.S.Summaries.spent_on c.gain.new.self) (c.args.kind, c.args.seen.now) c.gain.result
-    c.requires.ready.made c.gain.ensures.kept c.gain.ensures.closed c.gain.ensures.told c.gain.ensures.refused c.gain.ensures.tells c.gain.ensures.system c.gain.ensures.stays_spent c.gain.ensures.spent_here
+    c.requires.ready.made c.gain.ensures.kept c.gain.ensures.closed c.gain.ensures.told c.gain.ensures.refused c.gain.ensures.tells c.gain.ensures.system c.gain.ensures.stays_spent c.gain.ensures.spent_here c.gain.ensures.keeps_room
 
 pub returns-in_err-wake-clause-went : goal.returns-in_err-wake-clause-went
 returns-in_err-wake-clause-went g c = went_gain c.args.system.now (g.S.Summaries.known c.args.sums.now) (g.S.Summaries.known c.gain.new.self) (g.S.Summaries.told c.args.sums.now) (g.S.Summaries.told c.gain.new.self)
     (g.S.Summaries.system c.args.sums.now) (g.S.Summaries.system c.gain.new.self) (g.S.Summaries.spent_on c.args.sums.now) (g.S.Summaries.spent_on c.gain.new.self) (c.args.kind, c.args.seen.now) c.gain.result
-    c.requires.ready.made c.gain.ensures.kept c.gain.ensures.closed c.gain.ensures.told c.gain.ensures.refused c.gain.ensures.tells c.gain.ensures.system c.gain.ensures.stays_spent c.gain.ensures.spent_here
+    c.requires.ready.made c.gain.ensures.kept c.gain.ensures.closed c.gain.ensures.told c.gain.ensures.refused c.gain.ensures.tells c.gain.ensures.system c.gain.ensures.stays_spent c.gain.ensures.spent_here c.gain.ensures.keeps_room
 
 pub returns-in_err-copy-clause-went : goal.returns-in_err-copy-clause-went
 returns-in_err-copy-clause-went g c = went_gain c.args.system.now (g.S.Summaries.known c.args.sums.now) (g.S.Summaries.known c.gain.new.self) (g.S.Summaries.told c.args.sums.now) (g.S.Summaries.told c.gain.new.self)
     (g.S.Summaries.system c.args.sums.now) (g.S.Summaries.system c.gain.new.self) (g.S.Summaries.spent_on c.args.sums.now) (g.S.Summaries.spent_on c.gain.new.self) (c.args.kind, c.args.seen.now) c.gain.result
-    c.requires.ready.made c.gain.ensures.kept c.gain.ensures.closed c.gain.ensures.told c.gain.ensures.refused c.gain.ensures.tells c.gain.ensures.system c.gain.ensures.stays_spent c.gain.ensures.spent_here
+    c.requires.ready.made c.gain.ensures.kept c.gain.ensures.closed c.gain.ensures.told c.gain.ensures.refused c.gain.ensures.tells c.gain.ensures.system c.gain.ensures.stays_spent c.gain.ensures.spent_here c.gain.ensures.keeps_room
 
 pub returns-in_err-push-clause-went : goal.returns-in_err-push-clause-went
 returns-in_err-push-clause-went g c = went_gain c.args.system.now (g.S.Summaries.known c.args.sums.now) (g.S.Summaries.known c.gain.new.self) (g.S.Summaries.told c.args.sums.now) (g.S.Summaries.told c.gain.new.self)
     (g.S.Summaries.system c.args.sums.now) (g.S.Summaries.system c.gain.new.self) (g.S.Summaries.spent_on c.args.sums.now) (g.S.Summaries.spent_on c.gain.new.self) (c.args.kind, c.args.seen.now) c.gain.result
-    c.requires.ready.made c.gain.ensures.kept c.gain.ensures.closed c.gain.ensures.told c.gain.ensures.refused c.gain.ensures.tells c.gain.ensures.system c.gain.ensures.stays_spent c.gain.ensures.spent_here
+    c.requires.ready.made c.gain.ensures.kept c.gain.ensures.closed c.gain.ensures.told c.gain.ensures.refused c.gain.ensures.tells c.gain.ensures.system c.gain.ensures.stays_spent c.gain.ensures.spent_here c.gain.ensures.keeps_room
 
 pub returns-clause-went : goal.returns-clause-went
 returns-clause-went g c = went_gain c.args.system.now (g.S.Summaries.known c.args.sums.now) (g.S.Summaries.known c.gain.new.self) (g.S.Summaries.told c.args.sums.now) (g.S.Summaries.told c.gain.new.self)
     (g.S.Summaries.system c.args.sums.now) (g.S.Summaries.system c.gain.new.self) (g.S.Summaries.spent_on c.args.sums.now) (g.S.Summaries.spent_on c.gain.new.self) (c.args.kind, c.args.seen.now) c.gain.result
-    c.requires.ready.made c.gain.ensures.kept c.gain.ensures.closed c.gain.ensures.told c.gain.ensures.refused c.gain.ensures.tells c.gain.ensures.system c.gain.ensures.stays_spent c.gain.ensures.spent_here
+    c.requires.ready.made c.gain.ensures.kept c.gain.ensures.closed c.gain.ensures.told c.gain.ensures.refused c.gain.ensures.tells c.gain.ensures.system c.gain.ensures.stays_spent c.gain.ensures.spent_here c.gain.ensures.keeps_room
 
 pub gain-requires-clause-kind : goal.gain-requires-clause-kind
 gain-requires-clause-kind g c = subst (λ (s : System). c.args.kind < length s.kinds) (sym c.requires.ready.made) c.requires.kind

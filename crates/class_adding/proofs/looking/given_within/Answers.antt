@@ -1,8 +1,11 @@
 use Rattle.std.proofs.Common.{[], List, ℕ, get_or, unwrap_or, sym, ap, ◌≡◌, ◌<◌, length, Contains, arith, subst}
 use Rattle.std.proofs.lemmas.List.{get_or_read}
+use Rattle.std.specs.List.Sorted.{IsStrictlyIncreasing}
+use Rattle.tp_base.proofs.ClassLemmas.{IsStrictlyIncreasing-union_of}
+use Rattle.simple_core.specs.Labels.{given_by_links}
 use Rattle.closed_page.specs.Gains.{label_in}
 use Rattle.closed_page.specs.Labelled.{node_of}
-use Rattle.class_adding.specs.Fresh.{AreMet}
+use Rattle.class_adding.specs.Fresh.{AreMet, set_at}
 use Rattle.class_adding.proofs.FreshLemmas.{given_more, AreCallers}
 use Rattle.class_adding.proofs.looking.given_within.Goals as goal
 
@@ -16,6 +19,15 @@ add_local-requires c =
     let own : label_in c.args.labels.now.labels (node_of c.args.labels.now number) ≡ c.args.own.now = ap (λ o. unwrap_or o []) c.requires.own in
     subst (λ (z : List ℕ). AreMet c.args.system.now.local z c.index-fresh-number.result) own
     (subst (λ (z : List ℕ). AreMet c.args.system.now.local (label_in c.args.labels.now.labels (node_of c.args.labels.now number)) z) (sym here) c.requires.settled.here)
+
+pub add_above-requires : goal.add_above-requires
+add_above-requires c = c.in_ok-add_local.ensures.rises (subst IsStrictlyIncreasing (sym c.new-given.ensures) (λ k within. absurd (omega arith)))
+
+pub add_each-requires : goal.add_each-requires
+add_each-requires c =
+    subst IsStrictlyIncreasing (sym c.in_ok-add_above.ensures)
+    (IsStrictlyIncreasing-union_of c.add_local.new.next (given_by_links c.args.system.now.up (set_at c.as_slice-fresh.result.now c.parent.result))
+    (c.in_ok-add_local.ensures.rises (subst IsStrictlyIncreasing (sym c.new-given.ensures) (λ k within. absurd (omega arith)))))
 
 pub returns : goal.returns
 returns c =
