@@ -23,13 +23,14 @@ use Rattle.class_adding.proofs.WrittenLemmas.{working_start, working_next, look_
 
 -- after k rounds
 pub record IsFilled (s : System) (t : LabelTree) (k : ℕ) (known : Pair → Type 0) (f : Filling) : Type 0 where
-  pub closing : IsClosing s t f.labels.labels f.firsts.items k known
+  pub closing : IsClosing s t f.labels.labels f.labels.firsts k known
   pub rests : RestUndue s f.labels.labels k known f.work.due.items f.work.wakes.items f.labels.nodes
   pub settled : AreSettled s f.labels.labels f.labels.nodes f.work.fresh.items
   pub resting : AreResting s f.labels.labels k known f.labels.nodes f.work.fresh.items f.work.wakes.items
   pub working : IsWorking f.labels.nodes f.work
   pub nodes : f.labels.nodes ≡ paths_of t
-  pub few : k ≤ 2 ^ 62 + length f.firsts.items
+  pub few : k ≤ 2 ^ 62 + length f.labels.firsts
+  pub room : length f.labels.firsts < 2 ^ 63
 
 pub filled_start : (s : System) (t : LabelTree) (known : Pair → Type 0) (f : Filling) → IsBegun t f → IsFilled s t 0 known f
 filled_start s t known f b =
@@ -37,13 +38,14 @@ filled_start s t known f b =
     let nodes = f.labels.nodes in
     let own = all_labels_are t u nodes nodes f.work.fresh.items b.labels refl b.start.fresh in
     record {
-      closing = closing_start s t u f.firsts.items known nodes b.nodes b.labels b.firsts b.rising;
+      closing = closing_start s t u f.labels.firsts known nodes b.nodes b.labels b.firsts b.rising;
       rests = λ i less. inl ((b.start.due i).1 less);
       settled = settled_start s u nodes f.work.fresh.items own;
       resting = resting_start s u nodes f.work.fresh.items own known f.work.wakes.items b.start.none;
       working = working_start t nodes f.work b.start;
       nodes = b.nodes;
       few = omega arith;
+      room = b.few;
     }
 
 module _ (s : System) (u : LabelTree) (nodes : List (List ℕ)) (k : ℕ) (known known' : Pair → Type 0) (w : Work) (r : Round) (latest : ℕ)
@@ -128,7 +130,7 @@ rests_next s t u u' k k' latest known gains nodes w w' looks all after after' fr
 
 pub filled_next : (s : System) (t : LabelTree) (k k' latest : ℕ) (known known' : Pair → Type 0) (f f' : Filling) (r : Round) (remembered : List Row) → IsFilled s t k known f → ((q : Pair) → known q → known' q)
     → AreFound s f.labels.labels f.labels.nodes k known' f.work.due.items r → f.work.latest ≤ latest → AreUntil r.looks.items latest → latest < 2 ^ 62 → (r.gains.items ≢ []) ⊎ (k < latest)
-    → IsTaken (record { labels = f.labels; firsts = f.firsts; work = f.work; remembered = remembered }) r latest k' f' → k' ≡ suc k → IsFilled s t k' known' f'
+    → IsTaken (record { labels = f.labels; work = f.work; remembered = remembered }) r latest k' f' → k' ≡ suc k → IsFilled s t k' known' f'
 filled_next s t k k' latest known known' f f' r remembered filled more found before until bound cases taken next =
     let u = f.labels.labels in
     let u' = f'.labels.labels in
@@ -142,8 +144,8 @@ filled_next s t k k' latest known known' f f' r remembered filled more found bef
     let seen = all_seen s u nodes k known known' f.work r latest filled.rests filled.working found more before until in
     let is_fresh : AreFresh s u k nodes fresh = all_fresh s u nodes k known known' f.work r latest filled.rests filled.working found more fresh taken.next.fresh in
     let looked : AreLooked s u k known' gains wakes nodes = all_looked s u nodes k known known' f.work r latest filled.rests filled.working found more wakes taken.next.wakes in
-    let closing : IsClosing s t u' f'.firsts.items k' known' =
-    closing_next s t u f.firsts.items k known known' nodes gains latest filled.nodes filled.closing found.right seen more k' u' f'.firsts.items next taken.labels taken.firsts in
+    let closing : IsClosing s t u' f'.labels.firsts k' known' =
+    closing_next s t u f.labels.firsts k known known' nodes gains latest filled.nodes filled.closing found.right seen more k' u' f'.labels.firsts next taken.labels taken.firsts in
     let after' : IsAfter s t (suc k) u' = subst (λ z. IsAfter s t z u') next closing.after in
     let working : IsWorking nodes f'.work = working_next nodes f.work looks latest k' f'.work filled.working (λ l there. (found.looks_are l there).same) found.covers taken.next (λ l there. (found.looks_are l there).within) before until bound in
     let rests : RestUndue s u' k' known' due wakes nodes =
@@ -157,5 +159,6 @@ filled_next s t k k' latest known known' f f' r remembered filled more found bef
           (resting_next s t u u' k nodes fresh filled.nodes filled.closing.after after' is_fresh known' gains wakes wakes refl looked));
       working = subst (λ (z : List (List ℕ)). IsWorking z f'.work) (sym same) working;
       nodes = same ∙ filled.nodes;
-      few = few_next s t u f.firsts.items k known known' nodes gains latest filled.nodes filled.closing found.right seen more found.news cases bound filled.few k' f'.firsts.items next taken.firsts;
+      few = few_next s t u f.labels.firsts k known known' nodes gains latest filled.nodes filled.closing found.right seen more found.news cases bound filled.few k' f'.labels.firsts next taken.firsts;
+      room = taken.few filled.room;
     }

@@ -1,5 +1,5 @@
 -- The first rounds at the end.
-use Rattle.std.proofs.Common.{◌≡◌, ℕ, List, [], length, get_or, Some, None, is_some, IsNone, IsSome, Contains, refl, sym, ap, ◌∙◌, arith, subst}
+use Rattle.std.proofs.Common.{◌≡◌, ◌↔◌, ℕ, List, [], length, get_or, Some, None, is_some, IsNone, IsSome, Contains, refl, sym, ap, ◌∙◌, arith, subst}
 use Rattle.std.proofs.lemmas.Bool.{both_ways}
 use Rattle.tree_sem.specs.Trees.{LabelTree, node_at, label_at, count_of}
 use Rattle.tree_sem.specs.Order.{paths_of}
@@ -10,8 +10,8 @@ use Rattle.simple_core.specs.Rounds.{IsFirst}
 use Rattle.simple_core.specs.Pages.{page_round}
 use Rattle.simple_core.specs.Pairs.{Pair}
 use Rattle.simple_core.proofs.RestLemmas.{first_one}
-use Rattle.closed_page.specs.declared.first_rounds.PageFirst.{PageFirst}
-use Rattle.closed_page.specs.ClosedPages.{ClosedPage, IsClosedPage, HasNoOthers}
+use Rattle.closed_page.specs.Views.{PageFirst, firsts_of}
+use Rattle.closed_page.specs.ClosedPages.{ClosedPage, IsClosedPage, HasNoOthers, round_of}
 use Rattle.closed_page.specs.Firsts.{AreOfNodes}
 use Rattle.closed_page.proofs.LabelledLemmas.{one_number}
 use Rattle.class_adding.proofs.EndLemmas.{IsClosing}
@@ -36,3 +36,13 @@ no_others s t c is v a none =
     let never : IsSome (node_at v t) → ⊥ = λ some. both_ways (is_some (label_at v c.labels)) none ((node_at-label_at v c.labels).1 ((is.nodes v).1 some)) in
     let nowhere : IsNone (node_at v t) = elim (node_at v t) as (λ o. (IsSome o → ⊥) → IsNone o) [ None ↦ λ h. refl | Some n ↦ λ h. absurd (h refl) ] never in
     is.others v a nowhere
+
+-- a page is closed whatever the order of its firsts, if they say the same
+pub closed_same : (s : System) (t u : LabelTree) (firsts : List PageFirst) (c : ClosedPage) → IsClosedPage s t (record { labels = u; firsts = firsts_of firsts }) → c.labels ≡ u
+    → ((v : List ℕ) (a : ℕ) → round_of c.firsts v a ≡ round_of (firsts_of firsts) v a) → IsClosedPage s t c
+closed_same s t u firsts c is labels rounds = record {
+  nodes = λ v. subst (λ (z : LabelTree). IsSome (node_at v z) ↔ IsSome (node_at v t)) (sym labels) (is.nodes v);
+  closed = λ v label at. is.closed v label (ap (label_at v) (sym labels) ∙ at);
+  firsts = λ v a node. subst (IsFirst (λ k. page_round s t k v) a) (sym (rounds v a)) (is.firsts v a node);
+  others = λ v a none. rounds v a ∙ is.others v a none;
+}

@@ -7,7 +7,7 @@ use Rattle.tree_sem.proofs.NodeLemmas.{Contains-paths_of}
 use Rattle.simple_core.specs.declared.system.System.{System}
 use Rattle.simple_core.specs.Pairs.{Pair}
 use Rattle.closed_page.specs.declared.gains.Gain.{Gain}
-use Rattle.closed_page.specs.declared.first_rounds.PageFirst.{PageFirst}
+use Rattle.closed_page.specs.Views.{PageFirst}
 use Rattle.class_adding.specs.Filling.{AreRight}
 use Rattle.class_adding.proofs.EndLemmas.{IsClosing}
 

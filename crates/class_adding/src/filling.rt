@@ -14,18 +14,17 @@ use crate::gift_table::GiftTable;
 use crate::indexed_system::IndexedSystem;
 use crate::rounds::{Round, look_at_all};
 use crate::work::{Work, begin_work, latest_of, take_looks};
-use closed_page::{PageFirst, PageLabels, apply_gains, start_firsts};
+use closed_page::{PageLabels, apply_gains};
 use simple_core::{GainFault, Summaries};
 use std::alloc::Global;
 use tp_base::NoMemory;
 use tree_sem::Tree;
 
-/// What is known of a page between two rounds: its labels, the first round of each of their atoms, what is still to come to
-/// its nodes, and what added children give.
+/// What is known of a page between two rounds: its labels with the first round of each of their atoms, what is still to come
+/// to its nodes, and what added children give.
 #[derive(Drop)]
 pub(crate) struct Filling {
     pub(crate) labels: PageLabels,
-    pub(crate) firsts: Vec<PageFirst>,
     pub(crate) work: Work,
     pub(crate) remembered: GiftTable,
 }
@@ -36,11 +35,8 @@ pub(crate) fn begin(alloc: Global, page: &Tree) -> Result<Filling, NoMemory>
 {
     let labels = PageLabels::new(alloc, page)?;
     let work = begin_work(alloc, &labels)?;
-    let mut firsts = Vec::new(alloc);
-    start_firsts(alloc, &labels, &mut firsts)?;
     Ok(Filling {
         labels,
-        firsts,
         work,
         remembered: GiftTable::new(alloc),
     })
@@ -59,7 +55,7 @@ fn take_round(
     requires working { IsWorking filling.old.labels.nodes filling.old.work }
     ensures { OnOk result (IsTaken filling.old round.now latest k filling.new) }
 {
-    apply_gains(&mut filling.labels, &mut filling.firsts, &round.gains, k)?;
+    apply_gains(&mut filling.labels, &round.gains, k)?;
     take_looks(
         alloc,
         &filling.labels,
@@ -84,8 +80,8 @@ pub(crate) fn fill<S: Summaries>(
     requires lawful { KeepsAsking system.now (S.known sums.old) }
     requires tells { IsToldBy (S.told sums.old) (S.known sums.old) }
     requires keeps_room { KeepsRoom system.now (S.room sums.old) (S.told sums.old) (S.spent_on sums.old) }
-    ensures closed { OnOk result (IsClosedPage system.now page.now (record { labels = filling.new.labels.labels; firsts = firsts_of filling.new.firsts.items })) }
-    ensures nodes { OnOk result (AreOfNodes filling.new.labels.nodes filling.new.firsts.items) }
+    ensures closed { OnOk result (IsClosedPage system.now page.now (record { labels = filling.new.labels.labels; firsts = firsts_of filling.new.labels.firsts })) }
+    ensures nodes { OnOk result (AreOfNodes filling.new.labels.nodes filling.new.labels.firsts) }
     ensures asked { OnOk result ((q : Pair) → Asked system.now page.now q → S.known sums.new q) }
     ensures kept { (q : Pair) → S.known sums.old q → S.known sums.new q }
     ensures told { OnOk result (TellsAfter system.now (S.told sums.old) (S.told sums.new) (Asked system.now page.now)) }

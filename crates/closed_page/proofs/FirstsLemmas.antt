@@ -1,17 +1,24 @@
--- First rounds, found by the numbers of their nodes.
+-- First rounds, found by the parents of their nodes.
 use Rattle.std.proofs.lemmas.Slice.Eq.{bytes_eq-Decides}
 use Rattle.std.specs.Str.{bytes_eq}
-use Rattle.std.proofs.Common.{◌≡◌, ◌==◌, ◌+◌, ◌<◌, ℕ, zero, suc, List, [], ◌∷◌, ◌++◌, length, get_or, slice_get, Option, Some, None, IsNone, IfSome, Contains, refl, sym, ap, ◌∙◌, inl, inr, arith, subst, ◌&&◌, true, false}
-use Rattle.std.specs.Option.{option_or}
-use Rattle.std.proofs.lemmas.Bool.{cases_lt, cases_Bool, both_ways, eqb-true, eq-eqb, and_from}
-use Rattle.std.proofs.lemmas.List.{length_push, get_or_append_left, get_or_push}
-use Rattle.std.proofs.lemmas.Option.{slice_get_within, slice_get-get_or, get_or_from_slice_get}
+use Rattle.std.proofs.Common.{◌≡◌, ◌==◌, ◌-◌, ◌<◌, ◌≤◌, ℕ, List, [], ◌∷◌, ◌++◌, length, get_or, slice_get, Option, Some, None, option_map, unwrap_or, Contains, refl, sym, ap, ◌∙◌, inl, inr, arith, subst, ◌&&◌, true, false}
+use Rattle.std.specs.List.Sorted.{IsPermutation}
+use Rattle.std.proofs.lemmas.Bool.{cases_Bool, both_ways, eqb-true, eq-eqb, and_from}
+use Rattle.std.proofs.lemmas.List.{length_push}
+use Rattle.tp_base.proofs.NamesLemmas.{slice_get-push}
+use Rattle.std.proofs.lemmas.List.Sorted.{Contains-permutation, IsPermutation-sym}
+use Rattle.std.proofs.lemmas.Option.{slice_get-get_or, slice_get_past}
 use Rattle.tp_base.proofs.Rising.{Contains-here, Contains-behind, Contains-cons, Contains-none}
-use Rattle.closed_page.specs.declared.first_rounds.PageFirst.{PageFirst}
+use Rattle.tree_sem.specs.Paths.{parent_of}
+use Rattle.tree_sem.proofs.NodeLemmas.{Contains-map, map-Contains}
+use Rattle.tree_sem.proofs.PathLemmas.{parent_of-child, parent_of-none, child_of_parent}
+use Rattle.closed_page.specs.declared.first_rounds.NodeFirst.{NodeFirst}
+use Rattle.closed_page.specs.declared.first_rounds.Spot.{Spot}
 use Rattle.closed_page.specs.ClosedPages.{round_of}
-use Rattle.closed_page.specs.Views.{firsts_of}
-use Rattle.closed_page.specs.Rows.{row_of, AreByNumber}
-use Rattle.closed_page.specs.Firsts.{IsNumberOf, AreNumbers, AreOfNodes, AreFound, round_if, round_among}
+use Rattle.closed_page.specs.Views.{PageFirst, firsts_of}
+use Rattle.closed_page.specs.Labelled.{IsAbove}
+use Rattle.closed_page.specs.Firsts.{path_to, IsSpot, IsSpotOf, placed_one, placed, AreSpots, AreOfNodes, AreRooted, AreKept, IsFirstAt, IsRoundIn}
+use Rattle.closed_page.proofs.LabelledLemmas.{same_parent}
 
 -- ---- the round that stands with a node and an atom
 
@@ -41,123 +48,147 @@ round_of-none (g ∷ fs) v a is f there at atom = elim (cases_Bool (bytes_eq g.a
   ]
 ]
 
--- ---- the numbers of the nodes
+-- ---- what stands for a node
 
-pub numbers_start : (nodes : List (List ℕ)) (firsts : List PageFirst) → AreNumbers nodes firsts [] 0
-numbers_start nodes firsts = record { count = refl; each = λ i f less at. absurd (omega arith) }
+last_step : (v : List ℕ) (n : ℕ) → slice_get (v ++ n ∷ []) (length (v ++ n ∷ []) - 1) ≡ Some n
+last_step v n =
+    let long = length_push v n in
+    let place : length (v ++ n ∷ []) - 1 ≡ length v = omega (arith, long) in
+    ap (slice_get (v ++ n ∷ [])) place ∙ slice_get-push v n
 
-is_number : (nodes : List (List ℕ)) (v : List ℕ) (o : Option ℕ) → IfSome o (λ j. (j < length nodes) × (get_or nodes j [] ≡ v)) → (IsNone o → Contains nodes v → ⊥) → IsNumberOf nodes v o
-is_number nodes v None some none = none refl
-is_number nodes v (Some j) some none = some
+pub same_step : (v : List ℕ) (n m : ℕ) → v ++ n ∷ [] ≡ v ++ m ∷ [] → n ≡ m
+same_step v n m same =
+    let both : Some n ≡ Some m = sym (last_step v n) ∙ ap (λ u. slice_get u (length u - 1)) same ∙ last_step v m in
+    cc
 
-pub numbers_more : (nodes : List (List ℕ)) (firsts : List PageFirst) (numbers numbers' : List (Option ℕ)) (i : ℕ) (x : PageFirst) (o : Option ℕ) → AreNumbers nodes firsts numbers i → i < length firsts → x ≡ get_or firsts i x
-    → IfSome o (λ j. (j < length nodes) × (get_or nodes j [] ≡ x.at)) → (IsNone o → Contains nodes x.at → ⊥) → numbers' ≡ numbers ++ o ∷ [] → AreNumbers nodes firsts numbers' (i + 1)
-numbers_more nodes firsts numbers numbers' i x o before within here some none is =
-    let count : length numbers ≡ i = before.count in
-    record {
-      count = ap length is ∙ length_push numbers o ∙ ap (λ n. n + 1) count;
-      each = λ j f less at. elim (cases_lt j i) [
-        | inl early ↦ subst (IsNumberOf nodes f.at) (sym (ap (λ z. get_or z j None) is ∙ get_or_append_left numbers (o ∷ []) None j (omega (arith, early, count)))) (before.each j f early at)
-        | inr late ↦
-            let last : j ≡ i = omega (arith, late, less) in
-            let same : x ≡ f = here ∙ ap (λ z. get_or firsts z x) (sym last) ∙ get_or_from_slice_get firsts j f x at in
-            let number : IsNumberOf nodes f.at o = subst (λ (z : PageFirst). IsNumberOf nodes z.at o) same (is_number nodes x.at o some none) in
-            subst (IsNumberOf nodes f.at) (sym (ap (λ z. get_or z j None) is ∙ ap (λ z. get_or (numbers ++ o ∷ []) z None) last ∙ get_or_push numbers o None i count)) number
-      ];
-    }
+-- the step that was read at the end of a path
+pub last_is : (at v : List ℕ) (k s count : ℕ) → count ≡ length at → slice_get at (count - 1) ≡ Some s → at ≡ v ++ k ∷ [] → s ≡ k
+last_is at v k s count long here is =
+    let both : Some s ≡ Some k = sym here ∙ ap (λ n. slice_get at (n - 1)) long ∙ ap (λ u. slice_get u (length u - 1)) is ∙ last_step v k in
+    cc
 
-first_there : (fs : List PageFirst) (i : ℕ) → i < length fs → (f : PageFirst) × (slice_get fs i ≡ Some f)
-first_there [] i less = absurd (omega arith)
-first_there (f ∷ fs) zero less = (f, refl)
-first_there (f ∷ fs) (suc i) less = first_there fs i (omega arith)
+pub not_root : (v : List ℕ) (n : ℕ) → [] ≡ v ++ n ∷ [] → ⊥
+not_root v n same = let never : None ≡ Some v = ap parent_of same ∙ parent_of-child v n in cc
 
-listed_at : (fs : List PageFirst) (i : ℕ) (f : PageFirst) → slice_get fs i ≡ Some f → Contains fs f
-listed_at fs i f at = (i, slice_get_within fs i f at, get_or_from_slice_get fs i f f at)
+pub path_there : (nodes : List (List ℕ)) (p s : ℕ) → p < length nodes → path_to nodes p s ≡ get_or nodes p [] ++ s ∷ []
+path_there nodes p s less = ap (λ o. unwrap_or (option_map (λ (v : List ℕ). v ++ s ∷ []) o) []) (slice_get-get_or nodes p [] less)
 
-pub found : (nodes : List (List ℕ)) (firsts : List PageFirst) (numbers : List (Option ℕ)) (rows : List (List ℕ)) → AreOfNodes nodes firsts → AreNumbers nodes firsts numbers (length firsts) → AreByNumber numbers rows → AreFound nodes firsts rows
-found nodes firsts numbers rows of are kids = record {
-  of_nodes = of;
-  whole = λ i j f at less here.
-      let within : i < length firsts = slice_get_within firsts i f at in
-      let count = are.count in
-      let listed : slice_get numbers i ≡ Some (get_or numbers i None) = slice_get-get_or numbers i None (omega (arith, within, count)) in
-      elim (get_or numbers i None) as (λ (o : Option ℕ). slice_get numbers i ≡ Some o → IsNumberOf nodes f.at o → Contains (row_of rows j) i) [
-        | None ↦ λ e h. absurd (h (of.there f (listed_at firsts i f at)))
-        | Some m ↦ λ e h. let same : m ≡ j = of.once m j h.0 less (h.1 ∙ sym here) in subst (λ z. Contains (row_of rows z) i) same (kids.whole i m e)
-      ] listed (are.each i f within at);
-  only = λ j i there.
-      let at : slice_get numbers i ≡ Some (Some j) = kids.only j i there in
-      let short : i < length numbers = slice_get_within numbers i (Some j) at in
-      let count = are.count in
-      let within : i < length firsts = omega (arith, short, count) in
-      let f = first_there firsts i within in
-      let number : IsNumberOf nodes f.0.at (Some j) = subst (IsNumberOf nodes f.0.at) (get_or_from_slice_get numbers i (Some j) None at) (are.each i f.0 within f.1) in
-      (f.0, f.1, number.1);
-}
+pub path_root : (nodes : List (List ℕ)) (p s : ℕ) → length nodes ≤ p → path_to nodes p s ≡ []
+path_root nodes p s le = ap (λ o. unwrap_or (option_map (λ (v : List ℕ). v ++ s ∷ []) o) []) (slice_get_past nodes p le)
 
--- ---- the round of an atom among some of the firsts
-
-if_some : (a r : ℕ) (o : Option PageFirst) → round_if a o ≡ Some r → (f : PageFirst) × (o ≡ Some f) × (f.atom ≡ a) × (f.round ≡ r)
-if_some a r None is = cc
-if_some a r (Some f) is = elim (cases_Bool (f.atom == a)) [
-  | inl same ↦ let here : Some f.round ≡ Some r = rw same at is in (f, refl, eqb-true f.atom a same, cc)
-  | inr other ↦ let never : None ≡ Some r = rw other at is in cc
+-- what a path goes on from is the node that stands for it
+pub spot_child : (nodes : List (List ℕ)) → ((i j : ℕ) → i < length nodes → j < length nodes → get_or nodes i [] ≡ get_or nodes j [] → i ≡ j)
+    → (p n q t : ℕ) → p < length nodes → IsSpot nodes q t → path_to nodes q t ≡ get_or nodes p [] ++ n ∷ [] → (q ≡ p) × (t ≡ n)
+spot_child nodes once p n q t less spot same = elim spot [
+  | inl there ↦
+      let both : get_or nodes q [] ++ t ∷ [] ≡ get_or nodes p [] ++ n ∷ [] = sym (path_there nodes q t there) ∙ same in
+      let parents : get_or nodes q [] ≡ get_or nodes p [] = same_parent (get_or nodes q []) (get_or nodes p []) t n both in
+      (once q p there less parents, same_step (get_or nodes p []) t n (ap (λ (z : List ℕ). z ++ t ∷ []) (sym parents) ∙ both))
+  | inr none ↦ absurd (not_root (get_or nodes p []) n (sym (path_root nodes q t (omega (arith, none.0))) ∙ same))
 ]
 
-if_none : (a : ℕ) (f : PageFirst) → round_if a (Some f) ≡ None → f.atom ≡ a → ⊥
-if_none a f is same = let never : Some f.round ≡ None = rw (eq-eqb f.atom a same) at is in cc
+module _ (nodes : List (List ℕ)) (once : (i j : ℕ) → i < length nodes → j < length nodes → get_or nodes i [] ≡ get_or nodes j [] → i ≡ j) (v : List ℕ) where
+  pub spot_some : (p s : ℕ) → IsAbove nodes v (Some p) → ((u : List ℕ) (k : ℕ) → v ≡ u ++ k ∷ [] → s ≡ k) → IsSpotOf nodes v (record { parent = p; step = s })
+  spot_some p s above last =
+      let step : s ≡ above.1 = last (get_or nodes p []) above.1 above.2 in
+      record {
+        right = inl above.0;
+        path = path_there nodes p s above.0 ∙ ap (λ z. get_or nodes p [] ++ z ∷ []) step ∙ sym above.2;
+        only = λ q t spot same. let both = spot_child nodes once p above.1 q t above.0 spot (same ∙ above.2) in (both.0, both.1 ∙ sym step);
+      }
 
-among-some : (fs : List PageFirst) (a r : ℕ) (row : List ℕ) → round_among fs a row ≡ Some r → (i : ℕ) × Contains row i × (f : PageFirst) × (slice_get fs i ≡ Some f) × (f.atom ≡ a) × (f.round ≡ r)
-among-some fs a r [] is = cc
-among-some fs a r (i ∷ row) is = elim (round_if a (slice_get fs i)) as (λ o. round_if a (slice_get fs i) ≡ o → option_or o (round_among fs a row) ≡ Some r → (k : ℕ) × Contains (i ∷ row) k × (f : PageFirst) × (slice_get fs k ≡ Some f) × (f.atom ≡ a) × (f.round ≡ r)) [
-  | None ↦ λ e h. let rest = among-some fs a r row h in (rest.0, Contains-behind rest.0 i row rest.1, rest.2, rest.3, rest.4, rest.5)
-  | Some m ↦ λ e h. let here = if_some a r (slice_get fs i) (e ∙ h) in (i, Contains-here i i row refl, here.0, here.1, here.2, here.3)
-] refl is
+  pub spot_none : (p : ℕ) → p ≡ length nodes → AreRooted nodes → Contains nodes v → IsAbove nodes v None → IsSpotOf nodes v (record { parent = p; step = 0 })
+  spot_none p count rooted there above =
+      let root : v ≡ [] = elim (parent_of v) as (λ o. parent_of v ≡ o → v ≡ []) [
+        | None ↦ λ e. parent_of-none v e
+        | Some u ↦ λ e.
+            let child = child_of_parent v u e in
+            absurd (above u child.0 child.1 (rooted u child.0 (subst (Contains nodes) child.1 there)))
+      ] refl in
+      record {
+        right = inr (count, refl);
+        path = path_root nodes p 0 (omega (arith, count)) ∙ sym root;
+        only = λ q t spot same. elim spot [
+          | inl less ↦ absurd (not_root (get_or nodes q []) t (sym root ∙ sym same ∙ path_there nodes q t less))
+          | inr none ↦ (none.0 ∙ sym count, none.1)
+        ];
+      }
 
-among-none : (fs : List PageFirst) (a : ℕ) (row : List ℕ) → round_among fs a row ≡ None → (i : ℕ) (f : PageFirst) → Contains row i → slice_get fs i ≡ Some f → f.atom ≡ a → ⊥
-among-none fs a [] is i f there at atom = Contains-none i there
-among-none fs a (k ∷ row) is i f there at atom = elim (round_if a (slice_get fs k)) as (λ o. round_if a (slice_get fs k) ≡ o → option_or o (round_among fs a row) ≡ None → ⊥) [
-  | None ↦ λ e h. elim ((Contains-cons i k row).0 there) [
-    | inl here ↦ if_none a f (sym (ap (round_if a) at) ∙ ap (λ z. round_if a (slice_get fs z)) here ∙ e) atom
-    | inr behind ↦ among-none fs a row h i f behind at atom
-  ]
-  | Some m ↦ λ e h. let never : Some m ≡ None = h in cc
-] refl is
+-- ---- firsts with the paths of their nodes
 
-pub among_next : (fs : List PageFirst) (a : ℕ) (rest : List ℕ) (p : ℕ) (others : List ℕ) (o : Option ℕ) → rest ≡ p ∷ others → o ≡ round_if a (slice_get fs p) → o ≡ None → round_among fs a others ≡ round_among fs a rest
-among_next fs a rest p others o split is none = sym (ap (round_among fs a) split ∙ ap (λ z. option_or z (round_among fs a others)) (sym is ∙ none))
+pub is_placed : (nodes : List (List ℕ)) (fs : List NodeFirst) (f : NodeFirst) → Contains fs f → Contains (placed nodes fs) (placed_one nodes f)
+is_placed nodes fs f there = Contains-map (placed_one nodes) fs f there
 
-pub among_here : (fs : List PageFirst) (a : ℕ) (rest : List ℕ) (p : ℕ) (others : List ℕ) (o : Option ℕ) (r : ℕ) → rest ≡ p ∷ others → o ≡ round_if a (slice_get fs p) → o ≡ Some r → Some r ≡ round_among fs a rest
-among_here fs a rest p others o r split is some = sym (ap (round_among fs a) split ∙ ap (λ z. option_or z (round_among fs a others)) (sym is ∙ some))
+pub placed-is : (nodes : List (List ℕ)) (fs : List NodeFirst) (g : PageFirst) → Contains (placed nodes fs) g → (f : NodeFirst) × Contains fs f × (g ≡ placed_one nodes f)
+placed-is nodes fs g there = map-Contains (placed_one nodes) fs g there
 
-pub among_end : (fs : List PageFirst) (a : ℕ) (rest : List ℕ) → length rest ≡ 0 → None ≡ round_among fs a rest
-among_end fs a [] none = refl
-among_end fs a (i ∷ rest) none = absurd (omega arith)
-
-pub round_found : (nodes : List (List ℕ)) (fs : List PageFirst) (rows : List (List ℕ)) (v : List ℕ) (a j : ℕ) → AreFound nodes fs rows → j < length nodes → get_or nodes j [] ≡ v → round_among fs a (row_of rows j) ≡ round_of (firsts_of fs) v a
-round_found nodes fs rows v a j are less at = elim (round_among fs a (row_of rows j)) as (λ o. round_among fs a (row_of rows j) ≡ o → o ≡ round_of (firsts_of fs) v a) [
+-- the same firsts in another order say the same
+pub round_same : (nodes : List (List ℕ)) (fs gs : List PageFirst) → AreOfNodes nodes fs → ((f : PageFirst) → Contains gs f → Contains fs f) → ((f : PageFirst) → Contains fs f → Contains gs f) → (v : List ℕ) (a : ℕ)
+    → round_of (firsts_of gs) v a ≡ round_of (firsts_of fs) v a
+round_same nodes fs gs of back on v a = elim (round_of (firsts_of gs) v a) as (λ o. round_of (firsts_of gs) v a ≡ o → o ≡ round_of (firsts_of fs) v a) [
   | None ↦ λ e. elim (round_of (firsts_of fs) v a) as (λ o. round_of (firsts_of fs) v a ≡ o → None ≡ o) [
     | None ↦ λ e'. refl
-    | Some r ↦ λ e'.
-        let (f, place, f_at, f_atom, f_round) = round_of-some fs v a r e' in
-        let listed : slice_get fs place.0 ≡ Some f = slice_get-get_or fs place.0 f place.1 ∙ ap Some place.2 in
-        absurd (among-none fs a (row_of rows j) e place.0 f (are.whole place.0 j f listed less (at ∙ sym f_at)) listed f_atom)
+    | Some r ↦ λ e'. let (f, there, at, atom, round) = round_of-some fs v a r e' in absurd (round_of-none gs v a e f (on f there) at atom)
   ] refl
   | Some r ↦ λ e.
-      let (i, in_row, f, f_is, f_atom, f_round) = among-some fs a r (row_of rows j) e in
-      let (g, g_is, g_at) = are.only j i in_row in
-      let both : Some g ≡ Some f = sym g_is ∙ f_is in
-      let same : g ≡ f = cc in
-      let here : f.at ≡ v = ap (λ (z : PageFirst). z.at) (sym same) ∙ sym g_at ∙ at in
-      let f_there = listed_at fs i f f_is in
+      let (g, there, at, atom, round) = round_of-some gs v a r e in
       elim (round_of (firsts_of fs) v a) as (λ o. round_of (firsts_of fs) v a ≡ o → Some r ≡ o) [
-        | None ↦ λ e'. absurd (round_of-none fs v a e' f f_there here f_atom)
+        | None ↦ λ e'. absurd (round_of-none fs v a e' g (back g there) at atom)
         | Some m ↦ λ e'.
             let (h, h_there, h_at, h_atom, h_round) = round_of-some fs v a m e' in
-            let one : f.round ≡ h.round = are.of_nodes.one f h f_there h_there (here ∙ sym h_at) (f_atom ∙ sym h_atom) in
-            ap Some (sym f_round ∙ one ∙ h_round)
+            let one : g.round ≡ h.round = of.one g h (back g there) h_there (at ∙ sym h_at) (atom ∙ sym h_atom) in
+            ap Some (sym round ∙ one ∙ h_round)
       ] refl
 ] refl
+
+module _ (nodes : List (List ℕ)) (parents : List (Option ℕ)) (fs gs : List NodeFirst) (moved : IsPermutation fs gs) (kept : AreKept nodes parents fs) where
+  to_old : (g : PageFirst) → Contains (placed nodes gs) g → Contains (placed nodes fs) g
+  to_old g there =
+      let f = placed-is nodes gs g there in
+      subst (Contains (placed nodes fs)) (sym f.2) (is_placed nodes fs f.0 (Contains-permutation gs fs f.0 (IsPermutation-sym fs gs moved) f.1))
+
+  to_new : (g : PageFirst) → Contains (placed nodes fs) g → Contains (placed nodes gs) g
+  to_new g there =
+      let f = placed-is nodes fs g there in
+      subst (Contains (placed nodes gs)) (sym f.2) (is_placed nodes gs f.0 (Contains-permutation fs gs f.0 moved f.1))
+
+  pub moved_kept : AreKept nodes parents gs
+  moved_kept = record {
+    above = kept.above;
+    rooted = kept.rooted;
+    of_nodes = record {
+      once = kept.of_nodes.once;
+      there = λ g listed. kept.of_nodes.there g (to_old g listed);
+      one = λ g h in_g in_h. kept.of_nodes.one g h (to_old g in_g) (to_old h in_h);
+    };
+    spots = λ f there. kept.spots f (Contains-permutation gs fs f (IsPermutation-sym fs gs moved) there);
+  }
+
+  pub moved_rounds : (v : List ℕ) (a : ℕ) → round_of (firsts_of (placed nodes gs)) v a ≡ round_of (firsts_of (placed nodes fs)) v a
+  moved_rounds = round_same nodes (placed nodes fs) (placed nodes gs) kept.of_nodes to_old to_new
+
+-- ---- the round of an atom at a node
+
+module _ (nodes : List (List ℕ)) (fs : List NodeFirst) (of : AreOfNodes nodes (placed nodes fs)) (spots : AreSpots nodes fs) (v : List ℕ) (spot : Spot) (stands : IsSpotOf nodes v spot) (a : ℕ) where
+  at_path : (f : NodeFirst) → IsFirstAt spot a f → path_to nodes f.parent f.step ≡ v
+  at_path f at = ap (λ z. path_to nodes z f.step) at.parent ∙ ap (path_to nodes spot.parent) at.step ∙ stands.path
+
+  pub round_is : (o : Option ℕ) → IsRoundIn fs spot a o → o ≡ round_of (firsts_of (placed nodes fs)) v a
+  round_is None none = elim (round_of (firsts_of (placed nodes fs)) v a) as (λ o. round_of (firsts_of (placed nodes fs)) v a ≡ o → None ≡ o) [
+    | None ↦ λ e. refl
+    | Some r ↦ λ e.
+        let (g, there, at, atom, round) = round_of-some (placed nodes fs) v a r e in
+        let (f, listed, same) = placed-is nodes fs g there in
+        let both = stands.only f.parent f.step (spots f listed) (ap (λ (z : PageFirst). z.at) (sym same) ∙ at) in
+        absurd (none f listed (record { parent = both.0; step = both.1; atom = ap (λ (z : PageFirst). z.atom) (sym same) ∙ atom }))
+  ] refl
+  round_is (Some r) (f, listed, at, round) = elim (round_of (firsts_of (placed nodes fs)) v a) as (λ o. round_of (firsts_of (placed nodes fs)) v a ≡ o → Some r ≡ o) [
+    | None ↦ λ e. absurd (round_of-none (placed nodes fs) v a e (placed_one nodes f) (is_placed nodes fs f listed) (at_path f at) at.atom)
+    | Some m ↦ λ e.
+        let (h, h_there, h_at, h_atom, h_round) = round_of-some (placed nodes fs) v a m e in
+        let one : f.round ≡ h.round = of.one (placed_one nodes f) h (is_placed nodes fs f listed) h_there (at_path f at ∙ sym h_at) (at.atom ∙ sym h_atom) in
+        ap Some (sym round ∙ one ∙ h_round)
+  ] refl
 
 -- a path that isn't a node's has no first
 pub round_nowhere : (nodes : List (List ℕ)) (fs : List PageFirst) (v : List ℕ) (a : ℕ) → AreOfNodes nodes fs → (Contains nodes v → ⊥) → None ≡ round_of (firsts_of fs) v a

@@ -19,6 +19,7 @@ use Rattle.tree_sem.proofs.PathLemmas.{parent_of-child}
 use Rattle.tree_sem.specs.Paths.{parent_of}
 use Rattle.tree_sem.proofs.RowLemmas.{node_at-child, tree_of-number}
 use Rattle.tree_sem.proofs.NodeLemmas.{Contains-paths_of, length-paths_of}
+use Rattle.closed_page.specs.Firsts.{AreRooted}
 use Rattle.closed_page.specs.Rows.{row_of, IsNoted, IsNotedIf, AreByNumber}
 use Rattle.closed_page.specs.Labelled.{IsAbove, AreKids, AreAllAbove, AreAllLabels, AreRelated}
 use Rattle.closed_page.proofs.RowLemmas.{last_at, noted_kept, noted_cases}
@@ -219,3 +220,11 @@ paths_there t = All-from_Contains (IsNode t) (paths_of t) (λ v there. (Contains
 -- what has a label is a node
 pub labelled_node : (u : LabelTree) (nodes own : List (List ℕ)) (n i : ℕ) → AreAllLabels u nodes own n → i < n → IsNode u (get_or nodes i [])
 labelled_node u nodes own n i labels less = (node_at-label_at (get_or nodes i []) u).0 (subst (λ (o : Option (List ℕ)). IsSome o) (sym (labels.each i less)) refl)
+
+-- the parent of a node is a node
+pub parent_there : (u : LabelTree) (nodes : List (List ℕ)) (parents : List (Option ℕ)) (kids own : List (List ℕ)) → AreRelated u nodes parents kids own → AreRooted nodes
+parent_there u nodes parents kids own is v k there =
+    let at : get_or nodes there.0 [] ≡ v ++ k ∷ [] = get_or_default nodes there.0 [] (v ++ k ∷ []) there.1 ∙ there.2 in
+    let node : IsNode u (v ++ k ∷ []) = subst (IsNode u) at (labelled_node u nodes own (length nodes) there.0 is.labels there.1) in
+    let family = node_at-child v k u node in
+    is.whole v (subst (λ (o : Option LabelTree). IsSome o) (sym family.2) refl)

@@ -4,5 +4,6 @@ pub mod ChildLemmas
 pub mod FirstsLemmas
 mod GainLemmas
 pub mod LabelledLemmas
+mod OrderLemmas
 pub mod RowLemmas
 mod PathTests

@@ -1,36 +1,75 @@
--- First rounds, found by the numbers of their nodes.
---     IsNumberOf nodes v o     o is the number of the path v, if v is among the nodes
+-- First rounds, found by the parents of their nodes.
+--     path_to nodes p s        the path to which the step s leads from the p-th node, and the root's where there is no p-th node
+--     IsSpot nodes p s         the p-th node is there, or p and s are what stands for the root
+--     IsSpotOf nodes v p s     they stand for the node at v, and no others do
+--     placed nodes fs          the firsts with the paths of their nodes
 --     AreOfNodes nodes fs      each first is of a node, and a node has an atom from one round on
---     AreFound nodes fs rows   the places of the firsts stand at the numbers of their nodes
---     round_among fs a row     the round of the atom among the firsts at these places
-use Rattle.std.specs.Prelude.{◌≡◌, ◌==◌, ◌<◌, if◌then◌else◌, ℕ, List, [], ◌∷◌, Option, Some, None, length, get_or, slice_get, Contains}
-use Rattle.std.specs.Option.{option_or}
-use Rattle.closed_page.specs.declared.first_rounds.PageFirst.{PageFirst}
-use Rattle.closed_page.specs.Rows.{row_of}
+--     first_cmp f g            the order of firsts: by the parent, then by the atom, then by the step
+--     AreKept nodes parents fs what is kept of firsts belongs to the nodes
+--     IsRoundIn fs p s a o     o is the round of the atom at the node for which p and s stand
+--     IsChildIn fs p a k o     o is the least step from the p-th node to one that has the atom by the round k
+use Rattle.std.specs.Prelude.{◌≡◌, ◌⊎◌, ◌<◌, ◌≤◌, ℕ, List, [], ◌∷◌, ◌++◌, map, Option, Some, None, option_map, unwrap_or, length, get_or, slice_get, Contains}
+use Rattle.std.specs.Ordering.{nat_cmp, ordering_then}
+use Rattle.std.specs.declared.cmp.Ordering.{Ordering}
+use Rattle.closed_page.specs.declared.first_rounds.NodeFirst.{NodeFirst}
+use Rattle.closed_page.specs.declared.first_rounds.Spot.{Spot}
+use Rattle.closed_page.specs.Views.{PageFirst}
+use Rattle.closed_page.specs.Labelled.{AreAllAbove}
 
-abbrev pub IsNumberOf : List (List ℕ) → List ℕ → Option ℕ → Type 0
-IsNumberOf nodes v None = Contains nodes v → ⊥
-IsNumberOf nodes v (Some j) = (j < length nodes) × (get_or nodes j [] ≡ v)
+abbrev pub path_to : List (List ℕ) → ℕ → ℕ → List ℕ
+path_to nodes p s = unwrap_or (option_map (λ v. v ++ s ∷ []) (slice_get nodes p)) []
 
--- the numbers of the nodes of the first n firsts
-pub record AreNumbers (nodes : List (List ℕ)) (firsts : List PageFirst) (numbers : List (Option ℕ)) (n : ℕ) : Type 0 where
-  pub count : length numbers ≡ n
-  pub each : (i : ℕ) (f : PageFirst) → i < n → slice_get firsts i ≡ Some f → IsNumberOf nodes f.at (get_or numbers i None)
+abbrev pub IsSpot : List (List ℕ) → ℕ → ℕ → Type 0
+IsSpot nodes p s = (p < length nodes) ⊎ ((p ≡ length nodes) × (s ≡ 0))
+
+pub record IsSpotOf (nodes : List (List ℕ)) (v : List ℕ) (spot : Spot) : Type 0 where
+  pub right : IsSpot nodes spot.parent spot.step
+  pub path : path_to nodes spot.parent spot.step ≡ v
+  pub only : (p s : ℕ) → IsSpot nodes p s → path_to nodes p s ≡ v → (p ≡ spot.parent) × (s ≡ spot.step)
+
+abbrev pub placed_one : List (List ℕ) → NodeFirst → PageFirst
+placed_one nodes f = record { at = path_to nodes f.parent f.step; atom = f.atom; round = f.round }
+
+abbrev pub placed : List (List ℕ) → List NodeFirst → List PageFirst
+placed nodes fs = map (placed_one nodes) fs
+
+-- each first stands at a node, as far as its numbers say
+abbrev pub AreSpots : List (List ℕ) → List NodeFirst → Type 0
+AreSpots nodes fs = (f : NodeFirst) → Contains fs f → IsSpot nodes f.parent f.step
 
 pub record AreOfNodes (nodes : List (List ℕ)) (firsts : List PageFirst) : Type 0 where
   pub once : (i j : ℕ) → i < length nodes → j < length nodes → get_or nodes i [] ≡ get_or nodes j [] → i ≡ j
   pub there : (f : PageFirst) → Contains firsts f → Contains nodes f.at
   pub one : (f g : PageFirst) → Contains firsts f → Contains firsts g → f.at ≡ g.at → f.atom ≡ g.atom → f.round ≡ g.round
 
-pub record AreFound (nodes : List (List ℕ)) (firsts : List PageFirst) (rows : List (List ℕ)) : Type 0 where
-  pub of_nodes : AreOfNodes nodes firsts
-  pub whole : (i j : ℕ) (f : PageFirst) → slice_get firsts i ≡ Some f → j < length nodes → get_or nodes j [] ≡ f.at → Contains (row_of rows j) i
-  pub only : (j i : ℕ) → Contains (row_of rows j) i → (f : PageFirst) × (slice_get firsts i ≡ Some f) × (get_or nodes j [] ≡ f.at)
+abbrev pub first_cmp : NodeFirst → NodeFirst → Ordering
+first_cmp f g = ordering_then (nat_cmp f.parent g.parent) (ordering_then (nat_cmp f.atom g.atom) (ordering_then (nat_cmp f.step g.step) (nat_cmp f.round g.round)))
 
-abbrev pub round_if : ℕ → Option PageFirst → Option ℕ
-round_if a None = None
-round_if a (Some f) = if f.atom == a then Some f.round else None
+-- a node's parent is a node
+abbrev pub AreRooted : List (List ℕ) → Type 0
+AreRooted nodes = (v : List ℕ) (k : ℕ) → Contains nodes (v ++ k ∷ []) → Contains nodes v
 
-abbrev pub round_among : List PageFirst → ℕ → List ℕ → Option ℕ
-round_among firsts a [] = None
-round_among firsts a (i ∷ row) = option_or (round_if a (slice_get firsts i)) (round_among firsts a row)
+pub record AreKept (nodes : List (List ℕ)) (parents : List (Option ℕ)) (firsts : List NodeFirst) : Type 0 where
+  pub above : AreAllAbove nodes parents (length nodes)
+  pub rooted : AreRooted nodes
+  pub of_nodes : AreOfNodes nodes (placed nodes firsts)
+  pub spots : AreSpots nodes firsts
+
+pub record IsFirstAt (spot : Spot) (a : ℕ) (f : NodeFirst) : Type 0 where
+  pub parent : f.parent ≡ spot.parent
+  pub step : f.step ≡ spot.step
+  pub atom : f.atom ≡ a
+
+abbrev pub IsRoundIn : List NodeFirst → Spot → ℕ → Option ℕ → Type 0
+IsRoundIn fs spot a None = (f : NodeFirst) → Contains fs f → IsFirstAt spot a f → ⊥
+IsRoundIn fs spot a (Some r) = (f : NodeFirst) × Contains fs f × IsFirstAt spot a f × (f.round ≡ r)
+
+-- a child of the p-th node has the atom by the round k
+pub record IsBelow (p a k : ℕ) (f : NodeFirst) : Type 0 where
+  pub parent : f.parent ≡ p
+  pub atom : f.atom ≡ a
+  pub round : f.round ≤ k
+
+abbrev pub IsChildIn : List NodeFirst → ℕ → ℕ → ℕ → Option ℕ → Type 0
+IsChildIn fs p a k None = (f : NodeFirst) → Contains fs f → IsBelow p a k f → ⊥
+IsChildIn fs p a k (Some s) = ((f : NodeFirst) × Contains fs f × IsBelow p a k f × (f.step ≡ s)) × ((f : NodeFirst) → Contains fs f → IsBelow p a k f → s ≤ f.step)

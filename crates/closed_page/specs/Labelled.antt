@@ -1,5 +1,5 @@
 -- The labels of a page, by the numbers of its nodes.
---     Labelled               a tree with the labels, and the paths of its nodes
+--     Labelled               a tree with the labels, the paths of its nodes, and first rounds of its atoms
 --     node_of l i            the path of the node with this number
 --     IsAbove nodes v o      o is the number of the parent of the node at v, if the parent is there
 --     AreKids nodes i row    the row has the numbers of the children of the i-th node
@@ -11,13 +11,17 @@ use Rattle.std.specs.Coded.{Coded, code_by, coded×, coded_ℕ, coded_list}
 use Rattle.tree_sem.specs.Trees.{LabelTree, node_at, label_at}
 use Rattle.tree_sem.specs.TreeCode.{tree_code}
 use Rattle.closed_page.specs.Rows.{row_of, AreByNumber}
+use Rattle.closed_page.specs.Views.{PageFirst, page_first_code}
 
 pub record Labelled : Type 0 where
   pub labels : LabelTree
   pub nodes : List (List ℕ)
+  pub firsts : List PageFirst
 
 abbrev pub labelled_code : Coded Labelled
-labelled_code = code_by (LabelTree × List (List ℕ)) (coded× tree_code (coded_list (coded_list coded_ℕ))) (λ l. (l.labels, l.nodes)) (λ p. record { labels = p.0; nodes = p.1 }) (λ l. refl)
+labelled_code =
+    code_by (LabelTree × (List (List ℕ) × List PageFirst)) (coded× tree_code (coded× (coded_list (coded_list coded_ℕ)) (coded_list page_first_code)))
+    (λ l. (l.labels, (l.nodes, l.firsts))) (λ p. record { labels = p.0; nodes = p.1.0; firsts = p.1.1 }) (λ l. refl)
 
 -- the path of the node with this number
 abbrev pub node_of : Labelled → ℕ → List ℕ

@@ -1,5 +1,5 @@
 //! A closed page.
-ghost use Rattle.std.specs.Prelude.{◌≡◌, ◌++◌, ◌∷◌, [], IfOk, find, option_copied, unwrap_or};
+ghost use Rattle.std.specs.Prelude.{◌≡◌, ◌++◌, ◌∷◌, ℕ, List, [], find, option_copied, unwrap_or};
 ghost use Rattle.std.specs.List.{range_with_len};
 ghost use Rattle.tree_sem.specs.Trees.{label_at, children_at};
 ghost use Rattle.closed_page.specs.ClosedPages.{HasNoOthers, round_of};
@@ -7,12 +7,10 @@ ghost use Rattle.closed_page.specs.FirstChildren.{came_by};
 ghost use Rattle.closed_page.specs.Firsts.{AreOfNodes};
 ghost use Rattle.closed_page.specs.Views.{firsts_of};
 
-use crate::first_children::FirstChildren;
-use crate::first_rounds::{FirstRounds, PageFirst, numbers_of};
+use crate::first_rounds::FirstRounds;
 use crate::page_labels::PageLabels;
-use std::alloc::Global;
 use std::marker::Model;
-use tp_base::{Atom, ClassSet, NoMemory, Path};
+use tp_base::{Atom, ClassSet, Path};
 use tree_sem::Tree;
 
 /// The page with its closed labels, and for each node and atom the round in which it came.
@@ -35,17 +33,15 @@ impl Model for Closed {
 }
 
 impl Closed {
-    /// A page whose labels are closed. Linear in the lengths of the paths of firsts, on average.
-    pub fn new(alloc: Global, page: PageLabels, firsts: Vec<PageFirst>) -> Result<Closed, NoMemory>
-        requires nodes { AreOfNodes page.nodes firsts.items }
-        requires others { HasNoOthers page.labels (firsts_of firsts.items) }
-        ensures { IfOk result (λ c. c ≡ record { labels = page.labels; firsts = firsts_of firsts.items }) }
+    /// A page whose labels are closed. It costs a sort of its firsts.
+    pub fn new(page: PageLabels) -> Closed
+        requires nodes { AreOfNodes page.nodes page.firsts }
+        requires others { HasNoOthers page.labels (firsts_of page.firsts) }
+        ensures labels { result.labels ≡ page.labels }
+        ensures rounds { (v : List ℕ) (a : ℕ) → round_of result.firsts v a ≡ round_of (firsts_of page.firsts) v a }
     {
-        let numbers = numbers_of(alloc, &page, &firsts)?;
-        let below = FirstChildren::new(alloc, &page, &firsts, &numbers)?;
-        let (labels, nodes) = page.into_parts();
-        let firsts = FirstRounds::new(alloc, nodes, firsts, &numbers, below)?;
-        Ok(Closed { labels, firsts })
+        let (labels, firsts) = page.into_rounds();
+        Closed { labels, firsts }
     }
 
     /// The closed label of a node. Linear in the path's length.
@@ -55,7 +51,8 @@ impl Closed {
         self.labels.label(at)
     }
 
-    /// The first round in which a node has the atom. Linear in the path's length, on average, and in the node's atoms.
+    /// The first round in which a node has the atom. Linear in the path's length, on average, and logarithmic in
+    /// the firsts of the page.
     pub fn first_round(&self, at: &Path, atom: Atom) -> Option<u64>
         ensures { result ≡ round_of self.now.firsts at.now atom }
     {
@@ -65,8 +62,8 @@ impl Closed {
         }
     }
 
-    /// The least number of a child that has the atom by the round. Linear in the path's length, on average, and in the
-    /// children that have the atom.
+    /// The least number of a child that has the atom by the round. Linear in the path's length, on average, logarithmic
+    /// in the firsts of the page, and linear in the children before it that have the atom later.
     pub fn first_child(&self, at: &Path, atom: Atom, round: u64) -> Option<u32>
         ensures { result ≡ find (λ n. came_by round (round_of self.now.firsts (at.now ++ n ∷ []) atom))
             (range_with_len 0 (unwrap_or (children_at at.now self.now.labels) 0)) }

@@ -2,7 +2,6 @@
 #![tactic(auto)]
 
 mod closed;
-mod first_children;
 mod first_rounds;
 mod gains;
 mod index;
@@ -11,7 +10,6 @@ mod page_labels;
 mod paths;
 
 pub use closed::Closed;
-pub use first_rounds::PageFirst;
-pub use gains::{Gain, apply_gains, start_firsts};
+pub use gains::{Gain, apply_gains};
 pub use index::Index;
 pub use page_labels::PageLabels;

@@ -1,11 +1,17 @@
-//! The labels of a page, by the numbers of its nodes in the order of the document.
-ghost use Rattle.std.specs.Prelude.{◌≡◌, ◌<◌, ◌⊎◌, ◌↔◌, ℕ, [], Some, None, length, get_or, unwrap_or, option_copied, IfOk, OnOk, OnErr, IfSome, IsSome, IsNone, List, Contains, All};
+//! The labels of a page and their first rounds, by the numbers of its nodes in the order of the document.
+ghost use Rattle.std.specs.Prelude.{◌≡◌, ◌<◌, ◌⊎◌, ◌↔◌, ◌++◌, ◌^◌, ℕ, [], Some, None, length, get_or, unwrap_or, option_copied, IfOk, OnOk, OnErr, IfSome, IsSome, IsNone, List, Contains, All};
 ghost use Rattle.tree_sem.specs.Trees.{node_at, label_at, edit_at};
 ghost use Rattle.tree_sem.specs.Nodes.{IsNode};
 ghost use Rattle.tree_sem.specs.Order.{paths_of};
 ghost use Rattle.tree_sem.specs.Actions.{add_classes};
+ghost use Rattle.std.specs.List.Sorted.{IsStrictlyIncreasing};
+ghost use Rattle.closed_page.specs.ClosedPages.{round_of};
+ghost use Rattle.closed_page.specs.Firsts.{AreOfNodes, IsSpotOf};
+ghost use Rattle.closed_page.specs.Gains.{label_in, firsts_at, starts};
+ghost use Rattle.closed_page.specs.Views.{firsts_of};
 ghost use Rattle.closed_page.specs.Labelled.{node_of, IsAbove, AreKids, IsParentIn, AreKidsAll, IsHeard, IsCalled, AreAllAbove, AreAllLabels};
 
+use crate::first_rounds::{FirstRounds, NodeFirst, Spot, note, spot_of};
 use crate::index::Index;
 use crate::nodes::PageNodes;
 use crate::paths::{all_nodes, copies};
@@ -14,8 +20,8 @@ use std::marker::Model;
 use tp_base::{ClassSet, NoMemory, Path};
 use tree_sem::{Tree, TreeFault};
 
-/// A page, and for each node its label, the number of its parent, and those of its children. A contract sees the tree
-/// and the paths of the nodes.
+/// A page, and for each node its label, the number of its parent, and those of its children; and the first rounds of the
+/// atoms, so far. A contract sees the tree, the paths of the nodes, and the firsts with these paths.
 #[derive(Drop)]
 pub struct PageLabels {
     tree: Tree,
@@ -23,25 +29,45 @@ pub struct PageLabels {
     parents: Vec<Option<usize>>,
     kids: Index,
     own: Vec<ClassSet>,
+    firsts: Vec<NodeFirst>,
 }
 
 impl Model for PageLabels {
     ghost use Rattle.closed_page.specs.Labelled.{Labelled, labelled_code, AreRelated};
+    ghost use Rattle.closed_page.specs.Firsts.{placed, AreSpots};
 
     ghost Value = { Labelled };
 
     ghost coded = { labelled_code };
 
-    ghost view = { λ l. record { labels = l.tree; nodes = l.nodes } };
+    ghost view = { λ l. record { labels = l.tree; nodes = l.nodes; firsts = placed l.nodes l.firsts.items } };
 
-    ghost invariant = { λ l. AreRelated l.tree l.nodes l.parents.items l.kids l.own.items };
+    ghost invariant = { λ l. AreRelated l.tree l.nodes l.parents.items l.kids l.own.items × AreSpots l.nodes l.firsts.items };
 }
 
 impl PageLabels {
-    /// Numbers the nodes of a page. Linear in the lengths of their paths, on average.
+    /// A page, with all its atoms as firsts of round 0. Linear in them and in the lengths of the nodes' paths, on average.
     pub fn new(alloc: Global, page: &Tree) -> Result<PageLabels, NoMemory>
         ensures labels { IfOk result (λ l. l.labels ≡ page.now) }
         ensures nodes { IfOk result (λ l. l.nodes ≡ paths_of page.now) }
+        ensures firsts { IfOk result (λ l. l.firsts ≡ starts page.now (paths_of page.now)) }
+        ensures rising { OnOk result ((v : List ℕ) → Contains (paths_of page.now) v → IsStrictlyIncreasing (label_in page.now v)) }
+        ensures few { IfOk result (λ l. length l.firsts < 2 ^ 63) }
+    {
+        let mut labels = PageLabels::numbered(alloc, page)?;
+        let none = ClassSet::new(alloc);
+        let count = labels.paths().len();
+        for i in 0..count {
+            labels.note_own(i, &none)?;
+        }
+        Ok(labels)
+    }
+
+    // Numbers the nodes of a page, of which no firsts are noted yet. Linear in the lengths of their paths, on average.
+    fn numbered(alloc: Global, page: &Tree) -> Result<PageLabels, NoMemory>
+        ensures labels { IfOk result (λ l. l.labels ≡ page.now) }
+        ensures nodes { IfOk result (λ l. l.nodes ≡ paths_of page.now) }
+        ensures firsts { IfOk result (λ l. l.firsts ≡ []) }
     {
         let tree = page.copy()?;
         let walk = all_nodes(alloc, page)?;
@@ -55,6 +81,7 @@ impl PageLabels {
             parents,
             kids,
             own,
+            firsts: Vec::new(alloc),
         })
     }
 
@@ -172,11 +199,51 @@ impl PageLabels {
         Ok(callers)
     }
 
+    // What stands for a node.
+    fn spot(&self, number: usize) -> Spot
+        requires { number < length self.now.nodes }
+        ensures { IsSpotOf self.now.nodes (node_of self.now number) result }
+    {
+        spot_of(&self.nodes, &self.parents, number)
+    }
+
+    /// Notes those of these atoms that a node doesn't have as its firsts of a round.
+    pub(crate) fn note(
+        &mut self,
+        number: usize,
+        label: &ClassSet,
+        round: u64,
+    ) -> Result<(), NoMemory>
+        requires { number < length self.old.nodes }
+        ensures labels { self.new.labels ≡ self.old.labels }
+        ensures nodes { self.new.nodes ≡ self.old.nodes }
+        ensures firsts { OnOk result (self.new.firsts ≡ self.old.firsts ++ firsts_at (node_of self.old number) (label_in self.old.labels (node_of self.old number)) label.now round) }
+        ensures few { length self.new.firsts < 2 ^ 63 }
+    {
+        let spot = self.spot(number);
+        note(&mut self.firsts, spot, &self.own[number], label, round)
+    }
+
+    // Notes all atoms of a node as its firsts of round 0.
+    fn note_own(&mut self, number: usize, none: &ClassSet) -> Result<(), NoMemory>
+        requires number { number < length self.old.nodes }
+        requires none { none.now ≡ [] }
+        ensures labels { self.new.labels ≡ self.old.labels }
+        ensures nodes { self.new.nodes ≡ self.old.nodes }
+        ensures firsts { OnOk result (self.new.firsts ≡ self.old.firsts ++ firsts_at (node_of self.old number) [] (label_in self.old.labels (node_of self.old number)) 0) }
+        ensures rising { IsStrictlyIncreasing (label_in self.old.labels (node_of self.old number)) }
+        ensures few { length self.new.firsts < 2 ^ 63 }
+    {
+        let spot = self.spot(number);
+        note(&mut self.firsts, spot, none, &self.own[number], 0)
+    }
+
     /// Adds atoms to the label of a node. It costs the node's depth, too.
-    pub fn add(&mut self, number: usize, label: &ClassSet) -> Result<(), NoMemory>
+    pub(crate) fn add(&mut self, number: usize, label: &ClassSet) -> Result<(), NoMemory>
         requires { number < length self.old.nodes }
         ensures labels { OnOk result (self.new.labels ≡ edit_at (node_of self.old number) (add_classes label.now) self.old.labels) }
         ensures nodes { OnOk result (self.new.nodes ≡ self.old.nodes) }
+        ensures firsts { OnOk result (self.new.firsts ≡ self.old.firsts) }
     {
         let mut longer = self.own[number].copy()?;
         longer.union(label)?;
@@ -185,12 +252,16 @@ impl PageLabels {
         Ok(())
     }
 
-    /// The tree with the labels, and the nodes.
-    pub(crate) fn into_parts(self) -> (Tree, PageNodes)
+    /// The tree with the labels, and the firsts in their order.
+    pub(crate) fn into_rounds(self) -> (Tree, FirstRounds)
+        requires { AreOfNodes self.nodes self.firsts }
         ensures tree { result.0 ≡ self.labels }
-        ensures nodes { result.1 ≡ self.nodes }
+        ensures rounds { (v : List ℕ) (a : ℕ) → round_of result.1 v a ≡ round_of (firsts_of self.firsts) v a }
     {
-        (self.tree, self.nodes)
+        (
+            self.tree,
+            FirstRounds::new(self.nodes, self.parents, self.firsts),
+        )
     }
 }
 

@@ -3,6 +3,7 @@ use Rattle.simple_core.specs.Knowledge.{TellsWithin}
 use Rattle.simple_core.proofs.KnowledgeLemmas.{tells_within-start}
 use Rattle.class_adding.proofs.AddedLemmas.{on_err}
 use Rattle.class_adding.proofs.WentLemmas.{err_spent}
+use Rattle.class_adding.proofs.FirstsLemmas.{closed_same}
 use Rattle.class_adding.proofs.closed.close_over.Goals as goal
 
 pub returns-in_err-filling-clause-within : goal.returns-in_err-filling-clause-within
@@ -16,3 +17,8 @@ returns-in_err-fill-clause-within g c =
 pub returns-in_err-fill-clause-spent : goal.returns-in_err-fill-clause-spent
 returns-in_err-fill-clause-spent g c = λ none.
     err_spent c.from_residual-in_err-fill.result c.in_err-fill.field-0.0 (g.S.Summaries.spent_on c.fill.new.sums) c.from_residual-in_err-fill.ensures.1 (c.in_err-fill.ensures.spent none)
+
+pub returns-clause-closed : goal.returns-clause-closed
+returns-clause-closed g c =
+    let f = c.fill.new.filling in
+    closed_same c.args.system.now c.args.page.now f.labels.labels f.labels.firsts c.closed_of.result c.in_ok-fill.ensures.closed c.closed_of.ensures.labels c.closed_of.ensures.rounds

@@ -26,11 +26,11 @@ rounds-init g c = record {
 }
 
 pub look_at_all-requires-clause-nodes : goal.look_at_all-requires-clause-nodes
-look_at_all-requires-clause-nodes g c = looked_nodes c.args.system.now c.args.page.now c.rounds.filling.labels.labels c.rounds.filling.firsts.items c.rounds.k (g.S.Summaries.known c.rounds.sums) c.rounds.filling.labels.nodes c.rounds.invariant.filled.nodes c.rounds.invariant.filled.closing
+look_at_all-requires-clause-nodes g c = looked_nodes c.args.system.now c.args.page.now c.rounds.filling.labels.labels c.rounds.filling.labels.firsts c.rounds.k (g.S.Summaries.known c.rounds.sums) c.rounds.filling.labels.nodes c.rounds.invariant.filled.nodes c.rounds.invariant.filled.closing
 
 pub returns-in_err-round-clause-within : goal.returns-in_err-round-clause-within
 returns-in_err-round-clause-within g c =
-    let went = went_page c.args.system.now c.args.page.now c.rounds.filling.labels.labels c.rounds.filling.firsts.items c.rounds.k (g.S.Summaries.known c.args.sums.now) (g.S.Summaries.known c.rounds.sums) (g.S.Summaries.known c.look_at_all.new.sums)
+    let went = went_page c.args.system.now c.args.page.now c.rounds.filling.labels.labels c.rounds.filling.labels.firsts c.rounds.k (g.S.Summaries.known c.args.sums.now) (g.S.Summaries.known c.rounds.sums) (g.S.Summaries.known c.look_at_all.new.sums)
     (g.S.Summaries.told c.args.sums.now) (g.S.Summaries.told c.rounds.sums) (g.S.Summaries.told c.look_at_all.new.sums) (g.S.Summaries.system c.rounds.sums) (g.S.Summaries.system c.look_at_all.new.sums)
     (g.S.Summaries.spent_on c.args.sums.now) (g.S.Summaries.spent_on c.rounds.sums) (g.S.Summaries.spent_on c.look_at_all.new.sums) c.rounds.invariant.filled.closing c.rounds.invariant.went c.look_at_all.ensures.went in
     went.within
@@ -55,16 +55,16 @@ returns-then-is_last-clause-closed g c =
     let until : AreUntil c.in_ok-round.round.looks.items latest = subst (λ (z : List Look). AreUntil z latest) c.deref.ensures.value c.latest_of-latest.ensures.until in
     let seen = all_seen c.args.system.now c.rounds.filling.labels.labels c.rounds.filling.labels.nodes c.rounds.k (g.S.Summaries.known c.rounds.sums) (g.S.Summaries.known c.look_at_all.new.sums) c.rounds.filling.work c.in_ok-round.round latest f.rests f.working found
     c.look_at_all.ensures.went.kept c.latest_of-latest.ensures.least until in
-    closing_end c.args.system.now c.args.page.now c.rounds.filling.labels.labels c.rounds.filling.firsts.items c.rounds.k (g.S.Summaries.known c.rounds.sums) (g.S.Summaries.known c.look_at_all.new.sums) c.rounds.filling.labels.nodes c.in_ok-round.round.gains.items latest
+    closing_end c.args.system.now c.args.page.now c.rounds.filling.labels.labels c.rounds.filling.labels.firsts c.rounds.k (g.S.Summaries.known c.rounds.sums) (g.S.Summaries.known c.look_at_all.new.sums) c.rounds.filling.labels.nodes c.in_ok-round.round.gains.items latest
     f.nodes f.closing found.right seen c.look_at_all.ensures.went.kept last.0 last.1
 
 pub returns-then-is_last-clause-nodes : goal.returns-then-is_last-clause-nodes
 returns-then-is_last-clause-nodes g c =
-    firsts_placed c.args.system.now c.args.page.now c.rounds.filling.labels.labels c.rounds.filling.firsts.items c.rounds.k (g.S.Summaries.known c.rounds.sums) c.rounds.filling.labels.nodes c.rounds.invariant.filled.nodes c.rounds.invariant.filled.closing
+    firsts_placed c.args.system.now c.args.page.now c.rounds.filling.labels.labels c.rounds.filling.labels.firsts c.rounds.k (g.S.Summaries.known c.rounds.sums) c.rounds.filling.labels.nodes c.rounds.invariant.filled.nodes c.rounds.invariant.filled.closing
 
 pub returns-then-is_last-clause-within : goal.returns-then-is_last-clause-within
 returns-then-is_last-clause-within g c =
-    let went = went_page c.args.system.now c.args.page.now c.rounds.filling.labels.labels c.rounds.filling.firsts.items c.rounds.k (g.S.Summaries.known c.args.sums.now) (g.S.Summaries.known c.rounds.sums) (g.S.Summaries.known c.look_at_all.new.sums)
+    let went = went_page c.args.system.now c.args.page.now c.rounds.filling.labels.labels c.rounds.filling.labels.firsts c.rounds.k (g.S.Summaries.known c.args.sums.now) (g.S.Summaries.known c.rounds.sums) (g.S.Summaries.known c.look_at_all.new.sums)
     (g.S.Summaries.told c.args.sums.now) (g.S.Summaries.told c.rounds.sums) (g.S.Summaries.told c.look_at_all.new.sums) (g.S.Summaries.system c.rounds.sums) (g.S.Summaries.system c.look_at_all.new.sums)
     (g.S.Summaries.spent_on c.args.sums.now) (g.S.Summaries.spent_on c.rounds.sums) (g.S.Summaries.spent_on c.look_at_all.new.sums) c.rounds.invariant.filled.closing c.rounds.invariant.went c.look_at_all.ensures.went in
     went.within
@@ -78,7 +78,7 @@ returns-then-is_last-clause-keeps_room g c =
 
 pub returns-in_err-take_round-clause-within : goal.returns-in_err-take_round-clause-within
 returns-in_err-take_round-clause-within g c =
-    let went = went_page c.args.system.now c.args.page.now c.rounds.filling.labels.labels c.rounds.filling.firsts.items c.rounds.k (g.S.Summaries.known c.args.sums.now) (g.S.Summaries.known c.rounds.sums) (g.S.Summaries.known c.look_at_all.new.sums)
+    let went = went_page c.args.system.now c.args.page.now c.rounds.filling.labels.labels c.rounds.filling.labels.firsts c.rounds.k (g.S.Summaries.known c.args.sums.now) (g.S.Summaries.known c.rounds.sums) (g.S.Summaries.known c.look_at_all.new.sums)
     (g.S.Summaries.told c.args.sums.now) (g.S.Summaries.told c.rounds.sums) (g.S.Summaries.told c.look_at_all.new.sums) (g.S.Summaries.system c.rounds.sums) (g.S.Summaries.system c.look_at_all.new.sums)
     (g.S.Summaries.spent_on c.args.sums.now) (g.S.Summaries.spent_on c.rounds.sums) (g.S.Summaries.spent_on c.look_at_all.new.sums) c.rounds.invariant.filled.closing c.rounds.invariant.went c.look_at_all.ensures.went in
     went.within
@@ -99,7 +99,7 @@ returns-then-is_last-clause-asked g c =
     let until : AreUntil c.in_ok-round.round.looks.items latest = subst (λ (z : List Look). AreUntil z latest) c.deref.ensures.value c.latest_of-latest.ensures.until in
     let seen = all_seen c.args.system.now c.rounds.filling.labels.labels c.rounds.filling.labels.nodes c.rounds.k (g.S.Summaries.known c.rounds.sums) (g.S.Summaries.known c.look_at_all.new.sums) c.rounds.filling.work c.in_ok-round.round latest f.rests f.working found
     c.look_at_all.ensures.went.kept c.latest_of-latest.ensures.least until in
-    all_known c.args.system.now c.args.page.now c.rounds.filling.labels.labels c.rounds.filling.firsts.items c.rounds.k (g.S.Summaries.known c.rounds.sums) (g.S.Summaries.known c.look_at_all.new.sums) c.rounds.filling.labels.nodes c.in_ok-round.round.gains.items latest
+    all_known c.args.system.now c.args.page.now c.rounds.filling.labels.labels c.rounds.filling.labels.firsts c.rounds.k (g.S.Summaries.known c.rounds.sums) (g.S.Summaries.known c.look_at_all.new.sums) c.rounds.filling.labels.nodes c.in_ok-round.round.gains.items latest
     f.nodes f.closing found.right seen c.look_at_all.ensures.went.kept last.0 last.1
 
 pub returns-then-is_last-clause-told : goal.returns-then-is_last-clause-told
@@ -111,12 +111,12 @@ returns-then-is_last-clause-told g c =
     let until : AreUntil c.in_ok-round.round.looks.items latest = subst (λ (z : List Look). AreUntil z latest) c.deref.ensures.value c.latest_of-latest.ensures.until in
     let seen = all_seen c.args.system.now c.rounds.filling.labels.labels c.rounds.filling.labels.nodes c.rounds.k (g.S.Summaries.known c.rounds.sums) (g.S.Summaries.known c.look_at_all.new.sums) c.rounds.filling.work c.in_ok-round.round latest f.rests f.working found
     c.look_at_all.ensures.went.kept c.latest_of-latest.ensures.least until in
-    let went = went_page c.args.system.now c.args.page.now c.rounds.filling.labels.labels c.rounds.filling.firsts.items c.rounds.k (g.S.Summaries.known c.args.sums.now) (g.S.Summaries.known c.rounds.sums) (g.S.Summaries.known c.look_at_all.new.sums)
+    let went = went_page c.args.system.now c.args.page.now c.rounds.filling.labels.labels c.rounds.filling.labels.firsts c.rounds.k (g.S.Summaries.known c.args.sums.now) (g.S.Summaries.known c.rounds.sums) (g.S.Summaries.known c.look_at_all.new.sums)
     (g.S.Summaries.told c.args.sums.now) (g.S.Summaries.told c.rounds.sums) (g.S.Summaries.told c.look_at_all.new.sums) (g.S.Summaries.system c.rounds.sums) (g.S.Summaries.system c.look_at_all.new.sums)
     (g.S.Summaries.spent_on c.args.sums.now) (g.S.Summaries.spent_on c.rounds.sums) (g.S.Summaries.spent_on c.look_at_all.new.sums) c.rounds.invariant.filled.closing c.rounds.invariant.went c.look_at_all.ensures.went in
     told_page c.args.system.now c.args.page.now (g.S.Summaries.known c.args.sums.now) (g.S.Summaries.known c.look_at_all.new.sums) (g.S.Summaries.told c.args.sums.now) (g.S.Summaries.told c.look_at_all.new.sums) (g.S.Summaries.system c.look_at_all.new.sums)
     (g.S.Summaries.spent_on c.args.sums.now) (g.S.Summaries.spent_on c.look_at_all.new.sums) went c.requires.tells
-    (all_known c.args.system.now c.args.page.now c.rounds.filling.labels.labels c.rounds.filling.firsts.items c.rounds.k (g.S.Summaries.known c.rounds.sums) (g.S.Summaries.known c.look_at_all.new.sums) c.rounds.filling.labels.nodes c.in_ok-round.round.gains.items latest
+    (all_known c.args.system.now c.args.page.now c.rounds.filling.labels.labels c.rounds.filling.labels.firsts c.rounds.k (g.S.Summaries.known c.rounds.sums) (g.S.Summaries.known c.look_at_all.new.sums) c.rounds.filling.labels.nodes c.in_ok-round.round.gains.items latest
     f.nodes f.closing found.right seen c.look_at_all.ensures.went.kept last.0 last.1)
 
 pub rounds-preserved : goal.rounds-preserved
@@ -131,7 +131,7 @@ rounds-preserved g c =
       filled = filled_next c.args.system.now c.args.page.now c.rounds.k (c.rounds.k + 1) latest (g.S.Summaries.known c.rounds.sums) (g.S.Summaries.known c.look_at_all.new.sums) c.rounds.filling c.take_round.new.filling c.in_ok-round.round c.look_at_all.new.remembered
           f c.look_at_all.ensures.went.kept found c.latest_of-latest.ensures.least until bound (c.is_last.ensures.more c.if-is_last.false)
           c.in_ok-take_round.ensures (omega arith);
-      went = went_page c.args.system.now c.args.page.now c.rounds.filling.labels.labels c.rounds.filling.firsts.items c.rounds.k (g.S.Summaries.known c.args.sums.now) (g.S.Summaries.known c.rounds.sums) (g.S.Summaries.known c.look_at_all.new.sums)
+      went = went_page c.args.system.now c.args.page.now c.rounds.filling.labels.labels c.rounds.filling.labels.firsts c.rounds.k (g.S.Summaries.known c.args.sums.now) (g.S.Summaries.known c.rounds.sums) (g.S.Summaries.known c.look_at_all.new.sums)
           (g.S.Summaries.told c.args.sums.now) (g.S.Summaries.told c.rounds.sums) (g.S.Summaries.told c.look_at_all.new.sums) (g.S.Summaries.system c.rounds.sums) (g.S.Summaries.system c.look_at_all.new.sums)
           (g.S.Summaries.spent_on c.args.sums.now) (g.S.Summaries.spent_on c.rounds.sums) (g.S.Summaries.spent_on c.look_at_all.new.sums) c.rounds.invariant.filled.closing c.rounds.invariant.went c.look_at_all.ensures.went;
       remembered = subst (λ (z : List Row). AreGifts c.args.system.now (g.S.Summaries.known c.look_at_all.new.sums) z) (sym c.in_ok-take_round.ensures.remembered) c.in_ok-round.ensures.remembered;
@@ -141,7 +141,7 @@ rounds-preserved g c =
 
 pub take_round-requires-clause-gains : goal.take_round-requires-clause-gains
 take_round-requires-clause-gains g c =
-    gains_there c.args.system.now c.args.page.now c.rounds.filling.labels.labels c.rounds.filling.firsts.items c.rounds.k (g.S.Summaries.known c.rounds.sums) c.rounds.filling.labels.nodes c.in_ok-round.round.gains.items
+    gains_there c.args.system.now c.args.page.now c.rounds.filling.labels.labels c.rounds.filling.labels.firsts c.rounds.k (g.S.Summaries.known c.rounds.sums) c.rounds.filling.labels.nodes c.in_ok-round.round.gains.items
     c.rounds.invariant.filled.nodes c.rounds.invariant.filled.closing c.in_ok-round.ensures.found.right
 
 pub take_round-requires-clause-numbers : goal.take_round-requires-clause-numbers

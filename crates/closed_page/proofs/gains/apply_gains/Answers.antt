@@ -18,7 +18,8 @@ gains-preserved c =
     record {
       labels = ap (λ z. with_gains z c.in-Some.others.now) c.in_ok-apply.ensures.labels ∙ ap (λ (z : List Gain). with_gains c.gains.labels.labels z) (sym split) ∙ c.gains.invariant.labels;
       there = All-rest (λ (g : Gain). Contains c.args.labels.now.nodes g.at) c.in-Some.gain.now c.in-Some.others.now c.gains.rest.now split c.gains.invariant.there;
+      few = λ before. c.in_ok-apply.ensures.few;
       nodes = c.in_ok-apply.ensures.nodes ∙ c.gains.invariant.nodes;
-      firsts = news_next c.gains.labels.labels c.apply.new.labels.labels c.in-Some.gain.now c.in-Some.others.now c.gains.rest.now c.args.round c.gains.firsts.items c.apply.new.firsts.items split
+      firsts = news_next c.gains.labels.labels c.apply.new.labels.labels c.in-Some.gain.now c.in-Some.others.now c.gains.rest.now c.args.round c.gains.labels.firsts c.apply.new.labels.firsts split
           c.in_ok-apply.ensures.labels c.in_ok-apply.ensures.firsts ∙ c.gains.invariant.firsts;
     }

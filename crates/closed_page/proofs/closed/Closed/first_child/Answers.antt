@@ -1,5 +1,3 @@
-use Rattle.std.proofs.Common.{subst}
-use Rattle.closed_page.specs.ClosedPages.{ClosedPage}
 use Rattle.closed_page.proofs.ChildLemmas.{child_found}
 use Rattle.closed_page.proofs.closed.Closed.first_child.Goals as goal
 

@@ -1,19 +1,20 @@
-use Rattle.std.proofs.Common.{refl, ap, ◌∙◌}
+use Rattle.std.proofs.Common.{List, ℕ, refl, ap, ◌∙◌, subst}
+use Rattle.closed_page.specs.declared.first_rounds.NodeFirst.{NodeFirst}
 use Rattle.closed_page.specs.ClosedPages.{round_of}
-use Rattle.closed_page.specs.Firsts.{round_among}
-use Rattle.closed_page.proofs.FirstsLemmas.{round_found, round_nowhere}
+use Rattle.closed_page.specs.Firsts.{IsSpotOf, IsRoundIn, placed}
+use Rattle.closed_page.proofs.FirstsLemmas.{round_is, round_nowhere}
 use Rattle.closed_page.proofs.first_rounds.FirstRounds.round.Goals as goal
 
 pub returns-in-Some : goal.returns-in-Some
 returns-in-Some c =
     let n = c.self.inside in
-    c.round_among.ensures
-    ∙ ap (λ z. round_among z c.args.atom c.of.result.now) c.deref.ensures.value
-    ∙ ap (λ z. round_among n.firsts.items c.args.atom z) c.of.ensures
-    ∙ round_found n.nodes n.firsts.items n.rows c.args.at.now c.args.atom c.in-Some.number c.self.invariant.0 c.in-Some.ensures.some.0 c.in-Some.ensures.some.1
+    let kept = c.self.invariant.0 in
+    let stands = subst (λ (z : List ℕ). IsSpotOf n.nodes z c.spot_of-spot.result) c.in-Some.ensures.some.1 c.spot_of-spot.ensures in
+    round_is n.nodes n.firsts.items kept.of_nodes kept.spots c.args.at.now c.spot_of-spot.result stands c.args.atom c.round_in.result
+    (subst (λ (z : List NodeFirst). IsRoundIn z c.spot_of-spot.result c.args.atom c.round_in.result) c.deref-in-Some.ensures.value c.round_in.ensures)
     ∙ ap (λ z. round_of z c.args.at.now c.args.atom) c.self.view_is
 
 pub returns-in-None : goal.returns-in-None
 returns-in-None c =
     let n = c.self.inside in
-    round_nowhere n.nodes n.firsts.items c.args.at.now c.args.atom c.self.invariant.0.of_nodes (c.in-None.ensures.none refl) ∙ ap (λ z. round_of z c.args.at.now c.args.atom) c.self.view_is
+    round_nowhere n.nodes (placed n.nodes n.firsts.items) c.args.at.now c.args.atom c.self.invariant.0.of_nodes (c.in-None.ensures.none refl) ∙ ap (λ z. round_of z c.args.at.now c.args.atom) c.self.view_is
