@@ -2,23 +2,20 @@
 --     chosen_found, chosen_none     the chosen reason, by the way that is found
 --     first_some                    an atom that comes has a first round
 --     page_glance, added_glance     a look at a place, as one at its spot
-use Rattle.std.proofs.Common.{◌≡◌, ℕ, suc, ◌<◌, List, length, Contains, find, get_or, slice_get, Option, Some, None, option_map, unwrap_or, sym, ap, ◌∙◌, subst}
+use Rattle.std.proofs.Common.{◌≡◌, ℕ, suc, List, Contains, find, Option, Some, None, option_map, unwrap_or, sym, ap, ◌∙◌, subst}
 use denote.Bor.{Bor}
-use Rattle.std.proofs.lemmas.Option.{slice_get-get_or}
-use Rattle.tp_base.proofs.Lists.{map_at}
 use Rattle.tree_sem.specs.Trees.{LabelTree}
 use Rattle.simple_core.specs.declared.system.System.{System}
 use Rattle.simple_core.specs.Rounds.{IsFirst}
 use Rattle.proof_maker.specs.declared.choices.Found.{Found}
 use Rattle.proof_needs.specs.declared.needs.Choice.TheVariants.{Start}
 use Rattle.proof_maker.specs.declared.glances.Glance.{Glance}
-use Rattle.proof_needs.specs.declared.spots.TripleKey.{TripleKey}
+use Rattle.proof_maker.specs.declared.arrivals.Arrival.{Arrival}
 use Rattle.proof_maker.specs.declared.worlds.Place.TheVariants.{Node, Added}
 use Rattle.proof_needs.specs.Choices.{Setting, at_start, stands, ways, chosen}
 use Rattle.proof_maker.specs.Glances.{IsGlanceAt, IsGlance}
 use Rattle.proof_needs.specs.Triples.{Triple, page_node, added}
 use Rattle.proof_maker.specs.Reasons.{reason_of, found_reason}
-use Rattle.proof_needs.specs.Spots.{triple_of, triples_in}
 
 module _ (s : System) (set : Setting) (v : List ℕ) (a round before : ℕ) (later : round ≡ suc before) (o : Option Found) (is : option_map found_reason o ≡ find (stands s set before v) (ways s set v a)) where
   pub chosen_found : (f : Found) → o ≡ Some f → found_reason f ≡ chosen s set v a round
@@ -31,21 +28,12 @@ pub first_some : (f : ℕ → List ℕ) (a : ℕ) (o : Option ℕ) → ((k : ℕ
 first_some f a None comes first = absurd (first comes.0 comes.1)
 first_some f a (Some r) comes first = first
 
--- the triple of a number is what is seen of the key of that number
-pub key_triple : (keys list : List TripleKey) (n : ℕ) (k : TripleKey) (t : Triple) → list ≡ keys → n < length keys → k ≡ get_or list n k → slice_get (triples_in keys) n ≡ Some t → triple_of k ≡ t
-key_triple keys list n k t same less is at =
-    let less' : n < length list = subst (λ xs. n < length xs) (sym same) less in
-    let there : slice_get keys n ≡ Some k = ap (λ xs. slice_get xs n) (sym same) ∙ slice_get-get_or list n k less' ∙ ap Some (sym is) in
-    let seen : slice_get (triples_in keys) n ≡ Some (triple_of k) = map_at triple_of keys n k there in
-    let both : Some (triple_of k) ≡ Some t = sym seen ∙ at in
-    cc
-
 module _ (s : System) (page : LabelTree) (a : ℕ) (g : Glance) where
   pub page_glance : (at : Bor (List ℕ)) (v : List ℕ) → at.now ≡ v → IsGlanceAt s page (Node at) a g → IsGlance s page (page_node v) a g
   page_glance at v same is =
       subst (λ z. IsGlance s page (page_node z) a g) same (record { chosen = record { first = is.first; choice = sym is.choice }; below = is.below })
 
-  pub added_glance : (kind : ℕ) (parent : Bor (List ℕ)) (t : Triple) → t.kind ≡ kind → parent.now ≡ t.parent → IsGlanceAt s page (Added kind parent) a g → IsGlance s page (added t) a g
-  added_glance kind parent t kinds parents is =
+  pub added_glance : (kind : ℕ) (parent : Bor (List ℕ)) (arrivals : Bor (List Arrival)) (t : Triple) → t.kind ≡ kind → parent.now ≡ t.parent → IsGlanceAt s page (Added kind parent arrivals) a g → IsGlance s page (added t) a g
+  added_glance kind parent arrivals t kinds parents is =
       let one : record { kind = kind; parent = parent.now; atom = t.atom } ≡ t = λ i. record { kind = sym kinds i; parent = parents i; atom = t.atom } in
       subst (λ z. IsGlance s page (added z) a g) one (record { chosen = record { first = is.first; choice = sym is.choice }; below = is.below })

@@ -4,6 +4,8 @@ pub mod UsedLemmas
 pub mod OneLemmas
 pub mod FindLemmas
 pub mod WorldLemmas
+pub mod ArrivalLemmas
+pub mod MemoLemmas
 pub mod GlanceLemmas
 pub mod EntryCounts
 pub mod CanonLemmas

@@ -1,5 +1,5 @@
 -- An atom that is wanted comes at its node.
-use Rattle.std.proofs.Common.{◌≡◌, ℕ, ◌-◌, ◌<◌, List, length, Contains, Some, slice_get, refl, sym, subst}
+use Rattle.std.proofs.Common.{◌∙◌, ◌≡◌, ℕ, ◌-◌, ◌<◌, List, length, Contains, Some, slice_get, refl, sym, subst}
 use Rattle.std.specs.List.Sorted.{IsStrictlyIncreasing}
 use Rattle.tp_base.proofs.ClassLemmas.{IsStrictlyIncreasing-cut_to}
 use Rattle.tp_base.proofs.Lists.{Contains-at}
@@ -16,7 +16,7 @@ use Rattle.proof_needs.specs.declared.spots.Spot.TheVariants.{Page, Added}
 use Rattle.proof_needs.specs.declared.spots.Want.{Want}
 use Rattle.proof_needs.specs.declared.needs.Tie.{Tie}
 use Rattle.proof_needs.specs.declared.needs.Draft.{Draft}
-use Rattle.proof_maker.specs.Glances.{IsGlance, IsNodeAt, IsTripleAt}
+use Rattle.proof_maker.specs.Glances.{IsGlance, IsNodeAt, IsTripleAt, IsKeyOf}
 use Rattle.proof_maker.specs.Needs.{Used, by_page, by_triple}
 use Rattle.proof_needs.specs.Triples.{Triple, page_node, added}
 use Rattle.proof_needs.specs.Spots.{spot_in}
@@ -61,8 +61,14 @@ module _ (s : System) (page : LabelTree) (target : ℕ) (known : Pair → Type 0
       let same : page_node at.path ≡ spot_in nodes triples (Page n) = rw at.at refl in
       subst (λ z. IsGlance s page (spot_in nodes triples z) a g) (sym is) (subst (λ z. IsGlance s page z a g) same (glanced at.path at.at))
 
-  pub triple_glanced : (u : Spot) (n a : ℕ) (g : Glance) → u ≡ Added n → Contains wants (want_of u a) → ((t : Triple) → slice_get triples n ≡ Some t → IsGlance s page (added t) a g) → IsGlance s page (spot_in nodes triples u) a g
-  triple_glanced u n a g is in' glanced =
-      let at = triple_looked n a (subst (λ z. Contains wants (want_of z a)) is in') in
-      let same : added at.triple ≡ spot_in nodes triples (Added n) = rw at.at refl in
-      subst (λ z. IsGlance s page (spot_in nodes triples z) a g) (sym is) (subst (λ z. IsGlance s page z a g) same (glanced at.triple at.at))
+  pub key_looked : (n a : ℕ) (t : Triple) → slice_get triples n ≡ Some t → Contains wants (want_of (Added n) a) → IsKeyOf s page known t a
+  key_looked n a t at in' =
+      let x = triple_looked n a in' in
+      let both : Some x.triple ≡ Some t = sym x.at ∙ at in
+      let same : x.triple ≡ t = cc in
+      subst (λ (z : Triple). IsKeyOf s page known z a) same (record { pair = x.pair; rises = x.rises; comes = x.comes })
+
+  pub key_glanced : (u : Spot) (n a : ℕ) (g : Glance) → u ≡ Added n → (t : Triple) → slice_get triples n ≡ Some t → IsGlance s page (added t) a g → IsGlance s page (spot_in nodes triples u) a g
+  key_glanced u n a g is t at glanced =
+      let same : added t ≡ spot_in nodes triples (Added n) = rw at refl in
+      subst (λ z. IsGlance s page (spot_in nodes triples z) a g) (sym is) (subst (λ z. IsGlance s page z a g) same glanced)

@@ -61,11 +61,11 @@ module _ (f : ℕ → List ℕ) (one : (k : ℕ) → Among (f k) (f (suc k))) (a
 module _ (s : System) (page : LabelTree) where
   pub labels_more : (place : Place) (k : ℕ) → Among (labels_of s page place k) (labels_of s page place (suc k))
   labels_more (Node at) k = page-one_more s page at.now k
-  labels_more (Added j parent) k = grown-one_more s j parent.now k
+  labels_more (Added j parent arrivals) k = grown-one_more s j parent.now k
 
   pub labels_rise : (place : Place) (k : ℕ) → IsStrictlyIncreasing (labels_of s page place k)
   labels_rise (Node at) k = page-rises s page k at.now
-  labels_rise (Added j parent) k = grown-rises s k j parent.now
+  labels_rise (Added j parent arrivals) k = grown-rises s k j parent.now
 
   -- what a closed page tells of a node
   module _ (c : ClosedPage) (closed : IsClosedPage s page c) (v : List ℕ) (node : IsSome (node_at v page)) (a k : ℕ) where
@@ -126,7 +126,7 @@ below_known world known ready (Node at) k c visible node asking listed needs is 
     let own = page_round s world.page.now k at.now in
     let asks : Asks s own (c.kind, visible) = (is-kinds_at s own c.kind (record { spawn = c; listed = listed; needs = Contains-has_class c.needs own (sym needs); kind = refl }), is) in
     ready.asked (c.kind, visible) (at.now, node, k, asks)
-below_known world known ready (Added j parent) k c visible pair asking listed needs is =
+below_known world known ready (Added j parent arrivals) k c visible pair asking listed needs is =
     let s = world.system.now in
     let own = grown s k j parent.now in
     let asks : Asks s own (c.kind, visible) = (is-kinds_at s own c.kind (record { spawn = c; listed = listed; needs = Contains-has_class c.needs own (sym needs); kind = refl }), is) in

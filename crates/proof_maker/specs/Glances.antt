@@ -52,6 +52,12 @@ pub record IsNodeAt (s : System) (page : LabelTree) (nodes : List (List ℕ)) (n
   pub node : IsSome (node_at path page)
   pub comes : (k : ℕ) × Contains (labels_at s page (page_node path) k) a
 
+-- an atom that comes at the added node of a triple
+pub record IsKeyOf (s : System) (page : LabelTree) (known : Pair → Type 0) (t : Triple) (a : ℕ) : Type 0 where
+  pub pair : known (t.kind, t.parent)
+  pub rises : IsStrictlyIncreasing t.parent
+  pub comes : (k : ℕ) × Contains (labels_at s page (added t) k) a
+
 pub record IsTripleAt (s : System) (page : LabelTree) (known : Pair → Type 0) (triples : List Triple) (n a : ℕ) : Type 0 where
   pub triple : Triple
   pub at : slice_get triples n ≡ Some triple

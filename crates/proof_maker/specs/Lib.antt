@@ -1,8 +1,10 @@
 -- What public contracts cite.
 pub mod Forests
 pub mod Needs
+pub mod PlaceMemos
 pub mod Rules
 -- Invariants, and the states of the code.
+pub mod Arrivals
 pub mod Entries
 pub mod Glances
 pub mod Items

@@ -2,6 +2,7 @@
 --     setting_of, path_of      the place as a setting, and as the path of a node in it
 --     labels_of s page place k the label at the place after so many rounds
 --     IsPlace page known place it is a node of the page, or an added node of a known pair
+--     HasArrivals s place          an added node has with it what comes to it
 --     IsReady world known      the page is closed, what it asks is known, and the rules are those of the system
 use Rattle.std.specs.Prelude.{ℕ, Bool, ◌&&◌, List, [], ◌∷◌, ◌++◌, IsSome, option_map, unwrap_or}
 use Rattle.tp_base.specs.Classes.{has_class}
@@ -22,26 +23,31 @@ use Rattle.proof_maker.specs.declared.worlds.World.{World}
 use Rattle.proof_needs.specs.Choices.{Setting, on_page, on_added, spawn_needs, spawn_kind, stands}
 use Rattle.proof_needs.specs.Choices.{Choice as Reason}
 use Rattle.simple_core.specs.Givers.{AreGivers}
+use Rattle.proof_maker.specs.Arrivals.{AreArrivals}
 
 abbrev pub setting_of : System → LabelTree → Place → Setting
 setting_of s page (Node at) = on_page s page
-setting_of s page (Added j parent) = on_added s j parent.now
+setting_of s page (Added j parent arrivals) = on_added s j parent.now
 
 abbrev pub path_of : Place → List ℕ
 path_of (Node at) = at.now
-path_of (Added j parent) = []
+path_of (Added j parent arrivals) = []
 
 abbrev pub labels_of : System → LabelTree → Place → ℕ → List ℕ
 labels_of s page place k = (setting_of s page place).label k (path_of place)
 
 abbrev pub IsPlace : LabelTree → (Pair → Type 0) → Place → Type 0
 IsPlace page known (Node at) = IsSome (node_at at.now page)
-IsPlace page known (Added j parent) = known (j, parent.now)
+IsPlace page known (Added j parent arrivals) = known (j, parent.now)
+
+abbrev pub HasArrivals : System → Place → Type 0
+HasArrivals s (Node at) = Unit {0}
+HasArrivals s (Added j parent arrivals) = AreArrivals s.visible (λ k. grown s k j parent.now) arrivals.now
 
 -- it is a node of the page, if it is none that is added
 abbrev pub IsNodeOf : LabelTree → Place → Type 0
 IsNodeOf page (Node at) = IsSome (node_at at.now page)
-IsNodeOf page (Added j parent) = Unit {0}
+IsNodeOf page (Added j parent arrivals) = Unit {0}
 
 -- the label of a node's parent
 abbrev pub above_on : System → LabelTree → ℕ → List ℕ → List ℕ
@@ -50,7 +56,7 @@ above_on s page k v = unwrap_or (option_map (page_round s page k) (parent_of v))
 -- with the pair of an added node all that it asks is known
 abbrev pub IsAsking : System → (Pair → Type 0) → Place → Type 0
 IsAsking s known (Node at) = Unit {0}
-IsAsking s known (Added j parent) = KeepsAsking s known
+IsAsking s known (Added j parent arrivals) = KeepsAsking s known
 
 pub record IsReady (world : World) (known : Pair → Type 0) : Type 0 where
   pub closed : IsClosedPage world.system.now world.page.now world.closed.now

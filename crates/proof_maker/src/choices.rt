@@ -6,7 +6,7 @@ ghost use Rattle.simple_core.specs.Labels.{visible_in};
 ghost use Rattle.simple_core.specs.Rounds.{grown};
 ghost use Rattle.closed_page.specs.ClosedPages.{IsClosedPage};
 ghost use Rattle.proof_needs.specs.Choices.{by_local, by_up, ways_down, ways, chosen};
-ghost use Rattle.proof_maker.specs.Worlds.{setting_of, path_of, labels_of, IsPlace, IsNodeOf, IsReady, stands_at, real_has, spawn_has};
+ghost use Rattle.proof_maker.specs.Worlds.{setting_of, path_of, labels_of, IsPlace, HasArrivals, IsNodeOf, IsReady, stands_at, real_has, spawn_has};
 ghost use Rattle.proof_maker.specs.Glances.{HasBelow};
 ghost use Rattle.proof_maker.specs.Reasons.{found_reason};
 
@@ -53,6 +53,7 @@ pub(crate) fn chosen<S: Summaries>(
     requires made { S.system sums.now ≡ world.now.system.now }
     requires ready { IsReady world.now (S.known sums.now) }
     requires place { IsPlace world.now.page.now (S.known sums.now) place.now }
+    requires arrivals { HasArrivals world.now.system.now place.now }
     ensures choice { IfOk result (λ f. found_reason f ≡ chosen world.now.system.now (setting_of world.now.system.now world.now.page.now place.now) (path_of place.now) atom round) }
     ensures below { IfOk result (HasBelow world.now place.now (round - 1)) }
 {
@@ -80,6 +81,7 @@ fn way<S: Summaries>(
     requires made { S.system sums.now ≡ world.now.system.now }
     requires ready { IsReady world.now (S.known sums.now) }
     requires place { IsPlace world.now.page.now (S.known sums.now) place.now }
+    requires arrivals { HasArrivals world.now.system.now place.now }
     ensures below { IfOk result (λ w. IfSome w (HasBelow world.now place.now round)) }
     ensures choice { IfOk result (λ w. option_map found_reason w
         ≡ find (stands_at world.now place.now round) (ways world.now.system.now (setting_of world.now.system.now world.now.page.now place.now) (path_of place.now) atom)) }
@@ -161,6 +163,7 @@ fn down_way<S: Summaries>(
     requires made { S.system sums.now ≡ world.now.system.now }
     requires ready { IsReady world.now (S.known sums.now) }
     requires place { IsPlace world.now.page.now (S.known sums.now) place.now }
+    requires arrivals { HasArrivals world.now.system.now place.now }
     ensures below { IfOk result (λ w. IfSome w (HasBelow world.now place.now round)) }
     ensures choice { IfOk result (λ w. option_map found_reason w
         ≡ find (stands_at world.now place.now round) (flat_map (ways_down world.now.system.now (setting_of world.now.system.now world.now.page.now place.now) (path_of place.now)) links.now)) }
@@ -186,6 +189,7 @@ fn link_way<S: Summaries>(
     requires made { S.system sums.now ≡ world.now.system.now }
     requires ready { IsReady world.now (S.known sums.now) }
     requires place { IsPlace world.now.page.now (S.known sums.now) place.now }
+    requires arrivals { HasArrivals world.now.system.now place.now }
     ensures below { IfOk result (λ w. IfSome w (HasBelow world.now place.now round)) }
     ensures choice { IfOk result (λ w. option_map found_reason w
         ≡ find (stands_at world.now place.now round) (ways_down world.now.system.now (setting_of world.now.system.now world.now.page.now place.now) (path_of place.now) link)) }
@@ -217,7 +221,7 @@ fn real_child(world: &World<'_>, place: &Place<'_>, from: Atom, round: u64) -> O
 {
     match place {
         Place::Node(at) => world.closed.first_child(at, from, round),
-        Place::Added(_, _) => None,
+        Place::Added(_, _, _) => None,
     }
 }
 

@@ -1,12 +1,14 @@
 //! What is looked up of one atom.
-ghost use Rattle.std.specs.Prelude.{◌≡◌, ◌<◌, ℕ, List, length, slice_get, Some, Contains, IfOk, OnOk};
+ghost use Rattle.std.specs.Prelude.{◌≡◌, ℕ, List, slice_get, Some, Contains, IfOk, OnOk};
 ghost use Rattle.simple_core.specs.Knowledge.{KeepsAsking};
-ghost use Rattle.proof_needs.specs.Triples.{Triple, page_node, added};
-ghost use Rattle.proof_maker.specs.Worlds.{labels_of, IsPlace, IsAsking, IsReady};
-ghost use Rattle.proof_needs.specs.Spots.{paths_in, triples_in};
-ghost use Rattle.proof_maker.specs.Glances.{IsGlance, IsGlanceAt, IsNodeAt, IsTripleAt};
+ghost use Rattle.proof_needs.specs.Triples.{page_node, added};
+ghost use Rattle.proof_maker.specs.Worlds.{labels_of, IsPlace, HasArrivals, IsAsking, IsReady};
+ghost use Rattle.proof_maker.specs.PlaceMemos.{IsPlaceMemo};
+ghost use Rattle.proof_needs.specs.Spots.{paths_in, triple_of};
+ghost use Rattle.proof_maker.specs.Glances.{IsGlance, IsGlanceAt, IsNodeAt, IsKeyOf};
 
 use crate::choices::chosen;
+use crate::place_memo::PlaceMemo;
 use crate::worlds::{Place, World, first};
 use indexmap::IndexSet;
 use proof_needs::{Choice, TripleKey, path_of, set_of};
@@ -33,6 +35,7 @@ fn glance_in<S: Summaries>(
     requires made { S.system sums.now ≡ world.now.system.now }
     requires ready { IsReady world.now (S.known sums.now) }
     requires place { IsPlace world.now.page.now (S.known sums.now) place.now }
+    requires arrivals { HasArrivals world.now.system.now place.now }
     requires comes { (k : ℕ) × Contains (labels_of world.now.system.now world.now.page.now place.now k) atom }
     ensures glance { IfOk result (IsGlanceAt world.now.system.now world.now.page.now place.now atom) }
     ensures asking { OnOk result (IsAsking world.now.system.now (S.known sums.now) place.now) }
@@ -64,23 +67,31 @@ pub(crate) fn glance_node<S: Summaries>(
     glance_in(alloc, world, sums, &Place::Node(&at), atom)
 }
 
-/// Looks at an atom that comes at the added node of this number.
+/// Looks at an atom that comes at the added node of a triple.
 pub(crate) fn glance_added<S: Summaries>(
     alloc: Global,
-    triples: &IndexSet<TripleKey>,
-    n: usize,
+    key: &TripleKey,
     world: &World<'_>,
     sums: &S,
     atom: Atom,
+    memo: &mut PlaceMemo,
 ) -> Result<Glance, NoMemory>
     requires made { S.system sums.now ≡ world.now.system.now }
     requires ready { IsReady world.now (S.known sums.now) }
-    requires bound { n < length triples.now.keys }
-    requires triple { IsTripleAt world.now.system.now world.now.page.now (S.known sums.now) (triples_in triples.now.keys) n atom }
-    ensures glance { IfOk result (λ g. (t : Triple) → slice_get (triples_in triples.now.keys) n ≡ Some t → IsGlance world.now.system.now world.now.page.now (added t) atom g) }
+    requires key { IsKeyOf world.now.system.now world.now.page.now (S.known sums.now) (triple_of key.now) atom }
+    requires memo { IsPlaceMemo world.now.system.now memo.old }
+    ensures glance { IfOk result (IsGlance world.now.system.now world.now.page.now (added (triple_of key.now)) atom) }
     ensures asking { OnOk result (KeepsAsking world.now.system.now (S.known sums.now)) }
+    ensures memo { IsPlaceMemo world.now.system.now memo.new }
 {
-    let key = &triples.as_slice()[n];
     let parent = set_of(alloc, &key.parent)?;
-    glance_in(alloc, world, sums, &Place::Added(key.kind, &parent), atom)
+    let row = memo.reach(alloc, world.system, sums, key.kind, &parent)?;
+    let arrivals = memo.arrivals(row);
+    glance_in(
+        alloc,
+        world,
+        sums,
+        &Place::Added(key.kind, &parent, arrivals),
+        atom,
+    )
 }

@@ -1,15 +1,18 @@
 //! The canonical proof that the root of a page gets an atom: it has what the atom needs and nothing else, in one order.
 #![tactic(auto)]
 
+mod arrivals;
 mod choices;
 mod entries;
 mod glances;
 mod laws;
 mod looking;
 mod making;
+mod place_memo;
 mod rules;
 mod worlds;
 
 pub use laws::{canonical_is_one, canonical_is_valid, canonical_length};
-pub use making::{ProveFault, prove, prove_by};
+pub use making::{ProofGround, ProveFault, prove, prove_by, prove_next};
+pub use place_memo::PlaceMemo;
 pub use rules::Rules;

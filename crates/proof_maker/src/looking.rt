@@ -1,14 +1,16 @@
 //! Looks at one atom after another, until what each needs is wanted too.
-ghost use Rattle.std.specs.Prelude.{◌≡◌, ◌<◌, [], suc, length, slice_get, unwrap_or, option_map, Contains, IfOk, OnOk, MatchOption};
+ghost use Rattle.std.specs.Prelude.{◌≡◌, ◌<◌, [], suc, length, slice_get, Some, unwrap_or, option_map, Contains, IfOk, OnOk, MatchOption};
 ghost use Rattle.tree_sem.specs.Nodes.{HasAtom};
 ghost use Rattle.proof_maker.specs.Needs.{UsesMore};
 ghost use Rattle.proof_maker.specs.Worlds.{IsReady};
-ghost use Rattle.proof_needs.specs.Spots.{paths_in, triples_in, spot_in};
+ghost use Rattle.proof_maker.specs.PlaceMemos.{IsPlaceMemo};
+ghost use Rattle.proof_needs.specs.Spots.{paths_in, triples_in, triple_of, spot_in};
 ghost use Rattle.proof_needs.specs.Following.{Enters, IsEntered};
 ghost use Rattle.proof_maker.specs.Glances.{IsGlance, AsksAt};
 ghost use Rattle.proof_maker.specs.Working.{IsWorking, IsStart, IsDone};
 
 use crate::glances::{Glance, glance_added, glance_node};
+use crate::place_memo::PlaceMemo;
 use crate::worlds::World;
 use indexmap::IndexSet;
 use proof_needs::{
@@ -26,18 +28,32 @@ fn glance_at<S: Summaries>(
     world: &World<'_>,
     sums: &S,
     want: &Want,
+    memo: &mut PlaceMemo,
 ) -> Result<Glance, NoMemory>
     requires made { S.system sums.now ≡ world.now.system.now }
     requires ready { IsReady world.now (S.known sums.now) }
     requires working { IsWorking world.now.system.now world.now.page.now (S.known sums.now) needs.now }
     requires wanted { Contains needs.now.wants.keys want.now }
+    requires memo { IsPlaceMemo world.now.system.now memo.old }
     ensures glance { IfOk result (IsGlance world.now.system.now world.now.page.now (spot_in (paths_in needs.now.nodes.keys) (triples_in needs.now.triples.keys) want.now.spot) want.now.atom) }
     ensures asking { OnOk result (AsksAt world.now.system.now (S.known sums.now) (spot_in (paths_in needs.now.nodes.keys) (triples_in needs.now.triples.keys) want.now.spot)) }
+    ensures memo { IsPlaceMemo world.now.system.now memo.new }
 {
     match want.spot {
         Spot::Page(n) => glance_node(alloc, &needs.nodes, n, world, sums, want.atom),
-        Spot::Added(n) => glance_added(alloc, &needs.triples, n, world, sums, want.atom),
+        Spot::Added(n) => {
+            let key = key_at(&needs.triples, n);
+            glance_added(alloc, key, world, sums, want.atom, memo)
+        }
     }
+}
+
+// The triple of a number.
+fn key_at(triples: &IndexSet<TripleKey>, n: usize) -> &TripleKey
+    requires { n < length triples.now.keys }
+    ensures { slice_get (triples_in triples.now.keys) n ≡ Some (triple_of result.now) }
+{
+    &triples.as_slice()[n]
 }
 
 // The kind that a spawn rule adds.
@@ -108,18 +124,21 @@ fn look<S: Summaries>(
     needs: &mut Needs,
     world: &World<'_>,
     sums: &S,
+    memo: &mut PlaceMemo,
 ) -> Result<(), NoMemory>
     requires made { S.system sums.now ≡ world.now.system.now }
     requires ready { IsReady world.now (S.known sums.now) }
     requires working { IsWorking world.now.system.now world.now.page.now (S.known sums.now) needs.old }
     requires more { length needs.old.drafts.items < length needs.old.wants.keys }
+    requires memo { IsPlaceMemo world.now.system.now memo.old }
     ensures working { OnOk result (IsWorking world.now.system.now world.now.page.now (S.known sums.now) needs.new) }
     ensures done { OnOk result (length needs.new.drafts.items ≡ suc (length needs.old.drafts.items)) }
     ensures target { needs.new.target ≡ needs.old.target }
+    ensures memo { IsPlaceMemo world.now.system.now memo.new }
 {
     let next = needs.drafts.len();
     let want = needs.wants.as_slice()[next];
-    let glance = glance_at(alloc, needs, world, sums, &want)?;
+    let glance = glance_at(alloc, needs, world, sums, &want, memo)?;
     let triple = enter(alloc, needs, world.system, &glance)?;
     let draft = Draft {
         round: glance.round,
@@ -155,15 +174,18 @@ pub(crate) fn needs_of<S: Summaries>(
     sums: &S,
     target: Atom,
     limit: u32,
+    memo: &mut PlaceMemo,
 ) -> Result<Option<Needs>, NoMemory>
     requires made { S.system sums.now ≡ world.now.system.now }
     requires ready { IsReady world.now (S.known sums.now) }
     requires target { HasAtom world.now.closed.now.labels [] target }
-    ensures { IfOk result (λ r. MatchOption r (UsesMore world.now.system.now world.now.page.now target limit) (IsDone world.now.system.now world.now.page.now (S.known sums.now) target limit)) }
+    requires memo { IsPlaceMemo world.now.system.now memo.old }
+    ensures needs { IfOk result (λ r. MatchOption r (UsesMore world.now.system.now world.now.page.now target limit) (IsDone world.now.system.now world.now.page.now (S.known sums.now) target limit)) }
+    ensures memo { IsPlaceMemo world.now.system.now memo.new }
 {
     let mut needs = start(alloc, target)?;
     'wants: while needs.drafts.len() < needs.wants.len() {
-        look(alloc, &mut needs, world, sums)?;
+        look(alloc, &mut needs, world, sums, memo)?;
         if needs.triples.len() > limit as usize {
             return Ok(None);
         }

@@ -7,11 +7,13 @@ ghost use Rattle.closed_page.specs.ClosedPages.{IsClosedPage};
 ghost use Rattle.proof_check.specs.Validity.{IsValid};
 ghost use Rattle.proof_maker.specs.Forests.{KeepsForests};
 ghost use Rattle.proof_maker.specs.Needs.{IsCanonical, UsesMore};
+ghost use Rattle.proof_maker.specs.PlaceMemos.{IsPlaceMemo};
 ghost use Rattle.proof_maker.specs.Rules.{AreRulesOf};
 ghost use Rattle.proof_maker.specs.Making.{IsMakeable, IsProofOf};
 
 use crate::entries::{entries_of, page_items};
 use crate::looking::needs_of;
+use crate::place_memo::PlaceMemo;
 use crate::rules::Rules;
 use crate::worlds::World;
 use closed_page::Closed;
@@ -40,6 +42,15 @@ impl From<NoMemory> for ProveFault {
     fn from(_error: NoMemory) -> ProveFault {
         ProveFault::Memory
     }
+}
+
+/// What proofs are made from: a page, a system with its rules looked up, and the page that it closes.
+#[derive(Clone, Copy)]
+pub struct ProofGround<'a> {
+    pub page: &'a Tree,
+    pub system: &'a System,
+    pub rules: &'a Rules,
+    pub closed: &'a Closed,
 }
 
 /// The canonical proof that the page's root gets the target, where it has no more entries than the limit. Each atom that is needed is
@@ -91,16 +102,49 @@ pub fn prove_by<S: Summaries>(
     ensures within { IfOk result (λ p. length p.entries ≤ limit) }
     ensures unshown { IsErrOf result ProveFault.Unshown → UsesMore system.now page.now target limit }
 {
-    let world = World {
+    let ground = ProofGround {
         page,
         system,
+        rules,
         closed,
-        locals: &rules.locals,
-        ups: &rules.ups,
-        downs: &rules.downs,
     };
-    match needs_of(alloc, &world, sums, target, limit)? {
-        Some(needs) => Ok(proof_of(alloc, &needs, system)?),
+    let mut memo = PlaceMemo::new(alloc);
+    prove_next(alloc, &ground, sums, &mut memo, target, limit)
+}
+
+/// The same, one proof after another over one system. What comes to an added node is asked in the first proof that looks at it.
+pub fn prove_next<S: Summaries>(
+    alloc: Global,
+    ground: &ProofGround<'_>,
+    sums: &S,
+    memo: &mut PlaceMemo,
+    target: Atom,
+    limit: u32,
+) -> Result<Proof, ProveFault>
+    requires sound { IsSound ground.now.system.now }
+    requires rules { AreRulesOf ground.now.system.now ground.now.rules.now }
+    requires closed { IsClosedPage ground.now.system.now ground.now.page.now ground.now.closed.now }
+    requires made { S.system sums.now ≡ ground.now.system.now }
+    requires known { (q : Pair) → Asked ground.now.system.now ground.now.page.now q → S.known sums.now q }
+    requires target { HasAtom ground.now.closed.now.labels [] target }
+    requires forests { KeepsForests ground.now.system.now ground.now.page.now }
+    requires memo { IsPlaceMemo ground.now.system.now memo.old }
+    ensures canonical { IfOk result (λ p. IsCanonical ground.now.system.now ground.now.page.now target p) }
+    ensures valid { IfOk result (λ p. IsValid ground.now.system.now ground.now.page.now p target) }
+    ensures within { IfOk result (λ p. length p.entries ≤ limit) }
+    ensures unshown { IsErrOf result ProveFault.Unshown → UsesMore ground.now.system.now ground.now.page.now target limit }
+    ensures memo { IsPlaceMemo ground.now.system.now memo.new }
+{
+    let world = World {
+        page: ground.page,
+        system: ground.system,
+        closed: ground.closed,
+        locals: &ground.rules.locals,
+        ups: &ground.rules.ups,
+        downs: &ground.rules.downs,
+    };
+    match needs_of(alloc, &world, sums, target, limit, memo)? {
+        Some(needs) => Ok(proof_of(alloc, &needs, ground.system)?),
         None => Err(ProveFault::Unshown),
     }
 }

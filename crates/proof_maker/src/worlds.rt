@@ -7,8 +7,9 @@ ghost use Rattle.simple_core.specs.Rounds.{grown, IsFirst};
 ghost use Rattle.simple_core.specs.Pages.{page_round};
 ghost use Rattle.simple_core.specs.Knowledge.{KeepsAsking};
 ghost use Rattle.closed_page.specs.ClosedPages.{IsClosedPage};
-ghost use Rattle.proof_maker.specs.Worlds.{setting_of, path_of, labels_of, IsPlace, above_on, IsNodeOf, IsAsking};
+ghost use Rattle.proof_maker.specs.Worlds.{setting_of, path_of, labels_of, IsPlace, HasArrivals, above_on, IsNodeOf, IsAsking};
 
+use crate::arrivals::Arrivals;
 use closed_page::Closed;
 use simple_core::{Givers, Summaries, System};
 use std::alloc::Global;
@@ -26,11 +27,11 @@ pub(crate) struct World<'a> {
     pub(crate) downs: &'a Givers,
 }
 
-/// A node of the page, or an added node of a kind below a parent with this visible label.
+/// A node of the page, or an added node of a kind below a parent with this visible label, with what comes to it.
 #[derive(Clone, Copy)]
 pub(crate) enum Place<'a> {
     Node(&'a Path),
-    Added(u32, &'a ClassSet),
+    Added(u32, &'a ClassSet, &'a Arrivals),
 }
 
 /// The first round in which the label at the place has the atom.
@@ -48,7 +49,7 @@ pub(crate) fn first<S: Summaries>(
 {
     match place {
         Place::Node(at) => world.closed.first_round(at, atom),
-        Place::Added(kind, parent) => sums.first_round(*kind, parent, atom),
+        Place::Added(kind, parent, _) => sums.first_round(*kind, parent, atom),
     }
 }
 
@@ -98,7 +99,7 @@ pub(crate) fn has<S: Summaries>(
 {
     match place {
         Place::Node(at) => node_has(world, at, atom, round),
-        Place::Added(kind, parent) => added_has(sums, *kind, parent, atom, round),
+        Place::Added(kind, parent, _) => added_has(sums, *kind, parent, atom, round),
     }
 }
 
@@ -135,7 +136,7 @@ pub(crate) fn is_above(
     ensures { IfOk result (λ b. b ≡ has_class atom ((setting_of world.now.system.now world.now.page.now place.now).above round (path_of place.now))) }
 {
     match place {
-        Place::Added(_, parent) => Ok(parent.has(atom)),
+        Place::Added(_, parent, _) => Ok(parent.has(atom)),
         Place::Node(at) => parent_has(world, at, atom, round),
     }
 }
@@ -152,8 +153,29 @@ fn parent_has(world: &World<'_>, at: &Path, atom: Atom, round: u64) -> Result<bo
     Ok(node_has(world, &above, atom, round))
 }
 
-/// The visible part of the label at the place in a round. Linear in the visible atoms, but for look-ups.
+/// The visible part of the label at the place in a round. Linear in the atoms that come to it; at a node of the page in
+/// the visible atoms, but for look-ups.
 pub(crate) fn visible_at<S: Summaries>(
+    alloc: Global,
+    world: &World<'_>,
+    sums: &S,
+    place: &Place<'_>,
+    round: u64,
+) -> Result<ClassSet, NoMemory>
+    requires made { S.system sums.now ≡ world.now.system.now }
+    requires closed { IsClosedPage world.now.system.now world.now.page.now world.now.closed.now }
+    requires place { IsPlace world.now.page.now (S.known sums.now) place.now }
+    requires arrivals { HasArrivals world.now.system.now place.now }
+    ensures { IfOk result (λ l. l ≡ visible_in world.now.system.now (labels_of world.now.system.now world.now.page.now place.now round)) }
+{
+    match place {
+        Place::Added(_, _, arrivals) => arrivals.by(alloc, round),
+        Place::Node(_) => visible_now(alloc, world, sums, place, round),
+    }
+}
+
+// The same, by a look-up for each visible atom.
+fn visible_now<S: Summaries>(
     alloc: Global,
     world: &World<'_>,
     sums: &S,

@@ -1,4 +1,4 @@
-use Rattle.std.proofs.Common.{◌≡◌, find, length, sym, subst, ◌∙◌}
+use Rattle.std.proofs.Common.{◌≡◌, find, sym, subst, ◌∙◌}
 use Rattle.std.specs.List.{range_with_len}
 use Rattle.proof_maker.specs.declared.worlds.Place.{Place}
 use Rattle.proof_maker.specs.Worlds.{setting_of, path_of, real_has}

@@ -1,18 +1,40 @@
-use Rattle.std.proofs.Common.{List, ℕ, sym, ap, subst, ◌∙◌}
+use Rattle.std.proofs.Common.{List, ℕ, Contains, refl, sym, subst, ◌∙◌}
 use Rattle.std.specs.List.Sorted.{IsStrictlyIncreasing}
-use Rattle.proof_needs.specs.Triples.{Triple}
+use Rattle.simple_core.specs.Rounds.{grown}
+use Rattle.proof_needs.specs.Spots.{triple_of}
 use Rattle.proof_maker.proofs.FindLemmas.{ok_further}
-use Rattle.proof_maker.proofs.GlanceLemmas.{key_triple, added_glance}
+use Rattle.proof_maker.proofs.GlanceLemmas.{added_glance}
+use Rattle.proof_maker.proofs.MemoLemmas.{row_arrivals, row_bound}
 use Rattle.proof_maker.proofs.glances.glance_added.Goals as goal
+
+pub reach-requires-clause-known : goal.reach-requires-clause-known
+reach-requires-clause-known g c =
+    let key = c.args.key.now in
+    let rises = subst (λ (z : List ℕ). IsStrictlyIncreasing z) (sym c.deref.ensures.value) c.requires.key.rises in
+    subst (λ (z : List ℕ). g.S.Summaries.known c.args.sums.now (key.kind, z)) (sym (c.in_ok-parent.ensures rises ∙ c.deref.ensures.value)) c.requires.key.pair
+
+pub arrivals-arrivals-requires : goal.arrivals-arrivals-requires
+arrivals-arrivals-requires g c = row_bound c.reach.new.self c.args.key.now.kind c.in_ok-parent.parent c.in_ok-row.row c.in_ok-row.ensures.row
+
+pub glance_in-requires-clause-place : goal.glance_in-requires-clause-place
+glance_in-requires-clause-place g c =
+    let key = c.args.key.now in
+    let rises = subst (λ (z : List ℕ). IsStrictlyIncreasing z) (sym c.deref.ensures.value) c.requires.key.rises in
+    subst (λ (z : List ℕ). g.S.Summaries.known c.args.sums.now (key.kind, z)) (sym (c.in_ok-parent.ensures rises ∙ c.deref.ensures.value)) c.requires.key.pair
+
+pub glance_in-requires-clause-arrivals : goal.glance_in-requires-clause-arrivals
+glance_in-requires-clause-arrivals g c =
+    row_arrivals c.args.world.now.system.now c.reach.new.self c.args.key.now.kind c.in_ok-parent.parent c.in_ok-row.row c.arrivals-arrivals.result.now c.in_ok-row.ensures.rows c.in_ok-row.ensures.row c.arrivals-arrivals.ensures
+
+pub glance_in-requires-clause-comes : goal.glance_in-requires-clause-comes
+glance_in-requires-clause-comes g c =
+    let key = c.args.key.now in
+    let rises = subst (λ (z : List ℕ). IsStrictlyIncreasing z) (sym c.deref.ensures.value) c.requires.key.rises in
+    subst (λ (z : List ℕ). (k : ℕ) × Contains (grown c.args.world.now.system.now k key.kind z) c.args.atom) (sym (c.in_ok-parent.ensures rises ∙ c.deref.ensures.value)) c.requires.key.comes
 
 pub returns-clause-glance : goal.returns-clause-glance
 returns-clause-glance g c =
-    let keys = c.args.triples.now.keys in
-    let key = c.index-as_slice-n.result in
+    let key = c.args.key.now in
+    let rises = subst (λ (z : List ℕ). IsStrictlyIncreasing z) (sym c.deref.ensures.value) c.requires.key.rises in
     ok_further c.glance_in.result _ _ c.glance_in.ensures.glance
-    (λ found is t at.
-    let same = key_triple keys c.as_slice.result.now c.args.n key t c.as_slice.ensures.keys c.requires.bound c.index-as_slice-n.is at in
-    let same' = key_triple keys c.as_slice.result.now c.args.n key c.requires.triple.triple c.as_slice.ensures.keys c.requires.bound c.index-as_slice-n.is c.requires.triple.at in
-    let rises = subst (λ (z : List ℕ). IsStrictlyIncreasing z) (sym (c.deref.ensures.value ∙ ap (λ (u : Triple). u.parent) same')) c.requires.triple.rises in
-    added_glance c.args.world.now.system.now c.args.world.now.page.now c.args.atom found key.kind _ t (sym (ap (λ (u : Triple). u.kind) same))
-    (c.in_ok-parent.ensures rises ∙ c.deref.ensures.value ∙ ap (λ (u : Triple). u.parent) same) is)
+    (λ found is. added_glance c.args.world.now.system.now c.args.world.now.page.now c.args.atom found key.kind _ _ (triple_of key) refl (c.in_ok-parent.ensures rises ∙ c.deref.ensures.value) is)

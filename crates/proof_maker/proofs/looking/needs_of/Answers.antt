@@ -16,10 +16,11 @@ wants-init g c =
       working = start_right s page c.args.target (g.S.Summaries.known c.args.sums.now) n start (target_comes s page c.args.target c.args.world.now.closed.now c.requires.ready.closed c.requires.target);
       target_is = start.target_is;
       few = omega (arith, none);
+      memo = c.requires.memo;
     }
 
-pub returns-then-len-limit : goal.returns-then-len-limit
-returns-then-len-limit g c =
+pub returns-then-len-limit-clause-needs : goal.returns-then-len-limit-clause-needs
+returns-then-len-limit-clause-needs g c =
     let s = c.args.world.now.system.now in
     let page = c.args.world.now.page.now in
     let n = c.look.new.needs in
