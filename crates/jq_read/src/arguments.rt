@@ -14,7 +14,7 @@ ghost use Rattle.jq_read.specs.Readers.{context_of, state_of};
 ghost use Rattle.jq_parts.specs.Views.{value_of};
 ghost use Rattle.jq_read.specs.Views.{done_of};
 
-use crate::states::State;
+use crate::readings::Reading;
 use crate::values::Done;
 use jq_cursor::{
     Cursor, Reader, add_attribute, class_set, compounds, is_attribute, selectors, some_argument,
@@ -54,19 +54,18 @@ fn compounds_argument(
 /// The arguments of a call that makes a set by a list of compounds.
 #[tactic(auto, unfolding(crate::specs::CallArguments::move_arguments), using(sel_core::proofs::Fronts::front_itself))]
 pub(crate) fn move_arguments(
-    reader: Reader<'_>,
+    reading: &mut Reading<'_, '_>,
     form: Form,
     none: bool,
     reached: Value,
-    state: &State<'_>,
-    atoms: &mut AtomTable,
-    words: &mut Cursor<'_, '_>,
 ) -> Result<Done, ScriptFault>
-    ensures gives { Turns done_of (state_of reader.entry state.now atoms.new) words.new result (spec.move_arguments (context_of reader.entry state.now) (form_of form) none (value_of reached) (state_of reader.entry state.now atoms.old) words.old) }
-    ensures rest { OnOk result (IsRest words.old words.new) }
-    ensures front { IsFront atoms.old atoms.new }
+    ensures gives { Turns done_of (state_of reading.new) reading.new.words result (spec.move_arguments (context_of reading.old) (form_of form) none (value_of reached) (state_of reading.old) reading.old.words) }
+    ensures rest { OnOk result (IsRest reading.old.words reading.new.words) }
+    ensures kept { OnOk result (context_of reading.new ≡ context_of reading.old) }
+    ensures front { IsFront reading.old.atoms reading.new.atoms }
 {
-    let found = compounds_argument(reader, none, atoms, words)?;
+    let reader = reading.reader;
+    let found = compounds_argument(reader, none, &mut reading.atoms, &mut reading.words)?;
     let reached = with_call(reader.alloc, reached, made(form, found)?)?;
     Ok(Done {
         reached,
@@ -101,19 +100,18 @@ pub(crate) fn take_first(alloc: Global, reached: Value) -> Result<Done, ScriptFa
 /// The argument of a call that unites sets.
 #[tactic(auto, unfolding(crate::specs::CallArguments::unite_arguments), using(sel_core::proofs::Fronts::front_itself, jq_words::proofs::Rests::is_rest))]
 pub(crate) fn unite_arguments(
-    reader: Reader<'_>,
+    reading: &mut Reading<'_, '_>,
     reached: Value,
-    state: &State<'_>,
-    atoms: &mut AtomTable,
-    words: &mut Cursor<'_, '_>,
 ) -> Result<Done, ScriptFault>
-    ensures gives { Turns done_of (state_of reader.entry state.now atoms.new) words.new result (spec.unite_arguments (context_of reader.entry state.now) (value_of reached) (state_of reader.entry state.now atoms.old) words.old) }
-    ensures rest { OnOk result (IsRest words.old words.new) }
-    ensures front { IsFront atoms.old atoms.new }
+    ensures gives { Turns done_of (state_of reading.new) reading.new.words result (spec.unite_arguments (context_of reading.old) (value_of reached) (state_of reading.old) reading.old.words) }
+    ensures rest { OnOk result (IsRest reading.old.words reading.new.words) }
+    ensures kept { OnOk result (context_of reading.new ≡ context_of reading.old) }
+    ensures front { IsFront reading.old.atoms reading.new.atoms }
 {
-    let at = place(reader.text.len(), words.words());
-    let letters = text_argument(reader.alloc, reader.text.len(), words)?;
-    let found = selectors(reader.alloc, at, &letters, atoms)?;
+    let reader = reading.reader;
+    let at = place(reader.text.len(), reading.words.words());
+    let letters = text_argument(reader.alloc, reader.text.len(), &mut reading.words)?;
+    let found = selectors(reader.alloc, at, &letters, &mut reading.atoms)?;
     let call = MarkedCall::plain(Call::Add(Selectors::new(found)?));
     let reached = with_call(reader.alloc, reached, call)?;
     Ok(Done {
@@ -143,21 +141,26 @@ fn acting(reached: Value, action: Action) -> Result<Done, ScriptFault>
 /// Classes, and then a list where there is a comma.
 #[tactic(auto, unfolding(crate::specs::CallArguments::class_arguments), using(sel_core::proofs::Fronts::front_itself, jq_words::proofs::Rests::behind_rest, jq_words::proofs::Rests::is_rest, jq_words::proofs::Rests::of_rest))]
 pub(crate) fn class_arguments(
-    reader: Reader<'_>,
+    reading: &mut Reading<'_, '_>,
     room: usize,
     reached: Value,
-    state: &State<'_>,
-    atoms: &mut AtomTable,
-    words: &mut Cursor<'_, '_>,
 ) -> Result<Done, ScriptFault>
-    ensures gives { Turns done_of (state_of reader.entry state.now atoms.new) words.new result (spec.class_arguments (context_of reader.entry state.now) room (value_of reached) (state_of reader.entry state.now atoms.old) words.old) }
-    ensures rest { OnOk result (IsRest words.old words.new) }
-    ensures front { IsFront atoms.old atoms.new }
+    ensures gives { Turns done_of (state_of reading.new) reading.new.words result (spec.class_arguments (context_of reading.old) room (value_of reached) (state_of reading.old) reading.old.words) }
+    ensures rest { OnOk result (IsRest reading.old.words reading.new.words) }
+    ensures kept { OnOk result (context_of reading.new ≡ context_of reading.old) }
+    ensures front { IsFront reading.old.atoms reading.new.atoms }
 {
-    let at = place(reader.text.len(), words.words());
-    let letters = text_argument(reader.alloc, reader.text.len(), words)?;
-    let classes = class_set(reader.alloc, at, &letters, atoms)?;
-    and_list(reader, state.scope.has_this, true, room, words)?;
+    let reader = reading.reader;
+    let at = place(reader.text.len(), reading.words.words());
+    let letters = text_argument(reader.alloc, reader.text.len(), &mut reading.words)?;
+    let classes = class_set(reader.alloc, at, &letters, &mut reading.atoms)?;
+    and_list(
+        reader,
+        reading.scope.has_this,
+        true,
+        room,
+        &mut reading.words,
+    )?;
     let done = acting(reached, Action::Classes(classes))?;
     Ok(done)
 }
@@ -165,28 +168,27 @@ pub(crate) fn class_arguments(
 // The value that an attribute of this name gets, behind the comma.
 #[tactic(auto, unfolding(crate::specs::CallArguments::value_argument), using(sel_core::proofs::Fronts::front_itself, sel_core::proofs::Fronts::front_of_front, jq_words::proofs::Rests::passed_behind))]
 fn value_argument(
-    reader: Reader<'_>,
+    reading: &mut Reading<'_, '_>,
     reached: Value,
     name: &[u8],
     at: usize,
-    state: &State<'_>,
-    atoms: &mut AtomTable,
-    words: &mut Cursor<'_, '_>,
 ) -> Result<Done, ScriptFault>
-    ensures gives { Turns done_of (state_of reader.entry state.now atoms.new) words.new result (spec.value_argument (context_of reader.entry state.now) (value_of reached) (state_of reader.entry state.now atoms.old) name.now at words.old) }
-    ensures rest { OnOk result (IsRest words.old words.new) }
-    ensures front { IsFront atoms.old atoms.new }
+    ensures gives { Turns done_of (state_of reading.new) reading.new.words result (spec.value_argument (context_of reading.old) (value_of reached) (state_of reading.old) name.now at reading.old.words) }
+    ensures rest { OnOk result (IsRest reading.old.words reading.new.words) }
+    ensures kept { OnOk result (context_of reading.new ≡ context_of reading.old) }
+    ensures front { IsFront reading.old.atoms reading.new.atoms }
 {
+    let reader = reading.reader;
     if !is_attribute(name) {
         return Err(ScriptFault::ComplexArgument(at));
     }
     let mut set = ClassSet::new(reader.alloc);
-    add_attribute(reader.alloc, at, name, &mut set, atoms)?;
-    words.pass();
-    let value_at = place(reader.text.len(), words.words());
-    let value = text_argument(reader.alloc, reader.text.len(), words)?;
+    add_attribute(reader.alloc, at, name, &mut set, &mut reading.atoms)?;
+    reading.words.pass();
+    let value_at = place(reader.text.len(), reading.words.words());
+    let value = text_argument(reader.alloc, reader.text.len(), &mut reading.words)?;
     let text = with_value(reader.alloc, name, &value)?;
-    add_attribute(reader.alloc, value_at, &text, &mut set, atoms)?;
+    add_attribute(reader.alloc, value_at, &text, &mut set, &mut reading.atoms)?;
     let done = acting(reached, Action::Classes(set))?;
     Ok(done)
 }
@@ -194,20 +196,19 @@ fn value_argument(
 /// An attribute that is read, or that gets a value.
 #[tactic(auto, unfolding(crate::specs::CallArguments::attribute_arguments), using(sel_core::proofs::Fronts::front_itself, jq_words::proofs::Rests::behind_rest, jq_words::proofs::Rests::is_rest, jq_words::proofs::Rests::of_rest))]
 pub(crate) fn attribute_arguments(
-    reader: Reader<'_>,
+    reading: &mut Reading<'_, '_>,
     reached: Value,
-    state: &State<'_>,
-    atoms: &mut AtomTable,
-    words: &mut Cursor<'_, '_>,
 ) -> Result<Done, ScriptFault>
-    ensures gives { Turns done_of (state_of reader.entry state.now atoms.new) words.new result (spec.attribute_arguments (context_of reader.entry state.now) (value_of reached) (state_of reader.entry state.now atoms.old) words.old) }
-    ensures rest { OnOk result (IsRest words.old words.new) }
-    ensures front { IsFront atoms.old atoms.new }
+    ensures gives { Turns done_of (state_of reading.new) reading.new.words result (spec.attribute_arguments (context_of reading.old) (value_of reached) (state_of reading.old) reading.old.words) }
+    ensures rest { OnOk result (IsRest reading.old.words reading.new.words) }
+    ensures kept { OnOk result (context_of reading.new ≡ context_of reading.old) }
+    ensures front { IsFront reading.old.atoms reading.new.atoms }
 {
-    let at = place(reader.text.len(), words.words());
-    let name = text_argument(reader.alloc, reader.text.len(), words)?;
-    if begins(words.words(), b",") {
-        let done = value_argument(reader, reached, &name, at, state, atoms, words)?;
+    let reader = reading.reader;
+    let at = place(reader.text.len(), reading.words.words());
+    let name = text_argument(reader.alloc, reader.text.len(), &mut reading.words)?;
+    if begins(reading.words.words(), b",") {
+        let done = value_argument(reading, reached, &name, at)?;
         return Ok(done);
     }
     Ok(Done {
@@ -229,27 +230,25 @@ fn added(beside: bool, forest: Forest) -> Action
 /// Markup that is added.
 #[tactic(auto, unfolding(crate::specs::CallArguments::grow_arguments), using(sel_core::proofs::Fronts::front_itself, jq_words::proofs::Rests::is_rest))]
 pub(crate) fn grow_arguments(
-    reader: Reader<'_>,
+    reading: &mut Reading<'_, '_>,
     room: usize,
     beside: bool,
     reached: Value,
-    state: &mut State<'_>,
-    atoms: &mut AtomTable,
-    words: &mut Cursor<'_, '_>,
 ) -> Result<Done, ScriptFault>
-    ensures gives { Turns done_of (state_of reader.entry state.new atoms.new) words.new result (spec.grow_arguments (context_of reader.entry state.old) room beside (value_of reached) (state_of reader.entry state.old atoms.old) words.old) }
-    ensures rest { OnOk result (IsRest words.old words.new) }
-    ensures kept { OnOk result (context_of reader.entry state.new ≡ context_of reader.entry state.old) }
-    ensures front { IsFront atoms.old atoms.new }
+    ensures gives { Turns done_of (state_of reading.new) reading.new.words result (spec.grow_arguments (context_of reading.old) room beside (value_of reached) (state_of reading.old) reading.old.words) }
+    ensures rest { OnOk result (IsRest reading.old.words reading.new.words) }
+    ensures kept { OnOk result (context_of reading.new ≡ context_of reading.old) }
+    ensures front { IsFront reading.old.atoms reading.new.atoms }
 {
-    let given = some_argument(reader.alloc, reader.text.len(), words)?;
+    let reader = reading.reader;
+    let given = some_argument(reader.alloc, reader.text.len(), &mut reading.words)?;
     let forest = markup_argument(
         reader.alloc,
         reader.text.len(),
         room,
         &given,
-        &mut state.nodes,
-        atoms,
+        &mut reading.nodes,
+        &mut reading.atoms,
     )?;
     let done = acting(reached, added(beside, forest))?;
     Ok(done)
@@ -268,25 +267,24 @@ fn trees_in(reader: Reader<'_>, reached: Value) -> Trees
 /// Where the root's markup is placed, which ends the chain.
 #[tactic(auto, unfolding(crate::specs::CallArguments::place_arguments), using(sel_core::proofs::Fronts::front_itself, jq_words::proofs::Rests::is_rest))]
 pub(crate) fn place_arguments(
-    reader: Reader<'_>,
+    reading: &mut Reading<'_, '_>,
     room: usize,
     reached: Value,
-    state: &State<'_>,
-    atoms: &mut AtomTable,
-    words: &mut Cursor<'_, '_>,
 ) -> Result<Done, ScriptFault>
-    ensures gives { Turns done_of (state_of reader.entry state.now atoms.new) words.new result (spec.place_arguments (context_of reader.entry state.now) room (value_of reached) (state_of reader.entry state.now atoms.old) words.old) }
-    ensures rest { OnOk result (IsRest words.old words.new) }
-    ensures front { IsFront atoms.old atoms.new }
+    ensures gives { Turns done_of (state_of reading.new) reading.new.words result (spec.place_arguments (context_of reading.old) room (value_of reached) (state_of reading.old) reading.old.words) }
+    ensures rest { OnOk result (IsRest reading.old.words reading.new.words) }
+    ensures kept { OnOk result (context_of reading.new ≡ context_of reading.old) }
+    ensures front { IsFront reading.old.atoms reading.new.atoms }
 {
-    let given = some_argument(reader.alloc, reader.text.len(), words)?;
+    let reader = reading.reader;
+    let given = some_argument(reader.alloc, reader.text.len(), &mut reading.words)?;
     let chain = target(
         reader.alloc,
         reader.text.len(),
         room,
-        &state.scope,
+        &reading.scope,
         &given,
-        atoms,
+        &mut reading.atoms,
     )?;
     let forest = Forest {
         tops: trees_in(reader, reached),

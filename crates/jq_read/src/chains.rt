@@ -16,13 +16,11 @@ use crate::arguments::{
 };
 use crate::bodies::handed;
 use crate::calls::{and_stated, listening};
-use crate::states::State;
+use crate::readings::Reading;
 use crate::values::Done;
-use jq_cursor::{Cursor, Reader};
 use jq_forms::pass_comma;
 use jq_parts::{Value, admitted, dot_name, ended, root};
 use jq_words::{Form, Row, ScriptFault, begins};
-use tp_base::AtomTable;
 
 // How many functions a call has.
 fn at_least(fewest: usize, count: usize) -> usize
@@ -51,26 +49,24 @@ fn unchanged(reached: Value) -> Done
 /// So many functions, or lists too where they may stand, with commas between them.
 #[cycle(grammar)]
 #[tactic(auto, using(sel_core::proofs::Fronts::front_itself, sel_core::proofs::Fronts::front_of_front, crate::proofs::SeveralSteps::goes_on, crate::proofs::SeveralSteps::fails, crate::proofs::SeveralSteps::comma_fails, crate::proofs::SeveralSteps::ends, jq_words::proofs::Rests::itself, jq_words::proofs::Rests::is_rest, jq_words::proofs::Rests::of_rest))]
-pub(crate) fn several<'a>(
-    reader: Reader<'_>,
+pub(crate) fn several(
+    reading: &mut Reading<'_, '_>,
     lists: bool,
     reached: &Value,
     count: usize,
     room: usize,
-    state: &mut State<'a>,
-    atoms: &mut AtomTable,
-    words: &mut Cursor<'_, 'a>,
 ) -> Result<(), ScriptFault>
-    ensures gives { Leaves (state_of reader.entry state.new atoms.new, words.new) result (spec.several lists (statements.block room 0) room (context_of reader.entry state.old) (elements_in (value_of reached.now)) count (state_of reader.entry state.old atoms.old) words.old) }
-    ensures rest { OnOk result (IsRest words.old words.new) }
-    ensures kept { OnOk result (context_of reader.entry state.new ≡ context_of reader.entry state.old) }
-    ensures front { IsFront atoms.old atoms.new }
+    ensures gives { Leaves (state_of reading.new, reading.new.words) result (spec.several lists (statements.block room 0) room (context_of reading.old) (elements_in (value_of reached.now)) count (state_of reading.old) reading.old.words) }
+    ensures rest { OnOk result (IsRest reading.old.words reading.new.words) }
+    ensures kept { OnOk result (context_of reading.new ≡ context_of reading.old) }
+    ensures front { IsFront reading.old.atoms reading.new.atoms }
 {
+    let size = reading.reader.text.len();
     let mut left = count;
     'arguments: while left > 0 {
         left -= 1;
-        handed(reader, lists, reached, room, state, atoms, words)?;
-        pass_comma(reader.text.len(), left, words)?;
+        handed(reading, lists, reached, room)?;
+        pass_comma(size, left, &mut reading.words)?;
     }
     Ok(())
 }
@@ -78,42 +74,36 @@ pub(crate) fn several<'a>(
 /// Events, and a function; or events, compounds and a function.
 #[cycle(grammar)]
 #[tactic(auto, unfolding(crate::specs::Chains::listen_arguments), using(sel_core::proofs::Fronts::front_itself, sel_core::proofs::Fronts::front_of_front, jq_words::proofs::Rests::behind_behind))]
-pub(crate) fn listen_arguments<'a>(
-    reader: Reader<'_>,
+pub(crate) fn listen_arguments(
+    reading: &mut Reading<'_, '_>,
     reached: &Value,
     narrowed: bool,
     room: usize,
-    state: &mut State<'a>,
-    atoms: &mut AtomTable,
-    words: &mut Cursor<'_, 'a>,
 ) -> Result<(), ScriptFault>
-    ensures gives { Leaves (state_of reader.entry state.new atoms.new, words.new) result (spec.listen_arguments (statements.block room 0) room (context_of reader.entry state.old) (value_of reached.now) narrowed (state_of reader.entry state.old atoms.old) words.old) }
-    ensures rest { OnOk result (IsBehind words.old words.new) }
-    ensures kept { OnOk result (context_of reader.entry state.new ≡ context_of reader.entry state.old) }
-    ensures front { IsFront atoms.old atoms.new }
+    ensures gives { Leaves (state_of reading.new, reading.new.words) result (spec.listen_arguments (statements.block room 0) room (context_of reading.old) (value_of reached.now) narrowed (state_of reading.old) reading.old.words) }
+    ensures rest { OnOk result (IsBehind reading.old.words reading.new.words) }
+    ensures kept { OnOk result (context_of reading.new ≡ context_of reading.old) }
+    ensures front { IsFront reading.old.atoms reading.new.atoms }
 {
-    let elements = listening(reader, reached, narrowed, state, atoms, words)?;
-    handed(reader, false, &elements, room, state, atoms, words)?;
+    let elements = listening(reading, reached, narrowed)?;
+    handed(reading, false, &elements, room)?;
     Ok(())
 }
 
 /// The arguments of a call, of which there are so many, behind its opening bracket.
 #[cycle(grammar)]
 #[tactic(auto, unfolding(crate::specs::Chains::arguments_of), using(sel_core::proofs::Fronts::front_itself, jq_words::proofs::Rests::itself, jq_words::proofs::Rests::is_rest))]
-pub(crate) fn call_arguments<'a>(
-    reader: Reader<'_>,
+pub(crate) fn call_arguments(
+    reading: &mut Reading<'_, '_>,
     reached: Value,
     row: Row<'static>,
     count: usize,
     room: usize,
-    state: &mut State<'a>,
-    atoms: &mut AtomTable,
-    words: &mut Cursor<'_, 'a>,
 ) -> Result<Done, ScriptFault>
-    ensures gives { Turns done_of (state_of reader.entry state.new atoms.new) words.new result (spec.arguments_of (statements.block room 0) room (context_of reader.entry state.old) (value_of reached) (row_from row.entry) count (state_of reader.entry state.old atoms.old) words.old) }
-    ensures rest { OnOk result (IsRest words.old words.new) }
-    ensures kept { OnOk result (context_of reader.entry state.new ≡ context_of reader.entry state.old) }
-    ensures front { IsFront atoms.old atoms.new }
+    ensures gives { Turns done_of (state_of reading.new) reading.new.words result (spec.arguments_of (statements.block room 0) room (context_of reading.old) (value_of reached) (row_from row.entry) count (state_of reading.old) reading.old.words) }
+    ensures rest { OnOk result (IsRest reading.old.words reading.new.words) }
+    ensures kept { OnOk result (context_of reading.new ≡ context_of reading.old) }
+    ensures front { IsFront reading.old.atoms reading.new.atoms }
 {
     match row.form {
         Form::Find
@@ -125,33 +115,33 @@ pub(crate) fn call_arguments<'a>(
         | Form::Closest
         | Form::Siblings => {
             let none = is_left_out(row.fewest, count);
-            move_arguments(reader, row.form, none, reached, state, atoms, words)
+            move_arguments(reading, row.form, none, reached)
         }
         Form::First => {
-            let done = take_first(reader.alloc, reached)?;
+            let done = take_first(reading.reader.alloc, reached)?;
             Ok(done)
         }
-        Form::Unites => unite_arguments(reader, reached, state, atoms, words),
+        Form::Unites => unite_arguments(reading, reached),
         Form::GoesBack => {
-            let done = go_back(reader.alloc, reached)?;
+            let done = go_back(reading.reader.alloc, reached)?;
             Ok(done)
         }
-        Form::Classes => class_arguments(reader, room, reached, state, atoms, words),
-        Form::Attributes => attribute_arguments(reader, reached, state, atoms, words),
-        Form::GrowsInside => grow_arguments(reader, room, false, reached, state, atoms, words),
-        Form::GrowsBeside => grow_arguments(reader, room, true, reached, state, atoms, words),
-        Form::Places => place_arguments(reader, room, reached, state, atoms, words),
+        Form::Classes => class_arguments(reading, room, reached),
+        Form::Attributes => attribute_arguments(reading, reached),
+        Form::GrowsInside => grow_arguments(reading, room, false, reached),
+        Form::GrowsBeside => grow_arguments(reading, room, true, reached),
+        Form::Places => place_arguments(reading, room, reached),
         Form::Handles => {
             let count = at_least(row.fewest, count);
-            several(reader, false, &reached, count, room, state, atoms, words)?;
+            several(reading, false, &reached, count, room)?;
             Ok(unchanged(reached))
         }
         Form::Listens => {
-            listen_arguments(reader, &reached, count == 3, room, state, atoms, words)?;
+            listen_arguments(reading, &reached, count == 3, room)?;
             Ok(unchanged(reached))
         }
         Form::Passes => {
-            several(reader, true, &reached, count, room, state, atoms, words)?;
+            several(reading, true, &reached, count, room)?;
             Ok(unchanged(reached))
         }
     }
@@ -159,77 +149,68 @@ pub(crate) fn call_arguments<'a>(
 
 /// A call from its `.` on.
 #[cycle(grammar)]
-#[tactic(auto, unfolding(crate::specs::Chains::call), using(sel_core::proofs::Fronts::front_itself, crate::proofs::SequenceSteps::deeper))]
-pub(crate) fn call<'a>(
-    reader: Reader<'_>,
+#[tactic(auto, unfolding(crate::specs::Chains::call), using(sel_core::proofs::Fronts::front_itself, sel_core::proofs::Fronts::front_of_front, crate::proofs::SequenceSteps::deeper))]
+pub(crate) fn call(
+    reading: &mut Reading<'_, '_>,
     reached: Value,
     room: usize,
-    state: &mut State<'a>,
-    atoms: &mut AtomTable,
-    words: &mut Cursor<'_, 'a>,
 ) -> Result<Value, ScriptFault>
-    ensures gives { Turns value_of (state_of reader.entry state.new atoms.new) words.new result (spec.call (statements.block room 1) room (context_of reader.entry state.old) (value_of reached) (state_of reader.entry state.old atoms.old) words.old) }
-    ensures rest { OnOk result (IsBehind words.old words.new) }
-    ensures kept { OnOk result (context_of reader.entry state.new ≡ context_of reader.entry state.old) }
-    ensures front { IsFront atoms.old atoms.new }
+    ensures gives { Turns value_of (state_of reading.new) reading.new.words result (spec.call (statements.block room 1) room (context_of reading.old) (value_of reached) (state_of reading.old) reading.old.words) }
+    ensures rest { OnOk result (IsBehind reading.old.words reading.new.words) }
+    ensures kept { OnOk result (context_of reading.new ≡ context_of reading.old) }
+    ensures front { IsFront reading.old.atoms reading.new.atoms }
 {
-    let (row, at) = dot_name(reader, &reached, words)?;
-    let count = admitted(reader, &reached, &row, at, words)?;
-    words.want_open(reader.text.len(), room, b"(")?;
-    let done = call_arguments(reader, reached, row, count, room - 1, state, atoms, words)?;
-    words.want(reader.text.len(), b")")?;
-    and_stated(reader, at, done.effect, state)?;
+    let reader = reading.reader;
+    let (row, at) = dot_name(reader, &reached, &mut reading.words)?;
+    let count = admitted(reader, &reached, &row, at, &reading.words)?;
+    reading.words.want_open(reader.text.len(), room, b"(")?;
+    let done = call_arguments(reading, reached, row, count, room - 1)?;
+    reading.words.want(reader.text.len(), b")")?;
+    and_stated(reading, at, done.effect)?;
     Ok(done.reached)
 }
 
 /// The calls behind a root, each with its `.`.
 #[cycle(grammar)]
 #[tactic(auto, using(sel_core::proofs::Fronts::front_itself, sel_core::proofs::Fronts::front_of_front, crate::proofs::ChainSteps::goes_on, crate::proofs::ChainSteps::fails, crate::proofs::ChainSteps::ends, jq_words::proofs::Rests::itself, jq_words::proofs::Rests::is_rest, jq_words::proofs::Rests::of_rest))]
-pub(crate) fn calls<'a>(
-    reader: Reader<'_>,
+pub(crate) fn calls(
+    reading: &mut Reading<'_, '_>,
     reached: Value,
     room: usize,
-    state: &mut State<'a>,
-    atoms: &mut AtomTable,
-    words: &mut Cursor<'_, 'a>,
 ) -> Result<Value, ScriptFault>
-    ensures gives { Turns value_of (state_of reader.entry state.new atoms.new) words.new result (spec.calls (statements.block room 1) room (context_of reader.entry state.old) (value_of reached) (state_of reader.entry state.old atoms.old) 0 words.old) }
-    ensures rest { OnOk result (IsRest words.old words.new) }
-    ensures kept { OnOk result (context_of reader.entry state.new ≡ context_of reader.entry state.old) }
-    ensures front { IsFront atoms.old atoms.new }
+    ensures gives { Turns value_of (state_of reading.new) reading.new.words result (spec.calls (statements.block room 1) room (context_of reading.old) (value_of reached) (state_of reading.old) 0 reading.old.words) }
+    ensures rest { OnOk result (IsRest reading.old.words reading.new.words) }
+    ensures kept { OnOk result (context_of reading.new ≡ context_of reading.old) }
+    ensures front { IsFront reading.old.atoms reading.new.atoms }
 {
+    let reader = reading.reader;
     let mut so_far = reached;
-    'calls: while begins(words.words(), b".") {
-        so_far = call(reader, so_far, room, state, atoms, words)?;
+    'calls: while begins(reading.words.words(), b".") {
+        so_far = call(reading, so_far, room)?;
     }
-    let whole = ended(reader, so_far, words)?;
+    let whole = ended(reader, so_far, &reading.words)?;
     Ok(whole)
 }
 
 /// A root and its calls.
 #[cycle(grammar)]
 #[tactic(auto, unfolding(crate::specs::Chains::chain), using(sel_core::proofs::Fronts::front_itself, sel_core::proofs::Fronts::front_of_front, jq_words::proofs::Rests::behind_rest))]
-pub(crate) fn chain<'a>(
-    reader: Reader<'_>,
-    room: usize,
-    state: &mut State<'a>,
-    atoms: &mut AtomTable,
-    words: &mut Cursor<'_, 'a>,
-) -> Result<Value, ScriptFault>
-    ensures gives { Turns value_of (state_of reader.entry state.new atoms.new) words.new result (spec.chain (statements.block room 1) room (context_of reader.entry state.old) (state_of reader.entry state.old atoms.old) words.old) }
-    ensures rest { OnOk result (IsBehind words.old words.new) }
-    ensures kept { OnOk result (context_of reader.entry state.new ≡ context_of reader.entry state.old) }
-    ensures front { IsFront atoms.old atoms.new }
+pub(crate) fn chain(reading: &mut Reading<'_, '_>, room: usize) -> Result<Value, ScriptFault>
+    ensures gives { Turns value_of (state_of reading.new) reading.new.words result (spec.chain (statements.block room 1) room (context_of reading.old) (state_of reading.old) reading.old.words) }
+    ensures rest { OnOk result (IsBehind reading.old.words reading.new.words) }
+    ensures kept { OnOk result (context_of reading.new ≡ context_of reading.old) }
+    ensures front { IsFront reading.old.atoms reading.new.atoms }
 {
+    let reader = reading.reader;
     let value = root(
         reader.alloc,
         reader.text.len(),
         room,
-        &state.scope,
-        &mut state.nodes,
-        atoms,
-        words,
+        &reading.scope,
+        &mut reading.nodes,
+        &mut reading.atoms,
+        &mut reading.words,
     )?;
-    let whole = calls(reader, value, room, state, atoms, words)?;
+    let whole = calls(reading, value, room)?;
     Ok(whole)
 }

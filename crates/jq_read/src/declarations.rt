@@ -13,14 +13,13 @@ ghost use Rattle.jq_read.specs.Readers.{context_of, state_of};
 use crate::bodies::function;
 use crate::bound_names::is_chain_here;
 use crate::chains::chain;
-use crate::states::State;
-use jq_cursor::{Cursor, Reader};
+use crate::readings::Reading;
 use jq_forms::list_in;
 use jq_parts::{Bound, Declaration, Handler, Value, same_places};
 use jq_words::{ScriptFault, begins, begins_name};
 use std::alloc::Global;
 use std::rc::Rc;
-use tp_base::{AtomTable, NoMemory};
+use tp_base::NoMemory;
 
 // The places of handlers, outermost first.
 fn places(alloc: Global, handlers: &[Handler]) -> Result<Vec<usize>, NoMemory>
@@ -68,98 +67,89 @@ fn bound_to(
 }
 
 // One declaration more, under the handlers round it.
-#[tactic(auto, using(crate::proofs::HandlerSteps::declared))]
+#[tactic(auto, using(sel_core::proofs::Fronts::front_itself, crate::proofs::HandlerSteps::declared))]
 fn declare<'a>(
-    reader: Reader<'_>,
+    reading: &mut Reading<'_, 'a>,
     name: &'a [u8],
     value: Option<Value>,
-    state: &mut State<'a>,
 ) -> Result<(), ScriptFault>
-    ensures declared { (names : _) → OnOk result (state_of reader.entry state.new names ≡ spec.with_declaration (record { name = name.now; value = option_map value_of value; under = under_bound (option_map value_of value) (places_of (context_of reader.entry state.old).handlers) }) (state_of reader.entry state.old names)) }
-    ensures kept { OnOk result (context_of reader.entry state.new ≡ context_of reader.entry state.old) }
+    ensures declared { OnOk result (state_of reading.new ≡ spec.with_declaration (record { name = name.now; value = option_map value_of value; under = under_bound (option_map value_of value) (places_of (context_of reading.old).handlers) }) (state_of reading.old)) }
+    ensures words { reading.new.words ≡ reading.old.words }
+    ensures kept { OnOk result (context_of reading.new ≡ context_of reading.old) }
+    ensures front { IsFront reading.old.atoms reading.new.atoms }
     ensures only_memory { IfErr result (λ e. e ≡ Memory) }
 {
     let bound = bound_to(
-        reader.alloc,
+        reading.reader.alloc,
         value,
-        &state.scope.handlers,
-        &mut state.places,
+        &reading.scope.handlers,
+        &mut reading.places,
     )?;
     let declaration = Declaration { name, bound };
-    state.scope.declarations.push(declaration)?;
+    reading.scope.declarations.push(declaration)?;
     Ok(())
 }
 
 // The value behind a name that is declared, where there is one: the chain, if it is one.
 #[cycle(grammar)]
 #[tactic(auto, unfolding(crate::specs::Statements::value_behind, crate::specs::Statements::declared_value), using(sel_core::proofs::Fronts::front_itself, jq_words::proofs::Rests::itself, jq_words::proofs::Rests::passed_behind))]
-fn value_behind<'a>(
-    reader: Reader<'_>,
-    room: usize,
-    state: &mut State<'a>,
-    atoms: &mut AtomTable,
-    words: &mut Cursor<'_, 'a>,
-) -> Result<Option<Value>, ScriptFault>
-    ensures gives { Turns (option_map value_of) (state_of reader.entry state.new atoms.new) words.new result (spec.value_behind (spec.block room) room (context_of reader.entry state.old) (state_of reader.entry state.old atoms.old) words.old) }
-    ensures rest { OnOk result (IsRest words.old words.new) }
-    ensures kept { OnOk result (context_of reader.entry state.new ≡ context_of reader.entry state.old) }
-    ensures front { IsFront atoms.old atoms.new }
+fn value_behind(reading: &mut Reading<'_, '_>, room: usize) -> Result<Option<Value>, ScriptFault>
+    ensures gives { Turns (option_map value_of) (state_of reading.new) reading.new.words result (spec.value_behind (spec.block room) room (context_of reading.old) (state_of reading.old) reading.old.words) }
+    ensures rest { OnOk result (IsRest reading.old.words reading.new.words) }
+    ensures kept { OnOk result (context_of reading.new ≡ context_of reading.old) }
+    ensures front { IsFront reading.old.atoms reading.new.atoms }
 {
-    if !begins(words.words(), b"=") {
+    let reader = reading.reader;
+    if !begins(reading.words.words(), b"=") {
         return Ok(None);
     }
-    words.pass();
-    if begins_name(words.words(), b"function") {
-        function(reader, None, room, state, atoms, words)?;
+    reading.words.pass();
+    if begins_name(reading.words.words(), b"function") {
+        function(reading, None, room)?;
         return Ok(None);
     }
-    if is_chain_here(reader, state, words)? {
-        let value = chain(reader, room, state, atoms, words)?;
+    if is_chain_here(reading)? {
+        let value = chain(reading, room)?;
         return Ok(Some(value));
     }
-    list_in(reader, state.scope.has_this, false, room, words)?;
+    list_in(
+        reader,
+        reading.scope.has_this,
+        false,
+        room,
+        &mut reading.words,
+    )?;
     Ok(None)
 }
 
 // A name, and its value where there is one.
 #[cycle(grammar)]
-#[tactic(auto, unfolding(crate::specs::Statements::one), using(sel_core::proofs::Fronts::front_itself, jq_words::proofs::Rests::behind_rest))]
-fn one<'a>(
-    reader: Reader<'_>,
-    room: usize,
-    state: &mut State<'a>,
-    atoms: &mut AtomTable,
-    words: &mut Cursor<'_, 'a>,
-) -> Result<(), ScriptFault>
-    ensures gives { Leaves (state_of reader.entry state.new atoms.new, words.new) result (spec.one (spec.block room) room (context_of reader.entry state.old) (state_of reader.entry state.old atoms.old) words.old) }
-    ensures rest { OnOk result (IsBehind words.old words.new) }
-    ensures kept { OnOk result (context_of reader.entry state.new ≡ context_of reader.entry state.old) }
-    ensures front { IsFront atoms.old atoms.new }
+#[tactic(auto, unfolding(crate::specs::Statements::one), using(sel_core::proofs::Fronts::front_itself, sel_core::proofs::Fronts::front_of_front, jq_words::proofs::Rests::behind_rest))]
+fn one(reading: &mut Reading<'_, '_>, room: usize) -> Result<(), ScriptFault>
+    ensures gives { Leaves (state_of reading.new, reading.new.words) result (spec.one (spec.block room) room (context_of reading.old) (state_of reading.old) reading.old.words) }
+    ensures rest { OnOk result (IsBehind reading.old.words reading.new.words) }
+    ensures kept { OnOk result (context_of reading.new ≡ context_of reading.old) }
+    ensures front { IsFront reading.old.atoms reading.new.atoms }
 {
-    let name = words.want_name(reader.text.len())?;
-    let value = value_behind(reader, room, state, atoms, words)?;
-    declare(reader, name, value, state)?;
+    let size = reading.reader.text.len();
+    let name = reading.words.want_name(size)?;
+    let value = value_behind(reading, room)?;
+    declare(reading, name, value)?;
     Ok(())
 }
 
 // Further ones, each behind a comma.
 #[cycle(grammar)]
 #[tactic(auto, using(sel_core::proofs::Fronts::front_itself, sel_core::proofs::Fronts::front_of_front, crate::proofs::DeclarationSteps::goes_on, crate::proofs::DeclarationSteps::fails, crate::proofs::DeclarationSteps::ends, jq_words::proofs::Rests::itself, jq_words::proofs::Rests::is_rest, jq_words::proofs::Rests::of_rest))]
-fn more_ones<'a>(
-    reader: Reader<'_>,
-    room: usize,
-    state: &mut State<'a>,
-    atoms: &mut AtomTable,
-    words: &mut Cursor<'_, 'a>,
-) -> Result<(), ScriptFault>
-    ensures gives { Leaves (state_of reader.entry state.new atoms.new, words.new) result (spec.more_ones (spec.block room) room (context_of reader.entry state.old) (state_of reader.entry state.old atoms.old) 0 words.old) }
-    ensures rest { OnOk result (IsRest words.old words.new) }
-    ensures kept { OnOk result (context_of reader.entry state.new ≡ context_of reader.entry state.old) }
-    ensures front { IsFront atoms.old atoms.new }
+fn more_ones(reading: &mut Reading<'_, '_>, room: usize) -> Result<(), ScriptFault>
+    ensures gives { Leaves (state_of reading.new, reading.new.words) result (spec.more_ones (spec.block room) room (context_of reading.old) (state_of reading.old) 0 reading.old.words) }
+    ensures rest { OnOk result (IsRest reading.old.words reading.new.words) }
+    ensures kept { OnOk result (context_of reading.new ≡ context_of reading.old) }
+    ensures front { IsFront reading.old.atoms reading.new.atoms }
 {
-    'ones: while begins(words.words(), b",") {
-        words.pass();
-        one(reader, room, state, atoms, words)?;
+    'ones: while begins(reading.words.words(), b",") {
+        reading.words.pass();
+        one(reading, room)?;
     }
     Ok(())
 }
@@ -167,20 +157,15 @@ fn more_ones<'a>(
 /// Behind `var`, `let` or `const`.
 #[cycle(grammar)]
 #[tactic(auto, unfolding(crate::specs::Statements::declaration), using(sel_core::proofs::Fronts::front_itself, sel_core::proofs::Fronts::front_of_front))]
-pub(crate) fn declaration<'a>(
-    reader: Reader<'_>,
-    room: usize,
-    state: &mut State<'a>,
-    atoms: &mut AtomTable,
-    words: &mut Cursor<'_, 'a>,
-) -> Result<(), ScriptFault>
-    ensures gives { Leaves (state_of reader.entry state.new atoms.new, words.new) result (spec.declaration (spec.block room) room (context_of reader.entry state.old) (state_of reader.entry state.old atoms.old) words.old) }
-    ensures rest { OnOk result (IsBehind words.old words.new) }
-    ensures kept { OnOk result (context_of reader.entry state.new ≡ context_of reader.entry state.old) }
-    ensures front { IsFront atoms.old atoms.new }
+pub(crate) fn declaration(reading: &mut Reading<'_, '_>, room: usize) -> Result<(), ScriptFault>
+    ensures gives { Leaves (state_of reading.new, reading.new.words) result (spec.declaration (spec.block room) room (context_of reading.old) (state_of reading.old) reading.old.words) }
+    ensures rest { OnOk result (IsBehind reading.old.words reading.new.words) }
+    ensures kept { OnOk result (context_of reading.new ≡ context_of reading.old) }
+    ensures front { IsFront reading.old.atoms reading.new.atoms }
 {
-    one(reader, room, state, atoms, words)?;
-    more_ones(reader, room, state, atoms, words)?;
-    words.end(reader.text.len())?;
+    let size = reading.reader.text.len();
+    one(reading, room)?;
+    more_ones(reading, room)?;
+    reading.words.end(size)?;
     Ok(())
 }

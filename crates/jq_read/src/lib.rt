@@ -8,10 +8,10 @@ mod calls;
 mod chains;
 mod declarations;
 mod functions;
+mod readings;
 mod script;
 mod sequences;
 mod statements;
-mod states;
 mod values;
 
 pub use jq_words::{MOST_CALLS, MOST_FOREST_NODES, MOST_OPEN, MOST_STATEMENTS, ScriptFault};

@@ -13,14 +13,15 @@ ghost use Rattle.jq_sem.specs.Tables.{AreStatementsOver};
 ghost use Rattle.jq_read.specs.Script as spec;
 ghost use Rattle.jq_read.specs.Limits.{AreWithin};
 
+use crate::readings::Reading;
 use crate::sequences::sequence;
-use crate::states::State;
 use jq_cursor::{Cursor, Lists, Reader};
 use jq_parts::{Declarations, Scope, placed};
 use jq_sem::{ExactStmt, Stmt};
 use jq_words::{MOST_OPEN, ScriptFault, declared_in};
 use js_scan::{ScanFault, Token, scan};
 use std::alloc::Global;
+use std::mem::replace;
 use std::rc::Rc;
 use tp_base::AtomTable;
 
@@ -52,26 +53,29 @@ fn one_memory(fault: ScriptFault) -> ScriptFault
 
 // Reads a file whose words are known.
 #[tactic(auto, unfolding(crate::specs::Script::script_of), using(sel_core::proofs::Fronts::front_itself, crate::proofs::HandlerLaws::all_counted))]
-fn read_words(
+fn read_words<'r>(
     alloc: Global,
     exact: bool,
-    text: &[u8],
-    lists: &Lists<'_>,
+    text: &'r [u8],
+    lists: &'r Lists<'_>,
     atoms: &mut AtomTable,
 ) -> Result<Vec<ExactStmt>, ScriptFault>
     requires in_limit { length text.now ≤ MOST_BYTES }
     ensures reads { Finds (λ v. exacts_of v.items) atoms.new result (spec.script_of exact text.now lists.now atoms.old) }
     ensures front { IsFront atoms.old atoms.new }
 {
-    let mut words = Cursor::new(lists);
+    let words = Cursor::new(lists);
     let declared = declared_in(alloc, words.words())?;
-    let reader = Reader {
-        alloc,
-        exact,
-        text,
-        declared: &declared,
-    };
-    let mut state = State {
+    let places = Rc::new(alloc, Vec::new(alloc))?;
+    let mut reading = Reading {
+        reader: Reader {
+            alloc,
+            exact,
+            text,
+            declared: &declared,
+        },
+        atoms: replace(atoms, AtomTable::new(alloc)),
+        words,
         scope: Scope {
             handlers: Vec::new(alloc),
             has_this: false,
@@ -79,10 +83,12 @@ fn read_words(
         },
         nodes: 0,
         statements: Vec::new(alloc),
-        places: Rc::new(alloc, Vec::new(alloc))?,
+        places,
     };
-    sequence(reader, false, MOST_OPEN, &mut state, atoms, &mut words)?;
-    let statements = placed(alloc, text, state.statements)?;
+    let read = sequence(&mut reading, false, MOST_OPEN);
+    *atoms = reading.atoms;
+    read?;
+    let statements = placed(alloc, text, reading.statements)?;
     Ok(statements)
 }
 

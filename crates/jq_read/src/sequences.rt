@@ -8,12 +8,11 @@ ghost use Rattle.jq_read.specs.States.{size};
 ghost use Rattle.jq_read.specs.Readers.{context_of, state_of};
 
 use crate::bound_names::form_here;
+use crate::readings::Reading;
 use crate::statements::statement;
-use crate::states::State;
 use jq_cursor::{Cursor, Reader};
 use jq_forms::StatementForm;
 use jq_words::{ScriptFault, Word, begins_name};
-use tp_base::AtomTable;
 
 // What stands between two statements: whether one is wanted, and how many `if`s may still get an `else`.
 #[derive(Clone, Copy)]
@@ -80,53 +79,48 @@ fn at_file_end(reader: Reader<'_>, in_block: bool, between: Between) -> Result<(
 // One turn of a sequence: a statement, or a condition.
 #[cycle(grammar)]
 #[tactic(auto, unfolding(crate::specs::Sequences::turn), using(sel_core::proofs::Fronts::front_itself, jq_words::proofs::Rests::behind_rest))]
-fn turn<'a>(
-    reader: Reader<'_>,
+fn turn(
+    reading: &mut Reading<'_, '_>,
     between: Between,
     room: usize,
-    state: &mut State<'a>,
-    atoms: &mut AtomTable,
-    words: &mut Cursor<'_, 'a>,
 ) -> Result<Between, ScriptFault>
     requires counted { between.ifs < u64.MAX }
-    ensures gives { Turns (λ b. b) (state_of reader.entry state.new atoms.new) words.new result (turns.turn (spec.block room) room (context_of reader.entry state.old) between (state_of reader.entry state.old atoms.old) words.old) }
-    ensures rest { OnOk result (IsBehind words.old words.new) }
-    ensures kept { OnOk result (context_of reader.entry state.new ≡ context_of reader.entry state.old) }
-    ensures front { IsFront atoms.old atoms.new }
+    ensures gives { Turns (λ b. b) (state_of reading.new) reading.new.words result (turns.turn (spec.block room) room (context_of reading.old) between (state_of reading.old) reading.old.words) }
+    ensures rest { OnOk result (IsBehind reading.old.words reading.new.words) }
+    ensures kept { OnOk result (context_of reading.new ≡ context_of reading.old) }
+    ensures front { IsFront reading.old.atoms reading.new.atoms }
 {
-    let form = form_here(state, words);
-    statement(reader, form, room, state, atoms, words)?;
+    let form = form_here(reading);
+    statement(reading, form, room)?;
     if is_branch(form) {
         return Ok(behind_condition(between));
     }
-    Ok(behind_statement(between, words))
+    Ok(behind_statement(between, &mut reading.words))
 }
 
 /// Statements up to the brace of their block, or to the end of the file.
 #[cycle(grammar)]
 #[tactic(auto, using(sel_core::proofs::Fronts::front_itself, sel_core::proofs::Fronts::front_of_front, crate::proofs::SequenceSteps::begins, crate::proofs::SequenceSteps::none_counted, crate::proofs::SequenceSteps::one_fits, crate::proofs::SequenceSteps::over, crate::proofs::SequenceSteps::file_ends, jq_words::proofs::Rests::itself, jq_words::proofs::Rests::is_rest, jq_words::proofs::Rests::of_rest, jq_words::proofs::Rests::shorter))]
-pub(crate) fn sequence<'a>(
-    reader: Reader<'_>,
+pub(crate) fn sequence(
+    reading: &mut Reading<'_, '_>,
     in_block: bool,
     room: usize,
-    state: &mut State<'a>,
-    atoms: &mut AtomTable,
-    words: &mut Cursor<'_, 'a>,
 ) -> Result<(), ScriptFault>
-    ensures gives { Leaves (state_of reader.entry state.new atoms.new, words.new) result (spec.sequence in_block (spec.block room) room (context_of reader.entry state.old) (state_of reader.entry state.old atoms.old) 0 words.old) }
-    ensures rest { OnOk result (IsRest words.old words.new) }
-    ensures kept { OnOk result (context_of reader.entry state.new ≡ context_of reader.entry state.old) }
-    ensures front { IsFront atoms.old atoms.new }
+    ensures gives { Leaves (state_of reading.new, reading.new.words) result (spec.sequence in_block (spec.block room) room (context_of reading.old) (state_of reading.old) 0 reading.old.words) }
+    ensures rest { OnOk result (IsRest reading.old.words reading.new.words) }
+    ensures kept { OnOk result (context_of reading.new ≡ context_of reading.old) }
+    ensures front { IsFront reading.old.atoms reading.new.atoms }
 {
+    let reader = reading.reader;
     let mut between = Between {
         wanted: false,
         ifs: 0,
     };
-    'statements: while let Some(word) = words.words().first() {
+    'statements: while let Some(word) = reading.words.words().first() {
         if is_over(in_block, between, &word) {
             return Ok(());
         }
-        between = turn(reader, between, room, state, atoms, words)?;
+        between = turn(reading, between, room)?;
     }
     at_file_end(reader, in_block, between)
 }
@@ -134,20 +128,15 @@ pub(crate) fn sequence<'a>(
 /// Statements in braces, where so many brackets may be opened.
 #[cycle(grammar)]
 #[tactic(auto, using(sel_core::proofs::Fronts::front_itself, crate::proofs::SequenceSteps::block_refused, crate::proofs::SequenceSteps::block_fails, crate::proofs::SequenceSteps::block_reads, jq_words::proofs::Rests::behind_first, jq_words::proofs::Rests::behind_rest))]
-pub(crate) fn block<'a>(
-    reader: Reader<'_>,
-    room: usize,
-    state: &mut State<'a>,
-    atoms: &mut AtomTable,
-    words: &mut Cursor<'_, 'a>,
-) -> Result<(), ScriptFault>
-    ensures gives { Leaves (state_of reader.entry state.new atoms.new, words.new) result (spec.block room 0 (context_of reader.entry state.old) (state_of reader.entry state.old atoms.old) words.old) }
-    ensures rest { OnOk result (IsBehind words.old words.new) }
-    ensures kept { OnOk result (context_of reader.entry state.new ≡ context_of reader.entry state.old) }
-    ensures front { IsFront atoms.old atoms.new }
+pub(crate) fn block(reading: &mut Reading<'_, '_>, room: usize) -> Result<(), ScriptFault>
+    ensures gives { Leaves (state_of reading.new, reading.new.words) result (spec.block room 0 (context_of reading.old) (state_of reading.old) reading.old.words) }
+    ensures rest { OnOk result (IsBehind reading.old.words reading.new.words) }
+    ensures kept { OnOk result (context_of reading.new ≡ context_of reading.old) }
+    ensures front { IsFront reading.old.atoms reading.new.atoms }
 {
-    words.want_open(reader.text.len(), room, b"{")?;
-    sequence(reader, true, room - 1, state, atoms, words)?;
-    words.pass();
+    let size = reading.reader.text.len();
+    reading.words.want_open(size, room, b"{")?;
+    sequence(reading, true, room - 1)?;
+    reading.words.pass();
     Ok(())
 }

@@ -8,21 +8,21 @@ ghost use Rattle.jq_read.specs.Statements as spec;
 ghost use Rattle.jq_read.specs.Readers.{context_of, state_of};
 
 use crate::bodies::{named_function, once, start, timer};
-use crate::bound_names::set_here;
+use crate::bound_names::is_bound_here;
 use crate::chains::chain;
 use crate::declarations::declaration;
+use crate::readings::Reading;
 use crate::sequences::block;
-use crate::states::State;
-use jq_cursor::{Cursor, Reader, spelled};
-use jq_forms::{StatementForm, condition, list_statement, pass_document, returned};
+use jq_cursor::spelled;
+use jq_forms::{StatementForm, condition, list_statement, pass_document, returned, set};
 use jq_words::{ScriptFault, letters, place};
-use tp_base::AtomTable;
 
 // Why a call of J's own is refused.
-fn foreign(reader: Reader<'_>, words: &Cursor<'_, '_>) -> ScriptFault
-    ensures { result ≢ Memory → result ≡ UnknownCall (spelled (drop 2 words.now)) (place (length reader.entry.text.now) (drop 2 words.now)) }
+fn foreign(reading: &Reading<'_, '_>) -> ScriptFault
+    ensures { result ≢ Memory → result ≡ UnknownCall (spelled (drop 2 reading.now.words)) (place (length reading.now.reader.text.now) (drop 2 reading.now.words)) }
 {
-    let mut rest = words.again();
+    let reader = reading.reader;
+    let mut rest = reading.words.again();
     rest.pass_all(2);
     match letters(reader.alloc, spelled(rest.words())) {
         Ok(name) => ScriptFault::UnknownCall(name, place(reader.text.len(), rest.words())),
@@ -33,74 +33,80 @@ fn foreign(reader: Reader<'_>, words: &Cursor<'_, '_>) -> ScriptFault
 // A chain, as a statement.
 #[cycle(grammar)]
 #[tactic(auto, unfolding(crate::specs::Statements::chain_statement), using(sel_core::proofs::Fronts::front_itself, jq_words::proofs::Rests::behind_rest))]
-fn chain_statement<'a>(
-    reader: Reader<'_>,
-    room: usize,
-    state: &mut State<'a>,
-    atoms: &mut AtomTable,
-    words: &mut Cursor<'_, 'a>,
-) -> Result<(), ScriptFault>
-    ensures gives { Leaves (state_of reader.entry state.new atoms.new, words.new) result (spec.chain_statement (spec.block room) room (context_of reader.entry state.old) (state_of reader.entry state.old atoms.old) words.old) }
-    ensures rest { OnOk result (IsBehind words.old words.new) }
-    ensures kept { OnOk result (context_of reader.entry state.new ≡ context_of reader.entry state.old) }
-    ensures front { IsFront atoms.old atoms.new }
+fn chain_statement(reading: &mut Reading<'_, '_>, room: usize) -> Result<(), ScriptFault>
+    ensures gives { Leaves (state_of reading.new, reading.new.words) result (spec.chain_statement (spec.block room) room (context_of reading.old) (state_of reading.old) reading.old.words) }
+    ensures rest { OnOk result (IsBehind reading.old.words reading.new.words) }
+    ensures kept { OnOk result (context_of reading.new ≡ context_of reading.old) }
+    ensures front { IsFront reading.old.atoms reading.new.atoms }
 {
-    chain(reader, room, state, atoms, words)?;
-    words.end(reader.text.len())?;
+    let size = reading.reader.text.len();
+    chain(reading, room)?;
+    reading.words.end(size)?;
     Ok(())
 }
 
 /// A statement of a form; of a branch, its condition.
 #[cycle(grammar)]
 #[tactic(auto, unfolding(crate::specs::Statements::statement_as, crate::specs::Statements::ready), using(sel_core::proofs::Fronts::front_itself, jq_words::proofs::Rests::passed, jq_words::proofs::Rests::behind_behind, jq_words::proofs::Rests::behind_rest, jq_words::proofs::Rests::on_ok_behind))]
-pub(crate) fn statement<'a>(
-    reader: Reader<'_>,
+pub(crate) fn statement(
+    reading: &mut Reading<'_, '_>,
     form: StatementForm,
     room: usize,
-    state: &mut State<'a>,
-    atoms: &mut AtomTable,
-    words: &mut Cursor<'_, 'a>,
 ) -> Result<(), ScriptFault>
-    ensures gives { Leaves (state_of reader.entry state.new atoms.new, words.new) result (spec.statement_as form (spec.block room) room (context_of reader.entry state.old) (state_of reader.entry state.old atoms.old) words.old) }
-    ensures rest { OnOk result (IsBehind words.old words.new) }
-    ensures kept { OnOk result (context_of reader.entry state.new ≡ context_of reader.entry state.old) }
-    ensures front { IsFront atoms.old atoms.new }
+    ensures gives { Leaves (state_of reading.new, reading.new.words) result (spec.statement_as form (spec.block room) room (context_of reading.old) (state_of reading.old) reading.old.words) }
+    ensures rest { OnOk result (IsBehind reading.old.words reading.new.words) }
+    ensures kept { OnOk result (context_of reading.new ≡ context_of reading.old) }
+    ensures front { IsFront reading.old.atoms reading.new.atoms }
 {
+    let reader = reading.reader;
     match form {
         StatementForm::Empty => {
-            words.pass();
+            reading.words.pass();
             Ok(())
         }
-        StatementForm::Block => block(reader, room, state, atoms, words),
+        StatementForm::Block => block(reading, room),
         StatementForm::Declaration => {
-            words.pass();
-            declaration(reader, room, state, atoms, words)
+            reading.words.pass();
+            declaration(reading, room)
         }
         StatementForm::Function => {
-            words.pass();
-            named_function(reader, room, state, atoms, words)
+            reading.words.pass();
+            named_function(reading, room)
         }
-        StatementForm::Branch => condition(reader, state.scope.has_this, room, words),
+        StatementForm::Branch => {
+            condition(reader, reading.scope.has_this, room, &mut reading.words)
+        }
         StatementForm::Return => {
-            words.pass();
-            returned(reader, state.scope.has_this, room, words)
+            reading.words.pass();
+            returned(reader, reading.scope.has_this, room, &mut reading.words)
         }
         StatementForm::Start => {
-            words.pass();
-            start(reader, room, state, atoms, words)
+            reading.words.pass();
+            start(reading, room)
         }
         StatementForm::Ready => {
-            pass_document(reader.text.len(), room, words)?;
-            start(reader, room, state, atoms, words)
+            pass_document(reader.text.len(), room, &mut reading.words)?;
+            start(reading, room)
         }
-        StatementForm::Chain => chain_statement(reader, room, state, atoms, words),
-        StatementForm::Foreign => Err(foreign(reader, words)),
+        StatementForm::Chain => chain_statement(reading, room),
+        StatementForm::Foreign => Err(foreign(reading)),
         StatementForm::Timer => {
-            words.pass();
-            timer(reader, room, state, atoms, words)
+            reading.words.pass();
+            timer(reading, room)
         }
-        StatementForm::Set => set_here(reader, room, state, words),
-        StatementForm::Once => once(reader, room, state, atoms, words),
-        StatementForm::Free => list_statement(reader, state.scope.has_this, room, words),
+        StatementForm::Set => {
+            let bound = is_bound_here(reading);
+            set(
+                reader,
+                bound,
+                reading.scope.has_this,
+                room,
+                &mut reading.words,
+            )
+        }
+        StatementForm::Once => once(reading, room),
+        StatementForm::Free => {
+            list_statement(reader, reading.scope.has_this, room, &mut reading.words)
+        }
     }
 }

@@ -80,24 +80,24 @@ decreases-sequences::sequence l = 32 * l.room + 10
 
 abbrev pub invariant-sequences::sequence-statements : goal.invariant-sequences::sequence-statements
 invariant-sequences::sequence-statements l = record {
-  rest : IsRest l.fn.words l.words;
-  kept : context_of l.reader l.state ≡ context_of l.reader l.fn.state;
-  front : IsFront l.fn.atoms l.atoms;
-  counted : AreCounted l.between l.words;
-  reads : ReadsOn l.in_block (block l.room) l.room (context_of l.reader l.fn.state) l.between (state_of l.reader l.state l.atoms) l.words
-      (sequence l.in_block (block l.room) l.room (context_of l.reader l.fn.state) (state_of l.reader l.fn.state l.fn.atoms) 0 l.fn.words);
+  rest : IsRest l.fn.reading.words l.reading.words;
+  kept : context_of l.reading ≡ context_of l.fn.reading;
+  front : IsFront l.fn.reading.atoms l.reading.atoms;
+  counted : AreCounted l.between l.reading.words;
+  reads : ReadsOn l.in_block (block l.room) l.room (context_of l.fn.reading) l.between (state_of l.reading) l.reading.words
+      (sequence l.in_block (block l.room) l.room (context_of l.fn.reading) (state_of l.fn.reading) 0 l.fn.reading.words);
 }
 
 abbrev pub decreases-sequences::sequence-statements : goal.decreases-sequences::sequence-statements
-decreases-sequences::sequence-statements l = length l.words
+decreases-sequences::sequence-statements l = length l.reading.words
 
 abbrev pub invariant-chains::several-arguments : goal.invariant-chains::several-arguments
 invariant-chains::several-arguments l = record {
-  rest : IsRest l.fn.words l.words;
-  kept : context_of l.reader l.state ≡ context_of l.reader l.fn.state;
-  front : IsFront l.fn.atoms l.atoms;
-  reads : several l.lists (block l.room 0) l.room (context_of l.reader l.fn.state) (elements_in (value_of l.reached)) l.left (state_of l.reader l.state l.atoms) l.words
-      ≡ several l.lists (block l.room 0) l.room (context_of l.reader l.fn.state) (elements_in (value_of l.reached)) l.count (state_of l.reader l.fn.state l.fn.atoms) l.fn.words;
+  rest : IsRest l.fn.reading.words l.reading.words;
+  kept : context_of l.reading ≡ context_of l.fn.reading;
+  front : IsFront l.fn.reading.atoms l.reading.atoms;
+  reads : several l.lists (block l.room 0) l.room (context_of l.fn.reading) (elements_in (value_of l.reached)) l.left (state_of l.reading) l.reading.words
+      ≡ several l.lists (block l.room 0) l.room (context_of l.fn.reading) (elements_in (value_of l.reached)) l.count (state_of l.fn.reading) l.fn.reading.words;
 }
 
 abbrev pub decreases-chains::several-arguments : goal.decreases-chains::several-arguments
@@ -105,24 +105,24 @@ decreases-chains::several-arguments l = l.left
 
 abbrev pub invariant-chains::calls-calls : goal.invariant-chains::calls-calls
 invariant-chains::calls-calls l = record {
-  rest : IsRest l.fn.words l.words;
-  kept : context_of l.reader l.state ≡ context_of l.reader l.fn.state;
-  front : IsFront l.fn.atoms l.atoms;
-  reads : calls (block l.room 1) l.room (context_of l.reader l.fn.state) (value_of l.so_far) (state_of l.reader l.state l.atoms) 0 l.words
-      ≡ calls (block l.room 1) l.room (context_of l.reader l.fn.state) (value_of l.fn.reached) (state_of l.reader l.fn.state l.fn.atoms) 0 l.fn.words;
+  rest : IsRest l.fn.reading.words l.reading.words;
+  kept : context_of l.reading ≡ context_of l.fn.reading;
+  front : IsFront l.fn.reading.atoms l.reading.atoms;
+  reads : calls (block l.room 1) l.room (context_of l.fn.reading) (value_of l.so_far) (state_of l.reading) 0 l.reading.words
+      ≡ calls (block l.room 1) l.room (context_of l.fn.reading) (value_of l.fn.reached) (state_of l.fn.reading) 0 l.fn.reading.words;
 }
 
 abbrev pub decreases-chains::calls-calls : goal.decreases-chains::calls-calls
-decreases-chains::calls-calls l = length l.words
+decreases-chains::calls-calls l = length l.reading.words
 
 abbrev pub invariant-declarations::more_ones-ones : goal.invariant-declarations::more_ones-ones
 invariant-declarations::more_ones-ones l = record {
-  rest : IsRest l.fn.words l.words;
-  kept : context_of l.reader l.state ≡ context_of l.reader l.fn.state;
-  front : IsFront l.fn.atoms l.atoms;
-  reads : more_ones (block l.room) l.room (context_of l.reader l.fn.state) (state_of l.reader l.state l.atoms) 0 l.words
-      ≡ more_ones (block l.room) l.room (context_of l.reader l.fn.state) (state_of l.reader l.fn.state l.fn.atoms) 0 l.fn.words;
+  rest : IsRest l.fn.reading.words l.reading.words;
+  kept : context_of l.reading ≡ context_of l.fn.reading;
+  front : IsFront l.fn.reading.atoms l.reading.atoms;
+  reads : more_ones (block l.room) l.room (context_of l.fn.reading) (state_of l.reading) 0 l.reading.words
+      ≡ more_ones (block l.room) l.room (context_of l.fn.reading) (state_of l.fn.reading) 0 l.fn.reading.words;
 }
 
 abbrev pub decreases-declarations::more_ones-ones : goal.decreases-declarations::more_ones-ones
-decreases-declarations::more_ones-ones l = length l.words
+decreases-declarations::more_ones-ones l = length l.reading.words

@@ -1,10 +1,15 @@
 //! What a reader of a script knows at a place.
+use jq_cursor::{Cursor, Reader};
 use jq_parts::{Scope, Stated};
 use std::rc::Rc;
+use tp_base::AtomTable;
 
-/// What was read up to a place, and what is seen there.
+/// A script that is read, up to a place: its words from there on, what was read before it, and what is seen there.
 #[derive(Drop)]
-pub(crate) struct State<'a> {
+pub(crate) struct Reading<'r, 'a> {
+    pub(crate) reader: Reader<'r>,
+    pub(crate) atoms: AtomTable,
+    pub(crate) words: Cursor<'r, 'a>,
     pub(crate) scope: Scope<'a>,
     /// How many nodes all markup has.
     pub(crate) nodes: usize,
