@@ -7,6 +7,7 @@ use Rattle.std.proofs.lemmas.List.Elements.{Contains-append_left, Contains-appen
 use Rattle.tp_base.specs.Classes.{with_class, union_of}
 use Rattle.tp_base.proofs.ClassLemmas.{Contains-union_of, Contains-with_class, IsStrictlyIncreasing-union_of}
 use Rattle.tp_base.proofs.Rising.{Contains-none, Contains-here, Contains-cons}
+use Rattle.tp_base.proofs.Lists.{take_next}
 use Rattle.tree_sem.specs.Trees.{LabelTree, node_at, children_at}
 use Rattle.tree_sem.specs.Paths.{parent_of}
 use Rattle.tree_sem.proofs.PathLemmas.{parent_of-child, child_of_parent}
@@ -23,7 +24,6 @@ use Rattle.closed_page.specs.Gains.{label_in}
 use Rattle.closed_page.specs.Labelled.{IsAbove}
 use Rattle.class_adding.specs.Fresh.{IsMore, AreNewIn, IsAddedIfNew, AreFollowed, set_at, IsSettled, given_at}
 use Rattle.closed_page.proofs.LabelledLemmas.{child_number}
-use Rattle.class_adding.proofs.IndexLemmas.{take_next}
 use Rattle.class_adding.proofs.PageLookLemmas.{given_none, label_next-parts}
 
 -- a number past all sets gives nothing
@@ -259,10 +259,6 @@ added_new own news news' a none is = subst (λ (z : List ℕ). IsAddedIfNew own 
 pub some_new : (own given news : List ℕ) (n : ℕ) → AreNewIn own given news → n ≡ length news → (n ≡ 0 → ⊥) → All (Contains own) news → ⊥
 some_new own given [] n new is some all = some is
 some_new own given (a ∷ news) n new is some all = new.other a (Contains-here a a news refl) (all_among_each (a ∷ news) own all a (Contains-here a a news refl))
-
-pub none_new : (news : List ℕ) (n : ℕ) → n ≡ length news → n ≡ 0 → news ≡ []
-none_new [] n is none = refl
-none_new (a ∷ news) n is none = absurd (omega arith)
 
 pub was_some : (n : ℕ) → IsTrue (not (n == 0)) → n ≡ 0 → ⊥
 was_some zero h e = cc

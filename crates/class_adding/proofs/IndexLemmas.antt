@@ -8,12 +8,12 @@ use Rattle.std.proofs.lemmas.List.{take_more, length-take-le, append_assoc}
 use Rattle.std.proofs.lemmas.Grind.{flat_map-append}
 use Rattle.std.proofs.lemmas.List.Folds.{list_all_at, list_all_more}
 use Rattle.std.proofs.lemmas.List.Sums.{fold-append}
-use Rattle.std.proofs.lemmas.List.Elements.{Contains-append_left, Contains-append_right, Contains-append_cases, Contains-get_or}
+use Rattle.std.proofs.lemmas.List.Elements.{Contains-append_left, Contains-append_right, Contains-append_cases}
 use Rattle.std.proofs.lemmas.Option.{slice_get_within, slice_get-get_or, get_or_from_slice_get}
 use Rattle.tp_base.specs.Classes.{has_class, all_among, with_class, union_of}
 use Rattle.tp_base.proofs.ClassLemmas.{same_members, Contains-union_of, IsStrictlyIncreasing-union_of}
 use Rattle.tp_base.proofs.Rising.{Contains-here, Contains-cons, Contains-none, All-from_Contains}
-use Rattle.tp_base.proofs.Lists.{slice_get-append_left, slice_get-push}
+use Rattle.tp_base.proofs.Lists.{slice_get-append_left, slice_get-push, take_next, Contains-at}
 use Rattle.simple_core.specs.declared.system.System.{System}
 use Rattle.simple_core.specs.declared.rules.Local.{Local}
 use Rattle.simple_core.specs.declared.rules.Link.{Link}
@@ -88,9 +88,6 @@ pub kinds_end : {X : Type 0} (f : X → List ℕ) (rules : List X) (next start r
 kinds_end f rules next start [] row none same = sym (join_end next) ∙ same
 kinds_end f rules next start (p ∷ rest) row none same = absurd (omega arith)
 
-pub take_next : {X : Type 0} (xs : List X) (i : ℕ) (a : X) → slice_get xs i ≡ Some a → take (i + 1) xs ≡ take i xs ++ a ∷ []
-take_next xs i a at = take_more xs i a (slice_get_within xs i a at) ∙ (λ n. take i xs ++ get_or_from_slice_get xs i a a at n ∷ [])
-
 by_label-more : {X : Type 0} (f : X → List ℕ) (rules : List X) (rows : List (List ℕ)) (at : ℕ → ℕ) (label : List ℕ) (i a : ℕ) → slice_get label i ≡ Some a
     → by_label f rules rows at (take (i + 1) label) ≡ by_label f rules rows at (take i label) ++ at_row f rules (row_of rows (at a))
 by_label-more f rules rows at label i a is =
@@ -116,16 +113,13 @@ kinds_more f rules rows at label start next next' row i a is so_far here given =
 place_is : {X : Type 0} (f : X → List ℕ) (rules : List X) (i : ℕ) (x : X) → slice_get rules i ≡ Some x → at_place f rules i ≡ f x
 place_is {X} f rules i x at = ap (λ (o : Option X). unwrap_or (option_map f o) []) at
 
-listed_at : {X : Type 0} (rules : List X) (i : ℕ) (x : X) → slice_get rules i ≡ Some x → Contains rules x
-listed_at rules i x at = subst (Contains rules) (get_or_from_slice_get rules i x x at) (Contains-get_or rules i x (slice_get_within rules i x at))
-
 module _ {X : Type 0} (f : X → List ℕ) (key : X → ℕ) (rules : List X) (rows : List (List ℕ)) (index : IsIndex key rules rows) where
   -- what the rules of a row give
   pub row-is : (k y : ℕ) → Contains (at_row f rules (row_of rows k)) y → (x : X) × Contains rules x × (key x ≡ k) × Contains (f x) y
   row-is k y there =
       let place = flat_map-Contains (at_place f rules) (row_of rows k) y there in
       let x = index.only k place.0 place.1 in
-      (x.0, listed_at rules place.0 x.0 x.1, x.2, subst (λ (z : List ℕ). Contains z y) (place_is f rules place.0 x.0 x.1) place.2)
+      (x.0, Contains-at rules place.0 x.0 x.1, x.2, subst (λ (z : List ℕ). Contains z y) (place_is f rules place.0 x.0 x.1) place.2)
 
   pub is-row : (x : X) (k y : ℕ) → Contains rules x → key x ≡ k → Contains (f x) y → Contains (at_row f rules (row_of rows k)) y
   is-row x k y (i, within, at) is given =
@@ -184,7 +178,7 @@ at_row-is rules label row y there =
     let of = flat_map-Contains (at_place (given_in label) rules) row y there in
     elim (slice_get rules of.0) as (λ (o : Option Local). slice_get rules of.0 ≡ o → Contains (unwrap_or (option_map (given_in label) o) []) y → Contains (given_by_rules rules label) y) [
       | None ↦ λ e h. absurd (Contains-none y h)
-      | Some r ↦ λ e h. given_in-is rules label r y (listed_at rules of.0 r e) h
+      | Some r ↦ λ e h. given_in-is rules label r y (Contains-at rules of.0 r e) h
     ] refl of.2
 
 is-at_row : (rules : List Local) (rows : List (List ℕ)) (label : List ℕ) (key i : ℕ) (r : Local) (y : ℕ) → Contains (row_of rows key) i → slice_get rules i ≡ Some r → Contains (given_in label r) y → Contains (at_row (given_in label) rules (row_of rows key)) y

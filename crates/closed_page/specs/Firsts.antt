@@ -1,12 +1,12 @@
 -- First rounds, found by the parents of their nodes.
 --     path_to nodes p s        the path to which the step s leads from the p-th node, and the root's where there is no p-th node
 --     IsSpot nodes p s         the p-th node is there, or p and s are what stands for the root
---     IsSpotOf nodes v p s     they stand for the node at v, and no others do
+--     IsSpotOf nodes v spot    the spot stands for the node at v, and no other does
 --     placed nodes fs          the firsts with the paths of their nodes
 --     AreOfNodes nodes fs      each first is of a node, and a node has an atom from one round on
 --     first_cmp f g            the order of firsts: by the parent, then by the atom, then by the step
 --     AreKept nodes parents fs what is kept of firsts belongs to the nodes
---     IsRoundIn fs p s a o     o is the round of the atom at the node for which p and s stand
+--     IsRoundIn fs spot a o    o is the round of the atom at the node for which the spot stands
 --     IsChildIn fs p a k o     o is the least step from the p-th node to one that has the atom by the round k
 use Rattle.std.specs.Prelude.{◌≡◌, ◌⊎◌, ◌<◌, ◌≤◌, ℕ, List, [], ◌∷◌, ◌++◌, map, Option, Some, None, option_map, unwrap_or, length, get_or, slice_get, Contains}
 use Rattle.std.specs.Ordering.{nat_cmp, ordering_then}

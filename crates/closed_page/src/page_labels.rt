@@ -14,7 +14,7 @@ ghost use Rattle.closed_page.specs.Labelled.{node_of, IsAbove, AreKids, IsParent
 use crate::first_rounds::{FirstRounds, NodeFirst, Spot, note, spot_of};
 use crate::index::Index;
 use crate::nodes::PageNodes;
-use crate::paths::{all_nodes, copies};
+use crate::paths::{all_nodes, copies, is_step};
 use std::alloc::Global;
 use std::marker::Model;
 use tp_base::{ClassSet, NoMemory, Path};
@@ -278,8 +278,38 @@ fn widen(tree: &mut Tree, at: &Path, label: &ClassSet) -> Result<(), NoMemory>
     }
 }
 
-// The number of the node above.
-fn number_above(nodes: &PageNodes, number: usize) -> Result<Option<usize>, NoMemory>
+// A parent that stands before the node.
+fn earlier_parent(parents: &[Option<usize>], number: usize) -> Option<usize>
+    ensures { IfSome result (λ p. p < number) }
+{
+    match parents.get(number) {
+        Some(parent) => match *parent {
+            Some(parent) => { if parent < number { Some(parent) } else { None } }
+            None => None,
+        },
+        None => None,
+    }
+}
+
+// The number of the node above, among the node before and those above it.
+fn near_above(nodes: &PageNodes, parents: &[Option<usize>], number: usize) -> Option<usize>
+    requires { number < length nodes.now }
+    ensures { IfSome result (λ p. IsAbove nodes.now (get_or nodes.now number []) (Some p)) }
+{
+    let paths = nodes.paths();
+    let at = &paths[number];
+    let mut near = number.saturating_sub(1);
+    'nodes: while !is_step(&paths[near], at) {
+        match earlier_parent(parents, near) {
+            Some(parent) => near = parent,
+            None => return None,
+        }
+    }
+    Some(near)
+}
+
+// The number of the node above, by its path.
+fn searched_above(nodes: &PageNodes, number: usize) -> Result<Option<usize>, NoMemory>
     requires { number < length nodes.now }
     ensures { IfOk result (λ o. IsAbove nodes.now (get_or nodes.now number []) o) }
 {
@@ -291,12 +321,28 @@ fn number_above(nodes: &PageNodes, number: usize) -> Result<Option<usize>, NoMem
     }
 }
 
+// The number of the node above, where those of the nodes before are known. In the order of the document it is found without
+// a search.
+fn number_above(
+    nodes: &PageNodes,
+    parents: &[Option<usize>],
+    number: usize,
+) -> Result<Option<usize>, NoMemory>
+    requires { number < length nodes.now }
+    ensures { IfOk result (λ o. IsAbove nodes.now (get_or nodes.now number []) o) }
+{
+    match near_above(nodes, parents, number) {
+        Some(near) => Ok(Some(near)),
+        None => searched_above(nodes, number),
+    }
+}
+
 fn all_above(alloc: Global, nodes: &PageNodes) -> Result<Vec<Option<usize>>, NoMemory>
     ensures { IfOk result (λ v. AreAllAbove nodes.now v.items (length nodes.now)) }
 {
     let mut parents = Vec::new(alloc);
     for i in 0..nodes.paths().len() {
-        let parent = number_above(nodes, i)?;
+        let parent = number_above(nodes, &parents, i)?;
         parents.push(parent)?;
     }
     Ok(parents)

@@ -1,14 +1,16 @@
--- What the scopes, effects and statements of the code are to the definitions.
+-- What the scopes, markup, effects and statements of the code are to the definitions.
 use Rattle.std.specs.Prelude.{ℕ, map, List, Option, option_map}
 use Rattle.tp_base.specs.Places.{place_at}
 use Rattle.tree_sem.specs.declared.actions.Action.{Action}
 use Rattle.jq_sem.specs.Sharp.{ExactStatement}
+use Rattle.jq_parts.specs.declared.markup.Grown as code_grown
 use Rattle.jq_parts.specs.declared.placing.Stated.{Stated}
 use Rattle.jq_parts.specs.declared.scopes.Handler as code_handler
 use Rattle.jq_parts.specs.declared.scopes.Scope as code_scope
 use Rattle.jq_parts.specs.declared.shared_chains.SharedChain.{SharedChain}
 use Rattle.jq_parts.specs.MarkedCalls.{marked_chain_of}
 use Rattle.jq_parts.specs.SharedChains.{shared_of}
+use Rattle.jq_parts.specs.Markup.{Grown, grown}
 use Rattle.jq_parts.specs.Views.{declarations_of}
 use Rattle.jq_parts.specs.Scopes.{Handler, Scope}
 use Rattle.jq_parts.specs.Stating.{Effect}
@@ -21,6 +23,9 @@ handlers_of hs = map handler_of hs
 
 abbrev pub scope_of : code_scope.Scope → Scope
 scope_of s = record { handlers = handlers_of s.handlers.items; has_this = s.has_this; declarations = declarations_of s.declarations }
+
+abbrev pub grown_of : code_grown.Grown → Grown
+grown_of g = grown g.atoms g.nodes
 
 abbrev pub effect_of : Option (SharedChain × Action) → Effect
 effect_of e = option_map (λ a. (shared_of a.0, a.1)) e

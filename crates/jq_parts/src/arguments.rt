@@ -1,18 +1,17 @@
 //! Arguments that are markup.
-ghost use Rattle.std.specs.Prelude.{◌≡◌, ◌≤◌, option_map, IfOk, IfErr, OnOk};
+ghost use Rattle.std.specs.Prelude.{◌≡◌, ◌≤◌, length, option_map, IfOk, IfErr, OnOk};
 ghost use Rattle.sel_core.specs.Results.{IsFront};
 ghost use Rattle.jq_words.specs.Words.{place};
 ghost use Rattle.jq_words.specs.Results.{Finds};
 ghost use Rattle.jq_words.specs.declared.faults.ScriptFault.TheVariants.{Memory};
 ghost use Rattle.jq_words.specs.declared.faults.TheConstants.{MOST_FOREST_NODES};
-ghost use Rattle.jq_parts.specs.Markup.{grown};
 ghost use Rattle.jq_parts.specs.Arguments as spec;
+ghost use Rattle.jq_parts.specs.ScopeViews.{grown_of};
 
-use crate::markup::forest;
-use jq_cursor::{begins_jquery, is_jquery_call};
+use crate::markup::{Grown, forest};
+use jq_cursor::{Reader, begins_jquery, is_jquery_call};
 use jq_words::{ScriptFault, Words, closed_texts, is_markup, joined_texts, place, want_open};
 use std::alloc::Global;
-use tp_base::AtomTable;
 use tree_sem::Forest;
 
 // The letters of markup in the brackets of J, where that is all there is.
@@ -35,44 +34,50 @@ fn wrapped(alloc: Global, words: &Words<'_>) -> Result<Option<Vec<u8>>, ScriptFa
 
 // The trees of markup in the brackets of J, of which so many may still be opened.
 fn wrapped_forest(
-    alloc: Global,
-    size: usize,
+    reader: Reader<'_>,
     room: usize,
     words: &Words<'_>,
-    nodes: &mut usize,
-    atoms: &mut AtomTable,
+    grown: &mut Grown,
 ) -> Result<Forest, ScriptFault>
-    ensures gives { Finds (λ f. f.tops) (grown atoms.new nodes.new) result (spec.wrapped_forest size room words.now (grown atoms.old nodes.old) (spec.wrapped words.now)) }
-    ensures few { OnOk result (nodes.new ≤ MOST_FOREST_NODES) }
-    ensures front { IsFront atoms.old atoms.new }
+    ensures gives { Finds (λ f. f.tops) (grown_of grown.new) result (spec.wrapped_forest (length reader.entry.text.now) room words.now (grown_of grown.old) (spec.wrapped words.now)) }
+    ensures few { OnOk result (grown.new.nodes ≤ MOST_FOREST_NODES) }
+    ensures front { IsFront grown.old.atoms grown.new.atoms }
 {
-    let Some(letters) = wrapped(alloc, words)? else {
-        return Err(ScriptFault::UnknownForm(place(size, words)));
+    let Some(letters) = wrapped(reader.alloc, words)? else {
+        return Err(ScriptFault::UnknownForm(place(reader.text.len(), words)));
     };
     let mut inside = words.behind();
-    want_open(size, room, b"(", &mut inside)?;
-    forest(alloc, place(size, &inside), &letters, nodes, atoms)
+    want_open(reader.text.len(), room, b"(", &mut inside)?;
+    forest(
+        reader.alloc,
+        place(reader.text.len(), &inside),
+        &letters,
+        grown,
+    )
 }
 
 /// The trees of an argument that is markup, where so many brackets may still be opened. Linear in it but for look-ups.
 #[tactic(auto, unfolding(crate::specs::Arguments::markup_argument), using(html_subset::proofs::Fronts::front_itself))]
 pub fn markup_argument(
-    alloc: Global,
-    size: usize,
+    reader: Reader<'_>,
     room: usize,
     words: &Words<'_>,
-    nodes: &mut usize,
-    atoms: &mut AtomTable,
+    grown: &mut Grown,
 ) -> Result<Forest, ScriptFault>
-    ensures gives { Finds (λ f. f.tops) (grown atoms.new nodes.new) result (spec.markup_argument size room words.now (grown atoms.old nodes.old)) }
-    ensures few { OnOk result (nodes.new ≤ MOST_FOREST_NODES) }
-    ensures front { IsFront atoms.old atoms.new }
+    ensures gives { Finds (λ f. f.tops) (grown_of grown.new) result (spec.markup_argument (length reader.entry.text.now) room words.now (grown_of grown.old)) }
+    ensures few { OnOk result (grown.new.nodes ≤ MOST_FOREST_NODES) }
+    ensures front { IsFront grown.old.atoms grown.new.atoms }
 {
-    if let Some(letters) = joined_texts(alloc, words)? {
-        return forest(alloc, place(size, words), &letters, nodes, atoms);
+    if let Some(letters) = joined_texts(reader.alloc, words)? {
+        return forest(
+            reader.alloc,
+            place(reader.text.len(), words),
+            &letters,
+            grown,
+        );
     }
     if !begins_jquery(words) {
-        return Err(ScriptFault::DynamicMarkup(place(size, words)));
+        return Err(ScriptFault::DynamicMarkup(place(reader.text.len(), words)));
     }
-    wrapped_forest(alloc, size, room, words, nodes, atoms)
+    wrapped_forest(reader, room, words, grown)
 }

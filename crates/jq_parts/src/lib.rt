@@ -22,7 +22,7 @@ pub use arguments::markup_argument;
 pub use calls::{admitted, below, dot_name, elements, ended, first_call, made, with_call};
 pub use declarations::Declarations;
 pub use marked_calls::{MarkedCall, MarkedChain};
-pub use markup::forest;
+pub use markup::{Grown, forest};
 pub use parameter_lists::parameters;
 pub use placing::{Stated, placed};
 pub use roots::{jquery_argument, root};

@@ -5,12 +5,20 @@ ghost use Rattle.jq_words.specs.Results.{Finds};
 ghost use Rattle.jq_words.specs.declared.faults.ScriptFault.TheVariants.{Memory};
 ghost use Rattle.jq_words.specs.declared.faults.TheConstants.{MOST_FOREST_NODES};
 ghost use Rattle.jq_parts.specs.Markup as spec;
+ghost use Rattle.jq_parts.specs.ScopeViews.{grown_of};
 
 use html_subset::{PageFault, read_forest};
 use jq_words::{MOST_FOREST_NODES, ScriptFault};
 use std::alloc::Global;
 use tp_base::AtomTable;
 use tree_sem::{Forest, Tree};
+
+/// The table of names, and how many nodes all markup has so far.
+#[derive(Drop)]
+pub struct Grown {
+    pub atoms: AtomTable,
+    pub nodes: usize,
+}
 
 // How many nodes some trees have.
 fn count_nodes(trees: &[Tree]) -> Result<usize, ScriptFault>
@@ -26,21 +34,20 @@ fn count_nodes(trees: &[Tree]) -> Result<usize, ScriptFault>
     Ok(count)
 }
 
-/// The trees in the letters of markup, whose first Text stands at an offset, and in `nodes` how many nodes all markup has. Names read
+/// The trees in the letters of markup, whose first Text stands at an offset, and in `grown` how many nodes all markup has. Names read
 /// before a refusal stay in the table. Linear in the letters but for look-ups.
 #[tactic(auto, unfolding(crate::specs::Markup::forest))]
 pub fn forest(
     alloc: Global,
     at: usize,
     letters: &[u8],
-    nodes: &mut usize,
-    atoms: &mut AtomTable,
+    grown: &mut Grown,
 ) -> Result<Forest, ScriptFault>
-    ensures gives { Finds (λ f. f.tops) (spec.grown atoms.new nodes.new) result (spec.forest at letters.now (spec.grown atoms.old nodes.old)) }
-    ensures few { OnOk result (nodes.new ≤ MOST_FOREST_NODES) }
-    ensures front { IsFront atoms.old atoms.new }
+    ensures gives { Finds (λ f. f.tops) (grown_of grown.new) result (spec.forest at letters.now (grown_of grown.old)) }
+    ensures few { OnOk result (grown.new.nodes ≤ MOST_FOREST_NODES) }
+    ensures front { IsFront grown.old.atoms grown.new.atoms }
 {
-    let found = match read_forest(alloc, letters, atoms) {
+    let found = match read_forest(alloc, letters, &mut grown.atoms) {
         Ok(found) => found,
         Err(PageFault::TooDeep(_)) => return Err(ScriptFault::TooDeep(at)),
         Err(PageFault::TooManyNodes(_)) => return Err(ScriptFault::TooManyForestNodes(at)),
@@ -49,10 +56,10 @@ pub fn forest(
         Err(PageFault::Memory) => return Err(ScriptFault::Memory),
     };
     let count = count_nodes(found.tops.items())?;
-    let all = nodes.checked_add(count).ok_or(ScriptFault::Memory)?;
+    let all = grown.nodes.checked_add(count).ok_or(ScriptFault::Memory)?;
     if all > MOST_FOREST_NODES {
         return Err(ScriptFault::TooManyForestNodes(at));
     }
-    *nodes = all;
+    grown.nodes = all;
     Ok(found)
 }

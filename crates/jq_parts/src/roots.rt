@@ -1,20 +1,18 @@
 //! What a chain begins with.
-ghost use Rattle.std.specs.Prelude.{◌≤◌, OnOk};
+ghost use Rattle.std.specs.Prelude.{◌≤◌, length, OnOk};
 ghost use Rattle.sel_core.specs.Results.{IsFront};
 ghost use Rattle.jq_words.specs.Results.{Gives, Finds, Turns, IsBehind};
 ghost use Rattle.jq_words.specs.declared.faults.TheConstants.{MOST_FOREST_NODES};
-ghost use Rattle.jq_parts.specs.Markup.{grown};
 ghost use Rattle.jq_parts.specs.Roots as spec;
 ghost use Rattle.jq_parts.specs.Views.{value_of};
-ghost use Rattle.jq_parts.specs.ScopeViews.{scope_of};
+ghost use Rattle.jq_parts.specs.ScopeViews.{grown_of, scope_of};
 
-use crate::markup::forest;
+use crate::markup::{Grown, forest};
 use crate::scopes::{Scope, used};
 use crate::values::{Value, matched, this_chain};
-use jq_cursor::{Cursor, PAGES, is_jquery_call, selectors, spelled};
+use jq_cursor::{Cursor, PAGES, Reader, is_jquery_call, selectors, spelled};
 use jq_words::{ScriptFault, Words, argument_len, is_markup, joined_texts, only, place};
 use std::alloc::Global;
-use tp_base::AtomTable;
 
 // `this`, document or window, or a bound name. A look-up, and a copy where its value is markup.
 #[tactic(auto, using(crate::proofs::RootSteps::no_root, crate::proofs::RootSteps::this_root, crate::proofs::RootSteps::this_refused, crate::proofs::RootSteps::page_root, crate::proofs::RootSteps::name_root, crate::proofs::RootSteps::other_root))]
@@ -51,64 +49,61 @@ fn lettered_root(
     alloc: Global,
     at: usize,
     letters: &[u8],
-    nodes: &mut usize,
-    atoms: &mut AtomTable,
+    grown: &mut Grown,
 ) -> Result<Value, ScriptFault>
-    ensures gives { Finds value_of (grown atoms.new nodes.new) result (spec.lettered_root at letters.now (grown atoms.old nodes.old)) }
-    ensures few { nodes.old ≤ MOST_FOREST_NODES → OnOk result (nodes.new ≤ MOST_FOREST_NODES) }
-    ensures front { IsFront atoms.old atoms.new }
+    ensures gives { Finds value_of (grown_of grown.new) result (spec.lettered_root at letters.now (grown_of grown.old)) }
+    ensures few { grown.old.nodes ≤ MOST_FOREST_NODES → OnOk result (grown.new.nodes ≤ MOST_FOREST_NODES) }
+    ensures front { IsFront grown.old.atoms grown.new.atoms }
 {
     if is_markup(letters) {
-        let trees = forest(alloc, at, letters, nodes, atoms)?;
+        let trees = forest(alloc, at, letters, grown)?;
         return Ok(Value::Markup(trees));
     }
-    let list = selectors(alloc, at, letters, atoms)?;
+    let list = selectors(alloc, at, letters, &mut grown.atoms)?;
     Ok(Value::Elements(matched(alloc, list)?))
 }
 
 /// What stands in the brackets of J. Linear in it but for look-ups.
 #[tactic(auto, unfolding(crate::specs::Roots::jquery_argument), using(html_subset::proofs::Fronts::front_itself))]
 pub fn jquery_argument(
-    alloc: Global,
-    size: usize,
+    reader: Reader<'_>,
     scope: &Scope<'_>,
     words: &Words<'_>,
-    nodes: &mut usize,
-    atoms: &mut AtomTable,
+    grown: &mut Grown,
 ) -> Result<Value, ScriptFault>
-    ensures gives { Finds value_of (grown atoms.new nodes.new) result (spec.jquery_argument size (scope_of scope.now) words.now (grown atoms.old nodes.old)) }
-    ensures few { nodes.old ≤ MOST_FOREST_NODES → OnOk result (nodes.new ≤ MOST_FOREST_NODES) }
-    ensures front { IsFront atoms.old atoms.new }
+    ensures gives { Finds value_of (grown_of grown.new) result (spec.jquery_argument (length reader.entry.text.now) (scope_of scope.now) words.now (grown_of grown.old)) }
+    ensures few { grown.old.nodes ≤ MOST_FOREST_NODES → OnOk result (grown.new.nodes ≤ MOST_FOREST_NODES) }
+    ensures front { IsFront grown.old.atoms grown.new.atoms }
 {
-    match joined_texts(alloc, words)? {
-        Some(letters) => lettered_root(alloc, place(size, words), &letters, nodes, atoms),
-        None => named_root(alloc, size, scope, words),
+    let size = reader.text.len();
+    match joined_texts(reader.alloc, words)? {
+        Some(letters) => lettered_root(reader.alloc, place(size, words), &letters, grown),
+        None => named_root(reader.alloc, size, scope, words),
     }
 }
 
 // The argument of J behind it, in brackets, of which so many may still be opened.
 #[tactic(auto, unfolding(crate::specs::Roots::wrapped_root))]
 fn wrapped_root(
-    alloc: Global,
-    size: usize,
+    reader: Reader<'_>,
     room: usize,
     scope: &Scope<'_>,
-    nodes: &mut usize,
-    atoms: &mut AtomTable,
+    grown: &mut Grown,
     words: &mut Cursor<'_, '_>,
 ) -> Result<Value, ScriptFault>
-    ensures gives { Turns value_of (grown atoms.new nodes.new) words.new result (spec.wrapped_root size room (scope_of scope.now) (grown atoms.old nodes.old) words.old) }
-    ensures few { nodes.old ≤ MOST_FOREST_NODES → OnOk result (nodes.new ≤ MOST_FOREST_NODES) }
+    ensures gives { Turns value_of (grown_of grown.new) words.new result (spec.wrapped_root (length reader.entry.text.now) room (scope_of scope.now) (grown_of grown.old) words.old) }
+    ensures few { grown.old.nodes ≤ MOST_FOREST_NODES → OnOk result (grown.new.nodes ≤ MOST_FOREST_NODES) }
     ensures rest { OnOk result (IsBehind words.old words.new) }
-    ensures front { IsFront atoms.old atoms.new }
+    ensures front { IsFront grown.old.atoms grown.new.atoms }
 {
+    let size = reader.text.len();
     words.want_open(size, room, b"(")?;
-    let count = argument_len(alloc, false, words.words())?;
+    let count = argument_len(reader.alloc, false, words.words())?;
     let given = words.words().front(count);
     if given.first().is_none() {
         return Err(ScriptFault::UnknownForm(place(size, words.words())));
     }
-    let value = jquery_argument(alloc, size, scope, &given, nodes, atoms)?;
+    let value = jquery_argument(reader, scope, &given, grown)?;
     words.pass_all(count);
     words.want(size, b")")?;
     Ok(value)
@@ -117,28 +112,26 @@ fn wrapped_root(
 /// Passes what a chain begins with: J with its argument, or a bound name. Linear in it but for look-ups.
 #[tactic(auto, unfolding(crate::specs::Roots::root))]
 pub fn root(
-    alloc: Global,
-    size: usize,
+    reader: Reader<'_>,
     room: usize,
     scope: &Scope<'_>,
-    nodes: &mut usize,
-    atoms: &mut AtomTable,
+    grown: &mut Grown,
     words: &mut Cursor<'_, '_>,
 ) -> Result<Value, ScriptFault>
-    ensures gives { Turns value_of (grown atoms.new nodes.new) words.new result (spec.root size room (scope_of scope.now) (grown atoms.old nodes.old) words.old) }
-    ensures few { nodes.old ≤ MOST_FOREST_NODES → OnOk result (nodes.new ≤ MOST_FOREST_NODES) }
+    ensures gives { Turns value_of (grown_of grown.new) words.new result (spec.root (length reader.entry.text.now) room (scope_of scope.now) (grown_of grown.old) words.old) }
+    ensures few { grown.old.nodes ≤ MOST_FOREST_NODES → OnOk result (grown.new.nodes ≤ MOST_FOREST_NODES) }
     ensures rest { OnOk result (IsBehind words.old words.new) }
-    ensures front { IsFront atoms.old atoms.new }
+    ensures front { IsFront grown.old.atoms grown.new.atoms }
 {
     if is_jquery_call(words.words()) {
         words.pass();
-        return wrapped_root(alloc, size, room, scope, nodes, atoms, words);
+        return wrapped_root(reader, room, scope, grown, words);
     }
     let value = used(
-        alloc,
+        reader.alloc,
         scope,
         spelled(words.words()),
-        place(size, words.words()),
+        place(reader.text.len(), words.words()),
     )?;
     words.pass();
     Ok(value)

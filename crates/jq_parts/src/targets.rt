@@ -1,5 +1,5 @@
 //! The chain on which markup is placed.
-ghost use Rattle.std.specs.Prelude.{◌≡◌, [], ◌∷◌, Bool, false, codes, drop, IfSome, IfNone};
+ghost use Rattle.std.specs.Prelude.{◌≡◌, [], ◌∷◌, Bool, false, codes, drop, length, IfSome, IfNone};
 ghost use Rattle.sel_core.specs.Results.{IsFront};
 ghost use Rattle.jq_words.specs.Words.{Word, is_mark, is_name_among, is_form, spelled};
 ghost use Rattle.jq_words.specs.Results.{Gives, Finds};
@@ -14,7 +14,7 @@ use crate::declarations::Declarations;
 use crate::scopes::{Scope, used};
 use crate::shared_chains::SharedChain;
 use crate::values::{Value, matched, this_chain};
-use jq_cursor::{PAGES, is_jquery_call, selectors, spelled};
+use jq_cursor::{PAGES, Reader, is_jquery_call, selectors, spelled};
 use jq_words::{ScriptFault, Word, Words, joined_texts, only, place, want_open};
 use std::alloc::Global;
 use tp_base::AtomTable;
@@ -88,21 +88,27 @@ fn wrapped_word<'a>(words: &Words<'a>) -> Option<Word<'a>>
 // The elements of a name in the brackets of J, which begin these words.
 #[tactic(auto, unfolding(crate::specs::Arguments::wrapped_target))]
 fn wrapped_target(
-    alloc: Global,
-    size: usize,
+    reader: Reader<'_>,
     room: usize,
     scope: &Scope<'_>,
     at: usize,
     words: &Words<'_>,
 ) -> Result<SharedChain, ScriptFault>
-    ensures { Gives shared_of result (spec.wrapped_target size room (scope_of scope.now) at words.now) }
+    ensures { Gives shared_of result (spec.wrapped_target (length reader.entry.text.now) room (scope_of scope.now) at words.now) }
 {
     let mut inside = words.again();
     if is_apart(&scope.declarations, spelled(&words.behind())) {
         return Err(ScriptFault::ComplexArgument(at));
     }
+    let size = reader.text.len();
     want_open(size, room, b"(", &mut inside)?;
-    named_target(alloc, scope, at, spelled(&inside), place(size, &inside))
+    named_target(
+        reader.alloc,
+        scope,
+        at,
+        spelled(&inside),
+        place(size, &inside),
+    )
 }
 
 // `this` in the brackets of J.
@@ -149,20 +155,25 @@ fn bare_target(
 // `J(this)`, `J(name)` or a bound name.
 #[tactic(auto, using(crate::proofs::TargetSteps::not_wrapped, crate::proofs::TargetSteps::this_wrapped, crate::proofs::TargetSteps::other_wrapped, crate::proofs::TargetSteps::page_wrapped, crate::proofs::TargetSteps::name_wrapped, jq_cursor::proofs::KeywordTables::same_pages))]
 fn other_target(
-    alloc: Global,
-    size: usize,
+    reader: Reader<'_>,
     room: usize,
     scope: &Scope<'_>,
     words: &Words<'_>,
 ) -> Result<SharedChain, ScriptFault>
-    ensures { Gives shared_of result (spec.other_target size room (scope_of scope.now) words.now) }
+    ensures { Gives shared_of result (spec.other_target (length reader.entry.text.now) room (scope_of scope.now) words.now) }
 {
-    let at = place(size, words);
+    let at = place(reader.text.len(), words);
     let Some(word) = wrapped_word(words) else {
-        return bare_target(alloc, scope, at, words);
+        return bare_target(reader.alloc, scope, at, words);
     };
     if word.is_name(b"this") {
-        return wrapped_this(alloc, size, room, scope, &words.behind());
+        return wrapped_this(
+            reader.alloc,
+            reader.text.len(),
+            room,
+            scope,
+            &words.behind(),
+        );
     }
     if !word.is_any_name() {
         return Err(ScriptFault::ComplexArgument(at));
@@ -170,26 +181,30 @@ fn other_target(
     if word.is_name_among(&PAGES) {
         return Err(ScriptFault::ComplexArgument(at));
     }
-    wrapped_target(alloc, size, room, scope, at, &words.behind())
+    wrapped_target(reader, room, scope, at, &words.behind())
 }
 
 /// The chain on which markup is placed: that of Texts, `J(this)`, `J(name)` or a bound name, where so many brackets may still be
 /// opened. Linear in the letters of Texts but for look-ups.
 #[tactic(auto, unfolding(crate::specs::Arguments::target), using(html_subset::proofs::Fronts::front_itself))]
 pub fn target(
-    alloc: Global,
-    size: usize,
+    reader: Reader<'_>,
     room: usize,
     scope: &Scope<'_>,
     words: &Words<'_>,
     atoms: &mut AtomTable,
 ) -> Result<SharedChain, ScriptFault>
-    ensures gives { Finds shared_of atoms.new result (spec.target size room (scope_of scope.now) words.now atoms.old) }
+    ensures gives { Finds shared_of atoms.new result (spec.target (length reader.entry.text.now) room (scope_of scope.now) words.now atoms.old) }
     ensures front { IsFront atoms.old atoms.new }
 {
-    let Some(letters) = joined_texts(alloc, words)? else {
-        return other_target(alloc, size, room, scope, words);
+    let Some(letters) = joined_texts(reader.alloc, words)? else {
+        return other_target(reader, room, scope, words);
     };
-    let list = selectors(alloc, place(size, words), &letters, atoms)?;
-    Ok(matched(alloc, list)?)
+    let list = selectors(
+        reader.alloc,
+        place(reader.text.len(), words),
+        &letters,
+        atoms,
+    )?;
+    Ok(matched(reader.alloc, list)?)
 }

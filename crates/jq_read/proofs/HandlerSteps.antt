@@ -1,9 +1,8 @@
 -- Handlers and declarations, one more, and back to those before.
-use Rattle.std.proofs.Common.{◌≡◌, ℕ, true, List, [], ◌∷◌, ◌++◌, length, take, bytes_eq, Option, Some, None, sym, ap, ◌∙◌, arith}
+use Rattle.std.proofs.Common.{◌≡◌, ℕ, List, [], ◌∷◌, ◌++◌, length, take, Option, Some, None, sym, ap, ◌∙◌, arith}
 use Rattle.std.proofs.Math.Seq.{take-append_seam}
 use Rattle.std.specs.List.{take-map}
 use Rattle.std.proofs.lemmas.List.{map-append, take_all, length-map}
-use Rattle.std.proofs.lemmas.Slice.Eq.{bytes_eq-Decides}
 use Rattle.jq_parts.specs.declared.scopes.Handler as code
 use Rattle.jq_parts.specs.declared.values.Declaration as declaration
 use Rattle.jq_parts.specs.Views.{declaration_of, declarations_of}
@@ -33,6 +32,3 @@ back_all n (Some h) hs count = ap (λ k. take k (hs ++ h ∷ [])) count ∙ take
 -- the handlers before it are back where it is taken away
 pub back : (n : ℕ) (h : Option Handler) (hs : List code.Handler) → n ≡ length hs → take n (with_handler h (handlers_of hs)) ≡ handlers_of hs
 back n h hs count = back_all n h (handlers_of hs) (count ∙ sym (length-map hs handler_of))
-
-pub same_places : (places others : List ℕ) → bytes_eq places others ≡ true → places ≡ others
-same_places places others same = (bytes_eq-Decides places others).0 same

@@ -1,7 +1,7 @@
 -- A sequence of statements, turn by turn, as the grammar reads it; and blocks.
 use Rattle.std.proofs.Common.{◌≡◌, ℕ, zero, suc, ◌+◌, ◌-◌, ◌<◌, ◌≤◌, ◌==◌, ◌&&◌, ◌||◌, not, Bool, true, false, if◌then◌else◌, List, [], ◌∷◌, length, drop, Result, Ok, Err, refl, sym, ap, ◌∙◌, subst, codes, arith}
 use Rattle.std.specs.List.{AllByRecursion}
-use Rattle.std.proofs.lemmas.Bool.Decides.{nat_tests}
+use Rattle.tp_base.proofs.Truths.{and_true, and_false, or_false, or_true, suc_not_zero}
 use Rattle.jq_words.specs.declared.faults.ScriptFault.{ScriptFault}
 use Rattle.jq_words.specs.declared.faults.ScriptFault.TheVariants.{UnknownForm}
 use Rattle.jq_words.specs.Words.{Word, Outcome, ◌>>=◌, is_mark, begins_name, want_open}
@@ -11,25 +11,6 @@ use Rattle.jq_read.specs.States.{Context, State, size}
 use Rattle.jq_read.specs.Statements.{Blocks, form_at, is_branch, statement_as, statement, closes, sequence, braces, no_block, block}
 use Rattle.jq_read.specs.declared.sequences.Between.{Between}
 use Rattle.jq_read.specs.Sequences.{begin, behind_condition, goes_else, behind_statement, behind_else, and_between, is_over, turn, at_file_end}
-
-and_true : (b : Bool) → (b && true) ≡ b
-and_true true = refl
-and_true false = refl
-
-and_none : (b : Bool) → (b && false) ≡ false
-and_none true = refl
-and_none false = refl
-
-or_none : (b : Bool) → (b || false) ≡ b
-or_none true = refl
-or_none false = refl
-
-or_some : (b : Bool) → (b || true) ≡ true
-or_some true = refl
-or_some false = refl
-
-suc_open : (n : ℕ) → (suc n == 0) ≡ false
-suc_open n = grind (arith, nat_tests)
 
 -- ---- outcomes
 
@@ -64,13 +45,13 @@ not_turned (Err f) g b e is = ap (λ o. Err (fault_or o e)) is
 -- ---- what stands between two statements
 
 no_more : (b : Between) (ws : List Word) → begins_name (codes "else") ws ≡ false → goes_else b ws ≡ false
-no_more b ws none = rw none (and_none (not (b.ifs == 0)))
+no_more b ws none = rw none (and_false (not (b.ifs == 0)))
 
 none_open : (b : Between) (ws : List Word) → b.ifs ≡ 0 → goes_else b ws ≡ false
 none_open b ws none = rw none refl
 
 some_open : (n : ℕ) (b : Between) (ws : List Word) → b.ifs ≡ suc n → begins_name (codes "else") ws ≡ true → goes_else b ws ≡ true
-some_open n b ws some goes = rw (some, suc_open n, goes) refl
+some_open n b ws some goes = rw (some, suc_not_zero n, goes) refl
 
 stays : (b : Between) (r : State × List Word) → goes_else b r.1 ≡ false → and_between false b r ≡ (begin, r.0, r.1)
 stays b r none = rw none refl
@@ -251,7 +232,7 @@ module _ (in_block : Bool) (blocks : Blocks) (room : ℕ) (c : Context) where
   unfolding is_over
   one_over b s w ws all (between_two is whole) over = sym whole ∙ closed_here s w ws (sym (open_here b w is) ∙ over)
   one_over b s w ws all (in_statement top fs is here before whole) over =
-      let never : false ≡ true = sym (ap (λ h. h && is_mark (codes "}") w) (and_none in_block)) ∙ sym (ap (λ (x : Between). is_over in_block x w) is) ∙ over in cc
+      let never : false ≡ true = sym (ap (λ h. h && is_mark (codes "}") w) (and_false in_block)) ∙ sym (ap (λ (x : Between). is_over in_block x w) is) ∙ over in cc
 
   -- ---- the loop
 
@@ -274,9 +255,9 @@ module _ (in_block : Bool) (blocks : Blocks) (room : ℕ) (c : Context) where
   at_end : (b : Between) (s : State) (all : Reading) → ReadsOn b s [] all → all ≡ at_file_end in_block b c s
   unfolding at_file_end sequence statement
   at_end b s all (between_two is whole) =
-      sym whole ∙ sym (ap (λ (x : Between). if in_block || x.wanted then Err (UnknownForm (size c)) else Ok (s, [])) is ∙ ap (λ (h : Bool). if h then Err (UnknownForm (size c)) else Ok (s, [])) (or_none in_block))
+      sym whole ∙ sym (ap (λ (x : Between). if in_block || x.wanted then Err (UnknownForm (size c)) else Ok (s, [])) is ∙ ap (λ (h : Bool). if h then Err (UnknownForm (size c)) else Ok (s, [])) (or_false in_block))
   at_end b s all (in_statement top fs is here before whole) =
-      sym whole ∙ sym (ap (λ (x : Between). if in_block || x.wanted then Err (UnknownForm (size c)) else Ok (s, [])) is ∙ ap (λ (h : Bool). if h then Err (UnknownForm (size c)) else Ok (s, [])) (or_some in_block))
+      sym whole ∙ sym (ap (λ (x : Between). if in_block || x.wanted then Err (UnknownForm (size c)) else Ok (s, [])) is ∙ ap (λ (h : Bool). if h then Err (UnknownForm (size c)) else Ok (s, [])) (or_true in_block))
 
   ends : (b : Between) (s : State) (ws : List Word) (all : Reading) → ReadsOn b s ws all → ws ≡ [] → all ≡ at_file_end in_block b c s
   ends b s ws all on none = at_end b s all (subst (λ x. ReadsOn b s x all) none on)

@@ -62,10 +62,10 @@ pub(crate) fn move_arguments(
     ensures gives { Turns done_of (state_of reading.new) reading.new.words result (spec.move_arguments (context_of reading.old) (form_of form) none (value_of reached) (state_of reading.old) reading.old.words) }
     ensures rest { OnOk result (IsRest reading.old.words reading.new.words) }
     ensures kept { OnOk result (context_of reading.new ≡ context_of reading.old) }
-    ensures front { IsFront reading.old.atoms reading.new.atoms }
+    ensures front { IsFront reading.old.grown.atoms reading.new.grown.atoms }
 {
     let reader = reading.reader;
-    let found = compounds_argument(reader, none, &mut reading.atoms, &mut reading.words)?;
+    let found = compounds_argument(reader, none, &mut reading.grown.atoms, &mut reading.words)?;
     let reached = with_call(reader.alloc, reached, made(form, found)?)?;
     Ok(Done {
         reached,
@@ -106,12 +106,12 @@ pub(crate) fn unite_arguments(
     ensures gives { Turns done_of (state_of reading.new) reading.new.words result (spec.unite_arguments (context_of reading.old) (value_of reached) (state_of reading.old) reading.old.words) }
     ensures rest { OnOk result (IsRest reading.old.words reading.new.words) }
     ensures kept { OnOk result (context_of reading.new ≡ context_of reading.old) }
-    ensures front { IsFront reading.old.atoms reading.new.atoms }
+    ensures front { IsFront reading.old.grown.atoms reading.new.grown.atoms }
 {
     let reader = reading.reader;
     let at = place(reader.text.len(), reading.words.words());
     let letters = text_argument(reader.alloc, reader.text.len(), &mut reading.words)?;
-    let found = selectors(reader.alloc, at, &letters, &mut reading.atoms)?;
+    let found = selectors(reader.alloc, at, &letters, &mut reading.grown.atoms)?;
     let call = MarkedCall::plain(Call::Add(Selectors::new(found)?));
     let reached = with_call(reader.alloc, reached, call)?;
     Ok(Done {
@@ -148,12 +148,12 @@ pub(crate) fn class_arguments(
     ensures gives { Turns done_of (state_of reading.new) reading.new.words result (spec.class_arguments (context_of reading.old) room (value_of reached) (state_of reading.old) reading.old.words) }
     ensures rest { OnOk result (IsRest reading.old.words reading.new.words) }
     ensures kept { OnOk result (context_of reading.new ≡ context_of reading.old) }
-    ensures front { IsFront reading.old.atoms reading.new.atoms }
+    ensures front { IsFront reading.old.grown.atoms reading.new.grown.atoms }
 {
     let reader = reading.reader;
     let at = place(reader.text.len(), reading.words.words());
     let letters = text_argument(reader.alloc, reader.text.len(), &mut reading.words)?;
-    let classes = class_set(reader.alloc, at, &letters, &mut reading.atoms)?;
+    let classes = class_set(reader.alloc, at, &letters, &mut reading.grown.atoms)?;
     and_list(
         reader,
         reading.scope.has_this,
@@ -176,19 +176,25 @@ fn value_argument(
     ensures gives { Turns done_of (state_of reading.new) reading.new.words result (spec.value_argument (context_of reading.old) (value_of reached) (state_of reading.old) name.now at reading.old.words) }
     ensures rest { OnOk result (IsRest reading.old.words reading.new.words) }
     ensures kept { OnOk result (context_of reading.new ≡ context_of reading.old) }
-    ensures front { IsFront reading.old.atoms reading.new.atoms }
+    ensures front { IsFront reading.old.grown.atoms reading.new.grown.atoms }
 {
     let reader = reading.reader;
     if !is_attribute(name) {
         return Err(ScriptFault::ComplexArgument(at));
     }
     let mut set = ClassSet::new(reader.alloc);
-    add_attribute(reader.alloc, at, name, &mut set, &mut reading.atoms)?;
+    add_attribute(reader.alloc, at, name, &mut set, &mut reading.grown.atoms)?;
     reading.words.pass();
     let value_at = place(reader.text.len(), reading.words.words());
     let value = text_argument(reader.alloc, reader.text.len(), &mut reading.words)?;
     let text = with_value(reader.alloc, name, &value)?;
-    add_attribute(reader.alloc, value_at, &text, &mut set, &mut reading.atoms)?;
+    add_attribute(
+        reader.alloc,
+        value_at,
+        &text,
+        &mut set,
+        &mut reading.grown.atoms,
+    )?;
     let done = acting(reached, Action::Classes(set))?;
     Ok(done)
 }
@@ -202,7 +208,7 @@ pub(crate) fn attribute_arguments(
     ensures gives { Turns done_of (state_of reading.new) reading.new.words result (spec.attribute_arguments (context_of reading.old) (value_of reached) (state_of reading.old) reading.old.words) }
     ensures rest { OnOk result (IsRest reading.old.words reading.new.words) }
     ensures kept { OnOk result (context_of reading.new ≡ context_of reading.old) }
-    ensures front { IsFront reading.old.atoms reading.new.atoms }
+    ensures front { IsFront reading.old.grown.atoms reading.new.grown.atoms }
 {
     let reader = reading.reader;
     let at = place(reader.text.len(), reading.words.words());
@@ -238,18 +244,11 @@ pub(crate) fn grow_arguments(
     ensures gives { Turns done_of (state_of reading.new) reading.new.words result (spec.grow_arguments (context_of reading.old) room beside (value_of reached) (state_of reading.old) reading.old.words) }
     ensures rest { OnOk result (IsRest reading.old.words reading.new.words) }
     ensures kept { OnOk result (context_of reading.new ≡ context_of reading.old) }
-    ensures front { IsFront reading.old.atoms reading.new.atoms }
+    ensures front { IsFront reading.old.grown.atoms reading.new.grown.atoms }
 {
     let reader = reading.reader;
     let given = some_argument(reader.alloc, reader.text.len(), &mut reading.words)?;
-    let forest = markup_argument(
-        reader.alloc,
-        reader.text.len(),
-        room,
-        &given,
-        &mut reading.nodes,
-        &mut reading.atoms,
-    )?;
+    let forest = markup_argument(reader, room, &given, &mut reading.grown)?;
     let done = acting(reached, added(beside, forest))?;
     Ok(done)
 }
@@ -274,17 +273,16 @@ pub(crate) fn place_arguments(
     ensures gives { Turns done_of (state_of reading.new) reading.new.words result (spec.place_arguments (context_of reading.old) room (value_of reached) (state_of reading.old) reading.old.words) }
     ensures rest { OnOk result (IsRest reading.old.words reading.new.words) }
     ensures kept { OnOk result (context_of reading.new ≡ context_of reading.old) }
-    ensures front { IsFront reading.old.atoms reading.new.atoms }
+    ensures front { IsFront reading.old.grown.atoms reading.new.grown.atoms }
 {
     let reader = reading.reader;
     let given = some_argument(reader.alloc, reader.text.len(), &mut reading.words)?;
     let chain = target(
-        reader.alloc,
-        reader.text.len(),
+        reader,
         room,
         &reading.scope,
         &given,
-        &mut reading.atoms,
+        &mut reading.grown.atoms,
     )?;
     let forest = Forest {
         tops: trees_in(reader, reached),

@@ -28,7 +28,7 @@ pub(crate) fn function_body(
     ensures gives { Leaves (state_of reading.new, reading.new.words) result (functions.function_body (spec.block room 0) room (functions.in_handler (context_of reading.old) (option_map handler_of handler)) (state_of reading.old) reading.old.words) }
     ensures rest { OnOk result (IsBehind reading.old.words reading.new.words) }
     ensures kept { OnOk result (context_of reading.new ≡ context_of reading.old) }
-    ensures front { IsFront reading.old.atoms reading.new.atoms }
+    ensures front { IsFront reading.old.grown.atoms reading.new.grown.atoms }
 {
     let size = reading.reader.text.len();
     let seen = count_seen(&reading.scope);
@@ -57,7 +57,7 @@ pub(crate) fn function(
     ensures gives { Leaves (state_of reading.new, reading.new.words) result (functions.function (spec.block room 0) room (functions.in_handler (context_of reading.old) (option_map handler_of handler)) (state_of reading.old) reading.old.words) }
     ensures rest { OnOk result (IsBehind reading.old.words reading.new.words) }
     ensures kept { OnOk result (context_of reading.new ≡ context_of reading.old) }
-    ensures front { IsFront reading.old.atoms reading.new.atoms }
+    ensures front { IsFront reading.old.grown.atoms reading.new.grown.atoms }
 {
     want_function(reading.reader.text.len(), &mut reading.words)?;
     pass_name(&mut reading.words);
@@ -72,7 +72,7 @@ pub(crate) fn named_function(reading: &mut Reading<'_, '_>, room: usize) -> Resu
     ensures gives { Leaves (state_of reading.new, reading.new.words) result (spec.named_function (spec.block room) room (context_of reading.old) (state_of reading.old) reading.old.words) }
     ensures rest { OnOk result (IsBehind reading.old.words reading.new.words) }
     ensures kept { OnOk result (context_of reading.new ≡ context_of reading.old) }
-    ensures front { IsFront reading.old.atoms reading.new.atoms }
+    ensures front { IsFront reading.old.grown.atoms reading.new.grown.atoms }
 {
     let size = reading.reader.text.len();
     reading.words.want_name(size)?;
@@ -103,7 +103,7 @@ pub(crate) fn handed(
     ensures gives { Leaves (state_of reading.new, reading.new.words) result (functions.handed lists (spec.block room 0) room (context_of reading.old) (elements_in (value_of reached.now)) (state_of reading.old) reading.old.words) }
     ensures rest { OnOk result (IsBehind reading.old.words reading.new.words) }
     ensures kept { OnOk result (context_of reading.new ≡ context_of reading.old) }
-    ensures front { IsFront reading.old.atoms reading.new.atoms }
+    ensures front { IsFront reading.old.grown.atoms reading.new.grown.atoms }
 {
     let reader = reading.reader;
     if begins_name(reading.words.words(), b"function") {
@@ -129,7 +129,7 @@ pub(crate) fn bracketed(reading: &mut Reading<'_, '_>, room: usize) -> Result<()
     ensures gives { Leaves (state_of reading.new, reading.new.words) result (spec.bracketed (spec.block room) room (context_of reading.old) (state_of reading.old) reading.old.words) }
     ensures rest { OnOk result (IsBehind reading.old.words reading.new.words) }
     ensures kept { OnOk result (context_of reading.new ≡ context_of reading.old) }
-    ensures front { IsFront reading.old.atoms reading.new.atoms }
+    ensures front { IsFront reading.old.grown.atoms reading.new.grown.atoms }
 {
     let size = reading.reader.text.len();
     reading.words.want_open(size, room, b"(")?;
@@ -145,7 +145,7 @@ pub(crate) fn start(reading: &mut Reading<'_, '_>, room: usize) -> Result<(), Sc
     ensures gives { Leaves (state_of reading.new, reading.new.words) result (spec.start (spec.block room) room (context_of reading.old) (state_of reading.old) reading.old.words) }
     ensures rest { OnOk result (IsBehind reading.old.words reading.new.words) }
     ensures kept { OnOk result (context_of reading.new ≡ context_of reading.old) }
-    ensures front { IsFront reading.old.atoms reading.new.atoms }
+    ensures front { IsFront reading.old.grown.atoms reading.new.grown.atoms }
 {
     let size = reading.reader.text.len();
     bracketed(reading, room)?;
@@ -160,7 +160,7 @@ pub(crate) fn once(reading: &mut Reading<'_, '_>, room: usize) -> Result<(), Scr
     ensures gives { Leaves (state_of reading.new, reading.new.words) result (spec.once (spec.block room) room (context_of reading.old) (state_of reading.old) reading.old.words) }
     ensures rest { OnOk result (IsBehind reading.old.words reading.new.words) }
     ensures kept { OnOk result (context_of reading.new ≡ context_of reading.old) }
-    ensures front { IsFront reading.old.atoms reading.new.atoms }
+    ensures front { IsFront reading.old.grown.atoms reading.new.grown.atoms }
 {
     let reader = reading.reader;
     let has_this = reading.scope.has_this;
@@ -177,7 +177,7 @@ pub(crate) fn timer(reading: &mut Reading<'_, '_>, room: usize) -> Result<(), Sc
     ensures gives { Leaves (state_of reading.new, reading.new.words) result (spec.timer (spec.block room) room (context_of reading.old) (state_of reading.old) reading.old.words) }
     ensures rest { OnOk result (IsBehind reading.old.words reading.new.words) }
     ensures kept { OnOk result (context_of reading.new ≡ context_of reading.old) }
-    ensures front { IsFront reading.old.atoms reading.new.atoms }
+    ensures front { IsFront reading.old.grown.atoms reading.new.grown.atoms }
 {
     let reader = reading.reader;
     let has_this = reading.scope.has_this;

@@ -23,7 +23,7 @@ pub(crate) fn and_stated(
     ensures gives { Leaves (state_of reading.new) result (spec.and_stated (context_of reading.old) at (effect_of effect) (state_of reading.old)) }
     ensures words { reading.new.words ≡ reading.old.words }
     ensures kept { OnOk result (context_of reading.new ≡ context_of reading.old) }
-    ensures front { IsFront reading.old.atoms reading.new.atoms }
+    ensures front { IsFront reading.old.grown.atoms reading.new.grown.atoms }
 {
     stated(
         reading.reader.alloc,
@@ -45,7 +45,7 @@ fn listened(
     ensures gives { Turns value_of (state_of reading.new) reading.new.words result (spec.listened (length reading.old.reader.text.now) (value_of reached.now) narrowed (state_of reading.old) reading.old.words) }
     ensures rest { OnOk result (IsRest reading.old.words reading.new.words) }
     ensures kept { OnOk result (context_of reading.new ≡ context_of reading.old) }
-    ensures front { IsFront reading.old.atoms reading.new.atoms }
+    ensures front { IsFront reading.old.grown.atoms reading.new.grown.atoms }
 {
     if !narrowed {
         let copy = reached.copy()?;
@@ -54,7 +54,7 @@ fn listened(
     let reader = reading.reader;
     let at = place(reader.text.len(), reading.words.words());
     let letters = text_argument(reader.alloc, reader.text.len(), &mut reading.words)?;
-    let found = compounds(reader.alloc, at, &letters, &mut reading.atoms)?;
+    let found = compounds(reader.alloc, at, &letters, &mut reading.grown.atoms)?;
     reading.words.want(reader.text.len(), b",")?;
     let elements = below(reader.alloc, reached, found)?;
     Ok(elements)
@@ -70,7 +70,7 @@ pub(crate) fn listening(
     ensures gives { Turns value_of (state_of reading.new) reading.new.words result (spec.listening (length reading.old.reader.text.now) (value_of reached.now) narrowed (state_of reading.old) reading.old.words) }
     ensures rest { OnOk result (IsBehind reading.old.words reading.new.words) }
     ensures kept { OnOk result (context_of reading.new ≡ context_of reading.old) }
-    ensures front { IsFront reading.old.atoms reading.new.atoms }
+    ensures front { IsFront reading.old.grown.atoms reading.new.grown.atoms }
 {
     let reader = reading.reader;
     text_argument(reader.alloc, reader.text.len(), &mut reading.words)?;

@@ -59,7 +59,7 @@ pub(crate) fn several(
     ensures gives { Leaves (state_of reading.new, reading.new.words) result (spec.several lists (statements.block room 0) room (context_of reading.old) (elements_in (value_of reached.now)) count (state_of reading.old) reading.old.words) }
     ensures rest { OnOk result (IsRest reading.old.words reading.new.words) }
     ensures kept { OnOk result (context_of reading.new ≡ context_of reading.old) }
-    ensures front { IsFront reading.old.atoms reading.new.atoms }
+    ensures front { IsFront reading.old.grown.atoms reading.new.grown.atoms }
 {
     let size = reading.reader.text.len();
     let mut left = count;
@@ -83,7 +83,7 @@ pub(crate) fn listen_arguments(
     ensures gives { Leaves (state_of reading.new, reading.new.words) result (spec.listen_arguments (statements.block room 0) room (context_of reading.old) (value_of reached.now) narrowed (state_of reading.old) reading.old.words) }
     ensures rest { OnOk result (IsBehind reading.old.words reading.new.words) }
     ensures kept { OnOk result (context_of reading.new ≡ context_of reading.old) }
-    ensures front { IsFront reading.old.atoms reading.new.atoms }
+    ensures front { IsFront reading.old.grown.atoms reading.new.grown.atoms }
 {
     let elements = listening(reading, reached, narrowed)?;
     handed(reading, false, &elements, room)?;
@@ -103,7 +103,7 @@ pub(crate) fn call_arguments(
     ensures gives { Turns done_of (state_of reading.new) reading.new.words result (spec.arguments_of (statements.block room 0) room (context_of reading.old) (value_of reached) (row_from row.entry) count (state_of reading.old) reading.old.words) }
     ensures rest { OnOk result (IsRest reading.old.words reading.new.words) }
     ensures kept { OnOk result (context_of reading.new ≡ context_of reading.old) }
-    ensures front { IsFront reading.old.atoms reading.new.atoms }
+    ensures front { IsFront reading.old.grown.atoms reading.new.grown.atoms }
 {
     match row.form {
         Form::Find
@@ -158,7 +158,7 @@ pub(crate) fn call(
     ensures gives { Turns value_of (state_of reading.new) reading.new.words result (spec.call (statements.block room 1) room (context_of reading.old) (value_of reached) (state_of reading.old) reading.old.words) }
     ensures rest { OnOk result (IsBehind reading.old.words reading.new.words) }
     ensures kept { OnOk result (context_of reading.new ≡ context_of reading.old) }
-    ensures front { IsFront reading.old.atoms reading.new.atoms }
+    ensures front { IsFront reading.old.grown.atoms reading.new.grown.atoms }
 {
     let reader = reading.reader;
     let (row, at) = dot_name(reader, &reached, &mut reading.words)?;
@@ -181,7 +181,7 @@ pub(crate) fn calls(
     ensures gives { Turns value_of (state_of reading.new) reading.new.words result (spec.calls (statements.block room 1) room (context_of reading.old) (value_of reached) (state_of reading.old) 0 reading.old.words) }
     ensures rest { OnOk result (IsRest reading.old.words reading.new.words) }
     ensures kept { OnOk result (context_of reading.new ≡ context_of reading.old) }
-    ensures front { IsFront reading.old.atoms reading.new.atoms }
+    ensures front { IsFront reading.old.grown.atoms reading.new.grown.atoms }
 {
     let reader = reading.reader;
     let mut so_far = reached;
@@ -199,16 +199,13 @@ pub(crate) fn chain(reading: &mut Reading<'_, '_>, room: usize) -> Result<Value,
     ensures gives { Turns value_of (state_of reading.new) reading.new.words result (spec.chain (statements.block room 1) room (context_of reading.old) (state_of reading.old) reading.old.words) }
     ensures rest { OnOk result (IsBehind reading.old.words reading.new.words) }
     ensures kept { OnOk result (context_of reading.new ≡ context_of reading.old) }
-    ensures front { IsFront reading.old.atoms reading.new.atoms }
+    ensures front { IsFront reading.old.grown.atoms reading.new.grown.atoms }
 {
-    let reader = reading.reader;
     let value = root(
-        reader.alloc,
-        reader.text.len(),
+        reading.reader,
         room,
         &reading.scope,
-        &mut reading.nodes,
-        &mut reading.atoms,
+        &mut reading.grown,
         &mut reading.words,
     )?;
     let whole = calls(reading, value, room)?;

@@ -33,7 +33,7 @@ fn places(alloc: Global, handlers: &[Handler]) -> Result<Vec<usize>, NoMemory>
 }
 
 // The places of handlers, shared with the last declaration where it stands under the same ones. Linear in them.
-#[tactic(auto, using(crate::proofs::HandlerSteps::same_places))]
+#[tactic(auto, using(tp_base::proofs::Lists::same_bytes))]
 fn shared_places(
     alloc: Global,
     handlers: &[Handler],
@@ -76,7 +76,7 @@ fn declare<'a>(
     ensures declared { OnOk result (state_of reading.new ≡ spec.with_declaration (record { name = name.now; value = option_map value_of value; under = under_bound (option_map value_of value) (places_of (context_of reading.old).handlers) }) (state_of reading.old)) }
     ensures words { reading.new.words ≡ reading.old.words }
     ensures kept { OnOk result (context_of reading.new ≡ context_of reading.old) }
-    ensures front { IsFront reading.old.atoms reading.new.atoms }
+    ensures front { IsFront reading.old.grown.atoms reading.new.grown.atoms }
     ensures only_memory { IfErr result (λ e. e ≡ Memory) }
 {
     let bound = bound_to(
@@ -97,7 +97,7 @@ fn value_behind(reading: &mut Reading<'_, '_>, room: usize) -> Result<Option<Val
     ensures gives { Turns (option_map value_of) (state_of reading.new) reading.new.words result (spec.value_behind (spec.block room) room (context_of reading.old) (state_of reading.old) reading.old.words) }
     ensures rest { OnOk result (IsRest reading.old.words reading.new.words) }
     ensures kept { OnOk result (context_of reading.new ≡ context_of reading.old) }
-    ensures front { IsFront reading.old.atoms reading.new.atoms }
+    ensures front { IsFront reading.old.grown.atoms reading.new.grown.atoms }
 {
     let reader = reading.reader;
     if !begins(reading.words.words(), b"=") {
@@ -129,7 +129,7 @@ fn one(reading: &mut Reading<'_, '_>, room: usize) -> Result<(), ScriptFault>
     ensures gives { Leaves (state_of reading.new, reading.new.words) result (spec.one (spec.block room) room (context_of reading.old) (state_of reading.old) reading.old.words) }
     ensures rest { OnOk result (IsBehind reading.old.words reading.new.words) }
     ensures kept { OnOk result (context_of reading.new ≡ context_of reading.old) }
-    ensures front { IsFront reading.old.atoms reading.new.atoms }
+    ensures front { IsFront reading.old.grown.atoms reading.new.grown.atoms }
 {
     let size = reading.reader.text.len();
     let name = reading.words.want_name(size)?;
@@ -145,7 +145,7 @@ fn more_ones(reading: &mut Reading<'_, '_>, room: usize) -> Result<(), ScriptFau
     ensures gives { Leaves (state_of reading.new, reading.new.words) result (spec.more_ones (spec.block room) room (context_of reading.old) (state_of reading.old) 0 reading.old.words) }
     ensures rest { OnOk result (IsRest reading.old.words reading.new.words) }
     ensures kept { OnOk result (context_of reading.new ≡ context_of reading.old) }
-    ensures front { IsFront reading.old.atoms reading.new.atoms }
+    ensures front { IsFront reading.old.grown.atoms reading.new.grown.atoms }
 {
     'ones: while begins(reading.words.words(), b",") {
         reading.words.pass();
@@ -161,7 +161,7 @@ pub(crate) fn declaration(reading: &mut Reading<'_, '_>, room: usize) -> Result<
     ensures gives { Leaves (state_of reading.new, reading.new.words) result (spec.declaration (spec.block room) room (context_of reading.old) (state_of reading.old) reading.old.words) }
     ensures rest { OnOk result (IsBehind reading.old.words reading.new.words) }
     ensures kept { OnOk result (context_of reading.new ≡ context_of reading.old) }
-    ensures front { IsFront reading.old.atoms reading.new.atoms }
+    ensures front { IsFront reading.old.grown.atoms reading.new.grown.atoms }
 {
     let size = reading.reader.text.len();
     one(reading, room)?;

@@ -1,18 +1,15 @@
 //! What a reader of a script knows at a place.
 use jq_cursor::{Cursor, Reader};
-use jq_parts::{Scope, Stated};
+use jq_parts::{Grown, Scope, Stated};
 use std::rc::Rc;
-use tp_base::AtomTable;
 
 /// A script that is read, up to a place: its words from there on, what was read before it, and what is seen there.
 #[derive(Drop)]
 pub(crate) struct Reading<'r, 'a> {
     pub(crate) reader: Reader<'r>,
-    pub(crate) atoms: AtomTable,
     pub(crate) words: Cursor<'r, 'a>,
     pub(crate) scope: Scope<'a>,
-    /// How many nodes all markup has.
-    pub(crate) nodes: usize,
+    pub(crate) grown: Grown,
     pub(crate) statements: Vec<Stated>,
     /// The places of the handlers round the last declaration of a chain.
     pub(crate) places: Rc<Vec<usize>>,

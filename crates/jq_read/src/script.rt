@@ -16,7 +16,7 @@ ghost use Rattle.jq_read.specs.Limits.{AreWithin};
 use crate::readings::Reading;
 use crate::sequences::sequence;
 use jq_cursor::{Cursor, Lists, Reader};
-use jq_parts::{Declarations, Scope, placed};
+use jq_parts::{Declarations, Grown, Scope, placed};
 use jq_sem::{ExactStmt, Stmt};
 use jq_words::{MOST_OPEN, ScriptFault, declared_in};
 use js_scan::{ScanFault, Token, scan};
@@ -74,19 +74,21 @@ fn read_words<'r>(
             text,
             declared: &declared,
         },
-        atoms: replace(atoms, AtomTable::new(alloc)),
         words,
         scope: Scope {
             handlers: Vec::new(alloc),
             has_this: false,
             declarations: Declarations::new(alloc),
         },
-        nodes: 0,
+        grown: Grown {
+            atoms: replace(atoms, AtomTable::new(alloc)),
+            nodes: 0,
+        },
         statements: Vec::new(alloc),
         places,
     };
     let read = sequence(&mut reading, false, MOST_OPEN);
-    *atoms = reading.atoms;
+    *atoms = reading.grown.atoms;
     read?;
     let statements = placed(alloc, text, reading.statements)?;
     Ok(statements)

@@ -88,7 +88,7 @@ fn turn(
     ensures gives { Turns (λ b. b) (state_of reading.new) reading.new.words result (turns.turn (spec.block room) room (context_of reading.old) between (state_of reading.old) reading.old.words) }
     ensures rest { OnOk result (IsBehind reading.old.words reading.new.words) }
     ensures kept { OnOk result (context_of reading.new ≡ context_of reading.old) }
-    ensures front { IsFront reading.old.atoms reading.new.atoms }
+    ensures front { IsFront reading.old.grown.atoms reading.new.grown.atoms }
 {
     let form = form_here(reading);
     statement(reading, form, room)?;
@@ -109,7 +109,7 @@ pub(crate) fn sequence(
     ensures gives { Leaves (state_of reading.new, reading.new.words) result (spec.sequence in_block (spec.block room) room (context_of reading.old) (state_of reading.old) 0 reading.old.words) }
     ensures rest { OnOk result (IsRest reading.old.words reading.new.words) }
     ensures kept { OnOk result (context_of reading.new ≡ context_of reading.old) }
-    ensures front { IsFront reading.old.atoms reading.new.atoms }
+    ensures front { IsFront reading.old.grown.atoms reading.new.grown.atoms }
 {
     let reader = reading.reader;
     let mut between = Between {
@@ -132,7 +132,7 @@ pub(crate) fn block(reading: &mut Reading<'_, '_>, room: usize) -> Result<(), Sc
     ensures gives { Leaves (state_of reading.new, reading.new.words) result (spec.block room 0 (context_of reading.old) (state_of reading.old) reading.old.words) }
     ensures rest { OnOk result (IsBehind reading.old.words reading.new.words) }
     ensures kept { OnOk result (context_of reading.new ≡ context_of reading.old) }
-    ensures front { IsFront reading.old.atoms reading.new.atoms }
+    ensures front { IsFront reading.old.grown.atoms reading.new.grown.atoms }
 {
     let size = reading.reader.text.len();
     reading.words.want_open(size, room, b"{")?;

@@ -37,7 +37,7 @@ fn chain_statement(reading: &mut Reading<'_, '_>, room: usize) -> Result<(), Scr
     ensures gives { Leaves (state_of reading.new, reading.new.words) result (spec.chain_statement (spec.block room) room (context_of reading.old) (state_of reading.old) reading.old.words) }
     ensures rest { OnOk result (IsBehind reading.old.words reading.new.words) }
     ensures kept { OnOk result (context_of reading.new ≡ context_of reading.old) }
-    ensures front { IsFront reading.old.atoms reading.new.atoms }
+    ensures front { IsFront reading.old.grown.atoms reading.new.grown.atoms }
 {
     let size = reading.reader.text.len();
     chain(reading, room)?;
@@ -56,7 +56,7 @@ pub(crate) fn statement(
     ensures gives { Leaves (state_of reading.new, reading.new.words) result (spec.statement_as form (spec.block room) room (context_of reading.old) (state_of reading.old) reading.old.words) }
     ensures rest { OnOk result (IsBehind reading.old.words reading.new.words) }
     ensures kept { OnOk result (context_of reading.new ≡ context_of reading.old) }
-    ensures front { IsFront reading.old.atoms reading.new.atoms }
+    ensures front { IsFront reading.old.grown.atoms reading.new.grown.atoms }
 {
     let reader = reading.reader;
     match form {

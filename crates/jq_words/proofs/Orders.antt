@@ -1,4 +1,4 @@
--- Tokens in in_order_bounds are within their text.
+-- Tokens in order are within their text.
 use Rattle.std.proofs.Common.{◌≡◌, ℕ, zero, suc, ◌≤◌, List, [], ◌∷◌, length, take, refl, ap, arith}
 use Rattle.js_scan.specs.declared.token.Token.{Token}
 use Rattle.js_scan.specs.Tokens.{InOrder}

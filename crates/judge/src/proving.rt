@@ -8,6 +8,7 @@ ghost use Rattle.proof_check.specs.Unfolding.{unfolded};
 ghost use Rattle.proof_check.specs.Validity.{IsValid};
 ghost use Rattle.proof_maker.specs.Forests.{KeepsForests};
 ghost use Rattle.proof_maker.specs.Needs.{IsCanonical};
+ghost use Rattle.proof_maker.specs.PlaceMemos.{IsPlaceMemo};
 ghost use Rattle.usage_report.specs.Views.{answer_of};
 ghost use Rattle.proof_core.specs.declared.unfolded.TheConstants.{MOST_LISTED};
 ghost use Rattle.judge.specs.Answers.{IsShown};
@@ -17,7 +18,7 @@ ghost use Rattle.judge.specs.Grounds.{IsReady};
 use class_adding::Closed;
 use limits::Limits;
 use proof_core::{Proof, UnfoldFault, Unfolded, steps, unfold};
-use proof_maker::{ProveFault, Rules, prove_by};
+use proof_maker::{PlaceMemo, ProofGround, ProveFault, Rules, prove_next};
 use simple_core::{Summaries, System};
 use std::alloc::Global;
 use tp_base::{Atom, NoMemory};
@@ -68,28 +69,28 @@ fn used_by(ground: &Ground<'_>, proof: Proof, atom: Atom) -> Result<Answer, NoMe
     })
 }
 
-/// The answer for an atom that the closed root has. It costs what `prove_by` and `unfold` cost.
+/// The answer for an atom that the closed root has. It costs what `prove_next` and `unfold` cost.
 pub(crate) fn proved<S: Summaries>(
     alloc: Global,
     ground: &Ground<'_>,
     sums: &S,
+    places: &mut PlaceMemo,
     atom: Atom,
 ) -> Result<Answer, NoMemory>
     requires ready { IsReady (S.system sums.now) (S.known sums.now) ground.now }
     requires has { HasAtom ground.now.closed.now.labels [] atom }
-    ensures { IfOk result (λ a. IsSaidProved ground.now.system.now ground.now.page.now ground.now.limits.now atom (answer_of a)) }
+    requires places { IsPlaceMemo ground.now.system.now places.old }
+    ensures places { IsPlaceMemo ground.now.system.now places.new }
+    ensures answer { IfOk result (λ a. IsSaidProved ground.now.system.now ground.now.page.now ground.now.limits.now atom (answer_of a)) }
 {
     let entries = ground.limits.entries;
-    match prove_by(
-        alloc,
-        ground.page,
-        ground.system,
-        ground.rules,
-        ground.closed,
-        sums,
-        atom,
-        entries,
-    ) {
+    let base = ProofGround {
+        page: ground.page,
+        system: ground.system,
+        rules: ground.rules,
+        closed: ground.closed,
+    };
+    match prove_next(alloc, &base, sums, places, atom, entries) {
         Ok(proof) => used_by(ground, proof, atom),
         Err(ProveFault::Unshown) => Ok(Answer::UsedUnshown),
         Err(ProveFault::Memory) => Err(NoMemory),

@@ -2,11 +2,11 @@
 use Rattle.std.proofs.Common.{◌≡◌, ◌⊎◌, ℕ, ◌+◌, ◌<◌, ◌≤◌, List, [], ◌∷◌, ◌++◌, map, take, length, Some, IsSome, slice_get, Contains, All, refl, sym, subst, inr}
 use Rattle.std.proofs.lemmas.List.{take_all}
 use Rattle.std.proofs.lemmas.List.Elements.{All-more, All-nil}
+use Rattle.std.proofs.lemmas.Option.{get_or_from_slice_get}
 use Rattle.tree_sem.specs.Trees.{LabelTree, node_at}
 use Rattle.tree_sem.specs.Nodes.{HasAtom}
 use Rattle.tree_sem.specs.Order.{rest_of}
 use Rattle.tree_sem.proofs.NodeLemmas.{Contains-paths_of, HasAtom-node}
-use Rattle.need_table.proofs.FillLemmas.{read_at}
 use Rattle.sel_core.specs.declared.selectors.Compound.{Compound}
 use Rattle.sel_core.specs.declared.selectors.Join.{Join}
 use Rattle.sel_core.specs.Selectors.{Selector, simple}
@@ -23,7 +23,7 @@ use Rattle.judge.specs.Outcomes.{AreGiven}
 use Rattle.jq_sem.specs.Tables.{AreAtoms, AreCompoundsOver, IsSelectorOver, AreSelectorsOver}
 
 pub atoms_more : (n : ℕ) (xs : List ℕ) (i a : ℕ) → i < length xs → slice_get xs i ≡ Some a → a < n → AreAtoms n (take i xs) → AreAtoms n (take (i + 1) xs)
-atoms_more n xs i a within is here so_far = All-more (λ a. a < n) xs i a within so_far (subst (λ a. a < n) (sym (read_at xs i a a is)) here)
+atoms_more n xs i a within is here so_far = All-more (λ a. a < n) xs i a within so_far (subst (λ a. a < n) (sym (get_or_from_slice_get xs i a a is)) here)
 
 pub atoms_all : (n : ℕ) (xs : List ℕ) (i : ℕ) → length xs ≤ i → AreAtoms n (take i xs) → AreAtoms n xs
 atoms_all n xs i le so_far = subst (λ (z : List ℕ). AreAtoms n z) (take_all i xs le) so_far

@@ -3,9 +3,11 @@ use Rattle.std.proofs.Common.{◌≡◌, ◌≢◌, ◌⊎◌, ℕ, zero, suc, �
 use Rattle.std.proofs.Math.Nat.{suc-mul}
 use Rattle.std.proofs.lemmas.Bool.{cases_lt, cases_order}
 use Rattle.std.proofs.lemmas.List.Elements.{All-contains, All-head, Contains-append_left, Contains-append_right}
+use Rattle.std.proofs.lemmas.Option.{slice_get_within}
 use Rattle.tp_base.specs.declared.atoms.TheConstants.{MOST_ATOMS}
 use Rattle.tp_base.proofs.ClassLemmas.{same_members}
 use Rattle.tp_base.proofs.Rising.{Contains-here, Contains-behind, Contains-cons, Contains-none}
+use Rattle.tp_base.proofs.Lists.{Contains-at}
 use Rattle.tree_sem.proofs.NodeLemmas.{Contains-map, map-Contains}
 use Rattle.simple_core.specs.declared.system.System.{System}
 use Rattle.simple_core.specs.declared.rules.Local.{Local}
@@ -23,7 +25,6 @@ use Rattle.simple_core.proofs.PairLemmas.{not_more}
 use Rattle.need_table.specs.declared.entries.First.{First}
 use Rattle.need_table.specs.declared.entries.Entry.{Entry}
 use Rattle.need_table.specs.Tables.{pair_of, labels, IsDone, IsTable, AllDone}
-use Rattle.need_table.proofs.TableLemmas.{Contains-at, at-within}
 
 -- the atoms of labels are atoms of the system
 pub grown-atoms : (s : System) → IsSound s → (k i : ℕ) (p : List ℕ) (a : ℕ) → Contains (grown s k i p) a → IsAtom a
@@ -191,7 +192,7 @@ module _ (s : System) (pairs : ℕ) (entries : List Entry) (table : IsTable s pa
       let small : n.first.atom < MOST_ATOMS = grown-atoms s table.sound n.first.round n.entry.kind n.entry.parent n.first.atom first.0 in
       let is : (key.0, n.first.atom ∷ []) ≡ key = λ i. (key.0, sym n.atom i) in
       subst (λ z. Contains (all_keys (length entries) MOST_ATOMS) z) is
-      (Contains-all_keys (length entries) MOST_ATOMS key.0 n.first.atom (at-within entries key.0 n.entry n.at) small)) in
+      (Contains-all_keys (length entries) MOST_ATOMS key.0 n.first.atom (slice_get_within entries key.0 n.entry n.at) small)) in
       let all = length-all_keys (length entries) MOST_ATOMS in
       let many = keys.2 in
       subst (λ z. z ≤ length entries * MOST_ATOMS) many (subst (λ z. length keys.0 ≤ z) all few)

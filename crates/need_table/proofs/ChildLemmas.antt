@@ -1,11 +1,13 @@
 -- What a child gives, and what is left to look at.
-use Rattle.std.proofs.Common.{◌≡◌, ◌⊎◌, ℕ, zero, suc, ◌+◌, ◌<◌, true, false, List, [], ◌∷◌, ◌++◌, map, length, fold, get_or, Option, Some, None, slice_get, IsSomeAnd, Contains, if◌then◌else◌, refl, sym, ap, ◌∙◌, inl, inr, arith, subst}
+use Rattle.std.proofs.Common.{◌≡◌, ◌⊎◌, ℕ, suc, ◌+◌, ◌<◌, true, false, List, [], ◌∷◌, ◌++◌, map, length, fold, get_or, Option, Some, None, slice_get, IsSomeAnd, Contains, if◌then◌else◌, refl, sym, ap, ◌∙◌, inl, inr, arith, subst}
 use Rattle.std.specs.List.{filter, flat_map, IsFirstAndRest}
 use Rattle.std.proofs.lemmas.List.Elements.{Contains-append_left, Contains-append_right, Contains-append_cases}
 use Rattle.std.proofs.lemmas.List.Sums.{fold-append}
+use Rattle.std.proofs.lemmas.Option.{slice_get_within, get_or_from_slice_get}
 use Rattle.tp_base.specs.Classes.{has_class, with_class, union_of}
 use Rattle.tp_base.proofs.ClassLemmas.{Contains-has_class}
 use Rattle.tp_base.proofs.Rising.{Contains-here, Contains-behind, Contains-cons, Contains-none}
+use Rattle.tp_base.proofs.Lists.{Contains-at}
 use Rattle.tree_sem.proofs.NodeLemmas.{Contains-map}
 use Rattle.simple_core.specs.declared.system.System.{System}
 use Rattle.simple_core.specs.declared.rules.Spawn.{Spawn}
@@ -18,14 +20,8 @@ use Rattle.simple_core.proofs.LabelLemmas.{is-kinds_at}
 use Rattle.need_table.specs.declared.entries.First.{First}
 use Rattle.need_table.specs.declared.entries.Entry.{Entry}
 use Rattle.need_table.specs.Tables.{pair_of, atoms_by, fresh_of, IsNoted, IsUntouched, labels, IsDone, IsHeard, IsTable, IsMore, AreNeeded, kinds_from, given_from}
-use Rattle.need_table.proofs.TableLemmas.{Contains-at, at-within}
 use Rattle.need_table.specs.Agendas.{AreKnown, IsAppended}
-use Rattle.need_table.proofs.FillLemmas.{label_is, up_known, appended_twice, later_at, read_at, more_itself, more_twice, IsStep, noted_step, untouched_step}
-
-pub at_of : {X : Type 0} (xs : List X) (i : ℕ) → i < length xs → (x : X) × (slice_get xs i ≡ Some x)
-at_of [] i less = absurd (omega arith)
-at_of (x ∷ xs) zero less = (x, refl)
-at_of (x ∷ xs) (suc i) less = at_of xs i (omega arith)
+use Rattle.need_table.proofs.FillLemmas.{label_is, up_known, appended_twice, later_at, more_itself, more_twice, IsStep, noted_step, untouched_step}
 
 pub some_at : {X : Type 0} (P : X → Type 0) (o : Option X) → IsSomeAnd o P → (x : X) × (o ≡ Some x) × P x
 some_at P None h = absurd h
@@ -35,7 +31,7 @@ pub and_at : {X : Type 0} (P : X → Type 0) (o : Option X) (x : X) → o ≡ So
 and_at P o x at h = subst (λ z. IsSomeAnd z P) at h
 
 pub within_of : {X : Type 0} (P : X → Type 0) (xs : List X) (i : ℕ) → IsSomeAnd (slice_get xs i) P → i < length xs
-within_of P xs i at = let x = some_at P (slice_get xs i) at in at-within xs i x.0 x.1
+within_of P xs i at = let x = some_at P (slice_get xs i) at in slice_get_within xs i x.0 x.1
 
 pub child_there : (old new : List Entry) (i : ℕ) (q : Pair) → IsMore old new → IsSomeAnd (slice_get old i) (λ e. pair_of e ≡ q) → Contains (map pair_of new) q
 child_there old new i q more at =
@@ -58,7 +54,7 @@ pub child_at : (s : System) (entries : List Entry) (i k : ℕ) (q : Pair) (x : E
     → set_of (atoms_by k x.firsts.items) ≡ grown s k q.0 q.1
 child_at s entries i k q x known at read =
     let e = some_at (λ e. pair_of e ≡ q) (slice_get entries i) at in
-    let here : x ≡ e.0 = read ∙ read_at entries i e.0 x e.1 in
+    let here : x ≡ e.0 = read ∙ get_or_from_slice_get entries i e.0 x e.1 in
     ap (λ (z : Entry). set_of (atoms_by k z.firsts.items)) here ∙ label_is s e.0 k (known e.0 (Contains-at entries i e.0 e.1)) ∙ ap (λ (z : Pair). grown s k z.0 z.1) e.2
 
 -- the label of the next round, by three unions
@@ -203,7 +199,7 @@ pub next_label_is : (s : System) (entries : List Entry) (i k : ℕ) (own n0 n1 n
     → n3 ≡ union_of n2 (flat_map (given_by_links s.down) (labels_below s (grown s k) own)) → IsSomeAnd (slice_get entries i) (λ e. n3 ≡ labels s (pair_of e) (suc k))
 next_label_is s entries i k own n0 n1 n2 n3 x rules up at read is_local is_up first second third fourth =
     let e = some_at (λ e. own ≡ labels s (pair_of e) k) (slice_get entries i) at in
-    let here : x ≡ e.0 = read ∙ read_at entries i e.0 x e.1 in
+    let here : x ≡ e.0 = read ∙ get_or_from_slice_get entries i e.0 x e.1 in
     let below = flat_map (given_by_links s.down) (labels_below s (grown s k) own) in
     let one : n1 ≡ union_of own (given_by_rules s.local own) = second ∙ ap (λ z. union_of z (given_by_rules rules own)) first ∙ ap (λ (r : List Local). union_of own (given_by_rules r own)) is_local in
     let two : n2 ≡ union_of (union_of own (given_by_rules s.local own)) (given_by_links s.up e.0.parent) =
@@ -217,7 +213,7 @@ pub own_is : (s : System) (pairs : ℕ) (entries : List Entry) (i k : ℕ) (x : 
     → x ≡ get_or entries i x → own ≡ set_of (atoms_by k x.firsts.items) → IsSomeAnd (slice_get entries i) (λ e. own ≡ labels s (pair_of e) k)
 own_is s pairs entries i k x own table at read is =
     let e = some_at (λ e. e.rounds ≡ Some k) (slice_get entries i) at in
-    let here : x ≡ e.0 = read ∙ read_at entries i e.0 x e.1 in
+    let here : x ≡ e.0 = read ∙ get_or_from_slice_get entries i e.0 x e.1 in
     subst (λ o. IsSomeAnd o (λ e. own ≡ labels s (pair_of e) k)) (sym e.1)
     (is ∙ ap (λ (z : Entry). set_of (atoms_by k z.firsts.items)) here ∙ label_is s e.0 k (up_known s e.0 k (table.up_to e.0 (Contains-at entries i e.0 e.1)) e.2))
 

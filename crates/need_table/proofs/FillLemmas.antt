@@ -1,5 +1,5 @@
 -- What the table says, and what it says after one step of filling it.
-use Rattle.std.proofs.Common.{◌≡◌, ◌≢◌, ◌⊎◌, ℕ, zero, suc, ◌<◌, ◌≤◌, true, false, not, nat_le, List, [], ◌∷◌, ◌++◌, map, length, set, get_or, Option, Some, None, slice_get, IsSomeAnd, Result, Ok, Err, OnOk, OnErr, Contains, refl, sym, ap, ◌∙◌, inl, inr, arith, subst, length-append}
+use Rattle.std.proofs.Common.{◌≡◌, ◌≢◌, ◌⊎◌, ℕ, zero, suc, ◌<◌, ◌≤◌, true, false, not, nat_le, List, [], ◌∷◌, ◌++◌, map, length, set, Option, Some, None, slice_get, IsSomeAnd, Result, Ok, Err, OnOk, OnErr, Contains, refl, sym, ap, ◌∙◌, inl, inr, arith, subst, length-append}
 use Rattle.std.specs.List.{filter}
 use Rattle.std.proofs.lemmas.Bool.{cases_Bool, cases_lt, cases_order, both_ways, le-leb, leb-true}
 use Rattle.std.proofs.lemmas.List.{map-append, length-map, append_assoc, append-nil}
@@ -7,6 +7,7 @@ use Rattle.std.proofs.lemmas.List.Elements.{Contains-append_left, Contains-appen
 use Rattle.tp_base.specs.Classes.{has_class}
 use Rattle.tp_base.proofs.ClassLemmas.{same_members, has_class-Contains, Contains-has_class}
 use Rattle.tp_base.proofs.Rising.{All-from_Contains, Contains-here, Contains-behind, Contains-cons, Contains-none}
+use Rattle.tp_base.proofs.Lists.{Contains-at, at_Contains, slice_get-push}
 use Rattle.tree_sem.proofs.NodeLemmas.{Contains-map, map-Contains}
 use Rattle.simple_core.specs.declared.system.System.{System}
 use Rattle.simple_core.specs.Systems.{kind_label}
@@ -21,7 +22,6 @@ use Rattle.need_table.specs.declared.entries.First.{First}
 use Rattle.need_table.specs.declared.entries.Entry.{Entry}
 use Rattle.need_table.specs.Tables.{pair_of, atoms_by, fresh_of, labels, IsDone, IsHeard, IsUpTo, IsTable, IsKept, IsMore, NotedAt, IsUntouched, AreNeeded}
 use Rattle.need_table.specs.Agendas.{IsKnown, IsAppended}
-use Rattle.need_table.proofs.TableLemmas.{Contains-at, at-Contains}
 
 le_test : (m n : ℕ) → m ≤ n → nat_le m n ≡ true
 le_test m n le = le-leb m n le
@@ -164,10 +164,6 @@ push-at [] y i x at = cc
 push-at (z ∷ xs) y zero x at = at
 push-at (z ∷ xs) y (suc i) x at = push-at xs y i x at
 
-pub push-last : {X : Type 0} (xs : List X) (y : X) → slice_get (xs ++ y ∷ []) (length xs) ≡ Some y
-push-last [] y = refl
-push-last (x ∷ xs) y = push-last xs y
-
 -- the same places have the pairs
 pub heard_set : (entries : List Entry) (i : ℕ) (e e' : Entry) (children : List ℕ) (r : Pair) → slice_get entries i ≡ Some e → pair_of e' ≡ pair_of e → IsHeard entries children r → IsHeard (set entries i e') children r
 heard_set entries i e e' children r at pair (j, among, there) = (
@@ -267,7 +263,7 @@ more_twice a b c first second = record {
 pub pairs_more : (old new : List Entry) → IsMore old new → Among (map pair_of old) (map pair_of new)
 pairs_more old new more q there =
     let of = map-Contains pair_of old q there in
-    let at = at-Contains old of.0 of.1 in
+    let at = at_Contains old of.0 of.1 in
     let y = later_at old new at.0 of.0 more at.1 in
     subst (λ z. Contains (map pair_of new) z) (y.2.pair ∙ sym of.2) (Contains-map pair_of new y.0 (Contains-at new at.0 y.0 y.1))
 
@@ -352,7 +348,7 @@ pushed s pairs old new q e table room absent pair rounds none firsts is = subst 
   table = table_push s pairs old e table room (λ there. absent (subst (λ z. Contains (map pair_of old) z) pair there)) rounds
       (subst (λ (z : Pair). e.firsts.items ≡ fresh_of [] 0 (kind_label s z.0)) (sym pair) firsts);
   more = more_push old e;
-  place = subst (λ o. IsSomeAnd o (λ e. pair_of e ≡ q)) (sym (push-last old e)) pair;
+  place = subst (λ o. IsSomeAnd o (λ e. pair_of e ≡ q)) (sym (slice_get-push old e)) pair;
   appended = (
     e ∷ [],
     refl,
@@ -372,12 +368,6 @@ full s pairs entries q table all absent qs needed one =
     let same : length (map pair_of entries) ≡ pairs = omega (arith, length-map entries pair_of) in
     subst (HasMore (Needed s (Contains qs))) same
     (one_more (Needed s (Contains qs)) (map pair_of entries) q table.different (All-from_Contains (Needed s (Contains qs)) (map pair_of entries) needed) absent one)
-
--- an element that was read
-pub read_at : {X : Type 0} (xs : List X) (i : ℕ) (x d : X) → slice_get xs i ≡ Some x → get_or xs i d ≡ x
-read_at [] i x d at = cc
-read_at (y ∷ xs) zero x d at = let same : y ≡ x = cc in same
-read_at (y ∷ xs) (suc i) x d at = read_at xs i x d at
 
 -- an entry that only looks another
 up_same : (s : System) (e e' : Entry) → IsUpTo s e → pair_of e' ≡ pair_of e → e'.rounds ≡ e.rounds → e'.firsts.items ≡ e.firsts.items → IsUpTo s e'

@@ -3,8 +3,10 @@ use Rattle.std.proofs.Common.{◌≡◌, ◌≢◌, ◌⊎◌, ℕ, zero, suc, �
 use Rattle.std.proofs.lemmas.Bool.{cases_lt, cases_order}
 use Rattle.std.proofs.lemmas.List.{length-map, append-nil}
 use Rattle.std.proofs.lemmas.List.Elements.{Contains-append_cases}
+use Rattle.std.proofs.lemmas.Option.{slice_get_within}
 use Rattle.tp_base.proofs.ClassLemmas.{same_members}
 use Rattle.tp_base.proofs.Rising.{Contains-cons, Contains-none}
+use Rattle.tp_base.proofs.Lists.{Contains-at, at_Contains}
 use Rattle.tree_sem.proofs.NodeLemmas.{map-Contains}
 use Rattle.simple_core.specs.declared.system.System.{System}
 use Rattle.simple_core.specs.Labels.{labels_below, next_label}
@@ -19,7 +21,6 @@ use Rattle.need_table.specs.declared.agenda.Agenda.{Agenda}
 use Rattle.need_table.specs.Rows.{row_in, IsRicher, IsEmptyBelow, IsDue}
 use Rattle.need_table.specs.Agendas.{IsBehind, AreKnown, Hears, IsGoing, IsAppended}
 use Rattle.need_table.specs.Tables.{pair_of, labels, raised, rested, IsDone, IsHeard, IsUpTo, IsTable, IsMore, AllRest}
-use Rattle.need_table.proofs.TableLemmas.{Contains-at, at-Contains, at-within}
 use Rattle.need_table.proofs.FillLemmas.{set-alike, set-length, set-here, set-other, set-Contains, heard_set, more_set}
 use Rattle.need_table.proofs.ChildLemmas.{some_at}
 use Rattle.need_table.proofs.RowLemmas.{due_later}
@@ -84,7 +85,7 @@ module _ (s : System) (pairs : ℕ) (entries : List Entry) (g : Agenda) (go : Is
   -- the labels are known up to the round k
   pub known : AreKnown s k entries
   known e there =
-      let at = at-Contains entries e there in
+      let at = at_Contains entries e there in
       record {
         first = λ f in_e. ((go.table.up_to e there).right f in_e).1;
         whole = λ m a le in_m. whole_at m le at.0 e at.1 a in_m;
@@ -310,16 +311,16 @@ going_pushed s pairs entries new g g' go table (extra, is, start) first askers m
       ];
       starting = λ j x at rounds. elim (cases j x at) [
         | inl old ↦ more 0 j (go.starting j x old rounds)
-        | inr late ↦ started j late.0 (at-within new j x at)
+        | inr late ↦ started j late.0 (slice_get_within new j x at)
       ];
       dues = λ a n j x c f at_a rounds_a hears at_j there from. elim (cases a x at_a) [
         | inr late ↦
             let zero : n ≡ 0 = let both : Some n ≡ Some 0 = sym rounds_a ∙ (start x late.1).0 in cc in
-            (0, omega arith, omega arith, started a late.0 (at-within new a x at_a))
+            (0, omega arith, omega arith, started a late.0 (slice_get_within new a x at_a))
         | inl old ↦ elim (cases j c at_j) [
           | inl old' ↦ due_later g.due g'.due a n f.round more (go.dues a n j x c f old rounds_a hears old' there from)
           | inr late ↦ let le = late.0 in elim hears [
-            | inl same ↦ let less = at-within entries a x old in absurd (omega arith)
+            | inl same ↦ let less = slice_get_within entries a x old in absurd (omega arith)
             | inr child ↦ let less = (go.asking a j x old (λ none. let never : Some n ≡ None = sym rounds_a ∙ none in cc) child).0 in absurd (omega arith)
           ]
         ]
@@ -378,7 +379,7 @@ table_rested s pairs entries g go nothing =
     rested_up : (e : Entry) → Contains entries e → IsUpTo s (rested e)
     rested_up e there =
         let up = go.table.up_to e there in
-        let at = at-Contains entries e there in
+        let at = at_Contains entries e there in
         record {
           right = λ f in_e. (tt, (up.right f in_e).1);
           whole = λ m a d in_m. whole_at s pairs entries g go m (λ q less. nothing q) m (omega arith) at.0 e at.1 a in_m;
@@ -386,7 +387,7 @@ table_rested s pairs entries g go nothing =
 
     asked_later : (e : Entry) → Contains entries e → (m : ℕ) (r : Pair) → Asks s (labels s (pair_of e) m) r → Contains (map pair_of entries) r
     asked_later e there m r asks =
-        let at = at-Contains entries e there in
+        let at = at_Contains entries e there in
         elim e.rounds as (λ o. e.rounds ≡ o → Contains (map pair_of entries) r) [
           | None ↦ λ is. go.table.asked e there m r (subst (λ o. IsDone o (suc m)) (sym is) tt) asks
           | Some n ↦ λ is. asked_early s pairs entries g go (suc m) (λ q less. nothing q) at.0 n m e r at.1 is (omega arith) asks

@@ -4,16 +4,16 @@ use Rattle.std.specs.List.{list_any, position_or_len}
 use Rattle.std.proofs.lemmas.Bool.{cases_Bool, cases_lt, lt-ltb, le-ltb, cond-true, cond-false, and_parts, eqb-true, eq-eqb, both_ways}
 use Rattle.std.proofs.lemmas.List.{take-map, map-append, length-map}
 use Rattle.std.proofs.lemmas.List.Quantifiers.{position-Some}
+use Rattle.std.proofs.lemmas.Option.{slice_get_within}
 use Rattle.tp_base.proofs.Rising.{Contains-here, Contains-behind, Contains-cons, Contains-none}
+use Rattle.tp_base.proofs.Lists.{Contains-at, element_at}
 use Rattle.simple_core.specs.Pairs.{Pair}
 use Rattle.need_table.specs.declared.entries.First.{First}
 use Rattle.need_table.specs.declared.entries.Entry.{Entry}
 use Rattle.need_table.specs.declared.places.Places.{Places}
 use Rattle.need_table.specs.Places.{place_in, step_in, walk, end_in, AreAt}
 use Rattle.need_table.specs.Tables.{pair_of, rested, raised, IsNoted, IsUntouched}
-use Rattle.need_table.proofs.TableLemmas.{Contains-at, at-within}
 use Rattle.need_table.proofs.FillLemmas.{set-alike}
-use Rattle.need_table.proofs.ChildLemmas.{at_of}
 
 -- ---- the place of a step
 
@@ -288,7 +288,7 @@ found_entry entries q (Some i) found = at_map entries i q found
 
 pub found_within : (entries : List Entry) (q : Pair) (o : Option ℕ) → IfSome o (λ i. slice_get (map pair_of entries) i ≡ Some q) → IfSome o (λ i. i < length entries)
 found_within entries q None found = tt
-found_within entries q (Some i) found = let within = at-within (map pair_of entries) i q found in omega (arith, within, length-map entries pair_of)
+found_within entries q (Some i) found = let within = slice_get_within (map pair_of entries) i q found in omega (arith, within, length-map entries pair_of)
 
 pub found_none : (qs : List Pair) (q : Pair) (o : Option ℕ) → IfSome o (λ i. slice_get qs i ≡ Some q) → (o ≡ None → Contains qs q → ⊥) → IsNone o ↔ (Contains qs q → ⊥)
 found_none qs q None found none = (λ _. none refl, λ _. refl)
@@ -297,7 +297,7 @@ found_none qs q (Some i) found none = (λ is there. cc, λ absent. absurd (absen
 -- the pairs of entries that were noted, or couldn't be
 pub pairs_noted : (old new : List Entry) (i k : ℕ) (firsts : List First) (children : List ℕ) → i < length old → IsNoted old new i k firsts children → map pair_of new ≡ map pair_of old
 pairs_noted old new i k firsts children within noted =
-    let e = at_of old i within in
+    let e = element_at old i within in
     elim (noted e.0 e.1) [
       | inl (e', is, rounds, pair, next, firsts, children) ↦ ap (map pair_of) is ∙ set-alike pair_of old i e.0 e' e.1 pair
       | inr (is, other) ↦ ap (map pair_of) is
@@ -305,13 +305,13 @@ pairs_noted old new i k firsts children within noted =
 
 pub pairs_untouched : (old new : List Entry) (i : ℕ) → i < length old → IsUntouched old new i → map pair_of new ≡ map pair_of old
 pairs_untouched old new i within touch =
-    let e = at_of old i within in
+    let e = element_at old i within in
     let (e', is, some, pair, rounds, firsts, children) = touch e.0 e.1 in
     ap (map pair_of) is ∙ set-alike pair_of old i e.0 e' e.1 pair
 
 pub pairs_raised : (old new : List Entry) (i k : ℕ) → i < length old → ((e : Entry) → slice_get old i ≡ Some e → new ≡ set old i (raised k e)) → map pair_of new ≡ map pair_of old
 pairs_raised old new i k within is =
-    let e = at_of old i within in
+    let e = element_at old i within in
     ap (map pair_of) (is e.0 e.1) ∙ set-alike pair_of old i e.0 (raised k e.0) e.1 refl
 
 pub pairs_rested : (entries : List Entry) → map pair_of (map rested entries) ≡ map pair_of entries

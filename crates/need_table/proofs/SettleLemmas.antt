@@ -2,8 +2,10 @@
 use Rattle.std.proofs.Common.{◌≡◌, ◌≢◌, ℕ, zero, suc, eqb, ◌+◌, ◌<◌, ◌≤◌, List, [], ◌∷◌, ◌++◌, map, length, set, take, drop, get_or, Option, Some, None, slice_get, IsSomeAnd, IfSome, Contains, refl, sym, ap, ◌∙◌, inl, inr, arith, subst}
 use Rattle.std.proofs.lemmas.Bool.{both_ways, eq-eqb, eqb-true, cases_Bool}
 use Rattle.std.proofs.lemmas.List.{length-map}
+use Rattle.std.proofs.lemmas.Option.{get_or_from_slice_get}
 use Rattle.tp_base.proofs.ClassLemmas.{same_members}
 use Rattle.tp_base.proofs.Rising.{Contains-here, Contains-behind, Contains-cons, Contains-none}
+use Rattle.tp_base.proofs.Lists.{Contains-at}
 use Rattle.tree_sem.proofs.NodeLemmas.{Contains-map, map-Contains}
 use Rattle.simple_core.specs.Labels.{set_of}
 use Rattle.simple_core.specs.Rounds.{grown, IsRest, IsFirst}
@@ -17,8 +19,7 @@ use Rattle.need_table.specs.declared.agenda.Agenda.{Agenda}
 use Rattle.need_table.specs.Rows.{row_in}
 use Rattle.need_table.specs.Agendas.{IsGoing}
 use Rattle.need_table.specs.Tables.{pair_of, labels, round_in, IsDone, IsUpTo, IsTable, IsMore, IsKept, AllRest, rested}
-use Rattle.need_table.proofs.TableLemmas.{Contains-at}
-use Rattle.need_table.proofs.FillLemmas.{later_at, read_at}
+use Rattle.need_table.proofs.FillLemmas.{later_at}
 use Rattle.need_table.proofs.ChildLemmas.{some_at}
 use Rattle.need_table.proofs.BoundLemmas.{rounds_few}
 use Rattle.need_table.proofs.GoingLemmas.{table_rested}
@@ -136,7 +137,7 @@ pub label_at_rest : (s : System) (pairs : ℕ) (entries : List Entry) (i : ℕ) 
     → x ≡ get_or entries i x → IsRest s q.0 q.1 (set_of (map (λ f. f.atom) x.firsts.items))
 label_at_rest s pairs entries i q x table rest at read =
     let e = some_at (λ e. pair_of e ≡ q) (slice_get entries i) at in
-    let here : x ≡ e.0 = read ∙ read_at entries i e.0 x e.1 in
+    let here : x ≡ e.0 = read ∙ get_or_from_slice_get entries i e.0 x e.1 in
     let there = Contains-at entries i e.0 e.1 in
     subst (λ (z : Entry). IsRest s q.0 q.1 (set_of (map (λ (f : First). f.atom) z.firsts.items))) (sym here)
     (subst (λ (z : Pair). IsRest s z.0 z.1 (set_of (map (λ (f : First). f.atom) e.0.firsts.items))) e.2 (rest_label s e.0 (table.up_to e.0 there) (rest e.0 there)))
@@ -182,7 +183,7 @@ pub first_known : (s : System) (pairs : ℕ) (entries : List Entry) (i : ℕ) (q
     → IsFirst (labels s q) a r × (pairs < 4294967296 → IfSome r (λ k. k < 4611686018427387904))
 first_known s pairs entries i q x a fs r table rest at read is_fs is_r =
     let e = some_at (λ e. pair_of e ≡ q) (slice_get entries i) at in
-    let here : x ≡ e.0 = read ∙ read_at entries i e.0 x e.1 in
+    let here : x ≡ e.0 = read ∙ get_or_from_slice_get entries i e.0 x e.1 in
     let there = Contains-at entries i e.0 e.1 in
     let round : round_in e.0.firsts.items a ≡ r = sym (is_r ∙ ap (λ z. round_in z a) (is_fs ∙ ap (λ (z : Entry). z.firsts.items) here)) in (
       subst (λ (z : Pair). IsFirst (labels s z) a r) e.2 (first_in_rest s e.0 a r (table.up_to e.0 there) (rest e.0 there) round),

@@ -1,5 +1,6 @@
 -- An entry's round, with the agenda.
 use Rattle.std.proofs.Common.{◌≡◌, ℕ, suc, ◌+◌, ◌-◌, ◌<◌, ◌≤◌, List, length, get_or, Some, None, slice_get, IsSomeAnd, Contains, sym, ap, ◌∙◌, inl, inr, arith, subst}
+use Rattle.std.proofs.lemmas.Option.{get_or_from_slice_get}
 use Rattle.simple_core.specs.declared.system.System.{System}
 use Rattle.simple_core.specs.Pairs.{Pair, Asks}
 use Rattle.need_table.specs.declared.entries.First.{First}
@@ -8,7 +9,7 @@ use Rattle.need_table.specs.declared.agenda.Agenda.{Agenda}
 use Rattle.need_table.specs.Rows.{row_in, IsRicher, IsDue}
 use Rattle.need_table.specs.Agendas.{IsGoing}
 use Rattle.need_table.specs.Tables.{pair_of, labels, fresh_of, IsHeard, IsTable, IsNoted}
-use Rattle.need_table.proofs.FillLemmas.{read_at, more_itself, fresh_of-is, set-here}
+use Rattle.need_table.proofs.FillLemmas.{more_itself, fresh_of-is, set-here}
 use Rattle.need_table.proofs.ChildLemmas.{some_at, round_done}
 use Rattle.need_table.proofs.GoingLemmas.{going_set}
 
@@ -17,7 +18,7 @@ pub listening : (s : System) (pairs : ℕ) (entries : List Entry) (g : Agenda) (
     → x ≡ get_or entries i x → children ≡ x.children.items → Contains children j → g.first ≤ j → Contains (row_in g.askers (j - g.first)) i
 listening s pairs entries g i k x children j go rounds read is child le =
     let e = some_at (λ e. e.rounds ≡ Some k) (slice_get entries i) rounds in
-    let here : x ≡ e.0 = read ∙ read_at entries i e.0 x e.1 in
+    let here : x ≡ e.0 = read ∙ get_or_from_slice_get entries i e.0 x e.1 in
     (go.asking i j e.0 e.1 (λ none. let never : Some k ≡ None = sym e.2 ∙ none in cc) (subst (λ (z : List ℕ). Contains z j) (is ∙ ap (λ (z : Entry). z.children.items) here) child)).1 le
 
 pub stepped : (s : System) (pairs : ℕ) (old new : List Entry) (g g' : Agenda) (mid : List (List ℕ)) (i k : ℕ) (own next : List ℕ) (firsts : List First) (children : List ℕ) → IsGoing s pairs old g

@@ -9,13 +9,13 @@ use Rattle.std.proofs.lemmas.Bool.{cases_lt}
 use Rattle.std.proofs.lemmas.List.{take_more, take_all, take-append-drop, length-take-le, get_or-take, get_or_read}
 use Rattle.std.proofs.lemmas.List.Sorted.{Contains-permutation, IsPermutation-sym}
 use Rattle.std.proofs.lemmas.List.Elements.{Contains-append_cases, Contains-append_left, Contains-append_right}
+use Rattle.tp_base.proofs.Lists.{take_suc}
 use Rattle.tp_base.specs.Classes.{union_of, cut_to}
 use Rattle.tp_base.proofs.Rising.{All-from_Contains, Contains-here, Contains-cons, Contains-none}
 use Rattle.tp_base.proofs.ClassLemmas.{Contains-union_of, IsStrictlyIncreasing-union_of, Contains-cut_to, IsStrictlyIncreasing-cut_to, same_members}
 use Rattle.simple_core.specs.Rounds.{IsFirst}
 use Rattle.simple_core.proofs.Members.{Among}
 use Rattle.simple_core.proofs.RestLemmas.{first_is}
-use Rattle.proof_check.proofs.EntryLemmas.{take_at}
 use Rattle.proof_maker.specs.declared.arrivals.Arrival.{Arrival}
 use Rattle.proof_maker.specs.Arrivals.{AreFirsts, AreArrivals, AreByRounds, CameBy, with_first}
 
@@ -32,7 +32,7 @@ arrivals_start visible labels items none = record {
 
 module _ (visible : List ℕ) (labels : ℕ → List ℕ) (items : List Arrival) (i a : ℕ) (at : slice_get visible i ≡ Some a) (before : AreFirsts (take i visible) labels items) where
   longer : take (i + 1) visible ≡ take i visible ++ a ∷ []
-  longer = let next : i + 1 ≡ suc i = omega arith in ap (λ n. take n visible) next ∙ take_at visible i a at
+  longer = let next : i + 1 ≡ suc i = omega arith in ap (λ n. take n visible) next ∙ take_suc visible i a at
 
   kept : (b : ℕ) → Contains (take i visible) b → Contains (take (i + 1) visible) b
   kept b there = subst (λ (z : List ℕ). Contains z b) (sym longer) (Contains-append_left (take i visible) (a ∷ []) b there)

@@ -5,6 +5,7 @@ use Rattle.std.specs.Option.{option_to_list}
 use Rattle.std.specs.List.Sorted.{IsStrictlyIncreasing}
 use Rattle.std.proofs.lemmas.List.{length-map, map-append}
 use Rattle.std.proofs.lemmas.Option.{slice_get_within}
+use Rattle.tp_base.proofs.Lists.{map_at, at_map, at_Contains}
 use Rattle.tp_base.proofs.Lists.{Contains-at, element_at}
 use Rattle.tree_sem.specs.Trees.{LabelTree}
 use Rattle.tree_sem.specs.Order.{Before}
@@ -41,21 +42,10 @@ use Rattle.proof_maker.specs.Reasons.{reason_of}
 use Rattle.proof_needs.specs.Spots.{no_triple, paths_in, triple_of, triples_in, spot_in}
 use Rattle.proof_maker.specs.Worklist.{AreOwn, IsTripleOf, IsWorklist}
 use Rattle.proof_needs.specs.Wants.{want_of}
-use Rattle.proof_maker.proofs.ChoiceLemmas.{Contains-slice_get}
 use Rattle.proof_maker.proofs.CompleteLemmas.{on_page, on_added, parent_is}
 use Rattle.proof_maker.proofs.EntryCounts.{steps_right}
 use Rattle.proof_maker.proofs.PostLemmas.{number_is}
 use Rattle.proof_maker.proofs.ValidLemmas.{walked_lower}
-
-map_at : {X Y : Type 0} (f : X → Y) (xs : List X) (k : ℕ) (y : Y) → slice_get (map f xs) k ≡ Some y → (x : X) × (slice_get xs k ≡ Some x) × (f x ≡ y)
-map_at f [] k y at = cc
-map_at f (x ∷ xs) zero y at = (x, refl, let same : f x ≡ y = cc in same)
-map_at f (x ∷ xs) (suc k) y at = map_at f xs k y at
-
-at_map : {X Y : Type 0} (f : X → Y) (xs : List X) (k : ℕ) (x : X) → slice_get xs k ≡ Some x → slice_get (map f xs) k ≡ Some (f x)
-at_map f [] k x at = cc
-at_map f (y ∷ xs) zero x at = let same : y ≡ x = cc in ap (λ z. Some (f z)) same
-at_map f (y ∷ xs) (suc k) x at = at_map f xs k x at
 
 -- the names of items that are made of other things
 flat_same : {X Y : Type 0} (f : X → Y) (names : Y → List ℕ) (of : X → List ℕ) (number : ℕ → ℕ) (xs : List X) → ((x : X) → Contains xs x → names (f x) ≡ map number (of x)) → flat_map names (map f xs) ≡ map number (flat_map of xs)
@@ -97,9 +87,9 @@ module _ (s : System) (page : LabelTree) (target : ℕ) (known : Pair → Type 0
   -- the entry of a triple that has a number
   entry_at : (m : ℕ) (t : Triple) → slice_get triples m ≡ Some t → Contains made.order m → slice_get entry_triples (number m) ≡ Some t
   entry_at m t at is =
-      let e = Contains-slice_get made.order m is in
+      let e = at_Contains made.order m is in
       let place : number m ≡ e.0 = number_is made.order e.0 m numbered.distinct e.1 in
-      subst (λ k. slice_get entry_triples k ≡ Some t) (sym place) (at_map triple_of_entry made.order e.0 m e.1 ∙ ap Some (triple_is m t at))
+      subst (λ k. slice_get entry_triples k ≡ Some t) (sym place) (map_at triple_of_entry made.order e.0 m e.1 ∙ ap Some (triple_is m t at))
 
   draft_at : (i : ℕ) (w : Want) → slice_get n.wants.keys i ≡ Some w → (d : Draft) × (slice_get n.drafts.items i ≡ Some d)
   draft_at i w at = element_at n.drafts.items i (subst (λ k. i < k) (sym whole) (slice_get_within n.wants.keys i w at))
@@ -173,8 +163,8 @@ module _ (s : System) (page : LabelTree) (target : ℕ) (known : Pair → Type 0
     -- each want at such a spot has an item
     found_at : (w : Want) → Contains n.wants.keys w → P w.spot → (k : ℕ) × (i : ℕ) × IsFrom k i w
     found_at w is spot =
-        let i = Contains-slice_get n.wants.keys w is in
-        let k = Contains-slice_get xs i.0 (dealt.all i.0 w i.1 spot) in
+        let i = at_Contains n.wants.keys w is in
+        let k = at_Contains xs i.0 (dealt.all i.0 w i.1 spot) in
         (k.0, i.0, record { listed = k.1; at = i.1; spot = spot })
 
   spot_added : (m : ℕ) (t : Triple) → slice_get triples m ≡ Some t → (q : Spot) → q ≡ Added m → spot_of q ≡ added t
@@ -208,7 +198,7 @@ module _ (s : System) (page : LabelTree) (target : ℕ) (known : Pair → Type 0
 
     item_from : (k : ℕ) (x : ProofItem) → slice_get entry.items k ≡ Some x → IsItemFrom k x
     item_from k x at_x =
-        let i = map_at made_item wants k x (ap (λ xs. slice_get xs k) (sym is.items) ∙ at_x) in
+        let i = at_map made_item wants k x (ap (λ xs. slice_get xs k) (sym is.items) ∙ at_x) in
         let w = from_at (λ q. q ≡ Added m) AtomTie wants dealt k i.0 i.1 in
         record { place = i.0; want = w.0; from = w.1; same = i.2 }
 
@@ -229,7 +219,7 @@ module _ (s : System) (page : LabelTree) (target : ℕ) (known : Pair → Type 0
       all = λ a need.
           let there = on_added s page target known nodes triples n.ties.items n.wants.keys n.drafts.items list own whole m t a at_t need in
           let here = found_at (λ q. q ≡ Added m) AtomTie wants dealt (want_of (Added m) a) there refl in
-          (here.0, made_item here.1, ap (λ xs. slice_get xs here.0) is.items ∙ at_map made_item wants here.0 here.1 here.2.listed, atom_is here.1 (want_of (Added m) a) here.2.at);
+          (here.0, made_item here.1, ap (λ xs. slice_get xs here.0) is.items ∙ map_at made_item wants here.0 here.1 here.2.listed, atom_is here.1 (want_of (Added m) a) here.2.at);
       ordered = λ k l x y less at_x at_y.
           let i = item_from k x at_x in
           let j = item_from l y at_y in
@@ -268,7 +258,7 @@ module _ (s : System) (page : LabelTree) (target : ℕ) (known : Pair → Type 0
 
   page_from : (k : ℕ) (x : PageItem) → slice_get p.page k ≡ Some x → IsPageFrom k x
   page_from k x at =
-      let i = map_at made_page page_wants k x (ap (λ xs. slice_get xs k) (sym made.page) ∙ at) in
+      let i = at_map made_page page_wants k x (ap (λ xs. slice_get xs k) (sym made.page) ∙ at) in
       let w = from_at IsOnPage (PageTie nodes) page_wants made.dealt.page k i.0 i.1 in
       record { place = i.0; want = w.0; from = w.1; same = i.2 }
 
@@ -289,7 +279,7 @@ module _ (s : System) (page : LabelTree) (target : ℕ) (known : Pair → Type 0
       let here = found_at IsOnPage (PageTie nodes) page_wants made.dealt.page w there.2 tt in (
         here.0,
         made_page here.1,
-        ap (λ xs. slice_get xs here.0) made.page ∙ at_map made_page page_wants here.0 here.1 here.2.listed,
+        ap (λ xs. slice_get xs here.0) made.page ∙ map_at made_page page_wants here.0 here.1 here.2.listed,
         place_is here.1 w here.2.at ∙ ap (λ o. unwrap_or o []) there.1,
         atom_is here.1 w here.2.at,
       )
@@ -330,7 +320,7 @@ module _ (s : System) (page : LabelTree) (target : ℕ) (known : Pair → Type 0
   page_names : flat_map (λ (x : PageItem). named_by x.item.reason) p.page ≡ map number (named_all n.drafts.items page_wants)
   page_names =
       ap (flat_map (λ (x : PageItem). named_by x.item.reason)) made.page ∙ flat_same made_page (λ (x : PageItem). named_by x.item.reason) (named_at n.drafts.items) number page_wants (λ i is.
-      let k = Contains-slice_get page_wants i is in
+      let k = at_Contains page_wants i is in
       let w = from_at IsOnPage (PageTie nodes) page_wants made.dealt.page k.0 i k.1 in
       item_names i w.0 w.1.at)
 
@@ -348,7 +338,7 @@ module _ (s : System) (page : LabelTree) (target : ℕ) (known : Pair → Type 0
       let is = made.entries.made e m entry.0 at entry.1 in
       let there : entry_names p.entries e ≡ flat_map (λ (i : ProofItem). named_by i.reason) entry.0.items = ap (λ o. unwrap_or (option_map (λ (x : Entry). flat_map (λ (i : ProofItem). named_by i.reason) x.items) o) []) entry.1 in
       there ∙ ap (flat_map (λ (i : ProofItem). named_by i.reason)) is.items ∙ flat_same made_item (λ (i : ProofItem). named_by i.reason) (named_at n.drafts.items) number wants (λ i is'.
-      let k = Contains-slice_get wants i is' in
+      let k = at_Contains wants i is' in
       let w = from_at (λ q. q ≡ Added m) AtomTie wants (dealt e m t.0 entry.0 at t.1 entry.1) k.0 i k.1 in
       item_names i w.0 w.1.at)
 
@@ -368,8 +358,8 @@ module _ (s : System) (page : LabelTree) (target : ℕ) (known : Pair → Type 0
 
   different : (i j : ℕ) (t : Triple) → slice_get entry_triples i ≡ Some t → slice_get entry_triples j ≡ Some t → i ≡ j
   different i j t at_i at_j =
-      let a = map_at triple_of_entry made.order i t at_i in
-      let b = map_at triple_of_entry made.order j t at_j in
+      let a = at_map triple_of_entry made.order i t at_i in
+      let b = at_map triple_of_entry made.order j t at_j in
       let u = triple_there i a.0 a.1 in
       let v = triple_there j b.0 b.1 in
       let u_is : u.0 ≡ t = sym (triple_is a.0 u.0 u.1) ∙ a.2 in
@@ -379,7 +369,7 @@ module _ (s : System) (page : LabelTree) (target : ℕ) (known : Pair → Type 0
 
   entries_are : (e : ℕ) (t : Triple) (entry : Entry) → slice_get entry_triples e ≡ Some t → slice_get p.entries e ≡ Some entry → IsEntryOf s page target entry_triples t entry
   entries_are e t entry at at_e =
-      let m = map_at triple_of_entry made.order e t at in
+      let m = at_map triple_of_entry made.order e t at in
       let u = triple_there e m.0 m.1 in
       let same : u.0 ≡ t = sym (triple_is m.0 u.0 u.1) ∙ m.2 in
       entry_is e m.0 t entry m.1 (u.1 ∙ ap Some same) at_e

@@ -1,7 +1,7 @@
 -- A worklist that is worked off has all that is needed.
 use Rattle.std.proofs.Common.{◌≡◌, ◌↔◌, ℕ, List, [], ◌∷◌, ◌++◌, length, Contains, Option, Some, None, slice_get, refl, sym, ap, ◌∙◌, subst, arith}
 use Rattle.std.proofs.lemmas.Option.{slice_get_within}
-use Rattle.tp_base.proofs.Lists.{Contains-at}
+use Rattle.tp_base.proofs.Lists.{Contains-at, at_Contains, element_at}
 use Rattle.tree_sem.specs.Trees.{LabelTree}
 use Rattle.simple_core.specs.declared.system.System.{System}
 use Rattle.simple_core.specs.Pairs.{Pair}
@@ -21,8 +21,6 @@ use Rattle.proof_maker.specs.Reasons.{reason_of}
 use Rattle.proof_needs.specs.Spots.{spot_in, IsSpot}
 use Rattle.proof_maker.specs.Worklist.{AreOwn, IsUserAt, IsFollowed, IsTripleOf, IsWorklist}
 use Rattle.proof_needs.specs.Wants.{want_of}
-use Rattle.proof_maker.proofs.ChoiceLemmas.{Contains-slice_get}
-use Rattle.proof_maker.proofs.ListLemmas.{there_at}
 use Rattle.proof_maker.proofs.ValidLemmas.{first_one}
 
 -- a reason that the code has, by the relation's
@@ -77,8 +75,8 @@ module _ (s : System) (page : LabelTree) (target : ℕ) (known : Pair → Type 0
   drafted : (spot : Where) (a r : ℕ) (w : Reason) → IsChosen s page spot a r w → (f : IsFound spot a) → IsDrafted f.where_is spot r w
   drafted spot a r w choice f =
       let u = f.where_is in
-      let i = Contains-slice_get wants (want_of u a) f.wanted in
-      let d = there_at drafts i.0 (let lt = slice_get_within wants i.0 (want_of u a) i.1 in omega arith) in
+      let i = at_Contains wants (want_of u a) f.wanted in
+      let d = element_at drafts i.0 (let lt = slice_get_within wants i.0 (want_of u a) i.1 in omega arith) in
       let draft = list.each_draft i.0 (want_of u a) d.0 i.1 d.1 in
       let is : IsChosen s page spot a d.0.round (reason_of d.0.choice) = subst (λ z. IsChosen s page z a d.0.round (reason_of d.0.choice)) f.same draft.chosen in
       let round : d.0.round ≡ r = first_one (labels_at s page spot) a d.0.round r is.first choice.first in
@@ -97,7 +95,7 @@ module _ (s : System) (page : LabelTree) (target : ℕ) (known : Pair → Type 0
 
   node_of : (u : Spot) (v : List ℕ) → IsSpot nodes triples u → spot_in nodes triples u ≡ page_node v → IsNode u v
   node_of (Page n) v lt same =
-      let x = there_at nodes n lt in
+      let x = element_at nodes n lt in
       let one : page_node x.0 ≡ page_node v = rw x.1 at same in
       record { number = n; is_page = refl; at = x.1 ∙ ap Some (let e : x.0 ≡ v = cc in e) }
   node_of (Added n) v lt same = cc
@@ -111,7 +109,7 @@ module _ (s : System) (page : LabelTree) (target : ℕ) (known : Pair → Type 0
   added_of : (u : Spot) (t : Triple) → IsSpot nodes triples u → spot_in nodes triples u ≡ added t → IsAddedAt u t
   added_of (Page n) t lt same = cc
   added_of (Added n) t lt same =
-      let x = there_at triples n lt in
+      let x = element_at triples n lt in
       let one : added x.0 ≡ added t = rw x.1 at same in
       record { number = n; is_added = refl; at = x.1 ∙ ap Some (let e : x.0 ≡ t = cc in e) }
 
@@ -157,7 +155,7 @@ module _ (s : System) (page : LabelTree) (target : ℕ) (known : Pair → Type 0
   pub complete : (spot : Where) (a : ℕ) → Needed s page target spot a → IsListed spot → IsFound spot a
   complete spot a goal listed = let r = list.root in at_node r.0 target [] r.1 r.2
   complete spot a (top t) listed =
-      let i = Contains-slice_get triples t listed in
+      let i = at_Contains triples t listed in
       record { where_is = Added i.0; is_spot = slice_get_within triples i.0 t i.1; same = rw i.1 refl; wanted = own i.0 t i.1 }
   complete spot b (by_rule p a r l x need choice in') listed =
       let f = complete p a need listed in

@@ -2,6 +2,7 @@
 use Rattle.std.proofs.Common.{◌≡◌, ℕ, ◌<◌, List, [], length, Contains, Option, Some, None, IsSome, IsSomeAnd, slice_get, inl, inr, refl, sym, subst, arith}
 use Rattle.std.proofs.lemmas.Option.{slice_get_within}
 use Rattle.tp_base.proofs.Lists.{Contains-at}
+use Rattle.tp_base.proofs.Rising.{Contains-none}
 use Rattle.tree_sem.specs.Trees.{LabelTree, node_at, label_at}
 use Rattle.tree_sem.specs.Nodes.{HasAtom}
 use Rattle.simple_core.specs.declared.system.System.{System}
@@ -26,7 +27,6 @@ use Rattle.proof_needs.specs.Spots.{paths_in, triples_in, spot_in}
 use Rattle.proof_maker.specs.Working.{IsWorking, IsStart}
 use Rattle.proof_maker.specs.Worklist.{AreOwn, IsTripleOf, IsComing, IsWanted, IsWorklist}
 use Rattle.proof_needs.specs.Wants.{want_of}
-use Rattle.proof_maker.proofs.ChoiceLemmas.{Contains-none}
 
 -- with more triples than the limit more are used
 pub uses_more : (s : System) (page : LabelTree) (target limit : ℕ) (known : Pair → Type 0) (nodes : List (List ℕ)) (triples : List Triple) (ties : List Tie) (wants : List Want) (drafts : List Draft)

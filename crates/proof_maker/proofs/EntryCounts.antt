@@ -4,7 +4,7 @@ use Rattle.std.specs.List.{flat_map}
 use Rattle.std.proofs.lemmas.List.Elements.{Contains-append_left, Contains-append_right}
 use Rattle.std.proofs.lemmas.List.Sums.{sum_by-cons}
 use Rattle.std.proofs.lemmas.Option.{slice_get_within}
-use Rattle.tp_base.proofs.Lists.{element_at}
+use Rattle.tp_base.proofs.Lists.{element_at, slice_get-take}
 use Rattle.simple_core.specs.declared.rules.Kind.{Kind}
 use Rattle.simple_core.specs.declared.system.System.{System}
 use Rattle.proof_check.specs.declared.proofs.Below.TheVariants.{Real, Grown}
@@ -16,7 +16,6 @@ use Rattle.proof_check.specs.Kept.{kept_steps}
 use Rattle.proof_check.specs.Unfolding.{spawned, spawn_count, reason_count, items_count, entry_count}
 use Rattle.proof_check.specs.Validity.{MOST_STEPS}
 use Rattle.proof_maker.specs.Needs.{named_by}
-use Rattle.proof_maker.proofs.ValidLemmas.{slice_get-take}
 
 abbrev names_of : List ProofItem → List ℕ
 names_of items = flat_map (λ (i : ProofItem). named_by i.reason) items

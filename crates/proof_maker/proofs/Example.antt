@@ -1,5 +1,6 @@
 -- A page of one node, a rule that adds a child to it, and the proof of an atom that the child gives back: it is what a page proof is asked to be.
 use Rattle.std.proofs.Common.{◌≡◌, ◌⊎◌, ℕ, zero, suc, ◌<◌, false, [], ◌∷◌, min, rules, Contains, Some, None, slice_get, inl, inr, refl, sym, ap, ◌∙◌, subst, arith}
+use Rattle.tp_base.proofs.Rising.{Contains-none}
 use Rattle.tree_sem.specs.Trees.{LabelTree, leaf}
 use Rattle.simple_core.specs.declared.system.System.{System}
 use Rattle.simple_core.specs.Rounds.{IsFirst}
@@ -15,7 +16,7 @@ use Rattle.tree_sem.specs.Order.{Before}
 use Rattle.proof_needs.specs.Choices.{at_start, by_up, by_real, by_spawn, spawn_needs}
 use Rattle.proof_maker.specs.Needs.{setting_at, path_at, labels_at, IsChosen, triple_by, Needed, goal, top, by_rule, by_parent, by_child, by_spawner, by_entry, done, new, Comes, IsItem, IsEntryOf, IsCanonical}
 use Rattle.proof_needs.specs.Triples.{Triple, Spot, page_node, added}
-use Rattle.proof_maker.proofs.ChoiceLemmas.{Contains-none, IsWay}
+use Rattle.proof_maker.proofs.ChoiceLemmas.{IsWay}
 use Rattle.proof_maker.proofs.ValidLemmas.{chosen_stands}
 
 abbrev system : System

@@ -1,8 +1,9 @@
 -- The numbers of a worklist's triples: what the items of a triple name has lower numbers, and all that is named has one.
-use Rattle.std.proofs.Common.{◌≡◌, ℕ, zero, suc, ◌<◌, List, [], ◌∷◌, length, Contains, Option, Some, None, IsSomeAnd, option_map, option_and_then, option_to_list, unwrap_or, slice_get, inl, inr, refl, sym, ap, ◌∙◌, subst, arith}
+use Rattle.std.proofs.Common.{◌≡◌, ℕ, ◌<◌, List, [], length, Contains, Option, Some, None, IsSomeAnd, option_map, option_and_then, option_to_list, unwrap_or, slice_get, inl, inr, refl, sym, ap, ◌∙◌, subst, arith}
 use Rattle.std.proofs.lemmas.Option.{slice_get_within}
 use Rattle.std.proofs.lemmas.List.{length-map}
-use Rattle.tp_base.proofs.Lists.{Contains-at}
+use Rattle.tp_base.proofs.Lists.{Contains-at, at_Contains, element_at, Contains-flat_map, flat_map-Contains}
+use Rattle.tp_base.proofs.Rising.{Contains-none}
 use Rattle.tree_sem.specs.Trees.{LabelTree}
 use Rattle.simple_core.specs.declared.system.System.{System}
 use Rattle.simple_core.specs.Pairs.{Pair}
@@ -32,15 +33,9 @@ use Rattle.proof_needs.specs.Numbers.{Tours}
 use Rattle.proof_needs.specs.Names.{named_at, named_all, wants_of, names_in}
 use Rattle.proof_needs.specs.Orders.{AreDealt}
 use Rattle.proof_maker.specs.Making.{IsListed, IsNumbered}
-use Rattle.proof_maker.proofs.ChoiceLemmas.{Contains-none, Contains-slice_get, Contains-flat_map, flat_map-Contains}
 use Rattle.proof_maker.proofs.PostLemmas.{first_there, cons_cases, post_distinct, post_each, post_closed, walks}
 use Rattle.proof_maker.proofs.RankLemmas.{falls}
 use Rattle.proof_maker.proofs.TourLemmas.{tour_post}
-
-there_at : {X : Type 0} (xs : List X) (i : ℕ) → i < length xs → (x : X) × (slice_get xs i ≡ Some x)
-there_at [] i lt = absurd (omega arith)
-there_at (x ∷ xs) zero lt = (x, refl)
-there_at (x ∷ xs) (suc i) lt = there_at xs i (omega arith)
 
 -- what a want names is the triple of its draft
 named_is : (drafts : List Draft) (i f : ℕ) → Contains (named_at drafts i) f → (d : Draft) × (slice_get drafts i ≡ Some d) × (d.triple ≡ Some f)
@@ -90,10 +85,10 @@ module _ (s : System) (page : LabelTree) (target : ℕ) (known : Pair → Type 0
           ap_choice is = subst (λ z. IsChosen s page (spot_in nodes triples w.spot) w.atom d.round (reason_of z)) is draft.chosen
 
   want_for : (i : ℕ) (d : Draft) → slice_get drafts i ≡ Some d → (w : Want) × (slice_get wants i ≡ Some w)
-  want_for i d at = let lt = slice_get_within drafts i d at in there_at wants i (omega arith)
+  want_for i d at = let lt = slice_get_within drafts i d at in element_at wants i (omega arith)
 
   draft_for : (i : ℕ) (w : Want) → slice_get wants i ≡ Some w → (d : Draft) × (slice_get drafts i ≡ Some d)
-  draft_for i w at = let lt = slice_get_within wants i w at in there_at drafts i (omega arith)
+  draft_for i w at = let lt = slice_get_within wants i w at in element_at drafts i (omega arith)
 
   -- what a draft names is a triple of the list
   pub named_below : (i n : ℕ) (d : Draft) → slice_get drafts i ≡ Some d → d.triple ≡ Some n → n < length triples
@@ -109,7 +104,7 @@ module _ (s : System) (page : LabelTree) (target : ℕ) (known : Pair → Type 0
   own_first : (n : ℕ) (t : Triple) → slice_get triples n ≡ Some t → (r : ℕ) × IsFirst (labels_at s page (added t)) t.atom (Some r)
   own_first n t at =
       let w = want_of (Added n) t.atom in
-      let i = Contains-slice_get wants w (own n t at) in
+      let i = at_Contains wants w (own n t at) in
       let d = draft_for i.0 w i.1 in
       let draft = list.each_draft i.0 w d.0 i.1 d.1 in
       let spot : spot_in nodes triples (Added n) ≡ added t = ap (λ o. added (unwrap_or o no_triple)) at in
@@ -142,10 +137,10 @@ module _ (s : System) (page : LabelTree) (target : ℕ) (known : Pair → Type 0
     names_fall_at k f order at is =
         let i = flat_map-Contains (named_at drafts) order.wants.items f is in
         let d = named_is drafts i.0 f i.2 in
-        let place = Contains-slice_get order.wants.items i.0 i.1 in
+        let place = at_Contains order.wants.items i.0 i.1 in
         let w = (dealt k order at).each place.0 i.0 place.1 in
         let lt = slice_get_within orders k order at in
-        let t = there_at triples k (omega (arith, count, lt)) in
+        let t = element_at triples k (omega (arith, count, lt)) in
         let named = draft_names i.0 f w.0 d.0 w.1 d.1 d.2 in
         let spot : spot_in nodes triples w.0.spot ≡ added t.0 = ap (spot_in nodes triples) w.2 ∙ ap (λ o. added (unwrap_or o no_triple)) t.1 in
         let need : Needed s page target (added t.0) w.0.atom = subst (λ p. Needed s page target p w.0.atom) spot (list.wanted w.0 (Contains-at wants i.0 w.0 w.1)).needed in
@@ -186,7 +181,7 @@ module _ (s : System) (page : LabelTree) (target : ℕ) (known : Pair → Type 0
             closed.0 n (Contains-flat_map (named_at drafts) page_wants i n there (is_named drafts i n d at' named))
         by i n w d at at' named (Added m) is listed =
             let lt = inside m listed in
-            let own = there_at orders m (omega (arith, count, lt)) in
+            let own = element_at orders m (omega (arith, count, lt)) in
             let there = (dealt m own.0 own.1).all i w at is in
             let names = Contains-flat_map (named_at drafts) own.0.wants.items i n there (is_named drafts i n d at' named) in
             closed.1 m n listed (subst (λ l. Contains l n) (sym (names_of m own.0 own.1)) names)

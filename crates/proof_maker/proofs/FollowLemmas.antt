@@ -1,10 +1,12 @@
 -- What following a reason adds leads from a worklist to the next.
-use Rattle.std.proofs.Common.{◌≡◌, ◌⊎◌, ℕ, zero, suc, ◌<◌, List, [], ◌∷◌, length, Contains, Some, IsSome, slice_get, slice_set, inl, inr, refl, sym, ap, ◌∙◌, subst, arith}
+use Rattle.std.proofs.Common.{◌≡◌, ◌⊎◌, ℕ, suc, ◌<◌, List, [], ◌∷◌, length, Contains, Some, IsSome, slice_get, slice_set, inl, inr, refl, sym, ap, ◌∙◌, subst, arith}
 use Rattle.std.proofs.lemmas.Bool.{cases_order}
 use Rattle.std.proofs.lemmas.Option.{slice_get_within}
 use Rattle.std.proofs.lemmas.List.Elements.{Contains-append_cases, Contains-append_left}
 use Rattle.std.specs.List.Sorted.{IsStrictlyIncreasing}
 use Rattle.tp_base.proofs.ClassLemmas.{with_class-keeps, Contains-with_class, IsStrictlyIncreasing-with_class}
+use Rattle.tp_base.proofs.Lists.{element_at, Contains-only, push_cases, length-push}
+use Rattle.tp_base.proofs.Rising.{Contains-none}
 use Rattle.tree_sem.specs.Trees.{LabelTree, node_at}
 use Rattle.simple_core.specs.declared.system.System.{System}
 use Rattle.simple_core.specs.Pairs.{Pair}
@@ -20,14 +22,9 @@ use Rattle.proof_needs.specs.Sets.{AreDistinct, IsMore, IsWith}
 use Rattle.proof_needs.specs.Spots.{spot_in, IsSpot}
 use Rattle.proof_maker.specs.Worklist.{IsUserOf, IsComing, IsTie, IsWanted, IsWorklist}
 use Rattle.proof_needs.specs.Wants.{want_of}
-use Rattle.proof_maker.proofs.ChoiceLemmas.{Contains-none}
-use Rattle.proof_maker.proofs.ListLemmas.{there_at, more_of, same_more, written, not_written, written_long, long_push, push_more, push_cases, AreTiesMore, same_ties, tie_more, grown}
+use Rattle.proof_needs.proofs.SetLemmas.{more_pushed, more_Contains}
+use Rattle.proof_maker.proofs.ListLemmas.{same_more, written, not_written, written_long, AreTiesMore, same_ties, tie_more, grown}
 use Rattle.proof_maker.proofs.StepLemmas.{owed}
-
--- the only element
-only : {X : Type 0} (x y : X) → Contains (x ∷ []) y → x ≡ y
-only x y (zero, within, at) = at
-only x y (suc k, within, at) = absurd (omega arith)
 
 -- the element at a place is one
 one_at : {X : Type 0} (xs : List X) (i : ℕ) (x y : X) → slice_get xs i ≡ Some x → slice_get xs i ≡ Some y → x ≡ y
@@ -39,7 +36,7 @@ module _ (s : System) (page : LabelTree) (target : ℕ) (known : Pair → Type 0
   IsNext nodes' triples' ties' wants' = IsWorklist s page target known nodes' triples' ties' wants' drafts
 
   IsOld : (n : ℕ) → n < length ties → (t : Triple) × (slice_get triples n ≡ Some t)
-  IsOld n lt = there_at triples n (let count = list.tie_count in omega arith)
+  IsOld n lt = element_at triples n (let count = list.tie_count in omega arith)
 
   -- a triple is entered
   pub entered : (t : Triple) (triples' : List Triple) (ties' : List Tie) (number : ℕ) → IsEntered t triples triples' ties ties' number → known (t.kind, t.parent) → Used s page target t → IsNext nodes triples' ties' wants
@@ -50,7 +47,7 @@ module _ (s : System) (page : LabelTree) (target : ℕ) (known : Pair → Type 0
         wants_more = same_more wants;
         ties_more = elim is.tie_cases [
           | inl same ↦ subst (AreTiesMore ties) (sym same.0) (same_ties ties)
-          | inr new ↦ subst (AreTiesMore ties) (sym new.1) (λ n tie at. (tie, push_more ties new.0 n tie at, λ u is. is, λ b is. is))
+          | inr new ↦ subst (AreTiesMore ties) (sym new.1) (λ n tie at. (tie, more_pushed ties new.0 n tie at, λ u is. is, λ b is. is))
         ];
         nodes_there = list.nodes_there;
         triples_known = λ u in'. elim (is.of_triples.within u in') [
@@ -67,7 +64,7 @@ module _ (s : System) (page : LabelTree) (target : ℕ) (known : Pair → Type 0
         wanted = λ w in'. inl in';
         tie_count = elim is.tie_cases [
           | inl same ↦ ap length same.0 ∙ list.tie_count ∙ sym same.1
-          | inr new ↦ ap length new.1 ∙ long_push ties new.0 ∙ ap suc list.tie_count ∙ sym new.4
+          | inr new ↦ ap length new.1 ∙ length-push ties new.0 ∙ ap suc list.tie_count ∙ sym new.4
         ];
         each_tie = λ n u tie at at'. elim is.tie_cases [
           | inl same ↦ old n u tie at (subst (λ z. slice_get z n ≡ Some tie) same.0 at')
@@ -105,7 +102,7 @@ module _ (s : System) (page : LabelTree) (target : ℕ) (known : Pair → Type 0
         wants_distinct = is.distinct list.wants_distinct;
         wanted = λ w in'. elim (is.within w in') [ inl old ↦ inl old | inr new ↦ inr (right w new) ];
         tie_count = list.tie_count;
-        each_tie = λ n t tie at at'. tie_more s page target nodes nodes triples triples wants wants' (same_more nodes) (same_more triples) (more_of wants wants' is.more) t tie (list.each_tie n t tie at at');
+        each_tie = λ n t tie at at'. tie_more s page target nodes nodes triples triples wants wants' (same_more nodes) (same_more triples) (more_Contains wants wants' is.more) t tie (list.each_tie n t tie at at');
       })
 
   -- an atom is wanted at a node
@@ -131,7 +128,7 @@ module _ (s : System) (page : LabelTree) (target : ℕ) (known : Pair → Type 0
           | inr same ↦ inr (subst (IsWanted s page target nodes' triples) (sym same) here)
         ];
         tie_count = list.tie_count;
-        each_tie = λ n t tie at at'. tie_more s page target nodes nodes' triples triples wants wants' is.of_nodes.more (same_more triples) (more_of wants wants' is.of_wants.more) t tie (list.each_tie n t tie at at');
+        each_tie = λ n t tie at at'. tie_more s page target nodes nodes' triples triples wants wants' is.of_nodes.more (same_more triples) (more_Contains wants wants' is.of_wants.more) t tie (list.each_tie n t tie at at');
       })
     where
       same_spot : spot_in nodes' triples (Page is.number) ≡ page_node v
@@ -155,7 +152,7 @@ module _ (s : System) (page : LabelTree) (target : ℕ) (known : Pair → Type 0
     at_other m other = ap (λ z. slice_get z m) ties_is ∙ not_written ties n m now other
 
     kept : (w : Want) → Contains wants w → Contains wants' w
-    kept = more_of wants wants' more
+    kept = more_Contains wants wants' more
 
     other_tie : (m : ℕ) (u : Triple) (e : Tie) → (n ≡ m → ⊥) → slice_get triples m ≡ Some u → slice_get ties' m ≡ Some e → IsTie s page target nodes triples wants' u e
     other_tie m u e other at at' =
@@ -213,7 +210,7 @@ module _ (s : System) (page : LabelTree) (target : ℕ) (known : Pair → Type 0
         ];
         tied = λ u b in' in''. elim ((Contains-with_class from tie.above b).0 (subst (λ z. Contains z b) is.above in'')) [
           | inl same ↦ subst (λ z. Contains wants' (want_of u z)) (sym same) (is.of_wants.all (want_of u from) (u, subst (λ z. Contains z u) is.users in', refl))
-          | inr before ↦ more_of wants wants' is.of_wants.more (want_of u b) (old.tied u b (subst (λ z. Contains z u) is.users in') before)
+          | inr before ↦ more_Contains wants wants' is.of_wants.more (want_of u b) (old.tied u b (subst (λ z. Contains z u) is.users in') before)
         ];
         rises = subst IsStrictlyIncreasing (sym is.above) (IsStrictlyIncreasing-with_class from tie.above old.rises);
       })
@@ -236,12 +233,12 @@ module _ (s : System) (page : LabelTree) (target : ℕ) (known : Pair → Type 0
       (record {
         users = λ u in'. elim (Contains-append_cases tie.users.items (spot ∷ []) u (subst (λ z. Contains z u) is.users in')) [
           | inl before ↦ old.users u before
-          | inr last ↦ subst (λ z. IsSpot nodes triples z × IsUserOf s page target (spot_in nodes triples z) t) (only spot u last) (is_spot, user)
+          | inr last ↦ subst (λ z. IsSpot nodes triples z × IsUserOf s page target (spot_in nodes triples z) t) (Contains-only spot u last) (is_spot, user)
         ];
         above = λ b in'. old.above b (subst (λ z. Contains z b) is.above in');
         tied = λ u b in' in''. elim (Contains-append_cases tie.users.items (spot ∷ []) u (subst (λ z. Contains z u) is.users in')) [
-          | inl before ↦ more_of wants wants' is.of_wants.more (want_of u b) (old.tied u b before (subst (λ z. Contains z b) is.above in''))
-          | inr last ↦ subst (λ z. Contains wants' (want_of z b)) (only spot u last) (is.of_wants.all (want_of spot b) (inr (inr (b, subst (λ z. Contains z b) is.above in'', refl))))
+          | inl before ↦ more_Contains wants wants' is.of_wants.more (want_of u b) (old.tied u b before (subst (λ z. Contains z b) is.above in''))
+          | inr last ↦ subst (λ z. Contains wants' (want_of z b)) (Contains-only spot u last) (is.of_wants.all (want_of spot b) (inr (inr (b, subst (λ z. Contains z b) is.above in'', refl))))
         ];
         rises = subst IsStrictlyIncreasing (sym is.above) old.rises;
       })

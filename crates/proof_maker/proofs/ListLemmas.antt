@@ -1,7 +1,7 @@
 -- A worklist whose lists grow.
 use Rattle.std.proofs.Common.{◌≡◌, ◌⊎◌, ℕ, zero, suc, ◌<◌, ◌≤◌, List, [], ◌∷◌, ◌++◌, length, Contains, Option, Some, None, IsSome, slice_get, slice_set, inl, inr, refl, sym, ap, ◌∙◌, subst, arith}
 use Rattle.std.proofs.lemmas.Option.{slice_get_within}
-use Rattle.tp_base.proofs.Lists.{Contains-at}
+use Rattle.tp_base.proofs.Lists.{Contains-at, element_at, push_cases, length-push}
 use Rattle.tree_sem.specs.Trees.{LabelTree, node_at}
 use Rattle.simple_core.specs.declared.system.System.{System}
 use Rattle.simple_core.specs.Pairs.{Pair}
@@ -21,15 +21,7 @@ use Rattle.proof_needs.specs.Sets.{AreDistinct, IsMore}
 use Rattle.proof_needs.specs.Spots.{spot_in, IsSpot}
 use Rattle.proof_maker.specs.Worklist.{IsFollowedUp, IsFollowedDown, IsFollowed, IsTripleOf, IsDraft, IsUserOf, IsComing, IsTie, IsWanted, IsWorklist}
 use Rattle.proof_needs.specs.Wants.{want_of}
-use Rattle.proof_maker.proofs.ChoiceLemmas.{Contains-slice_get}
-
-pub there_at : {X : Type 0} (xs : List X) (i : ℕ) → i < length xs → (x : X) × (slice_get xs i ≡ Some x)
-there_at [] i lt = absurd (omega arith)
-there_at (x ∷ xs) zero lt = (x, refl)
-there_at (x ∷ xs) (suc i) lt = there_at xs i (omega arith)
-
-pub more_of : {X : Type 0} (old new : List X) → IsMore old new → (x : X) → Contains old x → Contains new x
-more_of old new more x is = let i = Contains-slice_get old x is in Contains-at new i.0 x (more i.0 x i.1)
+use Rattle.proof_needs.proofs.SetLemmas.{more_Contains}
 
 pub same_more : {X : Type 0} (xs : List X) → IsMore xs xs
 same_more xs i x at = at
@@ -52,39 +44,15 @@ written_long [] n x = refl
 written_long (y ∷ xs) zero x = refl
 written_long (y ∷ xs) (suc n) x = ap suc (written_long xs n x)
 
--- the last element of a list
-pub last_at : {X : Type 0} (xs : List X) (x : X) → slice_get (xs ++ x ∷ []) (length xs) ≡ Some x
-last_at [] x = refl
-last_at (y ∷ xs) x = last_at xs x
-
-pub long_push : {X : Type 0} (xs : List X) (x : X) → length (xs ++ x ∷ []) ≡ suc (length xs)
-long_push [] x = refl
-long_push (y ∷ xs) x = ap suc (long_push xs x)
-
-pub push_more : {X : Type 0} (xs : List X) (x : X) → IsMore xs (xs ++ x ∷ [])
-push_more [] x i y at = cc
-push_more (z ∷ xs) x zero y at = at
-push_more (z ∷ xs) x (suc i) y at = push_more xs x i y at
-
--- what is found in a list with one element more
-pub push_cases : {X : Type 0} (xs : List X) (x : X) (i : ℕ) (y : X) → slice_get (xs ++ x ∷ []) i ≡ Some y → (slice_get xs i ≡ Some y) ⊎ ((i ≡ length xs) × (x ≡ y))
-push_cases [] x zero y at = let same : x ≡ y = cc in inr (refl, same)
-push_cases [] x (suc i) y at = cc
-push_cases (z ∷ xs) x zero y at = inl at
-push_cases (z ∷ xs) x (suc i) y at = elim (push_cases xs x i y at) [
-  | inl old ↦ inl old
-  | inr new ↦ inr (ap suc new.0, new.1)
-]
-
 -- spots keep what they are
 module _ (nodes nodes' : List (List ℕ)) (triples triples' : List Triple) (more : IsMore nodes nodes') (more' : IsMore triples triples') where
   pub is_spot : (u : Spot) → IsSpot nodes triples u → IsSpot nodes' triples' u
-  is_spot (Page n) lt = let x = there_at nodes n lt in slice_get_within nodes' n x.0 (more n x.0 x.1)
-  is_spot (Added n) lt = let x = there_at triples n lt in slice_get_within triples' n x.0 (more' n x.0 x.1)
+  is_spot (Page n) lt = let x = element_at nodes n lt in slice_get_within nodes' n x.0 (more n x.0 x.1)
+  is_spot (Added n) lt = let x = element_at triples n lt in slice_get_within triples' n x.0 (more' n x.0 x.1)
 
   pub same_spot : (u : Spot) → IsSpot nodes triples u → spot_in nodes' triples' u ≡ spot_in nodes triples u
-  same_spot (Page n) lt = let x = there_at nodes n lt in rw (x.1, more n x.0 x.1) refl
-  same_spot (Added n) lt = let x = there_at triples n lt in rw (x.1, more' n x.0 x.1) refl
+  same_spot (Page n) lt = let x = element_at nodes n lt in rw (x.1, more n x.0 x.1) refl
+  same_spot (Added n) lt = let x = element_at triples n lt in rw (x.1, more' n x.0 x.1) refl
 
 -- ties keep what they have
 abbrev pub AreTiesMore : List Tie → List Tie → Type 0
@@ -104,7 +72,7 @@ module _ (s : System) (page : LabelTree) where
     where
       up : (u : Spot) → IsSpot nodes triples u → IsFollowedUp nodes ties wants u (from_up s l) → IsFollowedUp nodes' ties' wants' u (from_up s l)
       up (Page n) lt is =
-          let x = there_at nodes n lt in
+          let x = element_at nodes n lt in
           λ v p at above.
           let same : x.0 ≡ v = let old = more n x.0 x.1 in cc in
           let m = is v p (x.1 ∙ ap Some same) above in
@@ -114,7 +82,7 @@ module _ (s : System) (page : LabelTree) where
     where
       down : (u : Spot) → IsSpot nodes triples u → IsFollowedDown nodes wants u k (from_down s l) → IsFollowedDown nodes' wants' u k (from_down s l)
       down (Page n) lt is =
-          let x = there_at nodes n lt in
+          let x = element_at nodes n lt in
           λ v at.
           let same : x.0 ≡ v = let old = more n x.0 x.1 in cc in
           let m = is v (x.1 ∙ ap Some same) in
@@ -183,7 +151,7 @@ module _ (s : System) (page : LabelTree) where
       pub grown : (nodes nodes' : List (List ℕ)) (triples triples' : List Triple) (ties ties' : List Tie) (wants wants' : List Want) (drafts : List Draft)
           → IsWorklist s page target known nodes triples ties wants drafts → IsLater known nodes nodes' triples triples' ties ties' wants wants' → IsWorklist s page target known nodes' triples' ties' wants' drafts
       grown nodes nodes' triples triples' ties ties' wants wants' drafts list later =
-          let kept : (w : Want) → Contains wants w → Contains wants' w = more_of wants wants' later.wants_more in
+          let kept : (w : Want) → Contains wants w → Contains wants' w = more_Contains wants wants' later.wants_more in
           record {
             root = let r = list.root in (r.0, later.nodes_more r.0 [] r.1, kept (want_of (Page r.0) target) r.2);
             nodes_there = later.nodes_there;
@@ -219,7 +187,7 @@ module _ (s : System) (page : LabelTree) where
           old_want i w d at at' =
               let lt = slice_get_within drafts i d at' in
               let few = list.few in
-              let x = there_at wants i (omega arith) in
+              let x = element_at wants i (omega arith) in
               let new = later.wants_more i x.0 x.1 in
               let same : x.0 ≡ w = cc in
               x.1 ∙ ap Some same
@@ -237,7 +205,7 @@ module _ (s : System) (page : LabelTree) where
         wanted = list.wanted;
         tie_count = list.tie_count;
         each_tie = list.each_tie;
-        few = let lt = slice_get_within wants (length drafts) w next in omega (arith, long_push drafts d);
+        few = let lt = slice_get_within wants (length drafts) w next in omega (arith, length-push drafts d);
         each_draft = λ i x e at at'. elim (push_cases drafts d i e at') [
           | inl old ↦ list.each_draft i x e at old
           | inr new ↦

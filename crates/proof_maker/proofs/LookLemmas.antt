@@ -3,7 +3,7 @@ use Rattle.std.proofs.Common.{◌≡◌, ℕ, ◌-◌, ◌<◌, true, List, [], 
 use Rattle.std.proofs.lemmas.Option.{slice_get_within}
 use Rattle.std.proofs.lemmas.List.Elements.{Contains-append_right}
 use Rattle.tp_base.proofs.ClassLemmas.{with_class-there}
-use Rattle.tp_base.proofs.Lists.{Contains-at}
+use Rattle.tp_base.proofs.Lists.{Contains-at, at_Contains, element_at}
 use Rattle.tree_sem.specs.Trees.{LabelTree}
 use Rattle.tree_sem.specs.Paths.{parent_of}
 use Rattle.tree_sem.proofs.PathLemmas.{IsSome-parent_of}
@@ -27,27 +27,27 @@ use Rattle.proof_maker.specs.Reasons.{reason_of}
 use Rattle.proof_needs.specs.Sets.{IsMore}
 use Rattle.proof_needs.specs.Spots.{spot_in, IsSpot}
 use Rattle.proof_needs.specs.Wants.{IsOfEach, want_of}
+use Rattle.proof_needs.proofs.SetLemmas.{more_Contains}
 use Rattle.proof_maker.specs.Worklist.{AreOwn, IsFollowed, IsTripleOf, IsDraft, IsWanted, IsWorklist}
-use Rattle.proof_maker.proofs.ChoiceLemmas.{Contains-slice_get}
-use Rattle.proof_maker.proofs.ListLemmas.{there_at, more_of, same_more, written, same_spot, draft_more, pushed}
+use Rattle.proof_maker.proofs.ListLemmas.{same_more, written, same_spot, draft_more, pushed}
 use Rattle.proof_maker.proofs.StepLemmas.{IsLive, rule_comes, parent_comes, child_comes, child_there, no_real, spawn_comes, below_known}
 use Rattle.proof_maker.proofs.FollowLemmas.{entered, wanted_at, node_wanted, above_wanted, used_wanted}
 
 -- each triple's own atom stays wanted
 own_more : (triples : List Triple) (wants wants' : List Want) → IsMore wants wants' → AreOwn triples wants → AreOwn triples wants'
-own_more triples wants wants' more own n t at = more_of wants wants' more (want_of (Added n) t.atom) (own n t at)
+own_more triples wants wants' more own n t at = more_Contains wants wants' more (want_of (Added n) t.atom) (own n t at)
 
 module _ (s : System) (page : LabelTree) (target : ℕ) (known : Pair → Type 0) (nodes : List (List ℕ)) (triples : List Triple) (ties : List Tie) (wants : List Want) (drafts : List Draft)
     (list : IsWorklist s page target known nodes triples ties wants drafts) where
   -- what a spot is
   spot_there : (u : Spot) → IsSpot nodes triples u → IsLive s page target known (spot_in nodes triples u)
-  spot_there (Page n) lt = let x = there_at nodes n lt in rw x.1 (list.nodes_there x.0 (Contains-at nodes n x.0 x.1))
-  spot_there (Added n) lt = let x = there_at triples n lt in rw x.1 (list.triples_known x.0 (Contains-at triples n x.0 x.1))
+  spot_there (Page n) lt = let x = element_at nodes n lt in rw x.1 (list.nodes_there x.0 (Contains-at nodes n x.0 x.1))
+  spot_there (Added n) lt = let x = element_at triples n lt in rw x.1 (list.triples_known x.0 (Contains-at triples n x.0 x.1))
 
   spawn_used : (u : Spot) → IsSpot nodes triples u → (a r l c : ℕ) → Needed s page target (spot_in nodes triples u) a → IsChosen s page (spot_in nodes triples u) a r (by_spawn l c) → Used s page target (triple_by s page (spot_in nodes triples u) r l c)
   spawn_used (Page n) lt a r l c need choice = by_page (unwrap_or (slice_get nodes n) []) a r l c need choice
   spawn_used (Added n) lt a r l c need choice =
-      let x = there_at triples n lt in
+      let x = element_at triples n lt in
       let is : spot_in nodes triples (Added n) ≡ added x.0 = rw x.1 refl in
       subst (λ z. Used s page target (triple_by s page z r l c)) (sym is)
       (by_triple x.0 a r l c (list.triples_used x.0 (Contains-at triples n x.0 x.1)) (subst (λ z. Needed s page target z a) is need) (subst (λ z. IsChosen s page z a r (by_spawn l c)) is choice))
@@ -86,7 +86,7 @@ module _ (s : System) (page : LabelTree) (target : ℕ) (known : Pair → Type 0
   follow_up (Page n) a r l wanted nodes' ties' wants' choice f =
       let w = want_of (Page n) a in
       let is = list.wanted w wanted in
-      let x = there_at nodes n is.spot in
+      let x = element_at nodes n is.spot in
       let same : spot_in nodes triples (Page n) ≡ page_node x.0 = rw x.1 refl in
       let choice' = subst (λ z. IsChosen s page z a r (by_up l)) same choice in
       let p = parent_comes s page target x.0 a r l choice' in
@@ -101,8 +101,8 @@ module _ (s : System) (page : LabelTree) (target : ℕ) (known : Pair → Type 0
   follow_up (Added n) a r l wanted nodes' ties' wants' choice f =
       let w = want_of (Added n) a in
       let is = list.wanted w wanted in
-      let t = there_at triples n is.spot in
-      let tie = there_at ties n (let count = list.tie_count in let lt : n < length triples = is.spot in omega arith) in
+      let t = element_at triples n is.spot in
+      let tie = element_at ties n (let count = list.tie_count in let lt : n < length triples = is.spot in omega arith) in
       let same : spot_in nodes triples (Added n) ≡ added t.0 = rw t.1 refl in
       let above = f.1 tie.0 tie.1 in
       let next = above_wanted s page target known nodes triples ties wants drafts list n (from_up s l) t.0 tie.0 t.1 tie.1 ties' wants' above
@@ -120,7 +120,7 @@ module _ (s : System) (page : LabelTree) (target : ℕ) (known : Pair → Type 0
   follow_real (Page n) a r l k wanted nodes' ties' wants' choice f =
       let w = want_of (Page n) a in
       let is = list.wanted w wanted in
-      let x = there_at nodes n is.spot in
+      let x = element_at nodes n is.spot in
       let same : spot_in nodes triples (Page n) ≡ page_node x.0 = rw x.1 refl in
       let choice' = subst (λ z. IsChosen s page z a r (by_real l k)) same choice in
       let at = f.1 x.0 x.1 in
@@ -131,7 +131,7 @@ module _ (s : System) (page : LabelTree) (target : ℕ) (known : Pair → Type 0
       (at.number, at.at ∙ ap (λ z. Some (z ++ k ∷ [])) one, at.of_wants.all (want_of (Page at.number) (from_down s l)) refl)))
   follow_real (Added n) a r l k wanted nodes' ties' wants' choice f =
       let is = list.wanted (want_of (Added n) a) wanted in
-      let t = there_at triples n is.spot in
+      let t = element_at triples n is.spot in
       let same : spot_in nodes triples (Added n) ≡ added t.0 = rw t.1 refl in
       absurd (no_real s page target t.0 a r l k (subst (λ z. IsChosen s page z a r (by_real l k)) same choice))
 
@@ -143,7 +143,7 @@ module _ (s : System) (page : LabelTree) (target : ℕ) (known : Pair → Type 0
       let is = list.wanted w wanted in
       let spot = spot_in nodes triples u in
       let t = triple_by s page spot r l c in
-      let tie = there_at ties n (let count = list.tie_count in let lt = slice_get_within triples n t at in omega arith) in
+      let tie = element_at ties n (let count = list.tie_count in let lt = slice_get_within triples n t at in omega arith) in
       let used = f tie.0 tie.1 in
       let comes = spawn_comes s page target spot a r l c choice in
       let next = used_wanted s page target known nodes triples ties wants drafts list n (from_down s l) (spawn_needs s c) u t tie.0 at tie.1 ties' wants' used
@@ -204,9 +204,9 @@ module _ (s : System) (page : LabelTree) (target : ℕ) (known : Pair → Type 0
       own_next : (t : Triple) → IsEntered t triples triples' ties ties₁ n → IsMore wants wants' → Contains wants' (want_of (Added n) t.atom) → AreOwn triples' wants'
       own_next t e more has m u at = elim (e.of_triples.within u (Contains-at triples' m u at)) [
         | inl old ↦
-            let j = Contains-slice_get triples u old in
+            let j = at_Contains triples u old in
             let one : j.0 ≡ m = e.of_triples.distinct list.triples_distinct j.0 m u (e.of_triples.more j.0 u j.1) at in
-            more_of wants wants' more (want_of (Added m) u.atom) (own m u (subst (λ z. slice_get triples z ≡ Some u) one j.1))
+            more_Contains wants wants' more (want_of (Added m) u.atom) (own m u (subst (λ z. slice_get triples z ≡ Some u) one j.1))
         | inr same ↦
             let one : n ≡ m = e.of_triples.distinct list.triples_distinct n m t e.at (at ∙ ap Some same) in
             subst (λ (z : Triple). Contains wants' (want_of (Added m) z.atom)) (sym same) (subst (λ z. Contains wants' (want_of (Added z) t.atom)) one has)

@@ -5,7 +5,7 @@ use Rattle.std.proofs.lemmas.List.{length-map}
 use Rattle.std.proofs.lemmas.List.FromFn.{length-range_with_len}
 use Rattle.std.proofs.lemmas.Option.{slice_get_within, slice_get-get_or}
 use Rattle.tp_base.proofs.Rising.{All-from_Contains}
-use Rattle.tp_base.proofs.Lists.{Contains-at, element_at, push_cases}
+use Rattle.tp_base.proofs.Lists.{Contains-at, element_at, push_cases, at_Contains}
 use Rattle.tree_sem.specs.Trees.{LabelTree}
 use Rattle.simple_core.specs.declared.system.System.{System}
 use Rattle.simple_core.specs.Pairs.{Pair}
@@ -28,7 +28,6 @@ use Rattle.proof_needs.specs.Orders.{AreDealt}
 use Rattle.proof_needs.specs.Spots.{paths_in, triple_of, triples_in, IsSpot}
 use Rattle.proof_maker.specs.Working.{IsDone}
 use Rattle.proof_maker.proofs.CanonLemmas.{canonical}
-use Rattle.proof_maker.proofs.ChoiceLemmas.{Contains-slice_get}
 use Rattle.proof_maker.proofs.FallLemmas.{named_below, numbered}
 use Rattle.proof_needs.proofs.OrderLemmas.{all_at}
 use Rattle.proof_maker.proofs.UsedLemmas.{no_longer}
@@ -93,7 +92,7 @@ module _ (n : Needs) (makeable : IsMakeable n) (o : Orders) (dealt : AreDealt n 
   -- what the page's items look up
   pub page_nodes : All (IsNodeWant n) o.page.wants.items
   page_nodes = All-from_Contains (IsNodeWant n) o.page.wants.items (λ i is.
-      let k = Contains-slice_get o.page.wants.items i is in
+      let k = at_Contains o.page.wants.items i is in
       let w = dealt.page.each k.0 i k.1 in
       let v = node_there w.0.spot w.2 (makeable.sortable.spots w.0 (Contains-at n.wants.keys i w.0 w.1)) in
       (w.0, v.0, w.1, v.1))

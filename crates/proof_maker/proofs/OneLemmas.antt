@@ -3,8 +3,8 @@ use Rattle.std.proofs.Common.{◌≡◌, ◌⊎◌, ℕ, zero, suc, ◌<◌, ◌
 use Rattle.std.specs.List.{flat_map}
 use Rattle.std.proofs.lemmas.List.{map-append, take_all}
 use Rattle.std.proofs.lemmas.Option.{slice_get_within, slice_get_past}
-use Rattle.tp_base.proofs.Rising.{same_members, All-from_Contains}
-use Rattle.tp_base.proofs.Lists.{Contains-at}
+use Rattle.tp_base.proofs.Rising.{same_members, All-from_Contains, Contains-none}
+use Rattle.tp_base.proofs.Lists.{Contains-at, at_Contains, element_at, past_end, slice_get-take}
 use Rattle.tree_sem.specs.Trees.{LabelTree}
 use Rattle.tree_sem.specs.Order.{Before}
 use Rattle.tree_sem.proofs.NodeLemmas.{Contains-map, map-Contains}
@@ -22,36 +22,26 @@ use Rattle.proof_check.specs.Validity.{MOST_STEPS, atoms_of}
 use Rattle.proof_needs.specs.Choices.{Choice, at_start, by_local, by_up, by_real, by_spawn, chosen}
 use Rattle.proof_maker.specs.Needs.{setting_at, path_at, labels_at, triple_by, Needed, Walks, done, seen, new, named_by, entry_names, IsReason, IsItem, Comes, IsEntryOf, IsCanonical}
 use Rattle.proof_needs.specs.Triples.{Triple, Spot, page_node, added}
-use Rattle.proof_maker.proofs.ChoiceLemmas.{Contains-none, Contains-slice_get}
-use Rattle.proof_maker.proofs.ValidLemmas.{first_one, walked_lower, slice_get-take}
+use Rattle.proof_maker.proofs.ValidLemmas.{first_one, walked_lower}
+use Rattle.proof_maker.proofs.PostLemmas.{next_there, cons_cases, first_there}
 
 -- lists in a strict order with the same members are the same
 abbrev Rises : {K : Type 0} → (K → K → Type 0) → List K → Type 0
 Rises {K} R [] = Unit {0}
 Rises {K} R (x ∷ xs) = ((y : K) → Contains xs y → R x y) × Rises R xs
 
-first_in : {K : Type 0} (x : K) (xs : List K) → Contains (x ∷ xs) x
-first_in x xs = (0, omega arith, refl)
-
-next_in : {K : Type 0} (y : K) (xs : List K) (x : K) → Contains xs x → Contains (y ∷ xs) x
-next_in y xs x (k, within, at) = (suc k, omega arith, at)
-
-in_cases : {K : Type 0} (y : K) (xs : List K) (x : K) → Contains (y ∷ xs) x → (y ≡ x) ⊎ Contains xs x
-in_cases y xs x (zero, within, at) = inl at
-in_cases y xs x (suc k, within, at) = inr (k, omega arith, at)
-
 one_list : {K : Type 0} (R : K → K → Type 0) → ((x y : K) → R x y → R y x → ⊥) → (xs ys : List K) → Rises R xs → Rises R ys → ((k : K) → Contains xs k → Contains ys k) → ((k : K) → Contains ys k → Contains xs k) → xs ≡ ys
 one_list R asym [] [] a b to from = refl
-one_list R asym [] (y ∷ ys) a b to from = absurd (Contains-none y (from y (first_in y ys)))
-one_list R asym (x ∷ xs) [] a b to from = absurd (Contains-none x (to x (first_in x xs)))
+one_list R asym [] (y ∷ ys) a b to from = absurd (Contains-none y (from y (first_there y ys)))
+one_list R asym (x ∷ xs) [] a b to from = absurd (Contains-none x (to x (first_there x xs)))
 one_list {K} R asym (x ∷ xs) (y ∷ ys) a b to from =
-    let same : x ≡ y = elim (in_cases y ys x (to x (first_in x xs))) [
+    let same : x ≡ y = elim (cons_cases y ys x (to x (first_there x xs))) [
       | inl e ↦ sym e
-      | inr later ↦ elim (in_cases x xs y (from y (first_in y ys))) [ inl e ↦ e | inr later' ↦ absurd (asym x y (a.0 y later') (b.0 x later)) ]
+      | inr later ↦ elim (cons_cases x xs y (from y (first_there y ys))) [ inl e ↦ e | inr later' ↦ absurd (asym x y (a.0 y later') (b.0 x later)) ]
     ] in
     let rest = one_list R asym xs ys a.1 b.1
-    (λ k is. elim (in_cases y ys k (to k (next_in x xs k is))) [ inl e ↦ let here : R x x = a.0 x (subst (Contains xs) (sym e ∙ sym same) is) in absurd (asym x x here here) | inr later ↦ later ])
-    (λ k is. elim (in_cases x xs k (from k (next_in y ys k is))) [ inl e ↦ let here : R y y = b.0 y (subst (Contains ys) (sym e ∙ same) is) in absurd (asym y y here here) | inr later ↦ later ]) in
+    (λ k is. elim (cons_cases y ys k (to k (next_there x xs k is))) [ inl e ↦ let here : R x x = a.0 x (subst (Contains xs) (sym e ∙ sym same) is) in absurd (asym x x here here) | inr later ↦ later ])
+    (λ k is. elim (cons_cases x xs k (from k (next_there y ys k is))) [ inl e ↦ let here : R y y = b.0 y (subst (Contains ys) (sym e ∙ same) is) in absurd (asym y y here here) | inr later ↦ later ]) in
     λ i. same i ∷ rest i
 
 rises_from : {X K : Type 0} (key : X → K) (R : K → K → Type 0) (xs : List X) → ((i j : ℕ) (x y : X) → i < j → slice_get xs i ≡ Some x → slice_get xs j ≡ Some y → R (key x) (key y)) → Rises R (map key xs)
@@ -59,7 +49,7 @@ rises_from key R [] ordered = tt
 rises_from key R (x ∷ xs) ordered = (
   λ y is.
       let m = map-Contains key xs y is in
-      let at = Contains-slice_get xs m.0 m.1 in
+      let at = at_Contains xs m.0 m.1 in
       subst (R (key x)) (sym m.2) (ordered 0 (suc at.0) x m.0 (omega arith) refl at.1),
   rises_from key R xs (λ i j a b lt at at'. ordered (suc i) (suc j) a b (omega arith) at at'),
 )
@@ -104,16 +94,6 @@ take_more (suc n) (x ∷ xs) (y ∷ ys) same at =
     let rest = take_more n xs ys tail at in
     λ i. one i ∷ rest i
 
-there_at : {X : Type 0} (xs : List X) (i : ℕ) → i < length xs → (x : X) × (slice_get xs i ≡ Some x)
-there_at [] i lt = absurd (omega arith)
-there_at (x ∷ xs) zero lt = (x, refl)
-there_at (x ∷ xs) (suc i) lt = there_at xs i (omega arith)
-
-past : {X : Type 0} (xs : List X) (i : ℕ) → slice_get xs i ≡ None → length xs ≤ i
-past [] i at = omega arith
-past (x ∷ xs) zero at = cc
-past (x ∷ xs) (suc i) at = omega (arith, past xs i at)
-
 -- Two walks that name the same triples number them alike.
 module _ {X : Type 0} (names names' : ℕ → List ℕ) (xs ys : List X) (different : (i j : ℕ) (x : X) → slice_get xs i ≡ Some x → slice_get xs j ≡ Some x → i ≡ j)
     (different' : (i j : ℕ) (x : X) → slice_get ys i ≡ Some x → slice_get ys j ≡ Some x → i ≡ j)
@@ -130,7 +110,7 @@ module _ {X : Type 0} (names names' : ℕ → List ℕ) (xs ys : List X) (differ
   same_walk n m m' es es' (seen p e k rest less w) (new q e' k' rest' first' w') le le' same named =
       let up = walked_lower names n m rest w in
       let up' = walked_lower names' n e' (names' e') first' in
-      let x = there_at xs e (omega (arith, up.0)) in
+      let x = element_at xs e (omega (arith, up.0)) in
       let head : slice_get xs e ≡ slice_get ys e' = cc in
       let at : slice_get ys e ≡ Some x.0 = sym (slice_get-take ys n e less) ∙ ap (λ z. slice_get z e) (sym same) ∙ slice_get-take xs n e less ∙ x.1 in
       let one = different' e e' x.0 at (sym head ∙ x.1) in
@@ -138,7 +118,7 @@ module _ {X : Type 0} (names names' : ℕ → List ℕ) (xs ys : List X) (differ
   same_walk n m m' es es' (new p e k rest first w) (seen q e' k' rest' less' w') le le' same named =
       let up = walked_lower names n e (names e) first in
       let up' = walked_lower names' n m' rest' w' in
-      let y = there_at ys e' (omega (arith, up'.0)) in
+      let y = element_at ys e' (omega (arith, up'.0)) in
       let head : slice_get xs e ≡ slice_get ys e' = cc in
       let at : slice_get xs e' ≡ Some y.0 = sym (slice_get-take xs n e' less') ∙ ap (λ z. slice_get z e') same ∙ slice_get-take ys n e' less' ∙ y.1 in
       let one = different e e' y.0 (head ∙ y.1) at in
@@ -146,7 +126,7 @@ module _ {X : Type 0} (names names' : ℕ → List ℕ) (xs ys : List X) (differ
   same_walk n m m' es es' (new p e k rest first w) (new q e' k' rest' first' w') le le' same named =
       let up = walked_lower names (suc e) m rest w in
       let up' = walked_lower names' (suc e') m' rest' w' in
-      let x = there_at xs e (omega (arith, up.0)) in
+      let x = element_at xs e (omega (arith, up.0)) in
       let head : slice_get xs e ≡ slice_get ys e' = cc in
       let tail : map (slice_get xs) rest ≡ map (slice_get ys) rest' = cc in
       let inner = same_walk n e e' (names e) (names' e') first first' (omega (arith, up.0)) (omega (arith, up'.0)) same (alike e e' x.0 x.1 (sym head ∙ x.1)) in
@@ -239,7 +219,7 @@ module _ (s : System) (page : LabelTree) (target : ℕ) where
   atoms_to : (ts : List Triple) (t : Triple) (x : Entry) → IsEntryOf s page target ts t x → (a : ℕ) → Contains (atoms_of x.items) a → Needed s page target (added t) a
   atoms_to ts t x is a in' =
       let m = map-Contains (λ (i : ProofItem). i.atom) x.items a in' in
-      let at = Contains-slice_get x.items m.0 m.1 in
+      let at = at_Contains x.items m.0 m.1 in
       subst (λ z. Needed s page target (added t) z) (sym m.2) (is.each at.0 m.0 at.1).needed
 
   atoms_from : (ts : List Triple) (t : Triple) (x : Entry) → IsEntryOf s page target ts t x → (a : ℕ) → Needed s page target (added t) a → Contains (atoms_of x.items) a
@@ -273,7 +253,7 @@ module _ (s : System) (page : LabelTree) (target : ℕ) where
   keys_to : (proof : Proof) (made : IsCanonical s page target proof) (k : List ℕ × ℕ) → Contains (map key_of proof.page) k → Needed s page target (page_node k.0) k.1
   keys_to proof made k is =
       let m = map-Contains key_of proof.page k is in
-      let at = Contains-slice_get proof.page m.0 m.1 in
+      let at = at_Contains proof.page m.0 m.1 in
       subst (λ (z : List ℕ × ℕ). Needed s page target (page_node z.0) z.1) (sym m.2) (made.each at.0 m.0 at.1).needed
 
   keys_from : (proof : Proof) (made : IsCanonical s page target proof) (k : List ℕ × ℕ) → Needed s page target (page_node k.0) k.1 → Contains (map key_of proof.page) k
@@ -305,8 +285,8 @@ module _ (s : System) (page : LabelTree) (target : ℕ) where
     where
       alike : (e e' : ℕ) (t : Triple) → slice_get made.triples e ≡ Some t → slice_get made'.triples e' ≡ Some t → map (slice_get made.triples) (entry_names p.entries e) ≡ map (slice_get made'.triples) (entry_names q.entries e')
       alike e e' t at at' =
-          let x = there_at p.entries e (let c = made.count in let lt = slice_get_within made.triples e t at in omega (arith, c, lt)) in
-          let y = there_at q.entries e' (let c = made'.count in let lt = slice_get_within made'.triples e' t at' in omega (arith, c, lt)) in
+          let x = element_at p.entries e (let c = made.count in let lt = slice_get_within made.triples e t at in omega (arith, c, lt)) in
+          let y = element_at q.entries e' (let c = made'.count in let lt = slice_get_within made'.triples e' t at' in omega (arith, c, lt)) in
           let is = made.entries e t x.0 at x.1 in
           let is' = made'.entries e' t y.0 at' y.1 in
           let atoms = same_atoms made.triples made'.triples t x.0 y.0 is is' in
@@ -329,7 +309,7 @@ module _ (s : System) (page : LabelTree) (target : ℕ) where
       let other = over p made ts triples in
       let count : length p.entries ≡ length q.entries = made.count ∙ ap length triples ∙ sym made'.count in
       let items : (n : ℕ) (x y : Entry) → slice_get p.entries n ≡ Some x → slice_get q.entries n ≡ Some y → x.items ≡ y.items = λ n x y at at'.
-      let t = there_at ts n (let c = made'.count in let lt = slice_get_within q.entries n y at' in omega (arith, c, lt)) in
+      let t = element_at ts n (let c = made'.count in let lt = slice_get_within q.entries n y at' in omega (arith, c, lt)) in
       let is = other.0 n t.0 x t.1 at in
       let is' = made'.entries n t.0 y t.1 at' in
       let atoms = same_atoms ts ts t.0 x y is is' in
@@ -338,7 +318,7 @@ module _ (s : System) (page : LabelTree) (target : ℕ) where
       same_item a b atom (same_reason ts made'.different (added t.0) a b (is.each i a at_a) (is'.each i b at_b) atom)) in
       let counts : (n : ℕ) → entry_count s p.entries n ≡ entry_count s q.entries n = λ n. count_same s p.entries q.entries (same_options items count) n in
       let entries : p.entries ≡ q.entries = same_places p.entries q.entries count (λ n x y at at'.
-      let t = there_at ts n (let c = made'.count in let lt = slice_get_within q.entries n y at' in omega (arith, c, lt)) in
+      let t = element_at ts n (let c = made'.count in let lt = slice_get_within q.entries n y at' in omega (arith, c, lt)) in
       let is = other.0 n t.0 x t.1 at in
       let is' = made'.entries n t.0 y t.1 at' in
       let kind : x.kind ≡ y.kind = is.kind ∙ sym is'.kind in
@@ -360,6 +340,6 @@ module _ (s : System) (page : LabelTree) (target : ℕ) where
           → (e : ℕ) → option_map (λ (x : Entry). x.items) (slice_get p.entries e) ≡ option_map (λ (x : Entry). x.items) (slice_get q.entries e)
       same_options items count e =
           elim (slice_get p.entries e) as (λ o. slice_get p.entries e ≡ o → option_map (λ (x : Entry). x.items) o ≡ option_map (λ (x : Entry). x.items) (slice_get q.entries e)) [
-            | None ↦ λ at. let le : length p.entries ≤ e = past p.entries e at in rw (slice_get_past q.entries e (omega (arith, le, count)))
-            | Some x ↦ λ at. let y = there_at q.entries e (let lt = slice_get_within p.entries e x at in omega (arith, lt, count)) in rw y.1 (ap Some (items e x y.0 at y.1))
+            | None ↦ λ at. let le : length p.entries ≤ e = past_end p.entries e at in rw (slice_get_past q.entries e (omega (arith, le, count)))
+            | Some x ↦ λ at. let y = element_at q.entries e (let lt = slice_get_within p.entries e x at in omega (arith, lt, count)) in rw y.1 (ap Some (items e x y.0 at y.1))
           ] refl

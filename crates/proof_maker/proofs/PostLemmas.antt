@@ -6,20 +6,13 @@ use Rattle.std.proofs.lemmas.List.{length-append}
 use Rattle.std.proofs.lemmas.List.Elements.{Contains-append_left, Contains-push, Contains-push_cases}
 use Rattle.std.proofs.lemmas.List.Sums.{position_or_len_is}
 use Rattle.std.proofs.lemmas.Option.{slice_get_within, slice_get-get_or, get_or_from_slice_get}
+use Rattle.tp_base.proofs.Lists.{Contains-at, at_Contains, push_cases}
+use Rattle.tp_base.proofs.Rising.{Contains-none}
 use Rattle.proof_maker.specs.Needs.{Walks, done, seen, new}
 use Rattle.proof_maker.specs.Numbering.{Post}
 use Rattle.proof_maker.specs.Numbering as post
 use Rattle.proof_needs.specs.Numbers.{number_in}
 use Rattle.proof_needs.specs.Sets.{AreDistinct, IsMore}
-
-none_there : {X : Type 0} (x : X) → Contains [] x → ⊥
-none_there x (k, within, at) = omega arith
-
-there_at : {X : Type 0} (xs : List X) (x : X) → Contains xs x → (i : ℕ) × (slice_get xs i ≡ Some x)
-there_at xs x (k, within, at) = (k, slice_get-get_or xs k x within ∙ ap Some at)
-
-at_there : {X : Type 0} (xs : List X) (i : ℕ) (x : X) → slice_get xs i ≡ Some x → Contains xs x
-at_there xs i x at = (i, slice_get_within xs i x at, get_or_from_slice_get xs i x x at)
 
 pub cons_cases : {X : Type 0} (y : X) (xs : List X) (x : X) → Contains (y ∷ xs) x → (y ≡ x) ⊎ Contains xs x
 cons_cases y xs x (zero, within, at) = inl at
@@ -40,21 +33,14 @@ append_at : {X : Type 0} (xs : List X) (y : X) (ys : List X) → slice_get (xs +
 append_at [] y ys = refl
 append_at (x ∷ xs) y ys = append_at xs y ys
 
--- an element of a list with one more at its end
-push_at : {X : Type 0} (xs : List X) (y : X) (i : ℕ) (x : X) → slice_get (xs ++ y ∷ []) i ≡ Some x → (slice_get xs i ≡ Some x) ⊎ ((i ≡ length xs) × (y ≡ x))
-push_at [] y zero x at = inr (refl, let same : y ≡ x = cc in same)
-push_at [] y (suc i) x at = cc
-push_at (z ∷ xs) y zero x at = inl at
-push_at (z ∷ xs) y (suc i) x at = elim (push_at xs y i x at) [ inl before ↦ inl before | inr last ↦ inr (ap suc last.0, last.1) ]
-
 distinct_push : {X : Type 0} (xs : List X) (y : X) → AreDistinct xs → (¬ Contains xs y) → AreDistinct (xs ++ y ∷ [])
-distinct_push xs y distinct fresh i j x at at' = elim (push_at xs y i x at) [
-  | inl a ↦ elim (push_at xs y j x at') [
+distinct_push xs y distinct fresh i j x at at' = elim (push_cases xs y i x at) [
+  | inl a ↦ elim (push_cases xs y j x at') [
     | inl b ↦ distinct i j x a b
-    | inr b ↦ absurd (fresh (subst (Contains xs) (sym b.1) (at_there xs i x a)))
+    | inr b ↦ absurd (fresh (subst (Contains xs) (sym b.1) (Contains-at xs i x a)))
   ]
-  | inr a ↦ elim (push_at xs y j x at') [
-    | inl b ↦ absurd (fresh (subst (Contains xs) (sym a.1) (at_there xs j x b)))
+  | inr a ↦ elim (push_cases xs y j x at') [
+    | inl b ↦ absurd (fresh (subst (Contains xs) (sym a.1) (Contains-at xs j x b)))
     | inr b ↦ a.0 ∙ sym b.0
   ]
 ]
@@ -66,7 +52,7 @@ module _ (names : ℕ → List ℕ) where
   post_more before ts out (post.new b t rest mid o fresh first fresh' p) i x at = post_more (mid ++ t ∷ []) rest out p i x (append_more mid (t ∷ []) i x (post_more before (names t) mid first i x at))
 
   pub post_kept : (before ts out : List ℕ) → Post names before ts out → (x : ℕ) → Contains before x → Contains out x
-  post_kept before ts out p x is = let i = there_at before x is in at_there out i.0 x (post_more before ts out p i.0 x i.1)
+  post_kept before ts out p x is = let i = at_Contains before x is in Contains-at out i.0 x (post_more before ts out p i.0 x i.1)
 
   pub post_distinct : (before ts out : List ℕ) → Post names before ts out → AreDistinct before → AreDistinct out
   post_distinct before ts out (post.done b) distinct = distinct
@@ -86,7 +72,7 @@ module _ (names : ℕ → List ℕ) where
   -- what is walked to gets a number, and so does what it names
   pub post_closed : (before ts out : List ℕ) → Post names before ts out → ((x f : ℕ) → Contains before x → Contains (names x) f → Contains before f)
       → ((t : ℕ) → Contains ts t → Contains out t) × ((x f : ℕ) → Contains out x → Contains (names x) f → Contains out f)
-  post_closed before ts out (post.done b) closed = (λ t is. absurd (none_there t is), closed)
+  post_closed before ts out (post.done b) closed = (λ t is. absurd (Contains-none t is), closed)
   post_closed before ts out (post.known b t rest o there p) closed =
       let r = post_closed before rest out p closed in
       (λ x is. elim (cons_cases t rest x is) [ inl same ↦ subst (Contains out) same (post_kept before rest out p t there) | inr later ↦ r.0 x later ], r.1)
@@ -121,7 +107,7 @@ module _ (names : ℕ → List ℕ) (order : List ℕ) (distinct : AreDistinct o
   pub walks : (before ts out : List ℕ) → Post names before ts out → IsMore out order → Walks numbers (length before) (map (number_in order) ts) (length out)
   walks before ts out (post.done b) more = done (length before)
   walks before ts out (post.known b t rest o there p) more =
-      let i = there_at before t there in
+      let i = at_Contains before t there in
       let is : number_in order t ≡ i.0 = number_is order i.0 t distinct (more i.0 t (post_more names before rest out p i.0 t i.1)) in
       let lt = slice_get_within before i.0 t i.1 in
       seen (length before) (number_in order t) (length out) (map (number_in order) rest) (omega arith) (walks before rest out p more)

@@ -2,7 +2,7 @@
 use Rattle.std.proofs.Common.{◌∙◌, ◌≡◌, ℕ, ◌-◌, ◌<◌, List, length, Contains, Some, slice_get, refl, sym, subst}
 use Rattle.std.specs.List.Sorted.{IsStrictlyIncreasing}
 use Rattle.tp_base.proofs.ClassLemmas.{IsStrictlyIncreasing-cut_to}
-use Rattle.tp_base.proofs.Lists.{Contains-at}
+use Rattle.tp_base.proofs.Lists.{Contains-at, element_at}
 use Rattle.tree_sem.specs.Trees.{LabelTree}
 use Rattle.simple_core.specs.declared.system.System.{System}
 use Rattle.simple_core.specs.Pairs.{Pair}
@@ -22,7 +22,6 @@ use Rattle.proof_needs.specs.Triples.{Triple, page_node, added}
 use Rattle.proof_needs.specs.Spots.{spot_in}
 use Rattle.proof_maker.specs.Worklist.{IsComing, IsWorklist}
 use Rattle.proof_needs.specs.Wants.{want_of}
-use Rattle.proof_maker.proofs.ListLemmas.{there_at}
 
 -- the visible label of a triple that is used rises
 used_rises : (s : System) (page : LabelTree) (target : ℕ) (t : Triple) → Used s page target t → IsStrictlyIncreasing t.parent
@@ -34,14 +33,14 @@ module _ (s : System) (page : LabelTree) (target : ℕ) (known : Pair → Type 0
   pub node_looked : (n a : ℕ) → Contains wants (want_of (Page n) a) → IsNodeAt s page nodes n a
   node_looked n a in' =
       let is = list.wanted (want_of (Page n) a) in' in
-      let x = there_at nodes n is.spot in
+      let x = element_at nodes n is.spot in
       let same : spot_in nodes triples (Page n) ≡ page_node x.0 = rw x.1 refl in
       record { path = x.0; at = x.1; node = list.nodes_there x.0 (Contains-at nodes n x.0 x.1); comes = subst (λ z. IsComing s page target z a) same is.comes }
 
   pub triple_looked : (n a : ℕ) → Contains wants (want_of (Added n) a) → IsTripleAt s page known triples n a
   triple_looked n a in' =
       let is = list.wanted (want_of (Added n) a) in' in
-      let t = there_at triples n is.spot in
+      let t = element_at triples n is.spot in
       let same : spot_in nodes triples (Added n) ≡ added t.0 = rw t.1 refl in
       record {
         triple = t.0;

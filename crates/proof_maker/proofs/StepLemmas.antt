@@ -5,6 +5,7 @@ use Rattle.std.proofs.lemmas.List.Elements.{All-contains}
 use Rattle.tp_base.specs.Classes.{has_class}
 use Rattle.tp_base.proofs.ClassLemmas.{Contains-has_class, all_among-All, Contains-cut_to}
 use Rattle.tp_base.proofs.Lists.{Contains-at}
+use Rattle.tp_base.proofs.Rising.{Contains-none}
 use Rattle.tree_sem.specs.Trees.{LabelTree, node_at, length_of, tree_of}
 use Rattle.tree_sem.specs.Paths.{parent_of}
 use Rattle.tree_sem.proofs.RowLemmas.{there, tree_of-within, child_node_at}
@@ -20,7 +21,7 @@ use Rattle.proof_maker.specs.Glances.{AsksAt}
 use Rattle.proof_maker.specs.Needs.{setting_at, path_at, labels_at, IsChosen, triple_by, Needed, by_entry, IsNeededAbove}
 use Rattle.proof_needs.specs.Triples.{Triple, Spot, page_node, added}
 use Rattle.proof_maker.specs.Worklist.{IsUserOf, IsComing}
-use Rattle.proof_maker.proofs.ChoiceLemmas.{Contains-none, IsWay}
+use Rattle.proof_maker.proofs.ChoiceLemmas.{IsWay}
 use Rattle.proof_maker.proofs.ValidLemmas.{chosen_stands}
 
 module _ (s : System) (page : LabelTree) where

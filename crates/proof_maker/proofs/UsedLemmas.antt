@@ -3,7 +3,8 @@ use Rattle.std.proofs.Common.{◌≡◌, ◌↔◌, ℕ, zero, suc, ◌<◌, ◌
 use Rattle.std.specs.List.{flat_map}
 use Rattle.std.proofs.lemmas.Bool.{cases_order}
 use Rattle.std.proofs.lemmas.Option.{slice_get_within}
-use Rattle.tp_base.proofs.Lists.{Contains-at}
+use Rattle.tp_base.proofs.Lists.{Contains-at, at_Contains, flat_map-Contains}
+use Rattle.tp_base.proofs.Rising.{Contains-none}
 use Rattle.tree_sem.specs.Trees.{LabelTree}
 use Rattle.simple_core.specs.declared.system.System.{System}
 use Rattle.simple_core.specs.Rounds.{IsFirst}
@@ -13,7 +14,6 @@ use Rattle.proof_check.specs.declared.proofs.Proof.{Proof}
 use Rattle.proof_needs.specs.Choices.{Choice, at_start, by_local, by_up, by_real, by_spawn, chosen}
 use Rattle.proof_maker.specs.Needs.{setting_at, path_at, labels_at, IsChosen, triple_by, Walks, done, seen, new, named_by, entry_names, IsReason, IsItem, IsCanonical, Used, by_page, by_triple, UsesMore}
 use Rattle.proof_needs.specs.Triples.{Triple, Spot, page_node, added}
-use Rattle.proof_maker.proofs.ChoiceLemmas.{Contains-none, Contains-slice_get, flat_map-Contains}
 use Rattle.proof_maker.proofs.ValidLemmas.{first_one}
 
 -- what holds of each number that is walked to, and of what such a number names, holds of all that the walk numbers
@@ -80,7 +80,7 @@ module _ (s : System) (page : LabelTree) (target : ℕ) (proof : Proof) (made : 
       let entry = there_at proof.entries k lt in
       let is' : Contains (flat_map (λ (i : ProofItem). named_by i.reason) entry.0.items) f = rw entry.1 at is in
       let x = flat_map-Contains (λ (i : ProofItem). named_by i.reason) entry.0.items f is' in
-      let at = Contains-slice_get entry.0.items x.0 x.1 in
+      let at = at_Contains entry.0.items x.0 x.1 in
       let item = (made.entries k t entry.0 used.1 entry.1).each at.0 x.0 at.1 in
       let n = item_names (added t) x.0 item f x.2 in
       (triple_by s page (added t) item.round n.0 n.1, n.3, by_triple t x.0.atom item.round n.0 n.1 used.2 item.needed n.2)
@@ -91,14 +91,14 @@ module _ (s : System) (page : LabelTree) (target : ℕ) (proof : Proof) (made : 
       page_names : (e : ℕ) → Contains (flat_map (λ (x : PageItem). named_by x.item.reason) proof.page) e → IsUsed e
       page_names e is =
           let x = flat_map-Contains (λ (x : PageItem). named_by x.item.reason) proof.page e is in
-          let at = Contains-slice_get proof.page x.0 x.1 in
+          let at = at_Contains proof.page x.0 x.1 in
           let item = made.each at.0 x.0 at.1 in
           let n = item_names (page_node x.0.at) x.0.item item e x.2 in
           (triple_by s page (page_node x.0.at) item.round n.0 n.1, n.3, by_page x.0.at x.0.item.atom item.round n.0 n.1 item.needed n.2)
 
       to : (t : Triple) → Contains made.triples t → Used s page target t
       to t is =
-          let at = Contains-slice_get made.triples t is in
+          let at = at_Contains made.triples t is in
           let lt : at.0 < length proof.entries = subst (λ n. at.0 < n) (sym made.count) (slice_get_within made.triples at.0 t at.1) in
           let used = walked_all (entry_names proof.entries) IsUsed names_used 0 (length proof.entries) (flat_map (λ (x : PageItem). named_by x.item.reason) proof.page) made.walked page_names at.0 (omega arith) lt in
           let one : used.0 ≡ t = let a = used.1 in let b = at.1 in cc in
@@ -142,11 +142,11 @@ without-Contains (y ∷ xs) (suc k) (suc j) x at other = let r = without-Contain
 pub no_longer : {X : Type 0} (xs ys : List X) → ((i j : ℕ) (x : X) → slice_get xs i ≡ Some x → slice_get xs j ≡ Some x → i ≡ j) → ((x : X) → Contains xs x → Contains ys x) → length xs ≤ length ys
 no_longer [] ys different within = omega arith
 no_longer (x ∷ xs) ys different within =
-    let k = Contains-slice_get ys x (within x (0, omega arith, refl)) in
+    let k = at_Contains ys x (within x (0, omega arith, refl)) in
     let lt = slice_get_within ys k.0 x k.1 in
     let rest = no_longer xs (without ys k.0) (λ i j y at at'. let same = different (suc i) (suc j) y at at' in omega (arith, same)) (λ y is.
-    let i = Contains-slice_get xs y is in
-    let j = Contains-slice_get ys y (within y (suc is.0, omega (arith, is.1), is.2)) in
+    let i = at_Contains xs y is in
+    let j = at_Contains ys y (within y (suc is.0, omega (arith, is.1), is.2)) in
     without-Contains ys k.0 j.0 y j.1 (λ same.
     let at : slice_get ys k.0 ≡ Some y = subst (λ n. slice_get ys n ≡ Some y) same j.1 in
     let one : x ≡ y = let a = k.1 in cc in

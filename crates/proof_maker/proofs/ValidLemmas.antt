@@ -9,8 +9,8 @@ use Rattle.std.proofs.lemmas.Option.{slice_get_within}
 use Rattle.std.proofs.lemmas.Slice.Eq.{bytes_eq-Decides}
 use Rattle.tp_base.specs.Classes.{has_class}
 use Rattle.tp_base.proofs.ClassLemmas.{Contains-has_class, all_among-All, Contains-cut_to}
-use Rattle.tp_base.proofs.Rising.{All-from_Contains}
-use Rattle.tp_base.proofs.Lists.{Contains-at}
+use Rattle.tp_base.proofs.Rising.{All-from_Contains, Contains-none}
+use Rattle.tp_base.proofs.Lists.{Contains-at, at_Contains, Contains-flat_map, slice_get-take}
 use Rattle.tree_sem.specs.Trees.{LabelTree, node_at, label_at, children_at, length_of, tree_of}
 use Rattle.tree_sem.proofs.RowLemmas.{there, tree_of-within, child_node_at}
 use Rattle.tree_sem.proofs.PathLemmas.{IsSome-parent_of}
@@ -41,7 +41,7 @@ use Rattle.proof_needs.specs.Choices.{on_page, on_added, Choice, at_start, by_lo
 use Rattle.proof_maker.specs.Forests.{KeepsForests}
 use Rattle.proof_maker.specs.Needs.{setting_at, path_at, labels_at, IsChosen, triple_by, Needed, goal, top, by_rule, by_parent, by_child, by_spawner, by_entry, Walks, done, seen, new, named_by, entry_names, IsReason, IsItem, IsNeededAbove, IsEntryOf, IsCanonical}
 use Rattle.proof_needs.specs.Triples.{Triple, Spot, page_node, added}
-use Rattle.proof_maker.proofs.ChoiceLemmas.{find_there, Contains-flat_map, Contains-none, Contains-slice_get, IsWay, chosen_is, below_of}
+use Rattle.proof_maker.proofs.ChoiceLemmas.{find_there, IsWay, chosen_is, below_of}
 
 -- first rounds
 pub first_one : (f : ℕ → List ℕ) (a m n : ℕ) → IsFirst f a (Some m) → IsFirst f a (Some n) → m ≡ n
@@ -53,12 +53,6 @@ first_one f a m n x y = elim (cases_order m n) [
 
 pub first_by : (f : ℕ → List ℕ) (a m k : ℕ) → IsFirst f a (Some m) → Contains (f k) a → m ≤ k
 first_by f a m k x is = elim (cases_lt k m) [ inl less ↦ absurd (x.1 k less is) | inr le ↦ le ]
-
-pub slice_get-take : {X : Type 0} (xs : List X) (n j : ℕ) → j < n → slice_get (take n xs) j ≡ slice_get xs j
-slice_get-take xs zero j lt = absurd (omega arith)
-slice_get-take [] (suc n) j lt = refl
-slice_get-take (x ∷ xs) (suc n) zero lt = refl
-slice_get-take (x ∷ xs) (suc n) (suc j) lt = slice_get-take xs n j (omega arith)
 
 pub slice_get-untake : {X : Type 0} (xs : List X) (n j : ℕ) (x : X) → slice_get (take n xs) j ≡ Some x → slice_get xs j ≡ Some x
 slice_get-untake [] zero j x at = at
@@ -326,7 +320,7 @@ module _ (s : System) (page : LabelTree) where
         item_sound (added t.0) (record (in_entry s n entry) { here = take i entry.items }) x item (record {
           label = λ a is. subst (λ j. Contains (kind_label s j) a) (sym is_entry.kind) is;
           here = λ b k round has need. entry_earlier t.0 entry is_entry i x at_x item b k round has need;
-          items = λ y is. let j = Contains-slice_get (take i entry.items) y is in is_entry.each j.0 y (slice_get-untake entry.items i j.0 y j.1);
+          items = λ y is. let j = at_Contains (take i entry.items) y is in is_entry.each j.0 y (slice_get-untake entry.items i j.0 y j.1);
           above = λ l k round choice has. (is_entry.parent (from_up s l)).1 (x.atom, item.round, l, item.needed, choice, refl);
           child = λ l m k round choice lt' has. absurd (omega arith);
           lower = λ l c e same. lowers.0 n e lt (rw at (Contains-flat_map (λ (y : ProofItem). named_by y.reason) entry.items x e (Contains-at entry.items i x at_x) (subst (λ z. Contains (named_by z) e) (sym same) (0, omega arith, refl))));
@@ -352,7 +346,7 @@ module _ (s : System) (page : LabelTree) where
     in_page v items y is =
         let m = map-Contains (λ (i : PageItem). i.item) (filter (λ (i : PageItem). bytes_eq i.at v) items) y is in
         let f = filter-Contains (λ (i : PageItem). bytes_eq i.at v) items m.0 m.1 in
-        let j = Contains-slice_get items m.0 f.0 in
+        let j = at_Contains items m.0 f.0 in
         (j.0, m.0, j.1, (bytes_eq-Decides m.0.at v).0 f.1, sym m.2)
 
     page_earlier : (i : ℕ) (x : PageItem) → slice_get proof.page i ≡ Some x → (item : IsItem s page target made.triples (page_node x.at) x.item) → (q : List ℕ) (b k : ℕ) → item.round ≡ suc k

@@ -2,6 +2,7 @@
 use Rattle.std.proofs.Common.{◌≡◌, ℕ, ◌<◌, ◌≤◌, List, [], ◌∷◌, ◌++◌, length, get_or, Option, Some, None, IfSome, Result, Ok, Err, IfOk, Vec, slice_get, inl, inr, sym, ap, ◌∙◌, subst, arith}
 use Rattle.std.specs.Global.{Global}
 use Rattle.std.proofs.lemmas.Option.{slice_get-get_or, slice_get_within}
+use Rattle.tp_base.proofs.Lists.{length-push}
 use Rattle.tree_sem.specs.Trees.{LabelTree}
 use Rattle.simple_core.specs.declared.system.System.{System}
 use Rattle.simple_core.specs.Pairs.{Pair, Asked}
@@ -22,7 +23,6 @@ use Rattle.proof_needs.specs.Triples.{Triple}
 use Rattle.proof_needs.specs.Spots.{paths_in, triples_in, spot_in, IsSpot}
 use Rattle.proof_maker.specs.Working.{IsWorking}
 use Rattle.proof_maker.specs.Worklist.{AreOwn, IsWorklist}
-use Rattle.proof_maker.proofs.ListLemmas.{long_push}
 use Rattle.proof_maker.proofs.LookLemmas.{looked}
 
 pub if_ok : {V E : Type 0} {P Q : V → Type 0} (r : Result V E) → ((v : V) → P v → Q v) → IfOk r P → IfOk r Q
@@ -49,7 +49,7 @@ tie_index s below nodes triples triples' ties ties' count u spot c named enters 
     longer (Spawn l c) None e = absurd e
     longer (Spawn l c) (Some n) e = elim e.tie_cases [
       | inl same ↦ omega (arith, same_long ties' same.0)
-      | inr new ↦ let long = ap length new.1 ∙ long_push ties new.0 in omega arith
+      | inr new ↦ let long = ap length new.1 ∙ length-push ties new.0 in omega arith
     ]
 
     still : (u : Spot) → IsSpot nodes triples u → TieAt (length ties') u
@@ -69,7 +69,7 @@ tie_index s below nodes triples triples' ties ties' count u spot c named enters 
         let lt = slice_get_within triples' n (record { kind = spawn_kind s c; parent = below; atom = from_down s l }) e.at in
         elim e.tie_cases [
           | inl same ↦ omega (arith, same_long ties' same.0, same.1)
-          | inr new ↦ let long = ap length new.1 ∙ long_push ties new.0 in let more = new.4 in omega arith
+          | inr new ↦ let long = ap length new.1 ∙ length-push ties new.0 in let more = new.4 in omega arith
         ]
 
 module _ (s : System) (page : LabelTree) (known : Pair → Type 0) (asked : (q : Pair) → Asked s page q → known q) (first entered followed : Needs) (working : IsWorking s page known first) (w : Want) (next : slice_get first.wants.keys (length first.drafts.items) ≡ Some w)

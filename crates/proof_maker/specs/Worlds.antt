@@ -2,9 +2,9 @@
 --     setting_of, path_of      the place as a setting, and as the path of a node in it
 --     labels_of s page place k the label at the place after so many rounds
 --     IsPlace page known place it is a node of the page, or an added node of a known pair
---     HasArrivals s place          an added node has with it what comes to it
+--     HasArrivals s place      what an added node has with it is what comes to it
 --     IsReady world known      the page is closed, what it asks is known, and the rules are those of the system
-use Rattle.std.specs.Prelude.{ℕ, Bool, ◌&&◌, List, [], ◌∷◌, ◌++◌, IsSome, option_map, unwrap_or}
+use Rattle.std.specs.Prelude.{ℕ, Bool, ◌&&◌, Some, None, List, [], ◌∷◌, ◌++◌, IsSome, option_map, unwrap_or}
 use Rattle.tp_base.specs.Classes.{has_class}
 use Rattle.tree_sem.specs.Trees.{LabelTree, node_at}
 use Rattle.tree_sem.specs.Paths.{parent_of}
@@ -42,7 +42,8 @@ IsPlace page known (Added j parent arrivals) = known (j, parent.now)
 
 abbrev pub HasArrivals : System → Place → Type 0
 HasArrivals s (Node at) = Unit {0}
-HasArrivals s (Added j parent arrivals) = AreArrivals s.visible (λ k. grown s k j parent.now) arrivals.now
+HasArrivals s (Added j parent None) = Unit {0}
+HasArrivals s (Added j parent (Some arrivals)) = AreArrivals s.visible (λ k. grown s k j parent.now) arrivals.now
 
 -- it is a node of the page, if it is none that is added
 abbrev pub IsNodeOf : LabelTree → Place → Type 0

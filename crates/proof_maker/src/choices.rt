@@ -69,6 +69,47 @@ pub(crate) fn chosen<S: Summaries>(
     }
 }
 
+/// Whether an atom whose first round is `round` may be given by a child: a link from a child gives it, and neither the node's own atoms
+/// nor its parent do. Only what is asked rests on it, and no answer.
+pub(crate) fn looks_below<S: Summaries>(
+    world: &World<'_>,
+    sums: &S,
+    place: &Place<'_>,
+    atom: Atom,
+    round: u64,
+) -> Result<bool, NoMemory>
+    requires made { S.system sums.now ≡ world.now.system.now }
+    requires ready { IsReady world.now (S.known sums.now) }
+    requires place { IsPlace world.now.page.now (S.known sums.now) place.now }
+{
+    if round == 0 {
+        return Ok(false);
+    }
+    may_come_from_below(world, sums, place, atom, round - 1)
+}
+
+fn may_come_from_below<S: Summaries>(
+    world: &World<'_>,
+    sums: &S,
+    place: &Place<'_>,
+    atom: Atom,
+    before: u64,
+) -> Result<bool, NoMemory>
+    requires made { S.system sums.now ≡ world.now.system.now }
+    requires ready { IsReady world.now (S.known sums.now) }
+    requires place { IsPlace world.now.page.now (S.known sums.now) place.now }
+{
+    if world.downs.of(atom).is_empty() {
+        return Ok(false);
+    }
+    let rule = local_way(world, sums, place, world.locals.of(atom), before);
+    if rule.is_some() {
+        return Ok(false);
+    }
+    let link = up_way(world, place, world.ups.of(atom), before)?;
+    Ok(link.is_none())
+}
+
 // The first way to the atom all of whose premises stand in the round.
 fn way<S: Summaries>(
     alloc: Global,

@@ -7,7 +7,7 @@ ghost use Rattle.proof_maker.specs.PlaceMemos.{IsPlaceMemo};
 ghost use Rattle.proof_needs.specs.Spots.{paths_in, triple_of};
 ghost use Rattle.proof_maker.specs.Glances.{IsGlance, IsGlanceAt, IsNodeAt, IsKeyOf};
 
-use crate::choices::chosen;
+use crate::choices::{chosen, looks_below};
 use crate::place_memo::PlaceMemo;
 use crate::worlds::{Place, World, first};
 use indexmap::IndexSet;
@@ -67,7 +67,7 @@ pub(crate) fn glance_node<S: Summaries>(
     glance_in(alloc, world, sums, &Place::Node(&at), atom)
 }
 
-/// Looks at an atom that comes at the added node of a triple.
+/// Looks at an atom that comes at the added node of a triple. What comes to that node is asked only where its children are looked at.
 pub(crate) fn glance_added<S: Summaries>(
     alloc: Global,
     key: &TripleKey,
@@ -85,13 +85,14 @@ pub(crate) fn glance_added<S: Summaries>(
     ensures memo { IsPlaceMemo world.now.system.now memo.new }
 {
     let parent = set_of(alloc, &key.parent)?;
+    let bare = Place::Added(key.kind, &parent, None);
+    let round = first(world, sums, &bare, atom).unwrap_or(0);
+    let below = looks_below(world, sums, &bare, atom, round)?;
+    if !below {
+        return glance_in(alloc, world, sums, &bare, atom);
+    }
     let row = memo.reach(alloc, world.system, sums, key.kind, &parent)?;
     let arrivals = memo.arrivals(row);
-    glance_in(
-        alloc,
-        world,
-        sums,
-        &Place::Added(key.kind, &parent, arrivals),
-        atom,
-    )
+    let place = Place::Added(key.kind, &parent, Some(arrivals));
+    glance_in(alloc, world, sums, &place, atom)
 }

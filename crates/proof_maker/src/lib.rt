@@ -13,6 +13,6 @@ mod rules;
 mod worlds;
 
 pub use laws::{canonical_is_one, canonical_is_valid, canonical_length};
-pub use making::{ProofGround, ProveFault, prove, prove_by, prove_next};
+pub use making::{ProofGround, ProveFault, prove, prove_next};
 pub use place_memo::PlaceMemo;
 pub use rules::Rules;

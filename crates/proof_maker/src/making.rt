@@ -54,7 +54,9 @@ pub struct ProofGround<'a> {
 }
 
 /// The canonical proof that the page's root gets the target, where it has no more entries than the limit. Each atom that is needed is
-/// looked at once: that costs a look-up of a first round for each premise of the rules that give it.
+/// looked at once: that costs a look-up of a first round for each premise of the rules that give it, twice at an added node. Where
+/// children of an added node are looked at, it costs one for each visible atom, once for each kind and label of a parent, and a sort
+/// of those that come.
 pub fn prove<S: Summaries>(
     alloc: Global,
     page: &Tree,
@@ -76,43 +78,18 @@ pub fn prove<S: Summaries>(
     ensures unshown { IsErrOf result ProveFault.Unshown → UsesMore system.now page.now target limit }
 {
     let rules = Rules::of(alloc, system)?;
-    prove_by(alloc, page, system, &rules, closed, sums, target, limit)
-}
-
-/// The same, where the rules of the system are looked up already.
-pub fn prove_by<S: Summaries>(
-    alloc: Global,
-    page: &Tree,
-    system: &System,
-    rules: &Rules,
-    closed: &Closed,
-    sums: &S,
-    target: Atom,
-    limit: u32,
-) -> Result<Proof, ProveFault>
-    requires sound { IsSound system.now }
-    requires rules { AreRulesOf system.now rules.now }
-    requires closed { IsClosedPage system.now page.now closed.now }
-    requires made { S.system sums.now ≡ system.now }
-    requires known { (q : Pair) → Asked system.now page.now q → S.known sums.now q }
-    requires target { HasAtom closed.now.labels [] target }
-    requires forests { KeepsForests system.now page.now }
-    ensures canonical { IfOk result (λ p. IsCanonical system.now page.now target p) }
-    ensures valid { IfOk result (λ p. IsValid system.now page.now p target) }
-    ensures within { IfOk result (λ p. length p.entries ≤ limit) }
-    ensures unshown { IsErrOf result ProveFault.Unshown → UsesMore system.now page.now target limit }
-{
     let ground = ProofGround {
         page,
         system,
-        rules,
+        rules: &rules,
         closed,
     };
     let mut memo = PlaceMemo::new(alloc);
     prove_next(alloc, &ground, sums, &mut memo, target, limit)
 }
 
-/// The same, one proof after another over one system. What comes to an added node is asked in the first proof that looks at it.
+/// The same, one proof after another over one system, whose rules are looked up already. What comes to an added node is asked in the
+/// first proof that looks at its children.
 pub fn prove_next<S: Summaries>(
     alloc: Global,
     ground: &ProofGround<'_>,

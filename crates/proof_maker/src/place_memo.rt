@@ -20,7 +20,7 @@ pub(crate) struct PlaceRow {
 }
 
 /// What the proofs over a system were told of added nodes, so that each is asked for once. A row is found by a number that is worked
-/// out from its pair; of two pairs with one number the last is found. A contract sees the rows.
+/// out from its pair; of two pairs with one number the last is found, and the other is asked for again. A contract sees the rows.
 #[derive(Drop)]
 pub struct PlaceMemo {
     rows: Vec<PlaceRow>,

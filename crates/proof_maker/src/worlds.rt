@@ -27,11 +27,11 @@ pub(crate) struct World<'a> {
     pub(crate) downs: &'a Givers,
 }
 
-/// A node of the page, or an added node of a kind below a parent with this visible label, with what comes to it.
+/// A node of the page, or an added node of a kind below a parent with this visible label, with what comes to it where that was asked.
 #[derive(Clone, Copy)]
 pub(crate) enum Place<'a> {
     Node(&'a Path),
-    Added(u32, &'a ClassSet, &'a Arrivals),
+    Added(u32, &'a ClassSet, Option<&'a Arrivals>),
 }
 
 /// The first round in which the label at the place has the atom.
@@ -153,8 +153,8 @@ fn parent_has(world: &World<'_>, at: &Path, atom: Atom, round: u64) -> Result<bo
     Ok(node_has(world, &above, atom, round))
 }
 
-/// The visible part of the label at the place in a round. Linear in the atoms that come to it; at a node of the page in
-/// the visible atoms, but for look-ups.
+/// The visible part of the label at the place in a round. It costs a sort of the atoms that are there, where what comes to the
+/// added node was asked; else a look-up for each visible atom.
 pub(crate) fn visible_at<S: Summaries>(
     alloc: Global,
     world: &World<'_>,
@@ -169,7 +169,10 @@ pub(crate) fn visible_at<S: Summaries>(
     ensures { IfOk result (λ l. l ≡ visible_in world.now.system.now (labels_of world.now.system.now world.now.page.now place.now round)) }
 {
     match place {
-        Place::Added(_, _, arrivals) => arrivals.by(alloc, round),
+        Place::Added(_, _, told) => match told {
+            Some(arrivals) => arrivals.by(alloc, round),
+            None => visible_now(alloc, world, sums, place, round),
+        },
         Place::Node(_) => visible_now(alloc, world, sums, place, round),
     }
 }

@@ -7,6 +7,7 @@ use Rattle.std.specs.List.Sorted.{IsStrictlyIncreasing}
 use Rattle.tp_base.specs.Classes.{has_class}
 use Rattle.tp_base.proofs.ClassLemmas.{has_class-Contains, Contains-has_class}
 use Rattle.tp_base.specs.declared.atoms.TheConstants.{MOST_ATOMS}
+use Rattle.tp_base.proofs.Truths.{same_test}
 use Rattle.class_diagrams.specs.Trees.{Tree, eval}
 use Rattle.class_diagrams.specs.Arena.{tree_at, Arena, IsArena, Holds}
 use Rattle.class_diagrams.specs.References.{Reference}
@@ -27,7 +28,7 @@ use Rattle.saturation.specs.Saturation.{Histories, empty, IsRound, IsDone, IsBui
 use Rattle.saturation.specs.Budgets.{MayBeSpent, HasToBeSpent}
 use Rattle.saturation.specs.Held.{HoldsCells}
 use Rattle.saturation.proofs.HistoryLemmas.{first_found, none_found}
-use Rattle.saturation.proofs.RestLemmas.{same_truth, rest_stays, label_at_rest}
+use Rattle.saturation.proofs.RestLemmas.{rest_stays, label_at_rest}
 use Rattle.saturation.proofs.FewRounds.{few_rounds}
 use Rattle.saturation.proofs.BudgetLemmas.{cells_held, not_spent, spent_at, work_later}
 use Rattle.saturation.proofs.LoopLemmas.{settled, place_inside, history_further, at_rest}
@@ -117,7 +118,7 @@ pub rest_is : (s : System) (sound : IsSound s) (d : Arena) (histories : Historie
     → ((a : ℕ) → Contains label a ↔ (Contains (given_atoms s) a × (eval (trees_in d.branches cells j a) parent ≡ true))) → IsRest s j parent label
 rest_is s sound d histories cells built j kind parent label rises members =
     label_at_rest s sound built.round j parent label kind built.rest rises (λ a.
-    same_truth (has_class a label) (eval (cell s built.round j a) parent)
+    same_test (has_class a label) (eval (cell s built.round j a) parent)
     (λ there. ap (λ t. eval t parent) (sym (built.tells j a kind)) ∙ ((members a).0 (Contains-has_class a label there)).1)
     (λ holds. has_class-Contains a label ((members a).1 (
       elim (cases_Bool (has_class a (given_atoms s))) [

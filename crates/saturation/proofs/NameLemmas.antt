@@ -1,8 +1,10 @@
 -- Lists of atoms and of cells, one element more.
-use Rattle.std.proofs.Common.{◌≡◌, ℕ, suc, ◌+◌, List, [], ◌∷◌, ◌++◌, map, take, slice_get, Some, refl, sym, ap, ◌∙◌, arith, zero, ◌<◌, length, get_or, append_assoc, append-nil}
+use Rattle.std.proofs.Common.{◌≡◌, ℕ, suc, ◌+◌, List, [], ◌∷◌, ◌++◌, map, take, slice_get, Some, refl, sym, ap, ◌∙◌, arith, ◌<◌, length, get_or, append_assoc, append-nil}
 use Rattle.std.proofs.lemmas.Option.{slice_get-get_or}
 use Rattle.std.specs.List.{flat_map, range_with_len}
+use Rattle.std.proofs.lemmas.List.Concat.{flat_map-append}
 use Rattle.tp_base.specs.Classes.{with_class, union_of}
+use Rattle.tp_base.proofs.Lists.{take_next, range_more}
 use Rattle.simple_core.specs.Labels.{set_of}
 use Rattle.simple_core.specs.declared.rules.Kind.{Kind}
 use Rattle.simple_core.specs.declared.rules.Link.{Link}
@@ -10,7 +12,6 @@ use Rattle.simple_core.specs.declared.rules.Local.{Local}
 use Rattle.simple_core.specs.declared.system.System.{System}
 use Rattle.pushdown_sym.specs.Rounds.{given_atoms}
 use Rattle.saturation.specs.Waking.{CellName, named, named_each}
-use Rattle.saturation.proofs.TableLemmas.{longer_by}
 
 pub union_append : (xs ys zs : List ℕ) → union_of xs (ys ++ zs) ≡ union_of (union_of xs ys) zs
 union_append xs [] zs = refl
@@ -41,10 +42,6 @@ pub map_append : {X Y : Type 0} (g : X → Y) (xs ys : List X) → map g (xs ++ 
 map_append g [] ys = refl
 map_append g (x ∷ xs) ys = ap (λ zs. g x ∷ zs) (map_append g xs ys)
 
-pub flat_append : {X Y : Type 0} (f : X → List Y) (xs ys : List X) → flat_map f (xs ++ ys) ≡ flat_map f xs ++ flat_map f ys
-flat_append f [] ys = refl
-flat_append f (x ∷ xs) ys = ap (λ zs. f x ++ zs) (flat_append f xs ys) ∙ sym (append_assoc (f x) (flat_map f xs) (flat_map f ys))
-
 -- one cell more of a kind
 pub named_more : (old now new : List CellName) (kind : ℕ) (atoms : List ℕ) (i a : ℕ) → slice_get atoms i ≡ Some a → now ≡ old ++ named kind (take i atoms) → new ≡ now ++ (kind, a) ∷ []
     → new ≡ old ++ named kind (take (i + 1) atoms)
@@ -52,13 +49,13 @@ named_more old now new kind atoms i a at before more =
     more
     ∙ ap (λ (cs : List CellName). cs ++ (kind, a) ∷ []) before
     ∙ append_assoc old (named kind (take i atoms)) ((kind, a) ∷ [])
-    ∙ ap (λ (cs : List CellName). old ++ cs) (sym (ap (named kind) (longer_by atoms i a at) ∙ map_append {X = ℕ} {Y = CellName} (λ b. (kind, b)) (take i atoms) (a ∷ [])))
+    ∙ ap (λ (cs : List CellName). old ++ cs) (sym (ap (named kind) (take_next atoms i a at) ∙ map_append {X = ℕ} {Y = CellName} (λ b. (kind, b)) (take i atoms) (a ∷ [])))
 
 -- one kind more
 one_kind : (kinds more : List ℕ) (kind : ℕ) (atoms : List ℕ) → more ≡ kinds ++ kind ∷ [] → named_each more atoms ≡ named_each kinds atoms ++ named kind atoms
 one_kind kinds more kind atoms is =
     ap (λ (ks : List ℕ). named_each ks atoms) is
-    ∙ flat_append {X = ℕ} {Y = CellName} (λ k. named k atoms) kinds (kind ∷ [])
+    ∙ flat_map-append {X = ℕ} {A = CellName} (λ k. named k atoms) kinds (kind ∷ [])
     ∙ ap (λ (cs : List CellName). named_each kinds atoms ++ cs) (append-nil (named kind atoms))
 
 pub each_more : (old now new : List CellName) (kinds atoms : List ℕ) (i kind : ℕ) → slice_get kinds i ≡ Some kind → now ≡ old ++ named_each (take i kinds) atoms → new ≡ now ++ named kind atoms
@@ -67,13 +64,7 @@ each_more old now new kinds atoms i kind at before more =
     more
     ∙ ap (λ (cs : List CellName). cs ++ named kind atoms) before
     ∙ append_assoc old (named_each (take i kinds) atoms) (named kind atoms)
-    ∙ ap (λ (cs : List CellName). old ++ cs) (sym (one_kind (take i kinds) (take (i + 1) kinds) kind atoms (longer_by kinds i kind at)))
-
-range_more : (a n : ℕ) → range_with_len a (suc n) ≡ range_with_len a n ++ (a + n) ∷ []
-range_more a zero = let same : a ≡ a + 0 = omega arith in ap (λ b. b ∷ []) same
-range_more a (suc n) =
-    let same : a + 1 + n ≡ a + suc n = omega arith in
-    ap (λ bs. a ∷ bs) (range_more (a + 1) n ∙ ap (λ b. range_with_len (a + 1) n ++ b ∷ []) same)
+    ∙ ap (λ (cs : List CellName). old ++ cs) (sym (one_kind (take i kinds) (take (i + 1) kinds) kind atoms (take_next kinds i kind at)))
 
 pub kinds_more : (i : ℕ) (atoms : List ℕ) → named_each (range_with_len 0 (i + 1)) atoms ≡ named_each (range_with_len 0 i) atoms ++ named i atoms
 kinds_more i atoms =

@@ -1,10 +1,11 @@
 -- Cells grow with the rounds, and stay from a round at rest on.
-use Rattle.std.proofs.Common.{◌≡◌, ℕ, zero, suc, ◌+◌, ◌<◌, ◌≤◌, Bool, true, false, ◌||◌, length, List, Contains, refl, sym, ap, subst, ◌∙◌, arith, inl, inr}
+use Rattle.std.proofs.Common.{◌≡◌, ℕ, zero, suc, ◌+◌, ◌<◌, ◌≤◌, true, ◌||◌, length, List, Contains, refl, sym, ap, subst, ◌∙◌, arith, inl, inr}
 use Rattle.std.proofs.lemmas.Bool.{cases_lt, or_left}
 use Rattle.std.specs.List.Sorted.{IsStrictlyIncreasing}
 use Rattle.tp_base.specs.Classes.{has_class}
 use Rattle.tp_base.proofs.ClassLemmas.{same_members, has_class-Contains, Contains-has_class}
 use Rattle.tp_base.proofs.Rising.{All-from_Contains}
+use Rattle.tp_base.proofs.Truths.{same_test}
 use Rattle.class_diagrams.specs.Trees.{eval, Implies}
 use Rattle.class_diagrams.proofs.TreeLemmas.{same_where_agree}
 use Rattle.simple_core.specs.declared.system.System.{System}
@@ -31,16 +32,11 @@ cell-later s k (suc m) j a le p holds = elim (cases_lt m k) [
   | inl past ↦ subst (λ z. eval (cell s z j a) p ≡ true) {x = k} {y = suc m} (omega arith) holds
 ]
 
-pub same_truth : (v w : Bool) → (v ≡ true → w ≡ true) → (w ≡ true → v ≡ true) → v ≡ w
-same_truth true w to back = sym (to refl)
-same_truth false true to back = back refl
-same_truth false false to back = refl
-
 -- a cell that has a tree again has had it all the time
 pub cell-between : (s : System) (k m j a : ℕ) → k ≤ m → cell s k j a ≡ cell s (suc m) j a → cell s (suc m) j a ≡ cell s m j a
 cell-between s k m j a le same =
     same_where_agree (cell s (suc m) j a) (cell s m j a) (IsOrdered-cell s (suc m) j a) (IsOrdered-cell s m j a) (λ p rises.
-    same_truth (eval (cell s (suc m) j a) p) (eval (cell s m j a) p)
+    same_test (eval (cell s (suc m) j a) p) (eval (cell s m j a) p)
     (λ holds. cell-later s k m j a le p (ap (λ t. eval t p) same ∙ holds))
     (cell-grows s m j a p))
 

@@ -3,8 +3,8 @@ use Rattle.std.proofs.Common.{◌≡◌, ℕ, ◌+◌, ◌<◌, true, false, ◌
 use Rattle.std.proofs.lemmas.Bool.{cases_Bool, eqb-true, eq-eqb}
 use Rattle.std.proofs.lemmas.List.{take_more}
 use Rattle.std.proofs.lemmas.List.Elements.{Contains-append_left, Contains-append_right}
-use Rattle.std.proofs.lemmas.Option.{slice_get_within, get_or_from_slice_get}
 use Rattle.tp_base.proofs.Rising.{Contains-here, Contains-none}
+use Rattle.tp_base.proofs.Lists.{take_next}
 use Rattle.saturation.specs.Tables.{IsNoted, HasAll}
 use Rattle.saturation.proofs.NoteLemmas.{last_cases}
 
@@ -29,9 +29,6 @@ module _ (old new : ℕ → List ℕ) (key number : ℕ) (put : (a : ℕ) → ne
     ];
   }
 
-pub longer_by : {X : Type 0} (xs : List X) (i : ℕ) (x : X) → slice_get xs i ≡ Some x → take (i + 1) xs ≡ take i xs ++ x ∷ []
-longer_by xs i x at = take_more xs i x (slice_get_within xs i x at) ∙ (λ n. take i xs ++ get_or_from_slice_get xs i x x at n ∷ [])
-
 -- one key more
 pub noted_none : (number : ℕ) (f : ℕ → List ℕ) (keys : List ℕ) → keys ≡ [] → IsNoted (Contains keys) number f f
 noted_none number f keys none = record {
@@ -44,7 +41,7 @@ pub noted_more : (number : ℕ) (f g h : ℕ → List ℕ) (keys : List ℕ) (ke
     → IsNoted (Contains (take (i + 1) keys)) number f h
 noted_more number f g h keys key i at before here = record {
   kept = λ b a there. here.kept b a (before.kept b a there);
-  noted = λ b there. elim (last_cases (take i keys) key b (subst (λ (ks : List ℕ). Contains ks b) (longer_by keys i key at) there)) [
+  noted = λ b there. elim (last_cases (take i keys) key b (subst (λ (ks : List ℕ). Contains ks b) (take_next keys i key at) there)) [
     | inl earlier ↦ here.kept b number (before.noted b earlier)
     | inr last ↦ here.noted b (sym last)
   ];

@@ -1,6 +1,5 @@
 -- Which cells are among those that are calculated again.
 use Rattle.std.proofs.Common.{◌≡◌, ◌≢◌, ℕ, ◌+◌, ◌<◌, ◌≤◌, Bool, true, false, List, [], ◌∷◌, ◌++◌, take, length, ◌&&◌, slice_get, Some, append_assoc, append-nil, nat_eq, All, Contains, if◌then◌else◌, refl, sym, ap, subst, ◌∙◌, arith, inl, inr}
-use Rattle.std.specs.List.{flat_map}
 use Rattle.std.proofs.lemmas.Bool.{cases_Bool, eqb-true, and_parts}
 use Rattle.std.proofs.lemmas.List.{take_all}
 use Rattle.std.specs.Cmp.{IsEquivalence}
@@ -9,9 +8,11 @@ use Rattle.std.proofs.lemmas.Cmp.{nat_eq_equiv, on_equiv, and_equiv}
 use Rattle.std.proofs.lemmas.List.Filters.{dedup_is}
 use Rattle.std.proofs.lemmas.List.Kept.{Contains-dedup, Contains-from_dedup}
 use Rattle.std.proofs.lemmas.List.Elements.{All-contains, All-append, Contains-append_left, Contains-append_right, Contains-append_cases}
+use Rattle.std.proofs.lemmas.List.Concat.{flat_map-append}
 use Rattle.tp_base.specs.Classes.{has_class}
 use Rattle.tp_base.proofs.ClassLemmas.{has_class-Contains}
 use Rattle.tp_base.proofs.Rising.{Contains-here, Contains-cons, Contains-none, All-from_Contains}
+use Rattle.tp_base.proofs.Lists.{take_next, Contains-flat_map, flat_map-Contains}
 use Rattle.tree_sem.proofs.NodeLemmas.{Contains-map, map-Contains}
 use Rattle.class_diagrams.specs.References.{Reference, leaf_reference}
 use Rattle.class_diagrams.specs.Arena.{tree_at}
@@ -26,24 +27,9 @@ use Rattle.saturation.specs.Waking.{CellName, Fits, named, named_each, by_rules,
 use Rattle.saturation.proofs.GivenLemmas.{given_local, given_down}
 use Rattle.saturation.proofs.NoteLemmas.{last_cases}
 use Rattle.saturation.proofs.LoopLemmas.{all_one}
-use Rattle.saturation.proofs.TableLemmas.{longer_by}
-use Rattle.saturation.proofs.NameLemmas.{map_append, flat_append}
+use Rattle.saturation.proofs.NameLemmas.{map_append}
 
 -- ### lists of cells
-
-flat_there : {X Y : Type 0} (f : X → List Y) (xs : List X) (x : X) (y : Y) → Contains xs x → Contains (f x) y → Contains (flat_map f xs) y
-flat_there f [] x y at there = absurd (Contains-none x at)
-flat_there {X} {Y} f (z ∷ xs) x y at there = elim ((Contains-cons x z xs).0 at) [
-  | inl here ↦ Contains-append_left (f z) (flat_map f xs) y (subst (λ w. Contains (f w) y) here there)
-  | inr behind ↦ Contains-append_right (f z) (flat_map f xs) y (flat_there f xs x y behind there)
-]
-
-there_flat : {X Y : Type 0} (f : X → List Y) (xs : List X) (y : Y) → Contains (flat_map f xs) y → (x : X) × Contains xs x × Contains (f x) y
-there_flat f [] y there = absurd (Contains-none y there)
-there_flat f (x ∷ xs) y there = elim (Contains-append_cases (f x) (flat_map f xs) y there) [
-  | inl here ↦ (x, Contains-here x x xs refl, here)
-  | inr behind ↦ let rest = there_flat f xs y behind in (rest.0, (Contains-cons rest.0 x xs).1 (inr rest.1), rest.2)
-]
 
 named_one : (i j a : ℕ) (atoms : List ℕ) → i ≡ j → Contains atoms a → Contains {X = CellName} (named i atoms) (j, a)
 named_one i j a atoms same there = subst (λ (k : ℕ). Contains {X = CellName} (named i atoms) (k, a)) same (Contains-map {X = ℕ} {Y = CellName} (λ b. (i, b)) atoms a there)
@@ -54,11 +40,11 @@ one_named i atoms c there =
     (ap (λ (d : CellName). d.0) found.2, subst (λ b. Contains atoms b) (sym (ap (λ (d : CellName). d.1) found.2)) found.1)
 
 pub named_there : (kinds atoms : List ℕ) (j a : ℕ) → Contains kinds j → Contains atoms a → Contains {X = CellName} (named_each kinds atoms) (j, a)
-named_there kinds atoms j a kind there = flat_there {X = ℕ} {Y = CellName} (λ k. named k atoms) kinds j (j, a) kind (named_one j j a atoms refl there)
+named_there kinds atoms j a kind there = Contains-flat_map {X = ℕ} {Y = CellName} (λ k. named k atoms) kinds j (j, a) kind (named_one j j a atoms refl there)
 
 pub there_named : (kinds atoms : List ℕ) (c : CellName) → Contains (named_each kinds atoms) c → Contains kinds c.0 × Contains atoms c.1
 there_named kinds atoms c there =
-    let found = there_flat {X = ℕ} {Y = CellName} (λ k. named k atoms) kinds c there in
+    let found = flat_map-Contains {X = ℕ} {Y = CellName} (λ k. named k atoms) kinds c there in
     let one = one_named found.0 atoms c found.2 in
     (subst (λ k. Contains kinds k) (sym one.0) found.1, one.1)
 
@@ -69,8 +55,8 @@ pub each_of_more : {X : Type 0} (f : CellName → List X) (changes : List (CellN
 each_of_more {X} f changes i c now new at before more =
     more
     ∙ ap (λ (xs : List X). xs ++ f c.0) before
-    ∙ sym (ap (of_each f) (longer_by changes i c at)
-    ∙ flat_append (λ (d : CellName × Reference). f d.0) (take i changes) (c ∷ [])
+    ∙ sym (ap (of_each f) (take_next changes i c at)
+    ∙ flat_map-append (λ (d : CellName × Reference). f d.0) (take i changes) (c ∷ [])
     ∙ ap (λ (xs : List X). of_each f (take i changes) ++ xs) (append-nil (f c.0)))
 
 looking_is : (looked : List ℕ) (c : CellName) (k : ℕ) → Contains (looking looked c) k → k ≡ c.0
@@ -90,7 +76,7 @@ module _ (s : System) (by_needs by_link makers : ℕ → List ℕ) (ends looked 
     (more : List CellName) (more_is : more ≡ cells ++ named_each kinds ends)
     (todo : List CellName) (above : AreAbove now (length s.kinds) pairs more todo) where
   changed : {X : Type 0} (f : CellName → List X) (c : CellName) (g : Reference) (x : X) → Contains changes (c, g) → Contains (f c) x → Contains (of_each f changes) x
-  changed f c g x there found = flat_there (λ (d : CellName × Reference). f d.0) changes (c, g) x there found
+  changed f c g x there found = Contains-flat_map (λ (d : CellName × Reference). f d.0) changes (c, g) x there found
 
   looked_reader : (i b j a : ℕ) (f : Reference) → Contains changes ((i, b), f) → i ≡ j → Contains looked b → Contains ends a → Contains {X = CellName} todo (j, a)
   looked_reader i b j a f there same looks end =
@@ -120,13 +106,13 @@ module _ (s : System) (by_needs by_link makers : ℕ → List ℕ) (ends looked 
   fits_more : (c : CellName) → Contains more c → Fits s c
   fits_more c there = elim (Contains-append_cases cells (named_each kinds ends) c (subst (λ (cs : List CellName). Contains cs c) more_is there)) [
     | inl ruled ↦
-        let found = there_flat (λ (d : CellName × Reference). by_rules by_needs d.0) changes c (subst (λ (cs : List CellName). Contains cs c) cells_are ruled) in
+        let found = flat_map-Contains (λ (d : CellName × Reference). by_rules by_needs d.0) changes c (subst (λ (cs : List CellName). Contains cs c) cells_are ruled) in
         let one = one_named found.0.0.0 (by_needs found.0.0.1) c found.2 in
         let r = reads.needs.only found.0.0.1 c.1 one.1 in
         (subst (λ k. k < length s.kinds) (sym one.0) (below_one found.0 found.1), subst (λ x. Contains (given_atoms s) x) (sym r.2) (given_local s r.0 r.1))
     | inr seen ↦
         let both = there_named kinds ends c seen in
-        let found = there_flat (λ (d : CellName × Reference). looking looked d.0) changes c.0 (kinds_only c.0 both.0) in
+        let found = flat_map-Contains (λ (d : CellName × Reference). looking looked d.0) changes c.0 (kinds_only c.0 both.0) in
         (subst (λ k. k < length s.kinds) (sym (looking_is looked found.0.0 c.0 found.2)) (below_one found.0 found.1), ends_given c.1 both.1)
   ]
 
@@ -134,7 +120,7 @@ module _ (s : System) (by_needs by_link makers : ℕ → List ℕ) (ends looked 
   fits c there = elim (above.only c there) [
     | inl before ↦ fits_more c before
     | inr up ↦
-        let found = there_flat (λ (d : CellName × Reference). by_makers makers by_link d.0) changes (up.0, c.1) (pairs_only (up.0, c.1) up.1) in
+        let found = flat_map-Contains (λ (d : CellName × Reference). by_makers makers by_link d.0) changes (up.0, c.1) (pairs_only (up.0, c.1) up.1) in
         let both = there_named (makers found.0.0.0) (by_link found.0.0.1) (up.0, c.1) found.2 in
         let l = reads.child.only found.0.0.1 c.1 both.1 in
         (up.2, subst (λ x. Contains (given_atoms s) x) (sym l.2) (given_down s l.0 l.1))
@@ -176,7 +162,7 @@ module _ (kinds : List ℕ) (i kind count : ℕ) (makers : List ℕ) (at : slice
     (before : ((j : ℕ) → Contains (take i kinds) j → j < count → Contains makers j) × All (λ j. j < count) makers) where
   pub maker_pushed : kind < count → (more : List ℕ) → more ≡ makers ++ kind ∷ [] → ((j : ℕ) → Contains (take (i + 1) kinds) j → j < count → Contains more j) × All (λ j. j < count) more
   maker_pushed below more is = (
-    λ j there less. subst (λ (ks : List ℕ). Contains ks j) (sym is) (elim (last_cases (take i kinds) kind j (subst (λ (ks : List ℕ). Contains ks j) (longer_by kinds i kind at) there)) [
+    λ j there less. subst (λ (ks : List ℕ). Contains ks j) (sym is) (elim (last_cases (take i kinds) kind j (subst (λ (ks : List ℕ). Contains ks j) (take_next kinds i kind at) there)) [
       | inl earlier ↦ Contains-append_left makers (kind ∷ []) j (before.0 j earlier less)
       | inr last ↦ Contains-append_right makers (kind ∷ []) j (Contains-here j kind [] last)
     ]),
@@ -185,7 +171,7 @@ module _ (kinds : List ℕ) (i kind count : ℕ) (makers : List ℕ) (at : slice
 
   pub maker_skipped : count ≤ kind → ((j : ℕ) → Contains (take (i + 1) kinds) j → j < count → Contains makers j) × All (λ j. j < count) makers
   maker_skipped past = (
-    λ j there less. elim (last_cases (take i kinds) kind j (subst (λ (ks : List ℕ). Contains ks j) (longer_by kinds i kind at) there)) [
+    λ j there less. elim (last_cases (take i kinds) kind j (subst (λ (ks : List ℕ). Contains ks j) (take_next kinds i kind at) there)) [
       | inl earlier ↦ before.0 j earlier less
       | inr last ↦ absurd (omega (arith, last, less, past))
     ],
@@ -209,7 +195,7 @@ with_atom_more old now new atom kinds i kind at before more =
     more
     ∙ ap (λ (cs : List CellName). cs ++ (kind, atom) ∷ []) before
     ∙ append_assoc old (with_atom atom (take i kinds)) ((kind, atom) ∷ [])
-    ∙ ap (λ (cs : List CellName). old ++ cs) (sym (ap (with_atom atom) (longer_by kinds i kind at) ∙ map_append {X = ℕ} {Y = CellName} (λ k. (k, atom)) (take i kinds) (kind ∷ [])))
+    ∙ ap (λ (cs : List CellName). old ++ cs) (sym (ap (with_atom atom) (take_next kinds i kind at) ∙ map_append {X = ℕ} {Y = CellName} (λ k. (k, atom)) (take i kinds) (kind ∷ [])))
 
 pub above_none : (now : CellTrees) (count : ℕ) (cells : List CellName) → AreAbove now count [] cells cells
 above_none now count cells = record {

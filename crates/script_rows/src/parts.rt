@@ -3,10 +3,10 @@ ghost use Rattle.std.specs.Prelude.{length};
 ghost use Rattle.js_scan.specs.Tokens.{InOrder};
 
 use crate::words::{lettered, tokens_of};
-use jq_cursor::{Cursor, Lists, spelled, text_argument};
+use jq_cursor::{Cursor, Lists, Reader, spelled, text_argument};
 use jq_forms::is_chain;
 use jq_parts::{
-    Bound, Declaration, Declarations, MarkedChain, Scope, SharedChain, Value, is_bound,
+    Bound, Declaration, Declarations, Grown, MarkedChain, Scope, SharedChain, Value, is_bound,
     markup_argument, parameters, root, target,
 };
 use jq_sem::Root;
@@ -14,7 +14,7 @@ use jq_words::{ScriptFault, Words, place};
 use js_scan::Token;
 use std::alloc::{AllocError, Global};
 use std::rc::Rc;
-use tp_base::AtomTable;
+use tp_base::{AtomTable, MOST_BYTES};
 
 #[derive(Clone, Copy)]
 pub(crate) enum OfParts {
@@ -41,33 +41,38 @@ fn of_tokens(
 ) -> Result<String, ScriptFault>
     requires { InOrder 0 (length text.now) tokens.now }
 {
+    if text.len() > MOST_BYTES as usize {
+        return Ok(String::from_str(alloc, "too large")?);
+    }
     let lists = Lists::new(alloc, text, tokens)?;
-    of_lists(alloc, case, text.len(), &lists)
+    let reader = Reader {
+        alloc,
+        exact: false,
+        text,
+        declared: &[],
+    };
+    of_lists(reader, case, &lists)
 }
 
-fn of_lists(
-    alloc: Global,
-    case: OfParts,
-    size: usize,
-    lists: &Lists<'_>,
-) -> Result<String, ScriptFault> {
-    let scope = scope(alloc)?;
-    answer(alloc, case, size, &scope, Cursor::new(lists))
+fn of_lists(reader: Reader<'_>, case: OfParts, lists: &Lists<'_>) -> Result<String, ScriptFault> {
+    let scope = scope(reader.alloc)?;
+    answer(reader, case, &scope, Cursor::new(lists))
 }
 
 fn answer(
-    alloc: Global,
+    reader: Reader<'_>,
     case: OfParts,
-    size: usize,
     scope: &Scope<'_>,
     words: Cursor<'_, '_>,
 ) -> Result<String, ScriptFault> {
+    let alloc = reader.alloc;
+    let size = reader.text.len();
     match case {
         OfParts::List => list(alloc, size, words),
-        OfParts::Begun => begun(alloc, size, scope, words),
+        OfParts::Begun => begun(reader, scope, words),
         OfParts::Argument => argument(alloc, size, words),
-        OfParts::Grown => grown(alloc, size, words.words()),
-        OfParts::Aimed => aimed(alloc, size, scope, words.words()),
+        OfParts::Grown => grown(reader, words.words()),
+        OfParts::Aimed => aimed(reader, scope, words.words()),
         OfParts::Chained => chained(alloc, scope, &words),
         OfParts::Hidden => hidden(alloc, size, words),
     }
@@ -102,15 +107,11 @@ fn list(alloc: Global, size: usize, mut words: Cursor<'_, '_>) -> Result<String,
     Ok(format!(in alloc; "{} {} {at}", list.count, list.whole)?)
 }
 
-fn root_of(
-    alloc: Global,
-    size: usize,
-    scope: &Scope<'_>,
-    nodes: &mut usize,
-    words: &mut Cursor<'_, '_>,
-) -> Result<Value, ScriptFault> {
-    let mut atoms = AtomTable::new(alloc);
-    root(alloc, size, 1, scope, nodes, &mut atoms, words)
+fn nothing_grown(alloc: Global) -> Grown {
+    Grown {
+        atoms: AtomTable::new(alloc),
+        nodes: 0,
+    }
 }
 
 fn kind_of(value: &Value) -> &'static str {
@@ -129,15 +130,15 @@ fn copied_kind(value: &Value) -> Result<&'static str, ScriptFault> {
 
 // What a chain begins with, the nodes of its markup, and where the words behind it stand.
 fn begun(
-    alloc: Global,
-    size: usize,
+    reader: Reader<'_>,
     scope: &Scope<'_>,
     mut words: Cursor<'_, '_>,
 ) -> Result<String, ScriptFault> {
-    let mut nodes = 0;
-    let value = root_of(alloc, size, scope, &mut nodes, &mut words)?;
+    let mut grown = nothing_grown(reader.alloc);
+    let value = root(reader, 1, scope, &mut grown, &mut words)?;
     let kind = copied_kind(&value)?;
-    Ok(format!(in alloc; "{kind} {nodes} {}", place(size, words.words()))?)
+    let at = place(reader.text.len(), words.words());
+    Ok(format!(in reader.alloc; "{kind} {} {at}", grown.nodes)?)
 }
 
 // The letters of an argument.
@@ -146,43 +147,31 @@ fn argument(alloc: Global, size: usize, mut words: Cursor<'_, '_>) -> Result<Str
     lettered(alloc, Some(letters))
 }
 
-fn tops_of(
-    alloc: Global,
-    size: usize,
-    words: &Words<'_>,
-    nodes: &mut usize,
-) -> Result<usize, ScriptFault> {
-    let mut atoms = AtomTable::new(alloc);
-    let forest = markup_argument(alloc, size, 1, words, nodes, &mut atoms)?;
-    Ok(forest.tops.items().len())
-}
-
 // How many nodes an argument that is markup has.
-fn grown(alloc: Global, size: usize, words: &Words<'_>) -> Result<String, ScriptFault> {
-    let mut nodes = 0;
-    let tops = tops_of(alloc, size, words, &mut nodes)?;
-    Ok(format!(in alloc; "{tops} {nodes}")?)
+fn grown(reader: Reader<'_>, words: &Words<'_>) -> Result<String, ScriptFault> {
+    let mut grown = nothing_grown(reader.alloc);
+    let forest = markup_argument(reader, 1, words, &mut grown)?;
+    let tops = forest.tops.items().len();
+    Ok(format!(in reader.alloc; "{tops} {}", grown.nodes)?)
 }
 
 fn shared(
-    alloc: Global,
-    size: usize,
+    reader: Reader<'_>,
     scope: &Scope<'_>,
     words: &Words<'_>,
 ) -> Result<SharedChain, ScriptFault> {
-    let mut atoms = AtomTable::new(alloc);
-    target(alloc, size, 1, scope, words, &mut atoms)
+    let mut atoms = AtomTable::new(reader.alloc);
+    target(reader, 1, scope, words, &mut atoms)
 }
 
 // The chain of a target.
 fn aim(
-    alloc: Global,
-    size: usize,
+    reader: Reader<'_>,
     scope: &Scope<'_>,
     words: &Words<'_>,
 ) -> Result<MarkedChain, ScriptFault> {
-    let chain = shared(alloc, size, scope, words)?;
-    Ok(chain.copy(alloc)?)
+    let chain = shared(reader, scope, words)?;
+    Ok(chain.copy(reader.alloc)?)
 }
 
 fn written(alloc: Global, root: &Root) -> Result<String, AllocError> {
@@ -193,14 +182,9 @@ fn written(alloc: Global, root: &Root) -> Result<String, AllocError> {
 }
 
 // How many selectors a target has, or `this`.
-fn aimed(
-    alloc: Global,
-    size: usize,
-    scope: &Scope<'_>,
-    words: &Words<'_>,
-) -> Result<String, ScriptFault> {
-    let chain = aim(alloc, size, scope, words)?;
-    Ok(written(alloc, &chain.root)?)
+fn aimed(reader: Reader<'_>, scope: &Scope<'_>, words: &Words<'_>) -> Result<String, ScriptFault> {
+    let chain = aim(reader, scope, words)?;
+    Ok(written(reader.alloc, &chain.root)?)
 }
 
 // Whether a value is a chain.

@@ -82,7 +82,7 @@ abbrev pub invariant-sequences::sequence-statements : goal.invariant-sequences::
 invariant-sequences::sequence-statements l = record {
   rest : IsRest l.fn.reading.words l.reading.words;
   kept : context_of l.reading ≡ context_of l.fn.reading;
-  front : IsFront l.fn.reading.atoms l.reading.atoms;
+  front : IsFront l.fn.reading.grown.atoms l.reading.grown.atoms;
   counted : AreCounted l.between l.reading.words;
   reads : ReadsOn l.in_block (block l.room) l.room (context_of l.fn.reading) l.between (state_of l.reading) l.reading.words
       (sequence l.in_block (block l.room) l.room (context_of l.fn.reading) (state_of l.fn.reading) 0 l.fn.reading.words);
@@ -95,7 +95,7 @@ abbrev pub invariant-chains::several-arguments : goal.invariant-chains::several-
 invariant-chains::several-arguments l = record {
   rest : IsRest l.fn.reading.words l.reading.words;
   kept : context_of l.reading ≡ context_of l.fn.reading;
-  front : IsFront l.fn.reading.atoms l.reading.atoms;
+  front : IsFront l.fn.reading.grown.atoms l.reading.grown.atoms;
   reads : several l.lists (block l.room 0) l.room (context_of l.fn.reading) (elements_in (value_of l.reached)) l.left (state_of l.reading) l.reading.words
       ≡ several l.lists (block l.room 0) l.room (context_of l.fn.reading) (elements_in (value_of l.reached)) l.count (state_of l.fn.reading) l.fn.reading.words;
 }
@@ -107,7 +107,7 @@ abbrev pub invariant-chains::calls-calls : goal.invariant-chains::calls-calls
 invariant-chains::calls-calls l = record {
   rest : IsRest l.fn.reading.words l.reading.words;
   kept : context_of l.reading ≡ context_of l.fn.reading;
-  front : IsFront l.fn.reading.atoms l.reading.atoms;
+  front : IsFront l.fn.reading.grown.atoms l.reading.grown.atoms;
   reads : calls (block l.room 1) l.room (context_of l.fn.reading) (value_of l.so_far) (state_of l.reading) 0 l.reading.words
       ≡ calls (block l.room 1) l.room (context_of l.fn.reading) (value_of l.fn.reached) (state_of l.fn.reading) 0 l.fn.reading.words;
 }
@@ -119,7 +119,7 @@ abbrev pub invariant-declarations::more_ones-ones : goal.invariant-declarations:
 invariant-declarations::more_ones-ones l = record {
   rest : IsRest l.fn.reading.words l.reading.words;
   kept : context_of l.reading ≡ context_of l.fn.reading;
-  front : IsFront l.fn.reading.atoms l.reading.atoms;
+  front : IsFront l.fn.reading.grown.atoms l.reading.grown.atoms;
   reads : more_ones (block l.room) l.room (context_of l.fn.reading) (state_of l.reading) 0 l.reading.words
       ≡ more_ones (block l.room) l.room (context_of l.fn.reading) (state_of l.fn.reading) 0 l.fn.reading.words;
 }

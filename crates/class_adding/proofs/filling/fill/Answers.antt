@@ -37,7 +37,7 @@ returns-in_err-round-clause-within g c =
 
 pub returns-in_err-round-clause-keeps_room : goal.returns-in_err-round-clause-keeps_room
 returns-in_err-round-clause-keeps_room g c =
-    let went = went_page c.args.system.now c.args.page.now c.rounds.filling.labels.labels c.rounds.filling.firsts.items c.rounds.k (g.S.Summaries.known c.args.sums.now) (g.S.Summaries.known c.rounds.sums) (g.S.Summaries.known c.look_at_all.new.sums)
+    let went = went_page c.args.system.now c.args.page.now c.rounds.filling.labels.labels c.rounds.filling.labels.firsts c.rounds.k (g.S.Summaries.known c.args.sums.now) (g.S.Summaries.known c.rounds.sums) (g.S.Summaries.known c.look_at_all.new.sums)
     (g.S.Summaries.told c.args.sums.now) (g.S.Summaries.told c.rounds.sums) (g.S.Summaries.told c.look_at_all.new.sums) (g.S.Summaries.system c.rounds.sums) (g.S.Summaries.system c.look_at_all.new.sums)
     (g.S.Summaries.spent_on c.args.sums.now) (g.S.Summaries.spent_on c.rounds.sums) (g.S.Summaries.spent_on c.look_at_all.new.sums) c.rounds.invariant.filled.closing c.rounds.invariant.went c.look_at_all.ensures.went in
     went.keeps_room c.requires.keeps_room
@@ -71,7 +71,7 @@ returns-then-is_last-clause-within g c =
 
 pub returns-then-is_last-clause-keeps_room : goal.returns-then-is_last-clause-keeps_room
 returns-then-is_last-clause-keeps_room g c =
-    let went = went_page c.args.system.now c.args.page.now c.rounds.filling.labels.labels c.rounds.filling.firsts.items c.rounds.k (g.S.Summaries.known c.args.sums.now) (g.S.Summaries.known c.rounds.sums) (g.S.Summaries.known c.look_at_all.new.sums)
+    let went = went_page c.args.system.now c.args.page.now c.rounds.filling.labels.labels c.rounds.filling.labels.firsts c.rounds.k (g.S.Summaries.known c.args.sums.now) (g.S.Summaries.known c.rounds.sums) (g.S.Summaries.known c.look_at_all.new.sums)
     (g.S.Summaries.told c.args.sums.now) (g.S.Summaries.told c.rounds.sums) (g.S.Summaries.told c.look_at_all.new.sums) (g.S.Summaries.system c.rounds.sums) (g.S.Summaries.system c.look_at_all.new.sums)
     (g.S.Summaries.spent_on c.args.sums.now) (g.S.Summaries.spent_on c.rounds.sums) (g.S.Summaries.spent_on c.look_at_all.new.sums) c.rounds.invariant.filled.closing c.rounds.invariant.went c.look_at_all.ensures.went in
     went.keeps_room c.requires.keeps_room
@@ -85,7 +85,7 @@ returns-in_err-take_round-clause-within g c =
 
 pub returns-in_err-take_round-clause-keeps_room : goal.returns-in_err-take_round-clause-keeps_room
 returns-in_err-take_round-clause-keeps_room g c =
-    let went = went_page c.args.system.now c.args.page.now c.rounds.filling.labels.labels c.rounds.filling.firsts.items c.rounds.k (g.S.Summaries.known c.args.sums.now) (g.S.Summaries.known c.rounds.sums) (g.S.Summaries.known c.look_at_all.new.sums)
+    let went = went_page c.args.system.now c.args.page.now c.rounds.filling.labels.labels c.rounds.filling.labels.firsts c.rounds.k (g.S.Summaries.known c.args.sums.now) (g.S.Summaries.known c.rounds.sums) (g.S.Summaries.known c.look_at_all.new.sums)
     (g.S.Summaries.told c.args.sums.now) (g.S.Summaries.told c.rounds.sums) (g.S.Summaries.told c.look_at_all.new.sums) (g.S.Summaries.system c.rounds.sums) (g.S.Summaries.system c.look_at_all.new.sums)
     (g.S.Summaries.spent_on c.args.sums.now) (g.S.Summaries.spent_on c.rounds.sums) (g.S.Summaries.spent_on c.look_at_all.new.sums) c.rounds.invariant.filled.closing c.rounds.invariant.went c.look_at_all.ensures.went in
     went.keeps_room c.requires.keeps_room

@@ -16,14 +16,32 @@ reach-requires-clause-known g c =
 pub arrivals-arrivals-requires : goal.arrivals-arrivals-requires
 arrivals-arrivals-requires g c = row_bound c.reach.new.self c.args.key.now.kind c.in_ok-parent.parent c.in_ok-row.row c.in_ok-row.ensures.row
 
+pub first-requires-clause-place : goal.first-requires-clause-place
+first-requires-clause-place g c =
+    let key = c.args.key.now in
+    let rises = subst (λ (z : List ℕ). IsStrictlyIncreasing z) (sym c.deref.ensures.value) c.requires.key.rises in
+    subst (λ (z : List ℕ). g.S.Summaries.known c.args.sums.now (key.kind, z)) (sym (c.in_ok-parent.ensures rises ∙ c.deref.ensures.value)) c.requires.key.pair
+
+pub looks_below-requires-clause-place : goal.looks_below-requires-clause-place
+looks_below-requires-clause-place g c =
+    let key = c.args.key.now in
+    let rises = subst (λ (z : List ℕ). IsStrictlyIncreasing z) (sym c.deref.ensures.value) c.requires.key.rises in
+    subst (λ (z : List ℕ). g.S.Summaries.known c.args.sums.now (key.kind, z)) (sym (c.in_ok-parent.ensures rises ∙ c.deref.ensures.value)) c.requires.key.pair
+
 pub glance_in-requires-clause-place : goal.glance_in-requires-clause-place
 glance_in-requires-clause-place g c =
     let key = c.args.key.now in
     let rises = subst (λ (z : List ℕ). IsStrictlyIncreasing z) (sym c.deref.ensures.value) c.requires.key.rises in
     subst (λ (z : List ℕ). g.S.Summaries.known c.args.sums.now (key.kind, z)) (sym (c.in_ok-parent.ensures rises ∙ c.deref.ensures.value)) c.requires.key.pair
 
-pub glance_in-requires-clause-arrivals : goal.glance_in-requires-clause-arrivals
-glance_in-requires-clause-arrivals g c =
+pub glance_in-requires-2-clause-place : goal.glance_in-requires-2-clause-place
+glance_in-requires-2-clause-place g c =
+    let key = c.args.key.now in
+    let rises = subst (λ (z : List ℕ). IsStrictlyIncreasing z) (sym c.deref.ensures.value) c.requires.key.rises in
+    subst (λ (z : List ℕ). g.S.Summaries.known c.args.sums.now (key.kind, z)) (sym (c.in_ok-parent.ensures rises ∙ c.deref.ensures.value)) c.requires.key.pair
+
+pub glance_in-requires-2-clause-arrivals : goal.glance_in-requires-2-clause-arrivals
+glance_in-requires-2-clause-arrivals g c =
     row_arrivals c.args.world.now.system.now c.reach.new.self c.args.key.now.kind c.in_ok-parent.parent c.in_ok-row.row c.arrivals-arrivals.result.now c.in_ok-row.ensures.rows c.in_ok-row.ensures.row c.arrivals-arrivals.ensures
 
 pub glance_in-requires-clause-comes : goal.glance_in-requires-clause-comes
@@ -32,9 +50,22 @@ glance_in-requires-clause-comes g c =
     let rises = subst (λ (z : List ℕ). IsStrictlyIncreasing z) (sym c.deref.ensures.value) c.requires.key.rises in
     subst (λ (z : List ℕ). (k : ℕ) × Contains (grown c.args.world.now.system.now k key.kind z) c.args.atom) (sym (c.in_ok-parent.ensures rises ∙ c.deref.ensures.value)) c.requires.key.comes
 
+pub glance_in-requires-2-clause-comes : goal.glance_in-requires-2-clause-comes
+glance_in-requires-2-clause-comes g c =
+    let key = c.args.key.now in
+    let rises = subst (λ (z : List ℕ). IsStrictlyIncreasing z) (sym c.deref.ensures.value) c.requires.key.rises in
+    subst (λ (z : List ℕ). (k : ℕ) × Contains (grown c.args.world.now.system.now k key.kind z) c.args.atom) (sym (c.in_ok-parent.ensures rises ∙ c.deref.ensures.value)) c.requires.key.comes
+
+pub returns-then-not-below-clause-glance : goal.returns-then-not-below-clause-glance
+returns-then-not-below-clause-glance g c =
+    let key = c.args.key.now in
+    let rises = subst (λ (z : List ℕ). IsStrictlyIncreasing z) (sym c.deref.ensures.value) c.requires.key.rises in
+    ok_further c.glance_in.result _ _ c.glance_in.ensures.glance
+    (λ found is. added_glance c.args.world.now.system.now c.args.world.now.page.now c.args.atom found key.kind _ _ (triple_of key) refl (c.in_ok-parent.ensures rises ∙ c.deref.ensures.value) is)
+
 pub returns-clause-glance : goal.returns-clause-glance
 returns-clause-glance g c =
     let key = c.args.key.now in
     let rises = subst (λ (z : List ℕ). IsStrictlyIncreasing z) (sym c.deref.ensures.value) c.requires.key.rises in
-    ok_further c.glance_in.result _ _ c.glance_in.ensures.glance
+    ok_further c.glance_in-2.result _ _ c.glance_in-2.ensures.glance
     (λ found is. added_glance c.args.world.now.system.now c.args.world.now.page.now c.args.atom found key.kind _ _ (triple_of key) refl (c.in_ok-parent.ensures rises ∙ c.deref.ensures.value) is)
