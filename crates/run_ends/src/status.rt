@@ -5,9 +5,10 @@ ghost use Rattle.run_ends.specs.Stops as spec;
 /// How a run ended.
 #[derive(Clone, Copy, Debug, PartialEq, Eq)]
 pub enum Status {
-    /// The report is written; each selector is `used` or `skipped`, and each statement `live`.
+    /// The text is written; each selector is `used` or `skipped`, and each statement `live`.
     Complete,
-    /// The report is written; a selector is `unused` or a statement dead, and none is `used-unshown`, `live-unshown` or `spent`.
+    /// The text is written; a selector is `unused` or a statement dead, and none is `maybe`, `used-unshown`, `live-unshown` or
+    /// `spent`.
     Unused,
     /// The words aren't of the grammar.
     Words,
@@ -19,7 +20,7 @@ pub enum Status {
     WriteFault,
     /// No memory was to be had.
     NoMemory,
-    /// The report is written; a selector or a statement is `used-unshown`, `live-unshown` or `spent`.
+    /// The text is written; a selector or a statement is `maybe`, `used-unshown`, `live-unshown` or `spent`.
     Budget,
 }
 

@@ -10,7 +10,7 @@ use tp_base::NoMemory;
 use tp_io::{Sink, put_all};
 use usage_report::{Answer, ReportFault};
 
-/// What a selector's answer may be.
+/// What a selector's answer may be. The script of a ring has no sharp calls, so that none is `maybe`.
 #[derive(Clone, Copy)]
 pub(crate) enum Form {
     Used,
