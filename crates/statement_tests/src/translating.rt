@@ -1,5 +1,5 @@
 use crate::writing::{guard_text, rule_text};
-use dead_script::{probe_guards, probes};
+use dead_script::{ask, probe_guards, probes};
 use guard_sem::{Guard, Rule, of_compound, of_selector};
 use jq_read::ScriptFault;
 use jq_sem::Stmt;
@@ -312,5 +312,36 @@ fn script_is_probed(alloc: Global, atoms: &mut AtomTable) -> Result<bool, Script
 fn scripts_are_probed(rt: HostRuntime) -> Result<(), Fail> {
     let mut atoms = AtomTable::new(rt.alloc());
     assert!(rt; script_is_probed(rt.alloc(), &mut atoms)?);
+    Ok(())
+}
+
+// Statements of which some stand in the handlers of the one before, the guards of what is asked of them all, and for each of them in
+// turn the numbers of those of its handlers and its own.
+const NESTED: &str = "$('.btn').click(function () { $('.m').addClass('a'); \
+     $('.n').click(function () { $(this).addClass('b') }); $('.k').addClass('c') }); \
+     $('.m').addClass('d'); $('.btn').click(function () { $('.n').addClass('e') })";
+
+const NESTED_GUARDS: &str =
+    ".btn; all( .m somewhere(.btn) ); all( .n somewhere(.btn) ); all( .n somewhere(.btn) ); \
+     all( .k somewhere(.btn) ); .m; .btn; all( .n somewhere(.btn) ); ";
+
+static NESTED_NUMBERS: [usize; 10] = [0, 1, 0, 2, 3, 0, 4, 5, 6, 7];
+
+fn are_asked(alloc: Global, stmts: &[Stmt], atoms: &AtomTable) -> Result<bool, NoMemory> {
+    let asked = ask(alloc, stmts)?;
+    let numbered = asked.numbers.as_slice() == NESTED_NUMBERS.as_slice();
+    let text = guards_text(alloc, &asked.guards, atoms)?;
+    Ok(numbered && text.as_slice() == NESTED_GUARDS.as_bytes())
+}
+
+fn script_is_asked(alloc: Global, atoms: &mut AtomTable) -> Result<bool, ScriptFault> {
+    let stmts = script_of(alloc, NESTED, atoms)?;
+    Ok(are_asked(alloc, &stmts, atoms)?)
+}
+
+#[test]
+fn statements_in_the_same_handlers_are_asked_of_once(rt: HostRuntime) -> Result<(), Fail> {
+    let mut atoms = AtomTable::new(rt.alloc());
+    assert!(rt; script_is_asked(rt.alloc(), &mut atoms)?);
     Ok(())
 }

@@ -12,6 +12,8 @@ pub mod CauseLemmas
 pub mod LoadingLemmas
 pub mod ReadingLemmas
 pub mod GivenLemmas
+pub mod TablesLemmas
+pub mod AskedLemmas
 pub mod SayingLemmas
 pub mod VerdictLemmas
 pub mod TaskLemmas

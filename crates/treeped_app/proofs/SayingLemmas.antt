@@ -1,5 +1,5 @@
 -- What the answers come to that a mode asks for, and why there are none.
-use Rattle.std.proofs.Common.{◌≡◌, ℕ, List, [], ◌∷◌, length, map, Option, All, Ok, Err, sym, ap, subst, ◌∙◌, inl, inr}
+use Rattle.std.proofs.Common.{◌≡◌, ℕ, ◌<◌, List, [], ◌∷◌, length, map, get_or, Option, All, Ok, Err, sym, ap, subst, ◌∙◌, inl, inr}
 use Rattle.std.proofs.lemmas.List.{length-map}
 use Rattle.jq_sem.specs.Sharp.{wides}
 use Rattle.jq_sem.specs.Statements.{Statement}
@@ -14,6 +14,7 @@ use Rattle.limits.specs.Budgets.{IsInRange}
 use Rattle.limits.specs.declared.budgets.Limits.{Limits}
 use Rattle.command_words.specs.declared.words.Mode.{Mode}
 use Rattle.command_words.specs.declared.words.Mode.TheVariants.{Report, Prune, Dead, Runs, Site, SitePrune}
+use Rattle.dead_script.specs.Asked.{by_number, InOrder, AreAsked}
 use Rattle.dead_script.specs.Probes.{all_probes}
 use Rattle.judge.specs.declared.faults.JudgeFault.{JudgeFault}
 use Rattle.judge.specs.declared.faults.JudgeFault.TheVariants.{TooManyAtoms, TooManyVisible, Memory}
@@ -30,6 +31,10 @@ use Rattle.treeped_app.specs.Answers.{AreRight, AreRightFor, IsSpent}
 use Rattle.treeped_app.specs.Inputs.{AreInputs, IsUnanswered, IsRead, IsSaying, IsWritable, judging_stop}
 use Rattle.treeped_app.specs.Modes.{Texts, Inputs, Said, places_of, goals_in, extra_in, guards_in, AreJudgedOf, AreAnswersOf}
 use Rattle.treeped_app.specs.Runs.{IsSheetOf, read_inputs}
+use Rattle.treeped_app.specs.Views.{inputs_of, said_of}
+use Rattle.treeped_app.specs.declared.saying.Said as held
+use Rattle.treeped_app.proofs.AskedLemmas.{each_within, each_of, system_of_asked, within_as_asked, fault_as_asked, given_as_asked, told_in_order, judged_as_asked}
+use Rattle.treeped_app.proofs.WritingLemmas.{all_unmapped}
 use Rattle.treeped_app.proofs.DeadLemmas.{of_guards, guards_over}
 use Rattle.treeped_app.proofs.SheetLemmas.{sheet_read}
 use Rattle.treeped_app.proofs.ExactLemmas.{all_settled, all_unfolded, all_tracked, all_reportable}
@@ -79,26 +84,34 @@ others_right Site limits i items others (inr (by, by', more)) = none_spent limit
 others_right SitePrune limits i items others (inl (are, for, few)) = none_asked limits i (guards_in SitePrune i) others for
 others_right SitePrune limits i items others (inr (by, by', more)) = none_spent limits i (guards_in SitePrune i) others by'
 
-pub answers_are : (m : Mode) (limits : Limits) (i : Inputs) (ss : List Statement) (extra : List Guard) (items others : List Answer) → ss ≡ i.stmts → extra ≡ extra_in m i
-    → judge.IsWithin ss i.sheet.items extra (length i.names) → judge.AreJudged ss i.sheet.items extra (length i.names) i.tree limits items others → AreJudgedOf m limits i items others
-answers_are m limits i ss extra items others same same' within judged =
+-- what is judged of the guards that are asked is judged of all goals
+pub answers_are : (m : Mode) (limits : Limits) (i : Inputs) (ss : List Statement) (gs : List Guard) (numbers : List ℕ) (items told : List Answer) → ss ≡ i.stmts → AreAsked (extra_in m i) gs numbers
+    → judge.IsWithin ss i.sheet.items gs (length i.names) → judge.AreJudged ss i.sheet.items gs (length i.names) i.tree limits items told → AreJudgedOf m limits i items (by_number spent told numbers)
+answers_are m limits i ss gs numbers items told same asked within judged =
+    let others = by_number spent told numbers in
     let exactly : Exactly m limits i items others =
     subst (λ (z : List Statement). judge.AreJudged z i.sheet.items (extra_in m i) (length i.names) i.tree limits items others) same
-    (subst (λ (z : List Guard). judge.AreJudged ss i.sheet.items z (length i.names) i.tree limits items others) same' judged) in
+    (judged_as_asked (extra_in m i) gs numbers asked ss i.sheet.items (length i.names) i.tree limits items told judged) in
     record {
       right = items_right m limits i items others exactly;
       others_right = others_right m limits i items others exactly;
       within =
           subst (λ (z : List Statement). judge.IsWithin z i.sheet.items (extra_in m i) (length i.names)) same
-          (subst (λ (z : List Guard). judge.IsWithin ss i.sheet.items z (length i.names)) same' within);
+          (within_as_asked (extra_in m i) gs numbers asked ss i.sheet.items (length i.names) within);
       exactly = exactly;
     }
 
+-- and each of the answers that were made has a number
+pub answers_in_order : (m : Mode) (limits : Limits) (i : Inputs) (ss : List Statement) (gs : List Guard) (numbers : List ℕ) (items : List Answer) (made : List code.Answer) → AreAsked (extra_in m i) gs numbers
+    → judge.AreJudged ss i.sheet.items gs (length i.names) i.tree limits items (map answer_of made) → InOrder 0 numbers (length made)
+answers_in_order m limits i ss gs numbers items made asked judged =
+    subst (InOrder 0 numbers) (length-map made answer_of) (told_in_order (extra_in m i) gs numbers asked ss i.sheet.items (length i.names) i.tree limits items (map answer_of made) judged)
+
 -- by the system of these inputs
-pub system_as : (m : Mode) (i : Inputs) (ss : List Statement) (extra : List Guard) (system : System) → ss ≡ i.stmts → extra ≡ extra_in m i → system ≡ judge.system_in ss i.sheet.items extra (length i.names)
+pub system_as : (m : Mode) (i : Inputs) (ss : List Statement) (gs : List Guard) (numbers : List ℕ) (system : System) → ss ≡ i.stmts → AreAsked (extra_in m i) gs numbers → system ≡ judge.system_in ss i.sheet.items gs (length i.names)
     → system ≡ judge.system_in i.stmts i.sheet.items (extra_in m i) (length i.names)
-system_as m i ss extra system same same' is =
-    is ∙ ap (λ (z : List Statement). judge.system_in z i.sheet.items extra (length i.names)) same ∙ ap (λ (z : List Guard). judge.system_in i.stmts i.sheet.items z (length i.names)) same'
+system_as m i ss gs numbers system same asked is =
+    is ∙ system_of_asked (extra_in m i) gs numbers asked ss i.sheet.items (length i.names) ∙ ap (λ (z : List Statement). judge.system_in z i.sheet.items (extra_in m i) (length i.names)) same
 
 -- and settled
 pub answers_settled : (m : Mode) (limits : Limits) (i : Inputs) (old new others : List Answer) → wides i.exact ≡ i.stmts → AreJudgedOf m limits i old others
@@ -129,13 +142,34 @@ tracked_of m limits i items others are = all_tracked i.tree i.exact i.stmts (gua
 pub reportable_of : (m : Mode) (s : Said) → IsWritable m s → AreReportable (places_of s.inputs) s.inputs.sheet.items s.items
 reportable_of m s (limits, page, is) = all_reportable s.inputs.tree s.inputs.exact s.inputs.stmts (guards_in m s.inputs) (length s.inputs.names) limits s.inputs.sheet.items s.items is.answers.right
 
-pub probed_of : (s : Said) → IsWritable Dead s → (length s.others ≡ length (all_probes s.inputs.stmts)) × All (IsProbed (places_of s.inputs)) s.others
+-- statements' lines can be written by these numbers of these answers
+pub record ArePrintable (i : Inputs) (numbers : List ℕ) (answers : List code.Answer) : Type 0 where
+  pub one_each : length numbers ≡ length (all_probes i.stmts)
+  pub known : All (λ k. k < length answers) numbers
+  pub probed : All (λ (a : code.Answer). IsProbed (places_of i) (answer_of a)) answers
+
+probed_of : (s : Said) → IsWritable Dead s → (length s.others ≡ length (all_probes s.inputs.stmts)) × All (IsProbed (places_of s.inputs)) s.others
 probed_of s (limits, page, is) =
     let i = s.inputs in
     let goals = map selecting (all_probes i.stmts) in (
       as_many i.tree i.stmts (guards_in Dead i) (length i.names) limits goals s.others is.answers.are.others_right ∙ length-map {B = Goal} (all_probes i.stmts) selecting,
       all_probed i.tree i.stmts (guards_in Dead i) (length i.names) limits goals s.others is.answers.are.others_right,
     )
+
+-- by the numbers of the answers that were made
+pub probed_by : (x : Texts) (u : held.Said) → IsWritable Dead (said_of x u) → InOrder 0 u.numbers.items (length u.others.items) → ArePrintable (inputs_of u.inputs) u.numbers.items u.others.items
+probed_by x u is order =
+    let s = said_of x u in
+    let numbers = u.numbers.items in
+    let told = map answer_of u.others.items in
+    let all = probed_of s is in
+    record {
+      one_each = sym (length-map numbers (λ k. get_or told k spent)) ∙ all.0;
+      known = each_within numbers 0 (length u.others.items) order;
+      probed =
+          all_unmapped (IsProbed (places_of s.inputs)) answer_of u.others.items
+          (each_of (IsProbed (places_of s.inputs)) spent told numbers (subst (InOrder 0 numbers) (sym (length-map u.others.items answer_of)) order) all.1);
+    }
 
 pub traceable_of : (s : Said) → IsWritable Runs s → AreTraceable (places_of s.inputs) s.inputs.sheet.items s.traces
 traceable_of s (limits, page, is) =
@@ -162,10 +196,10 @@ extra_over Prune i given = given
 extra_over Site i given = given
 extra_over SitePrune i given = given
 
-pub given_with : (m : Mode) (i : Inputs) (ss : List Statement) (extra : List Guard) → AreInputs i → ss ≡ i.stmts → extra ≡ extra_in m i → judge.AreGiven ss i.sheet.items extra (length i.names) i.tree
-given_with m i ss extra given same same' =
-    subst (λ (z : List Statement). judge.AreGiven z i.sheet.items extra (length i.names) i.tree) (sym same)
-    (subst (λ (z : List Guard). judge.AreGiven i.stmts i.sheet.items z (length i.names) i.tree) (sym same') (extra_over m i given))
+pub given_with : (m : Mode) (i : Inputs) (ss : List Statement) (gs : List Guard) (numbers : List ℕ) → AreInputs i → ss ≡ i.stmts → AreAsked (extra_in m i) gs numbers → judge.AreGiven ss i.sheet.items gs (length i.names) i.tree
+given_with m i ss gs numbers given same asked =
+    subst (λ (z : List Statement). judge.AreGiven z i.sheet.items gs (length i.names) i.tree) (sym same)
+    (given_as_asked (extra_in m i) gs numbers asked i.stmts i.sheet.items (length i.names) i.tree (extra_over m i given))
 
 -- ---- no answers
 
@@ -174,12 +208,11 @@ refused_by_fault m i TooManyAtoms is = is
 refused_by_fault m i TooManyVisible is = is
 refused_by_fault m i Memory is = tt
 
-pub refused_by_system : (m : Mode) (i : Inputs) (ss : List Statement) (extra : List Guard) (e : JudgeFault) → ss ≡ i.stmts → extra ≡ extra_in m i → judge.IsFault ss i.sheet.items extra (length i.names) e
+pub refused_by_system : (m : Mode) (i : Inputs) (ss : List Statement) (gs : List Guard) (numbers : List ℕ) (e : JudgeFault) → ss ≡ i.stmts → AreAsked (extra_in m i) gs numbers → judge.IsFault ss i.sheet.items gs (length i.names) e
     → IsUnanswered m i (judging_stop e)
-refused_by_system m i ss extra e same same' is =
+refused_by_system m i ss gs numbers e same asked is =
     refused_by_fault m i e
-    (subst (λ (z : List Statement). judge.IsFault z i.sheet.items (extra_in m i) (length i.names) e) same
-    (subst (λ (z : List Guard). judge.IsFault ss i.sheet.items z (length i.names) e) same' is))
+    (subst (λ (z : List Statement). judge.IsFault z i.sheet.items (extra_in m i) (length i.names) e) same (fault_as_asked (extra_in m i) gs numbers asked ss i.sheet.items (length i.names) e is))
 
 module _ (m : Mode) (limits : Limits) (page : Option ℕ) (x : Texts) where
   pub not_read : (e : Stop) → IsRead (read_inputs m page x) (Err e) → IsSaying m limits page x (Err e)

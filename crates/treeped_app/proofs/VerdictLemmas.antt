@@ -8,6 +8,7 @@ use Rattle.usage_report.specs.Answers.{Answer, used, maybe, used_unshown, unused
 use Rattle.usage_report.specs.Views.{answer_of}
 use Rattle.jq_sem.specs.declared.stmts.Stmt.{Stmt}
 use Rattle.jq_sem.specs.Views.{chain_of, statements_of}
+use Rattle.dead_script.specs.Asked.{by_number}
 use Rattle.dead_script.specs.Verdicts as dead
 use Rattle.treeped_app.specs.declared.statuses.Question.{Question}
 use Rattle.treeped_app.specs.declared.statuses.Question.TheVariants.{Open, Dead}
@@ -56,34 +57,49 @@ one_so q n answers =
     ∙ ap (λ a. is_so_of q (Some a)) (sym (unwrap_or-slice_get answers n spent))
     ∙ or_spent q (slice_get answers n)
 
+-- the own answer of a statement has a number
+own_so : (q : Question) (answers : List code.Answer) (k : ℕ) → is_so_of q (Some (get_or (map answer_of answers) k spent)) ≡ is_so_of q (option_map answer_of (slice_get answers k))
+own_so q answers k =
+    ap (λ a. is_so_of q (Some a)) (sym (unwrap_or-slice_get (map answer_of answers) k spent))
+    ∙ or_spent q (slice_get (map answer_of answers) k)
+    ∙ ap (is_so_of q) (slice_get-map answer_of answers k)
+
+abbrev pub told_by : List code.Answer → List ℕ → List Answer
+told_by answers numbers = by_number spent (map answer_of answers) numbers
+
+pub so_by_number : (q : Question) (answers : List code.Answer) (numbers : List ℕ) (at k : ℕ) → slice_get numbers at ≡ Some k → is_so_of q (option_map answer_of (slice_get answers k)) ≡ is_so_of q (slice_get (told_by answers numbers) at)
+so_by_number q answers numbers at k is =
+    sym (ap (is_so_of q) (slice_get-map (λ j. get_or (map answer_of answers) j spent) numbers at ∙ ap (option_map (λ j. get_or (map answer_of answers) j spent)) is) ∙ own_so q answers k)
+
+pub so_without : (q : Question) (answers : List code.Answer) (numbers : List ℕ) (at : ℕ) → slice_get numbers at ≡ None → is_so_of q None ≡ is_so_of q (slice_get (told_by answers numbers) at)
+so_without q answers numbers at none =
+    sym (ap (is_so_of q) (slice_get-map (λ j. get_or (map answer_of answers) j spent) numbers at ∙ ap (option_map (λ j. get_or (map answer_of answers) j spent)) none))
+
 map_drop : {X Y : Type 0} (f : X → Y) (xs : List X) (n : ℕ) → drop n (map f xs) ≡ map f (drop n xs)
 map_drop f xs zero = refl
 map_drop f [] (suc n) = refl
 map_drop f (x ∷ xs) (suc n) = map_drop f xs n
 
-abbrev pub any_so : Question → List Stmt → List code.Answer → Bool
-any_so q stmts answers = list_any (is_so q) (dead.verdicts (statements_of stmts) (map answer_of answers))
+pub told_behind : (answers : List code.Answer) (numbers : List ℕ) (n : ℕ) → told_by answers (drop n numbers) ≡ drop n (told_by answers numbers)
+told_behind answers numbers n = sym (map_drop (λ j. get_or (map answer_of answers) j spent) numbers n)
+
+abbrev pub any_so : Question → List Stmt → List Answer → Bool
+any_so q stmts told = list_any (is_so q) (dead.verdicts (statements_of stmts) told)
 
 -- the first statement's own answer, and the verdicts of the others
-first_so : (q : Question) (s : Stmt) (stmts : List Stmt) (answers : List code.Answer)
-    → any_so q (s ∷ stmts) answers ≡ (is_so_of q (option_map answer_of (slice_get answers (length s.handlers))) || any_so q stmts (drop (length s.handlers + 1) answers))
-first_so q s stmts answers =
+first_so : (q : Question) (s : Stmt) (stmts : List Stmt) (told : List Answer)
+    → any_so q (s ∷ stmts) told ≡ (is_so_of q (slice_get told (length s.handlers)) || any_so q stmts (drop (length s.handlers + 1) told))
+first_so q s stmts told =
     let many : length (map chain_of s.handlers) ≡ length s.handlers = length-map s.handlers chain_of in
-    ap (λ n. is_so q (dead.verdict_of n (map answer_of answers)) || list_any (is_so q) (dead.verdicts (statements_of stmts) (drop (n + 1) (map answer_of answers)))) many
-    ∙ ap (λ b. b || list_any (is_so q) (dead.verdicts (statements_of stmts) (drop (length s.handlers + 1) (map answer_of answers)))) (one_so q (length s.handlers) (map answer_of answers) ∙ ap (is_so_of q) (slice_get-map answer_of answers (length s.handlers)))
-    ∙ ap (λ xs. is_so_of q (option_map answer_of (slice_get answers (length s.handlers))) || list_any (is_so q) (dead.verdicts (statements_of stmts) xs)) (map_drop answer_of answers (length s.handlers + 1))
+    ap (λ n. is_so q (dead.verdict_of n told) || any_so q stmts (drop (n + 1) told)) many ∙ ap (λ b. b || any_so q stmts (drop (length s.handlers + 1) told)) (one_so q (length s.handlers) told)
 
 -- from the k-th statement on
-pub next_so : (q : Question) (stmts : List Stmt) (k : ℕ) (s : Stmt) (answers : List code.Answer) → k < length stmts → s ≡ get_or stmts k s
-    → any_so q (drop k stmts) answers ≡ (is_so_of q (option_map answer_of (slice_get answers (length s.handlers))) || any_so q (drop (suc k) stmts) (drop (length s.handlers + 1) answers))
-next_so q [] k s answers within at = absurd (omega (arith, within))
-next_so q (x ∷ stmts) zero s answers within at = rw at (first_so q x stmts answers)
-next_so q (x ∷ stmts) (suc k) s answers within at = next_so q stmts k s answers (omega (arith, within)) at
+pub next_so : (q : Question) (stmts : List Stmt) (k : ℕ) (s : Stmt) (told : List Answer) → k < length stmts → s ≡ get_or stmts k s
+    → any_so q (drop k stmts) told ≡ (is_so_of q (slice_get told (length s.handlers)) || any_so q (drop (suc k) stmts) (drop (length s.handlers + 1) told))
+next_so q [] k s told within at = absurd (omega (arith, within))
+next_so q (x ∷ stmts) zero s told within at = rw at (first_so q x stmts told)
+next_so q (x ∷ stmts) (suc k) s told within at = next_so q stmts k s told (omega (arith, within)) at
 
 pub or_false : (a b : Bool) → a ≡ false → (a || b) ≡ b
 or_false true b e = cc
 or_false false b e = refl
-
-pub none_left : (q : Question) (stmts : List Stmt) (answers : List code.Answer) → any_so q (drop (length stmts) stmts) answers ≡ false
-none_left q [] answers = refl
-none_left q (s ∷ stmts) answers = none_left q stmts answers

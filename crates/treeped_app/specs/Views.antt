@@ -1,5 +1,6 @@
 -- How the definitions see what the program holds.
 use Rattle.std.specs.Prelude.{Bool, true, false, List, [], ◌∷◌, map, option_map}
+use Rattle.usage_report.specs.Answers.{spent}
 use Rattle.usage_report.specs.Views.{answer_of, trace_of}
 use Rattle.css_read.specs.Views.{sheet_of}
 use Rattle.jq_sem.specs.declared.sharp.Sharp.{Sharp}
@@ -7,6 +8,7 @@ use Rattle.jq_sem.specs.declared.stmts.Stmt.{Stmt}
 use Rattle.jq_sem.specs.Sharp.{ExactStatement, exact_statement}
 use Rattle.jq_sem.specs.SharpViews.{exact_of}
 use Rattle.jq_sem.specs.Views.{statements_of}
+use Rattle.dead_script.specs.Asked.{by_number}
 use Rattle.treeped_app.specs.declared.tasks.Names.{Names}
 use Rattle.treeped_app.specs.declared.tasks.Source.{Source}
 use Rattle.treeped_app.specs.declared.tasks.Source.TheVariants.{One, Several, Ring}
@@ -51,4 +53,4 @@ inputs_of i = record { tree = i.page; sheet = sheet_of i.sheet; stmts = statemen
 
 -- with the texts of which it is said
 abbrev pub said_of : modes.Texts → Said → modes.Said
-said_of x s = record { texts = x; inputs = inputs_of s.inputs; items = map answer_of s.items.items; others = map answer_of s.others.items; traces = map (option_map trace_of) s.traces.items }
+said_of x s = record { texts = x; inputs = inputs_of s.inputs; items = map answer_of s.items.items; others = by_number spent (map answer_of s.others.items) s.numbers.items; traces = map (option_map trace_of) s.traces.items }

@@ -1,8 +1,10 @@
 //! What is said of a page: the answers, and the traces that a mode asks for.
-ghost use Rattle.std.specs.Prelude.{◌≡◌, [], All, length, map, option_map, IfOk, IfErr};
+ghost use Rattle.std.specs.Prelude.{◌≡◌, All, length, map, option_map, IfOk, IfErr};
 ghost use Rattle.limits.specs.Budgets.{IsInRange};
 ghost use Rattle.css_read.specs.Places.{ArePlaced};
+ghost use Rattle.usage_report.specs.Answers.{spent};
 ghost use Rattle.usage_report.specs.Views.{answer_of, trace_of};
+ghost use Rattle.dead_script.specs.Asked.{AreAsked, InOrder, by_number};
 ghost use Rattle.jq_exact.specs.Room.{HasRoom};
 ghost use Rattle.jq_exact.specs.Settling.{AreSettled, IsUnfolded};
 ghost use Rattle.run_trace.specs.Traces.{AreTracked};
@@ -16,8 +18,7 @@ ghost use Rattle.treeped_app.specs.Views.{exact_in, inputs_of, texts_of};
 use crate::marks::{Script, any_marked, joined, parted};
 use crate::reading::{Inputs, Texts, read_all};
 use command_words::Mode;
-use dead_script::probe_guards;
-use guard_sem::Guard;
+use dead_script::{Asked, ask};
 use jq_exact::settle;
 use judge::{Both, JudgeFault, judge_more};
 use limits::Limits;
@@ -29,23 +30,27 @@ use tp_base::NoMemory;
 use tree_sem::Tree;
 use usage_report::{Answer, RunTrace};
 
-/// What was read of a page, an answer for each item of its sheet, one for each further goal, and for whole runs a trace for each
-/// item that shows steps.
+/// What was read of a page, an answer for each item of its sheet, one for each guard that is asked besides, for each further goal the
+/// number of its answer among these, and for whole runs a trace for each item that shows steps.
 #[derive(Drop)]
 pub(crate) struct Said {
     pub(crate) inputs: Inputs,
     pub(crate) items: Vec<Answer>,
     pub(crate) others: Vec<Answer>,
+    pub(crate) numbers: Vec<usize>,
     pub(crate) traces: Vec<Option<RunTrace>>,
 }
 
-// The guards of what a mode asks besides the sheet's selectors.
-fn extra_guards(alloc: Global, mode: Mode, inputs: &Inputs) -> Result<Vec<Guard>, NoMemory>
-    ensures { IfOk result (λ v. v.items ≡ extra_in mode (inputs_of inputs.now)) }
+// The guards of what a mode asks besides the sheet's selectors, each once, and for each goal the number of its guard.
+fn extra_guards(alloc: Global, mode: Mode, inputs: &Inputs) -> Result<Asked, NoMemory>
+    ensures { IfOk result (λ a. AreAsked (extra_in mode (inputs_of inputs.now)) a.guards.items a.numbers.items) }
 {
     match mode {
-        Mode::Dead => probe_guards(alloc, &inputs.script.stmts),
-        _ => Ok(Vec::new(alloc)),
+        Mode::Dead => ask(alloc, &inputs.script.stmts),
+        _ => Ok(Asked {
+            guards: Vec::new(alloc),
+            numbers: Vec::new(alloc),
+        }),
     }
 }
 
@@ -60,25 +65,35 @@ fn judging_stop(fault: JudgeFault) -> Stop
     }
 }
 
+/// The answers for the items of a sheet and for the guards that are asked besides, and for each further goal the number of its answer
+/// among the latter.
+#[derive(Drop)]
+pub(crate) struct Answered {
+    pub(crate) both: Both,
+    pub(crate) numbers: Vec<usize>,
+}
+
 // The answers, of what the statements that are judged make of the page. It costs what `judge_more` costs.
-fn answers_of(alloc: Global, mode: Mode, inputs: &Inputs, limits: &Limits) -> Result<Both, Stop>
+fn answers_of(alloc: Global, mode: Mode, inputs: &Inputs, limits: &Limits) -> Result<Answered, Stop>
     requires given { AreInputs (inputs_of inputs.now) }
     requires limits { IsInRange limits.now }
-    ensures answers { IfOk result (λ b. AreJudgedOf mode limits.now (inputs_of inputs.now) (map answer_of b.items) (map answer_of b.extra)) }
-    ensures system { IfOk result (λ b. b.system ≡ system_in (inputs_of inputs.now).stmts (inputs_of inputs.now).sheet.items (extra_in mode (inputs_of inputs.now)) (length (inputs_of inputs.now).names)) }
+    ensures answers { IfOk result (λ a. AreJudgedOf mode limits.now (inputs_of inputs.now) (map answer_of a.both.items) (by_number spent (map answer_of a.both.extra) a.numbers.items)) }
+    ensures in_order { IfOk result (λ a. InOrder 0 a.numbers.items (length a.both.extra)) }
+    ensures system { IfOk result (λ a. a.both.system ≡ system_in (inputs_of inputs.now).stmts (inputs_of inputs.now).sheet.items (extra_in mode (inputs_of inputs.now)) (length (inputs_of inputs.now).names)) }
     ensures stop { IfErr result (λ e. IsUnanswered mode (inputs_of inputs.now) e) }
 {
-    let extra = extra_guards(alloc, mode, inputs)?;
+    let asked = extra_guards(alloc, mode, inputs)?;
+    let numbers = asked.numbers;
     match judge_more(
         alloc,
         &inputs.page,
         &inputs.sheet,
         &inputs.script.stmts,
-        extra,
+        asked.guards,
         &inputs.atoms,
         limits,
     ) {
-        Ok(both) => Ok(both),
+        Ok(both) => Ok(Answered { both, numbers }),
         Err(fault) => Err(judging_stop(fault)),
     }
 }
@@ -131,14 +146,17 @@ fn settle_all(
 }
 
 // What is said of a page by its answers, without traces.
-fn said_by(alloc: Global, inputs: Inputs, both: Both) -> Result<Said, NoMemory>
+fn said_by(alloc: Global, inputs: Inputs, answered: Answered) -> Result<Said, NoMemory>
     requires room { HasRoom (inputs_of inputs).tree (inputs_of inputs).exact }
-    requires unfolded { All (λ a. IsUnfolded (inputs_of inputs).tree both.system (answer_of a)) both.items }
+    requires unfolded { All (λ a. IsUnfolded (inputs_of inputs).tree answered.both.system (answer_of a)) answered.both.items }
     ensures inputs { IfOk result (λ s. inputs_of s.inputs ≡ inputs_of inputs) }
     ensures sheet { IfOk result (λ s. s.inputs.sheet ≡ inputs.sheet) }
-    ensures settled { IfOk result (λ s. AreSettled (inputs_of inputs).tree (inputs_of inputs).exact both.system (map answer_of both.items) (map answer_of s.items.items)) }
-    ensures others { IfOk result (λ s. s.others.items ≡ both.extra) }
+    ensures settled { IfOk result (λ s. AreSettled (inputs_of inputs).tree (inputs_of inputs).exact answered.both.system (map answer_of answered.both.items) (map answer_of s.items.items)) }
+    ensures others { IfOk result (λ s. s.others.items ≡ answered.both.extra) }
+    ensures numbers { IfOk result (λ s. s.numbers.items ≡ answered.numbers.items) }
 {
+    let both = answered.both;
+    let numbers = answered.numbers;
     let items = both.items.into_items();
     let script = inputs.script;
     let settled = settle_all(alloc, &inputs.page, script, &both.system, items)?;
@@ -152,6 +170,7 @@ fn said_by(alloc: Global, inputs: Inputs, both: Both) -> Result<Said, NoMemory>
         inputs,
         items: settled.items,
         others: both.extra.into_items(),
+        numbers,
         traces: Vec::new(alloc),
     })
 }
@@ -168,10 +187,11 @@ pub(crate) fn say(
     requires limits { IsInRange limits.now }
     ensures said { IsSaying mode limits.now number (texts_of texts.now) result }
     ensures placed { IfOk result (λ s. ArePlaced (length (texts_of texts.now).sheet) s.inputs.sheet.items) }
+    ensures in_order { IfOk result (λ s. InOrder 0 s.numbers.items (length s.others.items)) }
 {
     let inputs = read_all(alloc, mode, number, texts)?;
-    let both = answers_of(alloc, mode, &inputs, limits)?;
-    let mut said = said_by(alloc, inputs, both)?;
+    let answered = answers_of(alloc, mode, &inputs, limits)?;
+    let mut said = said_by(alloc, inputs, answered)?;
     let traces = traces_of(alloc, mode, &said.inputs, &said.items)?;
     said.traces = traces;
     Ok(said)

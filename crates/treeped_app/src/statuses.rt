@@ -2,7 +2,9 @@
 ghost use Rattle.std.specs.Prelude.{◌≡◌, ◌+◌, ◌∷◌, [], drop, map, option_map, slice_get};
 ghost use Rattle.std.specs.List.{list_any};
 ghost use Rattle.jq_sem.specs.Views.{statements_of};
+ghost use Rattle.usage_report.specs.Answers.{spent};
 ghost use Rattle.usage_report.specs.Views.{answer_of};
+ghost use Rattle.dead_script.specs.Asked.{by_number};
 ghost use Rattle.dead_script.specs.Verdicts as dead;
 ghost use Rattle.treeped_app.specs.Modes as spec;
 ghost use Rattle.treeped_app.specs.Verdicts as verdict;
@@ -77,19 +79,25 @@ fn asks(mode: Mode, question: Question, said: &Said) -> bool
     ensures { (x : spec.Texts) → result ≡ list_any (verdict.is_so question) (spec.verdicts_in mode (said_of x said.now ∷ [])) }
 {
     match mode {
-        Mode::Dead => any_verdict(question, &said.inputs.script.stmts, &said.others),
+        Mode::Dead => any_verdict(
+            question,
+            &said.inputs.script.stmts,
+            &said.others,
+            &said.numbers,
+        ),
         _ => false,
     }
 }
 
-// Whether it is so of one of the verdicts of the statements, by an answer for each of their probes. Linear in the statements.
-fn any_verdict(question: Question, stmts: &[Stmt], answers: &[Answer]) -> bool
-    ensures { result ≡ list_any (verdict.is_so question) (dead.verdicts (statements_of stmts.now) (map answer_of answers.now)) }
+// Whether it is so of one of the verdicts of the statements, by the number of an answer for each of their probes. Linear in the
+// statements.
+fn any_verdict(question: Question, stmts: &[Stmt], answers: &[Answer], numbers: &[usize]) -> bool
+    ensures { result ≡ list_any (verdict.is_so question) (dead.verdicts (statements_of stmts.now) (by_number spent (map answer_of answers.now) numbers.now)) }
 {
-    let mut left = answers;
+    let mut left = numbers;
     'statements: for stmt in stmts {
         let handlers = stmt.handlers.items().len();
-        if is_so(question, left, handlers) {
+        if is_so(question, answers, left, handlers) {
             return true;
         }
         left = behind(left, handlers);
@@ -97,19 +105,29 @@ fn any_verdict(question: Question, stmts: &[Stmt], answers: &[Answer]) -> bool
     false
 }
 
-// The answers behind those of a statement with so many handlers.
-fn behind(answers: &[Answer], handlers: usize) -> &[Answer]
-    ensures { result.now ≡ drop (handlers + 1) answers.now }
+// The numbers behind those of a statement with so many handlers.
+fn behind(numbers: &[usize], handlers: usize) -> &[usize]
+    ensures { result.now ≡ drop (handlers + 1) numbers.now }
 {
-    if handlers < answers.len() {
-        &answers[handlers + 1..]
+    if handlers < numbers.len() {
+        &numbers[handlers + 1..]
     } else {
         &[]
     }
 }
 
-// Whether it is so of a statement whose own answer is at that place: it is dead where that is unused, and open where that is.
-fn is_so(question: Question, answers: &[Answer], at: usize) -> bool
+// Whether it is so of a statement whose own number is at that place; without one it is open.
+fn is_so(question: Question, answers: &[Answer], numbers: &[usize], at: usize) -> bool
+    ensures { result ≡ verdict.is_so_of question (slice_get (by_number spent (map answer_of answers.now) numbers.now) at) }
+{
+    match numbers.get(at) {
+        Some(number) => is_so_at(question, answers, *number),
+        None => matches!(question, Question::Open),
+    }
+}
+
+// Whether it is so of a statement whose own answer has this number: it is dead where that is unused, and open where that is.
+fn is_so_at(question: Question, answers: &[Answer], at: usize) -> bool
     ensures { result ≡ verdict.is_so_of question (option_map answer_of (slice_get answers.now at)) }
 {
     match (question, answers.get(at)) {

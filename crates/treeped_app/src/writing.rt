@@ -1,9 +1,10 @@
 //! What a mode writes of a page.
-ghost use Rattle.std.specs.Prelude.{◌≡◌, ◌≤◌, ◌++◌, length, map, IfOk, OnOk, OnErr};
+ghost use Rattle.std.specs.Prelude.{◌≡◌, ◌≤◌, length, map, IfOk, OnOk, OnErr};
 ghost use Rattle.tp_base.specs.declared.places.TheConstants.{MOST_BYTES};
 ghost use Rattle.tp_io.specs.Sinks.{Adds, AddsPrefix, Rose};
 ghost use Rattle.css_read.specs.Places.{ArePlaced};
 ghost use Rattle.jq_sem.specs.Views.{statements_of};
+ghost use Rattle.dead_script.specs.Asked.{InOrder};
 ghost use Rattle.treeped_app.specs.Modes as spec;
 ghost use Rattle.treeped_app.specs.Inputs.{IsWritable};
 ghost use Rattle.treeped_app.specs.Views.{inputs_of, said_of, texts_of};
@@ -14,7 +15,7 @@ use crate::pruning::{unused_in, write_pruned};
 use crate::reading::Texts;
 use crate::saying::Said;
 use command_words::Mode;
-use dead_script::write_dead;
+use dead_script::write_asked;
 use jq_sem::Stmt;
 use std::alloc::Global;
 use tp_base::{NoMemory, Place};
@@ -43,6 +44,7 @@ pub(crate) fn write_one<O: Sink>(
     requires in_limit { length (texts_of texts.now).sheet ≤ MOST_BYTES }
     requires placed { ArePlaced (length (texts_of texts.now).sheet) said.now.inputs.sheet.items }
     requires writable { IsWritable mode (said_of (texts_of texts.now) said.now) }
+    requires in_order { InOrder 0 said.now.numbers.items (length said.now.others.items) }
     ensures ok { OnOk result (Adds (O.written out.old) (O.written out.new) (spec.text_on mode (said_of (texts_of texts.now) said.now))) }
     ensures err { OnErr result (AddsPrefix (O.written out.old) (O.written out.new) (spec.text_on mode (said_of (texts_of texts.now) said.now))) }
     ensures write { result ≡ Err ReportFault.Write → Rose (O.faults out.old) (O.faults out.new) }
@@ -55,7 +57,13 @@ pub(crate) fn write_one<O: Sink>(
         }
         Mode::Dead => {
             write_page(alloc, texts, said, out)?;
-            write_dead(alloc, &inputs.script.stmts, &said.others, out)
+            write_asked(
+                alloc,
+                &inputs.script.stmts,
+                &said.numbers,
+                &said.others,
+                out,
+            )
         }
         Mode::Runs => {
             let places = places_of(alloc, &inputs.script.stmts)?;

@@ -1,10 +1,10 @@
-use Rattle.std.proofs.Common.{◌≡◌, map, length, subst, sym, ap, refl, ◌∙◌}
+use Rattle.std.proofs.Common.{map, length, subst, ap, refl, ◌∙◌}
 use Rattle.std.proofs.lemmas.List.{length-map}
 use Rattle.css_read.specs.Views.{item_of}
 use Rattle.jq_sem.specs.Views.{statements_of}
 use Rattle.usage_report.specs.Views.{answer_of}
 use Rattle.command_words.specs.declared.words.Mode.{Mode}
-use Rattle.dead_script.specs.Verdicts.{places_of, IsProbed, dead_text}
+use Rattle.dead_script.specs.Verdicts.{dead_text}
 use Rattle.tp_io.proofs.SinkLemmas.{on_err, none_out}
 use Rattle.usage_report.proofs.ReportLemmas.{front_of_front, err_after}
 use Rattle.treeped_app.specs.Inputs.{IsWritable}
@@ -12,8 +12,8 @@ use Rattle.treeped_app.specs.Modes as modes
 use Rattle.treeped_app.specs.Modes.{is_unused, report_on, text_on}
 use Rattle.treeped_app.specs.Views.{said_of, texts_of}
 use Rattle.treeped_app.proofs.PruneLemmas.{items_judged, items_many, flags_seen}
-use Rattle.treeped_app.proofs.SayingLemmas.{reportable_of, probed_of, traceable_of, sheet_of_said}
-use Rattle.treeped_app.proofs.WritingLemmas.{all_unmapped, report_alone}
+use Rattle.treeped_app.proofs.SayingLemmas.{reportable_of, probed_by, traceable_of, sheet_of_said}
+use Rattle.treeped_app.proofs.WritingLemmas.{ok_after, report_alone}
 use Rattle.treeped_app.proofs.writing.write_one.Goals as goal
 
 -- ---- the sheet that is left
@@ -59,22 +59,36 @@ returns-in_err-write_page-in-Dead-clause-err g c =
     let s = said_of (texts_of c.args.texts.now) c.args.said.now in
     rw c.in-Dead.is (on_err _ _ (front_of_front _ _ (report_on s) (dead_text s.inputs.stmts s.others) c.in_err-write_page-in-Dead.ensures.err))
 
-pub write_dead-requires-clause-one_each : goal.write_dead-requires-clause-one_each
-write_dead-requires-clause-one_each g c =
-    let s = said_of (texts_of c.args.texts.now) c.args.said.now in
-    let all = probed_of s (subst (λ (m : Mode). IsWritable m s) c.in-Dead.is c.requires.writable) in
-    rw (c.deref-in-Dead.ensures.value, c.deref-in-Dead-2.ensures.value) (sym (length-map c.args.said.now.others.items answer_of) ∙ all.0)
+pub write_asked-requires-clause-one_each : goal.write_asked-requires-clause-one_each
+write_asked-requires-clause-one_each g c =
+    let x = texts_of c.args.texts.now in
+    let u = c.args.said.now in
+    let all = probed_by x u (subst (λ (m : Mode). IsWritable m (said_of x u)) c.in-Dead.is c.requires.writable) c.requires.in_order in
+    rw (c.deref-in-Dead.ensures.value, c.deref-in-Dead-2.ensures.value) all.one_each
 
-pub write_dead-requires-clause-probed : goal.write_dead-requires-clause-probed
-write_dead-requires-clause-probed g c =
-    let s = said_of (texts_of c.args.texts.now) c.args.said.now in
-    let all = probed_of s (subst (λ (m : Mode). IsWritable m s) c.in-Dead.is c.requires.writable) in
-    rw (c.deref-in-Dead.ensures.value, c.deref-in-Dead-2.ensures.value) (all_unmapped (IsProbed (places_of (statements_of c.args.said.now.inputs.script.stmts.items))) answer_of c.args.said.now.others.items all.1)
+pub write_asked-requires-clause-known : goal.write_asked-requires-clause-known
+write_asked-requires-clause-known g c =
+    let x = texts_of c.args.texts.now in
+    let u = c.args.said.now in
+    let all = probed_by x u (subst (λ (m : Mode). IsWritable m (said_of x u)) c.in-Dead.is c.requires.writable) c.requires.in_order in
+    rw (c.deref-in-Dead-2.ensures.value, c.deref-in-Dead-3.ensures.value) all.known
+
+pub write_asked-requires-clause-probed : goal.write_asked-requires-clause-probed
+write_asked-requires-clause-probed g c =
+    let x = texts_of c.args.texts.now in
+    let u = c.args.said.now in
+    let all = probed_by x u (subst (λ (m : Mode). IsWritable m (said_of x u)) c.in-Dead.is c.requires.writable) c.requires.in_order in
+    rw (c.deref-in-Dead.ensures.value, c.deref-in-Dead-3.ensures.value) all.probed
+
+pub returns-in_ok-write_page-in-Dead-clause-ok : goal.returns-in_ok-write_page-in-Dead-clause-ok
+returns-in_ok-write_page-in-Dead-clause-ok g c =
+    rw c.in-Dead.is
+    (ok_after c.write_asked.result _ _ _ _ _ c.in_ok-write_page-in-Dead.ensures.ok (rw (c.deref-in-Dead.ensures.value, c.deref-in-Dead-2.ensures.value, c.deref-in-Dead-3.ensures.value) at c.write_asked.ensures.ok))
 
 pub returns-in_ok-write_page-in-Dead-clause-err : goal.returns-in_ok-write_page-in-Dead-clause-err
 returns-in_ok-write_page-in-Dead-clause-err g c =
     rw c.in-Dead.is
-    (err_after c.write_dead.result _ _ _ _ _ c.in_ok-write_page-in-Dead.ensures.ok (rw (c.deref-in-Dead.ensures.value, c.deref-in-Dead-2.ensures.value) at c.write_dead.ensures.err))
+    (err_after c.write_asked.result _ _ _ _ _ c.in_ok-write_page-in-Dead.ensures.ok (rw (c.deref-in-Dead.ensures.value, c.deref-in-Dead-2.ensures.value, c.deref-in-Dead-3.ensures.value) at c.write_asked.ensures.err))
 
 -- ---- the report with whole runs
 

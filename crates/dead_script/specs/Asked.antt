@@ -1,0 +1,17 @@
+-- What is asked once for several probes: each guard once for statements in the same handlers, and for each probe the number of its guard.
+--     by_number d xs numbers      what stands at these numbers, d where nothing does
+--     InOrder k numbers n         each number is one of k that were there before, or the next; in the end there are n
+--     AreAsked probed guards ..   the guards at these numbers are those of the probes, each guard is the first time behind those before it
+use Rattle.std.specs.Prelude.{◌≡◌, ◌⊎◌, ℕ, ◌+◌, ◌<◌, List, [], ◌∷◌, length, map, get_or}
+use Rattle.guard_sem.specs.Guards.{Guard, always}
+
+abbrev pub by_number : {X : Type 0} → X → List X → List ℕ → List X
+by_number d xs numbers = map (λ k. get_or xs k d) numbers
+
+abbrev pub InOrder : ℕ → List ℕ → ℕ → Type 0
+InOrder k [] n = k ≡ n
+InOrder k (j ∷ numbers) n = ((j < k) × InOrder k numbers n) ⊎ ((j ≡ k) × InOrder (k + 1) numbers n)
+
+pub record AreAsked (probed guards : List Guard) (numbers : List ℕ) : Type 0 where
+  pub of_probes : probed ≡ by_number always guards numbers
+  pub in_order : InOrder 0 numbers (length guards)
