@@ -13,7 +13,6 @@ use Rattle.class_adding.specs.Fresh.{AreSettled, AreResting}
 use Rattle.class_adding.specs.Looks.{AreLooks, AreFound, AreSeen, RestUndue}
 use Rattle.class_adding.specs.Work.{IsWorking, IsNext, IsSeen, IsWritten, AreUntil, nodes_in}
 use Rattle.class_adding.specs.declared.filling.Filling.{Filling}
-use Rattle.class_adding.specs.declared.gift_table.Row.{Row}
 use Rattle.class_adding.specs.declared.rounds.Round.{Round}
 use Rattle.class_adding.specs.declared.work.Work.{Work}
 use Rattle.class_adding.proofs.EndLemmas.{IsClosing, closing_start, closing_next, few_next}
@@ -94,7 +93,6 @@ module _ (s : System) (u : LabelTree) (nodes : List (List ℕ)) (k : ℕ) (known
         (subst (λ n. IsLooked s u k known' r.gains.items l.0.wake (get_or nodes n [])) l.2 (found.looks_are l.0 l.1).looked)
   ]
 
--- the round may remember more of what added children give
 not_woken : (wake : Option ℕ) (n : ℕ) → (wake ≡ Some n → ⊥) → wakes_in n wake ≡ false
 not_woken None n other = refl
 not_woken (Some r) n other = elim (cases_Bool (r == n)) [ inl same ↦ absurd (other (ap Some (eqb-true r n same))) | inr none ↦ none ]
@@ -128,10 +126,10 @@ rests_next s t u u' k k' latest known gains nodes w w' looks all after after' fr
       known gains wakes looked asleep))
 ]
 
-pub filled_next : (s : System) (t : LabelTree) (k k' latest : ℕ) (known known' : Pair → Type 0) (f f' : Filling) (r : Round) (remembered : List Row) → IsFilled s t k known f → ((q : Pair) → known q → known' q)
+pub filled_next : (s : System) (t : LabelTree) (k k' latest : ℕ) (known known' : Pair → Type 0) (f f' : Filling) (r : Round) → IsFilled s t k known f → ((q : Pair) → known q → known' q)
     → AreFound s f.labels.labels f.labels.nodes k known' f.work.due.items r → f.work.latest ≤ latest → AreUntil r.looks.items latest → latest < 2 ^ 62 → (r.gains.items ≢ []) ⊎ (k < latest)
-    → IsTaken (record { labels = f.labels; work = f.work; remembered = remembered }) r latest k' f' → k' ≡ suc k → IsFilled s t k' known' f'
-filled_next s t k k' latest known known' f f' r remembered filled more found before until bound cases taken next =
+    → IsTaken f r latest k' f' → k' ≡ suc k → IsFilled s t k' known' f'
+filled_next s t k k' latest known known' f f' r filled more found before until bound cases taken next =
     let u = f.labels.labels in
     let u' = f'.labels.labels in
     let nodes = f.labels.nodes in

@@ -19,10 +19,11 @@ use Rattle.simple_core.specs.Rounds.{grown}
 use Rattle.simple_core.proofs.Members.{flat_map-Contains, Contains-flat_map, Contains-range, all_among_each}
 use Rattle.simple_core.proofs.LabelLemmas.{given_by_links-is, is-given_by_links}
 use Rattle.simple_core.proofs.PageRest.{counted_child}
+use Rattle.rule_index.specs.Asking.{IsMore}
 use Rattle.class_adding.specs.Filling.{above_in, real_in, within_page, label_next, IsNews}
 use Rattle.closed_page.specs.Gains.{label_in}
 use Rattle.closed_page.specs.Labelled.{IsAbove}
-use Rattle.class_adding.specs.Fresh.{IsMore, AreNewIn, IsAddedIfNew, AreFollowed, set_at, IsSettled, given_at}
+use Rattle.class_adding.specs.Fresh.{AreNewIn, IsAddedIfNew, AreFollowed, set_at, IsSettled, given_at}
 use Rattle.closed_page.proofs.LabelledLemmas.{child_number}
 use Rattle.class_adding.proofs.PageLookLemmas.{given_none, label_next-parts}
 

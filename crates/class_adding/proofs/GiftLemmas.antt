@@ -1,10 +1,10 @@
 -- What is remembered of added children.
-use Rattle.std.proofs.Common.{◌≡◌, ◌↔◌, ℕ, ◌<◌, ◌^◌, nat_le, Bool, true, false, List, [], ◌∷◌, ◌++◌, map, length, Option, Some, None, IfSome, IsTrue, All, Contains, refl, sym, ap, ◌∙◌, inl, inr, arith, subst}
+use Rattle.std.proofs.Common.{◌≡◌, ◌↔◌, ℕ, ◌<◌, ◌≤◌, ◌^◌, nat_le, Bool, true, false, List, [], ◌∷◌, ◌++◌, map, length, Option, Some, None, IfSome, IsTrue, All, Contains, refl, sym, ap, ◌∙◌, inl, inr, arith, subst}
 use Rattle.std.specs.List.{filter}
 use Rattle.std.specs.List.Sorted.{IsStrictlyIncreasing}
 use Rattle.std.proofs.lemmas.List.{map-append}
 use Rattle.std.proofs.lemmas.List.Elements.{filter-append, Contains-append_cases}
-use Rattle.tp_base.specs.Classes.{has_class}
+use Rattle.tp_base.specs.Classes.{has_class, union_of}
 use Rattle.tp_base.proofs.ClassLemmas.{same_members}
 use Rattle.tp_base.proofs.Rising.{Contains-here, Contains-cons, Contains-none}
 use Rattle.simple_core.specs.declared.system.System.{System}
@@ -15,7 +15,8 @@ use Rattle.simple_core.specs.Pairs.{Pair}
 use Rattle.simple_core.proofs.RoundLemmas.{grown-one_more}
 use Rattle.class_adding.specs.declared.gifts.Gift.{Gift}
 use Rattle.class_adding.specs.declared.gift_table.Row.{Row}
-use Rattle.class_adding.specs.Filling.{GivesSame}
+use Rattle.class_adding.specs.Filling.{GivesSame, IsBefore}
+use Rattle.class_adding.specs.Fresh.{HasGiven}
 use Rattle.class_adding.specs.Gifts.{given_by, AreEarly, IsGiven, IsOf, AreGifts}
 use Rattle.class_adding.proofs.AddedLemmas.{has_from, has_never}
 
@@ -103,6 +104,17 @@ first_early rest g others (Some r) split early is =
 -- until the next gift, what a child gives stays as it is
 pub same_gifts : (s : System) (k m kind : ℕ) (seen : List ℕ) (gifts : List Gift) → IsGiven s kind seen gifts → given_by m gifts ≡ given_by k gifts → GivesSame s k m (kind, seen)
 same_gifts s k m kind seen gifts is same = sym (is.gives m) ∙ same ∙ is.gives k
+
+-- what a child gives, as a list that is lent has it
+pub has_given : (s : System) (k : ℕ) (known : Pair → Type 0) (kind : ℕ) (seen : List ℕ) (gifts lent : List Gift) (wake : Option ℕ) (old new : List ℕ) → IsGiven s kind seen gifts → lent ≡ gifts → new ≡ union_of old (given_by k lent)
+    → ((m : ℕ) → k ≤ m → IsBefore m wake → given_by m lent ≡ given_by k lent) → IfSome wake (λ r. k < r) → IfSome wake (λ r. r < 2 ^ 62) → known (kind, seen) → HasGiven s k known (kind, seen) wake old new
+has_given s k known kind seen gifts lent wake old new is same given stays after bound told = record {
+  given = given ∙ ap (λ z. union_of old z) (ap (given_by k) same ∙ is.gives k);
+  same = λ m le before. same_gifts s k m kind seen gifts is (subst (λ (z : List Gift). given_by m z ≡ given_by k z) same (stays m le before));
+  after = after;
+  bound = bound;
+  told = told;
+}
 
 -- what is remembered of a pair
 pub remembered : (s : System) (known : Pair → Type 0) (rows : List Row) (kind : ℕ) (seen : List ℕ) (r : Row) → AreGifts s known rows → Contains rows r → IsOf kind seen r → known (kind, seen) × IsGiven s kind seen r.gifts.items

@@ -8,7 +8,7 @@ use Rattle.tp_base.specs.Classes.{has_class}
 use Rattle.tp_base.proofs.ClassLemmas.{has_class-Contains, Contains-has_class}
 use Rattle.tp_base.proofs.Rising.{Contains-none, Contains-here, Contains-behind, Contains-cons}
 use Rattle.tree_sem.specs.Trees.{LabelTree}
-use Rattle.closed_page.specs.Rows.{row_of}
+use Rattle.row_index.specs.Rows.{row_of}
 use Rattle.closed_page.specs.Labelled.{AreKidsAll, IsHeard}
 use Rattle.class_adding.specs.declared.looking.Look.{Look}
 use Rattle.class_adding.specs.declared.work.Work.{Work}

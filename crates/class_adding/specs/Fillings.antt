@@ -1,7 +1,7 @@
 -- A page between its rounds.
 --     IsBegun t f            f has the labels of the page t, each of their atoms as a first of round 0, and every node is due
 --     IsTaken f r latest k f'   f' is f with what the round r brought, as round k
-use Rattle.std.specs.Prelude.{◌≡◌, ◌++◌, ◌<◌, ◌^◌, ℕ, List, [], length, Contains}
+use Rattle.std.specs.Prelude.{◌≡◌, ◌++◌, ◌<◌, ◌^◌, ℕ, List, length, Contains}
 use Rattle.std.specs.List.Sorted.{IsStrictlyIncreasing}
 use Rattle.tree_sem.specs.Trees.{LabelTree}
 use Rattle.tree_sem.specs.Order.{paths_of}
@@ -17,7 +17,6 @@ pub record IsBegun (t : LabelTree) (f : Filling) : Type 0 where
   pub few : length f.labels.firsts < 2 ^ 63
   pub rising : (v : List ℕ) → Contains f.labels.nodes v → IsStrictlyIncreasing (label_in t v)
   pub start : IsStart t f.labels.nodes f.work
-  pub remembered : f.remembered ≡ []
 
 pub record IsTaken (f : Filling) (r : Round) (latest k : ℕ) (f' : Filling) : Type 0 where
   pub labels : f'.labels.labels ≡ with_gains f.labels.labels r.gains.items
@@ -25,4 +24,3 @@ pub record IsTaken (f : Filling) (r : Round) (latest k : ℕ) (f' : Filling) : T
   pub firsts : f'.labels.firsts ≡ f.labels.firsts ++ news f.labels.labels r.gains.items k
   pub few : length f.labels.firsts < 2 ^ 63 → length f'.labels.firsts < 2 ^ 63
   pub next : IsNext f.labels.nodes f.work r.looks.items latest k f'.work
-  pub remembered : f'.remembered ≡ f.remembered

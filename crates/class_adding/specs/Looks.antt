@@ -7,11 +7,11 @@ use Rattle.std.specs.Prelude.{◌≡◌, ◌⊎◌, ◌≤◌, ◌<◌, ℕ, Lis
 use Rattle.tree_sem.specs.Trees.{LabelTree}
 use Rattle.simple_core.specs.declared.system.System.{System}
 use Rattle.simple_core.specs.Pairs.{Pair}
+use Rattle.rule_index.specs.Asking.{AreUnseen}
 use Rattle.closed_page.specs.declared.gains.Gain.{Gain}
 use Rattle.class_adding.specs.declared.looking.Look.{Look}
 use Rattle.class_adding.specs.declared.rounds.Round.{Round}
 use Rattle.class_adding.specs.Filling.{IsLooked, IsNews, AreRight, AreNew, wake_at}
-use Rattle.class_adding.specs.Fresh.{AreUnseen}
 use Rattle.class_adding.specs.Work.{IsSeen}
 
 pub record IsLook (s : System) (u : LabelTree) (k : ℕ) (known : Pair → Type 0) (gains : List Gain) (nodes : List (List ℕ)) (l : Look) : Type 0 where

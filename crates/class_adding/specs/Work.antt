@@ -7,8 +7,8 @@
 use Rattle.std.specs.Prelude.{◌≡◌, ◌⊎◌, ◌↔◌, ◌≤◌, ◌<◌, ◌^◌, ◌==◌, ℕ, List, [], ◌∷◌, ◌++◌, Option, None, length, get_or, Contains, IsTrue, IfSome}
 use Rattle.multimap.specs.Values.{values_at}
 use Rattle.tree_sem.specs.Trees.{LabelTree}
+use Rattle.row_index.specs.Rows.{row_of}
 use Rattle.closed_page.specs.Labelled.{AreAllLabels, IsParentIn, AreKidsAll, IsHeard}
-use Rattle.closed_page.specs.Rows.{row_of}
 use Rattle.class_adding.specs.Filling.{wake_at}
 use Rattle.class_adding.specs.declared.looking.Look.{Look}
 use Rattle.class_adding.specs.declared.work.Work.{Work}

@@ -1,5 +1,5 @@
 //! What is remembered of added children, so that each is asked for once.
-ghost use Rattle.std.specs.Prelude.{◌≡◌, ◌∷◌, ◌++◌, [], Contains, IfSome, IsTrue, OnOk};
+ghost use Rattle.std.specs.Prelude.{◌≡◌, ◌∷◌, ◌++◌, [], Contains, IfSome, IsTrue, OnOk, OnErr};
 ghost use Rattle.class_adding.specs.Gifts.{IsOf};
 
 use crate::gifts::Gift;
@@ -63,7 +63,8 @@ impl GiftTable {
 
     /// Puts a row behind all.
     pub(crate) fn push(&mut self, row: Row) -> Result<(), NoMemory>
-        ensures { OnOk result (self.new ≡ self.old ++ row ∷ []) }
+        ensures put { OnOk result (self.new ≡ self.old ++ row ∷ []) }
+        ensures refused { OnErr result (self.new ≡ self.old) }
     {
         let number = number_of(row.kind, &row.seen);
         self.places.insert(number, self.rows.len())?;

@@ -4,8 +4,8 @@ ghost use Rattle.tp_base.specs.Classes.{union_of};
 ghost use Rattle.class_adding.specs.Gifts.{given_by, AreEarly, IsGiven};
 ghost use Rattle.class_adding.specs.Filling.{IsBefore};
 
-use crate::indexed_system::IndexedSystem;
 use gathered::Gathered;
+use rule_index::IndexedSystem;
 use simple_core::Summaries;
 use std::alloc::Global;
 use tp_base::{Atom, ClassSet, NoMemory};

@@ -1,14 +1,15 @@
 //! What is still to come to the nodes of a page, from one round to the next.
-ghost use Rattle.std.specs.Prelude.{◌≡◌, ◌≤◌, ◌<◌, ℕ, List, [], None, length, get_or, set, Contains, IfOk, OnOk, IfSome, IsTrue};
+ghost use Rattle.std.specs.Prelude.{◌≡◌, ◌≤◌, ◌<◌, ℕ, [], None, length, get_or, set, Contains, IfOk, OnOk, IfSome, IsTrue};
+ghost use Rattle.row_index.specs.Rows.{row_of};
 ghost use Rattle.closed_page.specs.Labelled.{AreKidsAll, IsHeard};
-ghost use Rattle.closed_page.specs.Rows.{row_of};
 ghost use Rattle.class_adding.specs.declared.looking.Look.{Look};
 ghost use Rattle.class_adding.specs.Work.{IsLessOf, IsWritten, IsAwaited, AreAwaited, AreUntil, AreNumbers, nodes_in, IsNext, IsStart};
 
 use crate::due::next_due;
 use crate::looking::Look;
-use closed_page::{Index, PageLabels};
+use closed_page::PageLabels;
 use multimap::Multimap;
+use row_index::Index;
 use std::alloc::Global;
 use tp_base::{ClassSet, NoMemory};
 

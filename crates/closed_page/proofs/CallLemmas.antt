@@ -3,10 +3,10 @@ use Rattle.std.proofs.Common.{◌≡◌, ◌⊎◌, ℕ, ◌+◌, ◌<◌, List,
 use Rattle.std.proofs.lemmas.Bool.{cases_lt}
 use Rattle.std.proofs.lemmas.List.Elements.{Contains-get_or, Contains-append_left, Contains-append_right, Contains-append_cases}
 use Rattle.tp_base.proofs.Rising.{Contains-none, Contains-here, Contains-cons}
-use Rattle.closed_page.specs.Rows.{row_of, IsNoted}
+use Rattle.row_index.specs.Rows.{row_of, IsNoted}
+use Rattle.row_index.proofs.RowLemmas.{noted_kept, noted_cases}
 use Rattle.closed_page.specs.Labelled.{IsAbove, IsParentIn, AreKidsAll, IsHeard, IsCalled}
-use Rattle.closed_page.proofs.RowLemmas.{noted_kept, noted_cases}
-use Rattle.closed_page.proofs.LabelledLemmas.{same_parent}
+use Rattle.tree_sem.proofs.PathLemmas.{same_parent}
 
 pub pushed : {X : Type 0} (old new : List X) (x y : X) → new ≡ old ++ x ∷ [] → Contains new y → Contains old y ⊎ (y ≡ x)
 pushed old new x y is there = elim (Contains-append_cases old (x ∷ []) y (subst (λ z. Contains z y) is there)) [

@@ -18,7 +18,7 @@ use Rattle.closed_page.specs.ClosedPages.{round_of}
 use Rattle.closed_page.specs.Views.{PageFirst, firsts_of}
 use Rattle.closed_page.specs.Labelled.{IsAbove}
 use Rattle.closed_page.specs.Firsts.{path_to, IsSpot, IsSpotOf, placed_one, placed, AreSpots, AreOfNodes, AreRooted, AreKept, IsFirstAt, IsRoundIn}
-use Rattle.closed_page.proofs.LabelledLemmas.{same_parent}
+use Rattle.tree_sem.proofs.PathLemmas.{same_parent}
 
 -- ---- the round that stands with a node and an atom
 

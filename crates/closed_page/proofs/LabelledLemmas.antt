@@ -2,27 +2,24 @@
 use Rattle.tree_sem.proofs.EditLemmas.{node_at-label_at}
 use Rattle.tree_sem.specs.Nodes.{IsNode}
 use Rattle.tree_sem.proofs.RestLemmas.{Before-irreflexive, AllPairs-paths_of}
-use Rattle.std.proofs.Common.{◌≡◌, ◌≢◌, ℕ, ◌+◌, ◌<◌, List, [], ◌∷◌, ◌++◌, length, get_or, set, slice_get, Option, Some, None, IsSome, option_map, unwrap_or, Contains, take, refl, sym, ap, ◌∙◌, inl, inr, arith, subst, All}
-use Rattle.std.proofs.lemmas.List.{take_more, length-take-le, length_push, get_or_append_left, get_or_push, get_or_default, get_or-set_same, get_or-set_other}
+use Rattle.std.proofs.Common.{◌≡◌, ◌≢◌, ℕ, ◌+◌, ◌<◌, List, [], ◌∷◌, ◌++◌, length, get_or, set, slice_get, Option, Some, None, IsSome, option_map, unwrap_or, Contains, refl, sym, ap, ◌∙◌, inl, inr, arith, subst, All}
+use Rattle.std.proofs.lemmas.List.{length_push, get_or_append_left, get_or_push, get_or_default, get_or-set_same, get_or-set_other}
 use Rattle.std.proofs.lemmas.Bool.{cases_lt, cases_order}
-use Rattle.std.proofs.lemmas.List.Elements.{Contains-get_or, Contains-append_right}
-use Rattle.tp_base.proofs.Rising.{Contains-here, Contains-none, All-from_Contains}
+use Rattle.std.proofs.lemmas.List.Elements.{Contains-get_or}
+use Rattle.tp_base.proofs.Rising.{All-from_Contains}
 use Rattle.std.proofs.lemmas.Option.{slice_get_within, slice_get-get_or, get_or_from_slice_get}
 use Rattle.std.proofs.Math.ListN.{length-set}
 use Rattle.tp_base.specs.Classes.{union_of}
-use Rattle.tp_base.proofs.Lists.{slice_get-append_left, slice_get-push}
 use Rattle.tree_sem.specs.Trees.{LabelTree, node_at, label_at, children_at, edit_at, count_of, length_of}
 use Rattle.tree_sem.specs.Order.{paths_of, Before}
 use Rattle.tree_sem.specs.Actions.{add_classes}
+use Rattle.row_index.specs.Rows.{row_of, AreByNumber}
 use Rattle.closed_page.proofs.AddLemmas.{label_at-add_classes, label_at-add_classes_other, IsSome-add_classes}
-use Rattle.tree_sem.proofs.PathLemmas.{parent_of-child}
-use Rattle.tree_sem.specs.Paths.{parent_of}
+use Rattle.tree_sem.proofs.PathLemmas.{same_parent}
 use Rattle.tree_sem.proofs.RowLemmas.{node_at-child, tree_of-number}
 use Rattle.tree_sem.proofs.NodeLemmas.{Contains-paths_of, length-paths_of}
 use Rattle.closed_page.specs.Firsts.{AreRooted}
-use Rattle.closed_page.specs.Rows.{row_of, IsNoted, IsNotedIf, AreByNumber}
 use Rattle.closed_page.specs.Labelled.{IsAbove, AreKids, AreAllAbove, AreAllLabels, AreRelated}
-use Rattle.closed_page.proofs.RowLemmas.{last_at, noted_kept, noted_cases}
 
 -- ---- the numbers of the parents
 
@@ -69,52 +66,6 @@ labels_next u nodes nodes' own own' v l before here more_nodes more_own =
     } in
     let last : label_at (get_or nodes' n []) u ≡ Some l = ap (λ z. label_at z u) (ap (λ z. get_or z n []) more_nodes ∙ get_or_push nodes v [] n refl) ∙ here in
     subst (AreAllLabels u nodes' own') (sym long) (labels_more u nodes' own own' n l kept last more_own)
-
--- ---- the numbers of the children
-
-pub kids_start : (rows : List (List ℕ)) → rows ≡ [] → AreByNumber [] rows
-kids_start rows none = record {
-  whole = λ i j at. let never : None ≡ Some (Some j) = at in cc;
-  only = λ j i there. absurd (Contains-none i (subst (λ (z : List (List ℕ)). Contains (row_of z j) i) none there));
-}
-
-module _ (parents : List (Option ℕ)) (i : ℕ) (o : Option ℕ) (less : i < length parents) (at : o ≡ get_or parents i o) where
-  longer : take (i + 1) parents ≡ take i parents ++ o ∷ []
-  longer = take_more parents i o less ∙ (λ n. take i parents ++ sym at n ∷ [])
-
-  long : length (take i parents) ≡ i
-  long = length-take-le i parents (omega (arith, less))
-
-  pub kids_none : (rows : List (List ℕ)) → o ≡ None → AreByNumber (take i parents) rows → AreByNumber (take (i + 1) parents) rows
-  kids_none rows none before = subst (λ (xs : List (Option ℕ)). AreByNumber xs rows) (sym longer) (record {
-    whole = λ c j at_c. elim (last_at (take i parents) o c (Some j) at_c) [
-      | inl old ↦ before.whole c j old
-      | inr last ↦ let never : Some j ≡ None = last.1 ∙ none in cc
-    ];
-    only = λ j c there. let old = before.only j c there in slice_get-append_left (take i parents) (o ∷ []) c (slice_get_within (take i parents) c (Some j) old) ∙ old;
-  })
-
-  pub kids_some : (old new : List (List ℕ)) (p : ℕ) → o ≡ Some p → IsNoted old new p i → AreByNumber (take i parents) old → AreByNumber (take (i + 1) parents) new
-  kids_some old new p some noted before = subst (λ (xs : List (Option ℕ)). AreByNumber xs new) (sym longer) (record {
-    whole = λ c j at_c. elim (last_at (take i parents) o c (Some j) at_c) [
-      | inl earlier ↦ noted_kept old new p i noted j c (before.whole c j earlier)
-      | inr last ↦
-          let both : Some j ≡ Some p = last.1 ∙ some in
-          let same : j ≡ p = cc in
-          let place : c ≡ i = last.0 ∙ long in
-          subst (λ z. Contains (row_of new z) c) (sym same) (subst (λ z. Contains (row_of new p) z) (sym place) (subst (λ (z : List ℕ). Contains z i) (sym noted.here) (Contains-append_right (row_of old p) (i ∷ []) i (Contains-here i i [] refl))))
-    ];
-    only = λ j c there. elim (noted_cases old new p i noted j c there) [
-      | inl earlier ↦ let h = before.only j c earlier in slice_get-append_left (take i parents) (o ∷ []) c (slice_get_within (take i parents) c (Some j) h) ∙ h
-      | inr last ↦ ap (slice_get (take i parents ++ o ∷ [])) (last.1 ∙ sym long) ∙ slice_get-push (take i parents) o ∙ ap Some (some ∙ ap Some (sym last.0))
-    ];
-  })
-
-pub kids_next : (parents : List (Option ℕ)) (i : ℕ) (old new : List (List ℕ)) → i < length parents → IsNotedIf old new (get_or parents i None) i → AreByNumber (take i parents) old → AreByNumber (take (i + 1) parents) new
-kids_next parents i old new less below before = elim (get_or parents i None) as (λ (o : Option ℕ). o ≡ get_or parents i o → IsNotedIf old new o i → AreByNumber (take (i + 1) parents) new) [
-  | None ↦ λ at same. kids_none parents i None less at new refl (subst (λ (z : List (List ℕ)). AreByNumber (take i parents) z) (sym same) before)
-  | Some p ↦ λ at noted. kids_some parents i (Some p) less at old new p refl noted before
-] (get_or_default parents i None (get_or parents i None) less) below
 
 -- ---- all of a page
 
@@ -169,20 +120,12 @@ related_more u nodes parents kids own i more longer is less longer_is =
 
 -- ---- what is next to a node
 
-pub same_parent : (p q : List ℕ) (n m : ℕ) → p ++ n ∷ [] ≡ q ++ m ∷ [] → p ≡ q
-same_parent p q n m same =
-    let both : Some p ≡ Some q = sym (parent_of-child p n) ∙ ap parent_of same ∙ parent_of-child q m in
-    cc
-
 -- a child in the page has a number below the count
 pub child_number : (v : List ℕ) (n : ℕ) (t : LabelTree) → IsSome (node_at (v ++ n ∷ []) t) → n < unwrap_or (children_at v t) 0
 child_number v n t is =
     let family = node_at-child v n t is in
     let count : children_at v t ≡ Some (length_of family.0.below) = ap (option_map (λ (s : LabelTree). length_of s.below)) family.2 in
     subst (λ o. n < unwrap_or o 0) (sym count) (tree_of-number family.0.below n family.1 family.3)
-
-some_label : (v : List ℕ) (t : LabelTree) (l : List ℕ) → label_at v t ≡ Some l → IsSome (node_at v t)
-some_label v t l at = elim (node_at v t) as (λ o. option_map (λ (s : LabelTree). s.label) o ≡ Some l → IsSome o) [ None ↦ λ e. cc | Some s ↦ λ e. refl ] at
 
 module _ (u : LabelTree) (nodes : List (List ℕ)) (parents : List (Option ℕ)) (kids own : List (List ℕ)) (is : AreRelated u nodes parents kids own) (i : ℕ) (less : i < length nodes) where
   pub above_is : IsAbove nodes (get_or nodes i []) (get_or parents i None)

@@ -5,5 +5,4 @@ pub mod FirstsLemmas
 mod GainLemmas
 pub mod LabelledLemmas
 mod OrderLemmas
-pub mod RowLemmas
 mod PathTests

@@ -10,7 +10,7 @@ use Rattle.std.specs.Prelude.{◌≡◌, ℕ, ◌<◌, List, [], ◌∷◌, ◌+
 use Rattle.std.specs.Coded.{Coded, code_by, coded×, coded_ℕ, coded_list}
 use Rattle.tree_sem.specs.Trees.{LabelTree, node_at, label_at}
 use Rattle.tree_sem.specs.TreeCode.{tree_code}
-use Rattle.closed_page.specs.Rows.{row_of, AreByNumber}
+use Rattle.row_index.specs.Rows.{row_of, AreByNumber}
 use Rattle.closed_page.specs.Views.{PageFirst, page_first_code}
 
 pub record Labelled : Type 0 where

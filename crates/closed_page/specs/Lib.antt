@@ -4,5 +4,4 @@ pub mod FirstChildren
 pub mod Firsts
 pub mod Gains
 pub mod Labelled
-pub mod Rows
 pub mod Views

@@ -1,10 +1,10 @@
 //! The first rounds of a page, found by the parents of its nodes.
-ghost use Rattle.std.specs.Prelude.{◌≡◌, ◌==◌, ◌&&◌, ◌<◌, ◌≤◌, ◌∷◌, ◌++◌, ℕ, List, [], None, length, get_or, IfOk, OnOk, true, false};
+ghost use Rattle.std.specs.Prelude.{◌≡◌, ◌==◌, ◌&&◌, ◌<◌, ◌≤◌, ◌∷◌, ◌++◌, ℕ, List, [], None, length, get_or, OnOk, true, false};
 ghost use Rattle.std.specs.List.Sorted.{IsPartitionPoint, IsSorted, IsStrictlyIncreasing};
 ghost use Rattle.std.specs.Ordering.{is_lt};
 ghost use Rattle.closed_page.specs.ClosedPages.{round_of};
 ghost use Rattle.closed_page.specs.FirstChildren.{IsFirstChild};
-ghost use Rattle.closed_page.specs.Firsts.{placed, first_cmp, AreKept, AreOfNodes, AreRooted, AreSpots, IsSpotOf, IsRoundIn, IsChildIn};
+ghost use Rattle.closed_page.specs.Firsts.{placed, first_cmp, AreKept, AreRooted, AreSpots, IsSpotOf, IsRoundIn, IsChildIn};
 ghost use Rattle.closed_page.specs.Gains.{rows_at};
 ghost use Rattle.closed_page.specs.Labelled.{AreAllAbove};
 ghost use Rattle.closed_page.specs.Views.{firsts_of};

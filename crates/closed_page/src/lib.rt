@@ -4,12 +4,10 @@
 mod closed;
 mod first_rounds;
 mod gains;
-mod index;
 mod nodes;
 mod page_labels;
 mod paths;
 
 pub use closed::Closed;
 pub use gains::{Gain, apply_gains};
-pub use index::Index;
 pub use page_labels::PageLabels;

@@ -1,5 +1,5 @@
 //! The nodes of a page, found by their paths.
-ghost use Rattle.std.specs.Prelude.{◌≡◌, ◌≢◌, ◌<◌, ℕ, [], length, get_or, Contains, IfSome, IsNone, IfOk};
+ghost use Rattle.std.specs.Prelude.{◌≡◌, ◌<◌, ℕ, [], length, get_or, Contains, IfSome, IsNone, IfOk};
 
 use crate::paths::same_path;
 use indexmap::IndexMap;

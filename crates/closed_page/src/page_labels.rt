@@ -1,5 +1,5 @@
 //! The labels of a page and their first rounds, by the numbers of its nodes in the order of the document.
-ghost use Rattle.std.specs.Prelude.{◌≡◌, ◌<◌, ◌⊎◌, ◌↔◌, ◌++◌, ◌^◌, ℕ, [], Some, None, length, get_or, unwrap_or, option_copied, IfOk, OnOk, OnErr, IfSome, IsSome, IsNone, List, Contains, All};
+ghost use Rattle.std.specs.Prelude.{◌≡◌, ◌<◌, ◌⊎◌, ◌↔◌, ◌++◌, ◌^◌, ℕ, [], Some, None, length, get_or, IfOk, OnOk, OnErr, IfSome, IsSome, IsNone, List, Contains};
 ghost use Rattle.tree_sem.specs.Trees.{node_at, label_at, edit_at};
 ghost use Rattle.tree_sem.specs.Nodes.{IsNode};
 ghost use Rattle.tree_sem.specs.Order.{paths_of};
@@ -12,9 +12,9 @@ ghost use Rattle.closed_page.specs.Views.{firsts_of};
 ghost use Rattle.closed_page.specs.Labelled.{node_of, IsAbove, AreKids, IsParentIn, AreKidsAll, IsHeard, IsCalled, AreAllAbove, AreAllLabels};
 
 use crate::first_rounds::{FirstRounds, NodeFirst, Spot, note, spot_of};
-use crate::index::Index;
 use crate::nodes::PageNodes;
 use crate::paths::{all_nodes, copies, is_step};
+use row_index::Index;
 use std::alloc::Global;
 use std::marker::Model;
 use tp_base::{ClassSet, NoMemory, Path};

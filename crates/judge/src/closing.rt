@@ -14,7 +14,7 @@ use tree_sem::Tree;
 
 /// Closes the page by a table that has no pair yet, where no more are needed than its limit. It costs what `close_page` costs over
 /// the table.
-pub(crate) fn close_within(
+pub(crate) fn close_by_table(
     alloc: Global,
     page: &Tree,
     system: &System,
@@ -34,7 +34,7 @@ pub(crate) fn close_within(
 }
 
 /// Closes the page by diagrams. It costs what `close_page` costs over them.
-pub(crate) fn close_shared(
+pub(crate) fn close_by_diagrams(
     alloc: Global,
     page: &Tree,
     system: &System,

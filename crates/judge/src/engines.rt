@@ -1,170 +1,124 @@
-//! The answers by a system, from a table of pairs or from diagrams. Each function owns one large value and lends it on.
-ghost use Rattle.std.specs.Prelude.{◌≡◌, ◌≤◌, [], true, false, None, map, IfOk, IfErr};
+//! The answers to a question, by a table of pairs or by diagrams. Each function owns one large value and lends it on.
+ghost use Rattle.std.specs.Prelude.{◌≡◌, [], true, false, None, map, IfOk};
 ghost use Rattle.usage_report.specs.Views.{answer_of};
-ghost use Rattle.limits.specs.declared.budgets.TheConstants.{MOST_BRANCHES};
-ghost use Rattle.simple_core.specs.Systems.{IsSound};
 ghost use Rattle.simple_core.specs.Pairs.{Pair, Asked};
 ghost use Rattle.closed_page.specs.ClosedPages.{IsClosedPage};
-ghost use Rattle.proof_maker.specs.Forests.{KeepsForests};
 ghost use Rattle.saturation.specs.Budgets.{HasToBeSpent};
-ghost use Rattle.proof_core.specs.declared.unfolded.TheConstants.{MOST_LISTED};
-ghost use Rattle.judge.specs.BySeen.{AreSaid, AreBySeen};
+ghost use Rattle.judge.specs.BySeen.{AreSaid};
+ghost use Rattle.judge.specs.Grounds.{IsAnswerable, AreAnswersTo};
 
 use crate::answering::{all_answers, all_spent};
-use crate::closing::{close_shared, close_within};
-use crate::faults::JudgeFault;
-use crate::proving::Ground;
+use crate::closing::{close_by_diagrams, close_by_table};
+use crate::grounds::{Ground, Question};
 use class_adding::Closed;
-use guard_simplify::Simplified;
-use limits::Limits;
 use need_table::PlainSummaries;
 use proof_maker::Rules;
 use saturation::SharedSummaries;
 use simple_core::{GainFault, Summaries};
-use std::alloc::Global;
 use tp_base::NoMemory;
-use tree_sem::Tree;
 use usage_report::Answer;
 
 // The answers by a closed page, whose pairs the summaries know.
-fn answers_by<S: Summaries>(
-    alloc: Global,
-    page: &Tree,
-    made: &Simplified,
+fn by_closed_page<S: Summaries>(
+    question: &Question<'_>,
     closed: &Closed,
     sums: &S,
-    limits: &Limits,
 ) -> Result<Vec<Answer>, NoMemory>
-    requires sound { IsSound made.now.system }
-    requires forests { KeepsForests made.now.system page.now }
-    requires list { limits.now.list ≤ MOST_LISTED }
-    requires closed { IsClosedPage made.now.system page.now closed.now }
-    requires made { S.system sums.now ≡ made.now.system }
-    requires known { (q : Pair) → Asked made.now.system page.now q → S.known sums.now q }
-    ensures { IfOk result (λ v. AreSaid made.now.system page.now limits.now closed.now.labels.label made.now.seen (map answer_of v.items)) }
+    requires answerable { IsAnswerable question.now }
+    requires closed { IsClosedPage question.now.made.now.system question.now.page.now closed.now }
+    requires made { S.system sums.now ≡ question.now.made.now.system }
+    requires known { (q : Pair) → Asked question.now.made.now.system question.now.page.now q → S.known sums.now q }
+    ensures { IfOk result (λ v. AreSaid question.now.made.now.system question.now.page.now question.now.limits.now closed.now.labels.label question.now.made.now.seen (map answer_of v.items)) }
 {
-    let rules = Rules::of(alloc, &made.system)?;
+    let rules = Rules::of(question.alloc, &question.made.system)?;
     let ground = Ground {
-        page,
-        system: &made.system,
+        alloc: question.alloc,
+        page: question.page,
+        system: &question.made.system,
         rules: &rules,
         closed,
-        limits,
+        limits: question.limits,
     };
-    all_answers(alloc, &ground, sums, made.seen.items())
+    all_answers(&ground, sums, question.made.seen.items())
 }
 
-// The answers by a table, whose pairs stand in it from then on.
-fn plain_within(
-    alloc: Global,
-    page: &Tree,
-    made: &Simplified,
+// The answers by a table without pairs, in which those that the page asks stand from then on.
+fn by_empty_table(
+    question: &Question<'_>,
     sums: &mut PlainSummaries,
-    limits: &Limits,
-) -> Result<Vec<Answer>, JudgeFault>
-    requires sound { IsSound made.now.system }
-    requires forests { KeepsForests made.now.system page.now }
-    requires list { limits.now.list ≤ MOST_LISTED }
-    requires made { sums.old.system ≡ made.now.system }
+) -> Result<Vec<Answer>, NoMemory>
+    requires answerable { IsAnswerable question.now }
+    requires made { sums.old.system ≡ question.now.made.now.system }
     requires none { sums.old.known ≡ [] }
     requires unspent { sums.old.spent ≡ None }
-    requires pairs { sums.old.pairs ≡ limits.now.pairs }
-    ensures answers { IfOk result (λ v. AreBySeen true made.now.system made.now.seen page.now limits.now (map answer_of v.items)) }
-    ensures only_memory { IfErr result (λ e. e ≡ JudgeFault.Memory) }
+    requires pairs { sums.old.pairs ≡ question.now.limits.now.pairs }
+    ensures { IfOk result (λ v. AreAnswersTo question.now true (map answer_of v.items)) }
 {
-    match close_within(alloc, page, &made.system, sums) {
+    match close_by_table(question.alloc, question.page, &question.made.system, sums) {
         Ok(closed) => {
-            let answers = answers_by(alloc, page, made, &closed, sums, limits)?;
+            let answers = by_closed_page(question, &closed, sums)?;
             Ok(answers)
         }
         Err(GainFault::Spent) => {
-            let answers = all_spent(alloc, made.seen.items())?;
+            let answers = all_spent(question.alloc, question.made.seen.items())?;
             Ok(answers)
         }
-        Err(GainFault::Memory) => Err(JudgeFault::Memory),
+        Err(GainFault::Memory) => Err(NoMemory),
     }
 }
 
 // The answers by a table of pairs.
-fn plain_answers(
-    alloc: Global,
-    page: &Tree,
-    made: &Simplified,
-    limits: &Limits,
-) -> Result<Vec<Answer>, JudgeFault>
-    requires sound { IsSound made.now.system }
-    requires forests { KeepsForests made.now.system page.now }
-    requires list { limits.now.list ≤ MOST_LISTED }
-    ensures answers { IfOk result (λ v. AreBySeen true made.now.system made.now.seen page.now limits.now (map answer_of v.items)) }
-    ensures only_memory { IfErr result (λ e. e ≡ JudgeFault.Memory) }
+fn by_table(question: &Question<'_>) -> Result<Vec<Answer>, NoMemory>
+    requires answerable { IsAnswerable question.now }
+    ensures { IfOk result (λ v. AreAnswersTo question.now true (map answer_of v.items)) }
 {
-    let mut sums = PlainSummaries::new(alloc, &made.system, limits.pairs)?;
-    plain_within(alloc, page, made, &mut sums, limits)
+    let mut sums = PlainSummaries::new(
+        question.alloc,
+        &question.made.system,
+        question.limits.pairs,
+    )?;
+    by_empty_table(question, &mut sums)
 }
 
 // The answers by diagrams that were built.
-fn shared_within(
-    alloc: Global,
-    page: &Tree,
-    made: &Simplified,
+fn by_built_diagrams(
+    question: &Question<'_>,
     sums: &mut SharedSummaries,
-    limits: &Limits,
-) -> Result<Vec<Answer>, JudgeFault>
-    requires sound { IsSound made.now.system }
-    requires forests { KeepsForests made.now.system page.now }
-    requires list { limits.now.list ≤ MOST_LISTED }
-    requires made { sums.old.system ≡ made.now.system }
-    requires room { ¬ HasToBeSpent made.now.system limits.now.nodes }
-    ensures answers { IfOk result (λ v. AreBySeen false made.now.system made.now.seen page.now limits.now (map answer_of v.items)) }
-    ensures only_memory { IfErr result (λ e. e ≡ JudgeFault.Memory) }
+) -> Result<Vec<Answer>, NoMemory>
+    requires answerable { IsAnswerable question.now }
+    requires made { sums.old.system ≡ question.now.made.now.system }
+    requires room { ¬ HasToBeSpent question.now.made.now.system question.now.limits.now.nodes }
+    ensures { IfOk result (λ v. AreAnswersTo question.now false (map answer_of v.items)) }
 {
-    let closed = close_shared(alloc, page, &made.system, sums)?;
-    let answers = answers_by(alloc, page, made, &closed, sums, limits)?;
+    let closed = close_by_diagrams(question.alloc, question.page, &question.made.system, sums)?;
+    let answers = by_closed_page(question, &closed, sums)?;
     Ok(answers)
 }
 
 // The answers by diagrams.
-fn shared_answers(
-    alloc: Global,
-    page: &Tree,
-    made: &Simplified,
-    limits: &Limits,
-) -> Result<Vec<Answer>, JudgeFault>
-    requires sound { IsSound made.now.system }
-    requires forests { KeepsForests made.now.system page.now }
-    requires list { limits.now.list ≤ MOST_LISTED }
-    requires nodes { limits.now.nodes ≤ MOST_BRANCHES }
-    ensures answers { IfOk result (λ v. AreBySeen false made.now.system made.now.seen page.now limits.now (map answer_of v.items)) }
-    ensures only_memory { IfErr result (λ e. e ≡ JudgeFault.Memory) }
+fn by_diagrams(question: &Question<'_>) -> Result<Vec<Answer>, NoMemory>
+    requires answerable { IsAnswerable question.now }
+    ensures { IfOk result (λ v. AreAnswersTo question.now false (map answer_of v.items)) }
 {
-    match SharedSummaries::build(alloc, &made.system, limits.nodes) {
-        Ok(mut sums) => shared_within(alloc, page, made, &mut sums, limits),
+    match SharedSummaries::build(question.alloc, &question.made.system, question.limits.nodes) {
+        Ok(mut sums) => by_built_diagrams(question, &mut sums),
         Err(GainFault::Spent) => {
-            let answers = all_spent(alloc, made.seen.items())?;
+            let answers = all_spent(question.alloc, question.made.seen.items())?;
             Ok(answers)
         }
-        Err(GainFault::Memory) => Err(JudgeFault::Memory),
+        Err(GainFault::Memory) => Err(NoMemory),
     }
 }
 
-/// The answers by a system, from a table of pairs where `limits.plain` says so, else from diagrams. Diagrams are built once,
-/// before the page is looked at, and a table grows with what the page asks.
-pub(crate) fn answers_of(
-    alloc: Global,
-    page: &Tree,
-    made: &Simplified,
-    limits: &Limits,
-) -> Result<Vec<Answer>, JudgeFault>
-    requires sound { IsSound made.now.system }
-    requires forests { KeepsForests made.now.system page.now }
-    requires list { limits.now.list ≤ MOST_LISTED }
-    requires nodes { limits.now.nodes ≤ MOST_BRANCHES }
-    ensures answers { IfOk result (λ v. AreBySeen limits.now.plain made.now.system made.now.seen page.now limits.now (map answer_of v.items)) }
-    ensures only_memory { IfErr result (λ e. e ≡ JudgeFault.Memory) }
+/// The answers, by a table of pairs where `limits.plain` says so, else by diagrams. Diagrams are built once, before the page is
+/// looked at, and a table grows with what the page asks.
+pub(crate) fn answers_to(question: &Question<'_>) -> Result<Vec<Answer>, NoMemory>
+    requires answerable { IsAnswerable question.now }
+    ensures { IfOk result (λ v. AreAnswersTo question.now question.now.limits.now.plain (map answer_of v.items)) }
 {
-    if limits.plain {
-        plain_answers(alloc, page, made, limits)
+    if question.limits.plain {
+        by_table(question)
     } else {
-        shared_answers(alloc, page, made, limits)
+        by_diagrams(question)
     }
 }

@@ -1,20 +1,20 @@
 //! What is said of each selector of a sheet, and of further guards.
 ghost use Rattle.std.specs.Prelude.{◌≡◌, ◌≤◌, [], length, map, IfOk, IfErr, OnOk};
 ghost use Rattle.limits.specs.declared.budgets.TheConstants.{MOST_BRANCHES};
-ghost use Rattle.simple_core.specs.Systems.{IsSound};
 ghost use Rattle.jq_sem.specs.Views.{statements_of};
 ghost use Rattle.css_read.specs.Views.{item_of};
-ghost use Rattle.proof_maker.specs.Forests.{KeepsForests};
 ghost use Rattle.usage_report.specs.Views.{answer_of};
 ghost use Rattle.proof_core.specs.declared.unfolded.TheConstants.{MOST_LISTED};
 ghost use Rattle.judge.specs.Dealing as spec;
 ghost use Rattle.judge.specs.Dealing.{AreDealt};
+ghost use Rattle.judge.specs.Grounds.{MayBeAsked};
 ghost use Rattle.judge.specs.Outcomes.{AreGiven, IsFault, IsWithin, AreJudged, IsJudged, system_in};
 
 use crate::both::{Answers, Both};
 use crate::dealing::{for_guards, for_items};
-use crate::engines::answers_of;
+use crate::engines::answers_to;
 use crate::faults::JudgeFault;
+use crate::grounds::Question;
 use crate::simplifying::simplify_all;
 use css_read::{Sheet, SheetItem};
 use guard_sem::Guard;
@@ -56,15 +56,18 @@ fn judged_by(
     made: Simplified,
     limits: &Limits,
 ) -> Result<Both, JudgeFault>
-    requires sound { IsSound made.system }
-    requires forests { KeepsForests made.system page.now }
-    requires list { limits.now.list ≤ MOST_LISTED }
-    requires nodes { limits.now.nodes ≤ MOST_BRANCHES }
+    requires { MayBeAsked made.system page.now limits.now }
     ensures answers { IfOk result (λ b. AreDealt limits.now.plain made.system made.seen page.now (map item_of items.now) limits.now (map answer_of b.items) (map answer_of b.extra)) }
     ensures system { IfOk result (λ b. b.system ≡ made.system) }
     ensures only_memory { IfErr result (λ e. e ≡ JudgeFault.Memory) }
 {
-    let answers = answers_of(alloc, page, &made, limits)?;
+    let question = Question {
+        alloc,
+        page,
+        made: &made,
+        limits,
+    };
+    let answers = answers_to(&question)?;
     let both = dealt(alloc, items, answers, made.system)?;
     Ok(both)
 }

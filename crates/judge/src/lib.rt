@@ -8,6 +8,7 @@ mod copying;
 mod dealing;
 mod engines;
 mod faults;
+mod grounds;
 mod judging;
 mod laws;
 mod memo;

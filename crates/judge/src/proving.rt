@@ -1,12 +1,9 @@
 //! What is said of an atom that the page's root has: its proof, how many steps it has, and the steps if they are few.
-ghost use Rattle.std.specs.Prelude.{◌≡◌, ◌≤◌, [], length, IfOk};
+ghost use Rattle.std.specs.Prelude.{◌≤◌, [], length, IfOk};
 ghost use Rattle.tree_sem.specs.Nodes.{HasAtom};
 ghost use Rattle.simple_core.specs.Systems.{IsSound};
-ghost use Rattle.simple_core.specs.Pairs.{Pair, Asked};
-ghost use Rattle.closed_page.specs.ClosedPages.{IsClosedPage};
 ghost use Rattle.proof_check.specs.Unfolding.{unfolded};
 ghost use Rattle.proof_check.specs.Validity.{IsValid};
-ghost use Rattle.proof_maker.specs.Forests.{KeepsForests};
 ghost use Rattle.proof_maker.specs.Needs.{IsCanonical};
 ghost use Rattle.proof_maker.specs.PlaceMemos.{IsPlaceMemo};
 ghost use Rattle.usage_report.specs.Views.{answer_of};
@@ -15,25 +12,12 @@ ghost use Rattle.judge.specs.Answers.{IsShown};
 ghost use Rattle.judge.specs.BySeen.{IsSaidProved};
 ghost use Rattle.judge.specs.Grounds.{IsReady};
 
-use class_adding::Closed;
-use limits::Limits;
+use crate::grounds::Ground;
 use proof_core::{Proof, UnfoldFault, Unfolded, steps, unfold};
-use proof_maker::{PlaceMemo, ProofGround, ProveFault, Rules, prove_next};
-use simple_core::{Summaries, System};
-use std::alloc::Global;
+use proof_maker::{PlaceMemo, ProofGround, ProveFault, prove_next};
+use simple_core::Summaries;
 use tp_base::{Atom, NoMemory};
-use tree_sem::Tree;
 use usage_report::Answer;
-
-/// What all answers are read from: a page, a system with its rules looked up, and the page that it closes.
-#[derive(Clone, Copy)]
-pub(crate) struct Ground<'a> {
-    pub(crate) page: &'a Tree,
-    pub(crate) system: &'a System,
-    pub(crate) rules: &'a Rules,
-    pub(crate) closed: &'a Closed,
-    pub(crate) limits: &'a Limits,
-}
 
 // What the proof unfolds to, where it has no more steps than are listed.
 fn listed(ground: &Ground<'_>, proof: &Proof, atom: Atom) -> Result<Option<Unfolded>, NoMemory>
@@ -43,8 +27,7 @@ fn listed(ground: &Ground<'_>, proof: &Proof, atom: Atom) -> Result<Option<Unfol
     ensures { IfOk result (λ shown. IsShown (unfolded ground.now.system.now proof.now ground.now.page.now atom) ground.now.limits.now.list shown) }
 {
     let list = u64::from(ground.limits.list);
-    let alloc = proof.entries.allocator();
-    match unfold(alloc, proof, ground.system, ground.page, atom, list) {
+    match unfold(ground.alloc, proof, ground.system, ground.page, atom, list) {
         Ok(unfolded) => Ok(Some(unfolded)),
         Err(UnfoldFault::OverLimit) => Ok(None),
         Err(UnfoldFault::Memory) => Err(NoMemory),
@@ -71,7 +54,6 @@ fn used_by(ground: &Ground<'_>, proof: Proof, atom: Atom) -> Result<Answer, NoMe
 
 /// The answer for an atom that the closed root has. It costs what `prove_next` and `unfold` cost.
 pub(crate) fn proved<S: Summaries>(
-    alloc: Global,
     ground: &Ground<'_>,
     sums: &S,
     places: &mut PlaceMemo,
@@ -90,7 +72,7 @@ pub(crate) fn proved<S: Summaries>(
         rules: ground.rules,
         closed: ground.closed,
     };
-    match prove_next(alloc, &base, sums, places, atom, entries) {
+    match prove_next(ground.alloc, &base, sums, places, atom, entries) {
         Ok(proof) => used_by(ground, proof, atom),
         Err(ProveFault::Unshown) => Ok(Answer::UsedUnshown),
         Err(ProveFault::Memory) => Err(NoMemory),

@@ -1,11 +1,11 @@
 -- What the table says, and what it says after one step of filling it.
-use Rattle.std.proofs.Common.{◌≡◌, ◌≢◌, ◌⊎◌, ℕ, zero, suc, ◌<◌, ◌≤◌, true, false, not, nat_le, List, [], ◌∷◌, ◌++◌, map, length, set, Option, Some, None, slice_get, IsSomeAnd, Result, Ok, Err, OnOk, OnErr, Contains, refl, sym, ap, ◌∙◌, inl, inr, arith, subst, length-append}
+use Rattle.std.proofs.Common.{◌≡◌, ◌≢◌, ◌⊎◌, ℕ, zero, suc, ◌<◌, ◌≤◌, false, not, List, [], ◌∷◌, ◌++◌, map, length, set, Option, Some, None, slice_get, IsSomeAnd, Result, Ok, Err, OnOk, OnErr, Contains, refl, sym, ap, ◌∙◌, inl, inr, arith, subst, length-append}
 use Rattle.std.specs.List.{filter}
-use Rattle.std.proofs.lemmas.Bool.{cases_Bool, cases_lt, cases_order, both_ways, le-leb, leb-true}
+use Rattle.std.proofs.lemmas.Bool.{cases_Bool, cases_lt, cases_order, both_ways}
 use Rattle.std.proofs.lemmas.List.{map-append, length-map, append_assoc, append-nil}
 use Rattle.std.proofs.lemmas.List.Elements.{Contains-append_left, Contains-append_right, Contains-append_cases}
-use Rattle.tp_base.specs.Classes.{has_class}
-use Rattle.tp_base.proofs.ClassLemmas.{same_members, has_class-Contains, Contains-has_class}
+use Rattle.tp_base.specs.Classes.{has_class, union_of}
+use Rattle.tp_base.proofs.ClassLemmas.{same_members, has_class-Contains, Contains-has_class, Contains-union_of, IsStrictlyIncreasing-union_of}
 use Rattle.tp_base.proofs.Rising.{All-from_Contains, Contains-here, Contains-behind, Contains-cons, Contains-none}
 use Rattle.tp_base.proofs.Lists.{Contains-at, at_Contains, slice_get-push}
 use Rattle.tree_sem.proofs.NodeLemmas.{Contains-map, map-Contains}
@@ -15,45 +15,46 @@ use Rattle.simple_core.specs.Labels.{set_of}
 use Rattle.simple_core.specs.Rounds.{grown, IsFirst}
 use Rattle.simple_core.specs.Pairs.{Pair, Asks, Needed, AreDifferent, HasMore}
 use Rattle.simple_core.proofs.Members.{Among, among_all, filter-Contains, Contains-filter}
-use Rattle.simple_core.proofs.RoundLemmas.{set_of-is, is-set_of, set_of-rises, grown-rises, grown-later, grown-one_more}
-use Rattle.simple_core.proofs.RestLemmas.{first_is}
+use Rattle.simple_core.proofs.RoundLemmas.{set_of-is, is-set_of, set_of-rises, grown-rises, grown-later}
 use Rattle.simple_core.proofs.PairLemmas.{different_push, one_more}
 use Rattle.need_table.specs.declared.entries.First.{First}
 use Rattle.need_table.specs.declared.entries.Entry.{Entry}
-use Rattle.need_table.specs.Tables.{pair_of, atoms_by, fresh_of, labels, IsDone, IsHeard, IsUpTo, IsTable, IsKept, IsMore, NotedAt, IsUntouched, AreNeeded}
+use Rattle.need_table.specs.Tables.{pair_of, fresh_of, labels, AreInOrder, IsDone, IsHeard, IsAskedAt, IsUpTo, IsTable, IsKept, IsMore, NotedAt, IsUntouched, AreNeeded}
 use Rattle.need_table.specs.Agendas.{IsKnown, IsAppended}
+use Rattle.need_table.proofs.OrderLemmas.{order_one, order_more}
 
-le_test : (m n : ℕ) → m ≤ n → nat_le m n ≡ true
-le_test m n le = le-leb m n le
-
-test_le : (m n : ℕ) → nat_le m n ≡ true → m ≤ n
-test_le m n h = leb-true m n h
-
-atoms_by-is : (k : ℕ) (firsts : List First) (a : ℕ) → Contains (atoms_by k firsts) a → (f : First) × Contains firsts f × (f.round ≤ k) × (f.atom ≡ a)
-atoms_by-is k firsts a there =
-    let of = map-Contains (λ (f : First). f.atom) (filter (λ (f : First). nat_le f.round k) firsts) a there in
-    let kept = filter-Contains (λ (f : First). nat_le f.round k) firsts of.0 of.1 in
-    (of.0, kept.0, test_le of.0.round k kept.1, sym of.2)
-
-is-atoms_by : (k : ℕ) (firsts : List First) (f : First) → Contains firsts f → f.round ≤ k → Contains (atoms_by k firsts) f.atom
-is-atoms_by k firsts f there le =
-    Contains-map (λ (f : First). f.atom) (filter (λ (f : First). nat_le f.round k) firsts) f (Contains-filter (λ (f : First). nat_le f.round k) firsts f there (le_test f.round k le))
-
--- the label of a round that is known
-pub label_is : (s : System) (e : Entry) (k : ℕ) → IsKnown s k e → set_of (atoms_by k e.firsts.items) ≡ grown s k e.kind e.parent
-label_is s e k known =
-    let atoms = atoms_by k e.firsts.items in
+-- the label of the last round
+pub label_now : (s : System) (e : Entry) (k : ℕ) → IsUpTo s e → e.rounds ≡ Some k → e.label ≡ labels s (pair_of e) k
+label_now s e k up rounds =
+    let atoms = map (λ (f : First). f.atom) e.firsts.items in
     let label = grown s k e.kind e.parent in
-    same_members (set_of atoms) label (set_of-rises atoms) (grown-rises s k e.kind e.parent)
+    up.all ∙ same_members (set_of atoms) label (set_of-rises atoms) (grown-rises s k e.kind e.parent)
     (among_all (set_of atoms) label (λ a there.
-    let of = atoms_by-is k e.firsts.items a (set_of-is atoms a there) in
-    let first = known.first of.0 of.1 in
-    subst (λ z. Contains label z) of.3 (grown-later s e.kind e.parent of.0.round k of.2 of.0.atom first.0)))
+    let f = map-Contains (λ (f : First). f.atom) e.firsts.items a (set_of-is atoms a there) in
+    let right = up.right f.0 f.1 in
+    let le : f.0.round ≤ k = subst (λ o. IsDone o f.0.round) rounds right.0 in
+    subst (λ z. Contains label z) (sym f.2) (grown-later s e.kind e.parent f.0.round k le f.0.atom right.1.0)))
     (among_all label (set_of atoms) (λ a there.
-    let f = known.whole k a (omega arith) there in
-    let first = known.first f.0 f.1 in
-    let le = (first_is (labels s (pair_of e)) (grown-one_more s e.kind e.parent) f.0.atom f.0.round first k).0 (subst (λ z. Contains label z) (sym f.2) there) in
-    is-set_of atoms a (subst (λ z. Contains atoms z) f.2 (is-atoms_by k e.firsts.items f.0 f.1 le))))
+    let f = up.whole k a (subst (λ o. IsDone o k) (sym rounds) (omega arith)) there in
+    is-set_of atoms a (subst (λ z. Contains atoms z) f.2 (Contains-map (λ (f : First). f.atom) e.firsts.items f.0 f.1))))
+
+-- the set of all atoms, with those of more firsts
+all_more : (xs ys : List First) (old new : List ℕ) → old ≡ set_of (map (λ f. f.atom) xs) → new ≡ union_of old (set_of (map (λ f. f.atom) ys)) → new ≡ set_of (map (λ f. f.atom) (xs ++ ys))
+all_more xs ys old new was is =
+    let some = map (λ (f : First). f.atom) xs in
+    let more = map (λ (f : First). f.atom) ys in
+    let both = union_of (set_of some) (set_of more) in
+    is ∙ ap (λ z. union_of z (set_of more)) was
+    ∙ same_members both (set_of (some ++ more)) (IsStrictlyIncreasing-union_of (set_of some) (set_of more) (set_of-rises some)) (set_of-rises (some ++ more))
+    (among_all both (set_of (some ++ more)) (λ a there. is-set_of (some ++ more) a (elim ((Contains-union_of (set_of some) (set_of more) a).0 there) [
+      | inl old ↦ Contains-append_left some more a (set_of-is some a old)
+      | inr new ↦ Contains-append_right some more a (set_of-is more a new)
+    ])))
+    (among_all (set_of (some ++ more)) both (λ a there. (Contains-union_of (set_of some) (set_of more) a).1 (elim (Contains-append_cases some more a (set_of-is (some ++ more) a there)) [
+      | inl old ↦ inl (is-set_of some a old)
+      | inr new ↦ inr (is-set_of more a new)
+    ])))
+    ∙ ap set_of (sym (map-append (λ (f : First). f.atom) xs ys))
 
 -- the rounds that were worked out are known
 pub up_known : (s : System) (e : Entry) (k : ℕ) → IsUpTo s e → e.rounds ≡ Some k → IsKnown s k e
@@ -76,8 +77,8 @@ is-fresh_of own round next a there new =
     Contains-map (λ (a : ℕ). let g : First = record { atom = a; round = round } in g) (filter (λ a. not (has_class a own)) next) a (Contains-filter (λ a. not (has_class a own)) next a there (ap not new))
 
 -- a new pair, in round 0
-pub first_up : (s : System) (e : Entry) → e.rounds ≡ Some 0 → e.firsts.items ≡ fresh_of [] 0 (kind_label s e.kind) → IsUpTo s e
-first_up s e at firsts = record {
+pub first_up : (s : System) (e : Entry) → e.rounds ≡ Some 0 → e.firsts.items ≡ fresh_of [] 0 (kind_label s e.kind) → e.label ≡ set_of (map (λ f. f.atom) e.firsts.items) → IsUpTo s e
+first_up s e at firsts all = record {
   right = λ f there.
       let of = fresh_of-is [] 0 (kind_label s e.kind) f (subst (λ (z : List First). Contains z f) firsts there) in (
         subst (λ o. IsDone o f.round) (sym at) (omega (arith, of.2)),
@@ -88,12 +89,15 @@ first_up s e at firsts = record {
       let none : k ≡ 0 = omega arith in
       let start : Contains (grown s 0 e.kind e.parent) a = subst (λ z. Contains (grown s z e.kind e.parent) a) none there in
       (record { atom = a; round = 0 }, subst (λ (z : List First). Contains z (record { atom = a; round = 0 })) (sym firsts) (is-fresh_of [] 0 (kind_label s e.kind) a (set_of-is (kind_label s e.kind) a start) refl), refl);
+  order = subst AreInOrder (sym firsts) (order_one (fresh_of [] 0 (kind_label s e.kind)) 0 (λ f there. (fresh_of-is [] 0 (kind_label s e.kind) f there).2));
+  all = all;
 }
 
 -- one round more
 pub next_up : (s : System) (e e' : Entry) (k : ℕ) → IsUpTo s e → e.rounds ≡ Some k → pair_of e' ≡ pair_of e → e'.rounds ≡ Some (suc k)
-    → e'.firsts.items ≡ e.firsts.items ++ fresh_of (labels s (pair_of e) k) (suc k) (labels s (pair_of e) (suc k)) → IsUpTo s e'
-next_up s e e' k up at pair at' firsts =
+    → e'.firsts.items ≡ e.firsts.items ++ fresh_of (labels s (pair_of e) k) (suc k) (labels s (pair_of e) (suc k))
+    → e'.label ≡ union_of e.label (set_of (map (λ f. f.atom) (fresh_of (labels s (pair_of e) k) (suc k) (labels s (pair_of e) (suc k))))) → IsUpTo s e'
+next_up s e e' k up at pair at' firsts label =
     let own = labels s (pair_of e) k in
     let next = labels s (pair_of e) (suc k) in
     let new = fresh_of own (suc k) next in
@@ -126,6 +130,9 @@ next_up s e e' k up at pair at' firsts =
                   (record { atom = a; round = suc k }, subst (λ (z : List First). Contains z (record { atom = a; round = suc k })) (sym firsts) (Contains-append_right e.firsts.items new (record { atom = a; round = suc k }) (is-fresh_of own (suc k) next a in_next none)), refl)
             ]
           ];
+      order = subst AreInOrder (sym firsts)
+          (order_more e.firsts.items new k (suc k) up.order (λ f old. subst (λ o. IsDone o f.round) at (up.right f old).0) (omega arith) (λ f late. (fresh_of-is own (suc k) next f late).2));
+      all = all_more e.firsts.items new e.label e'.label up.all label ∙ ap (λ (z : List First). set_of (map (λ (f : First). f.atom) z)) (sym firsts);
     }
 
 -- an entry in another's place, and one behind all
@@ -165,31 +172,33 @@ push-at (z ∷ xs) y zero x at = at
 push-at (z ∷ xs) y (suc i) x at = push-at xs y i x at
 
 -- the same places have the pairs
+pub place_set : (P : Pair → Type 0) (entries : List Entry) (i : ℕ) (e e' : Entry) (j : ℕ) → slice_get entries i ≡ Some e → pair_of e' ≡ pair_of e → IsSomeAnd (slice_get entries j) (λ c. P (pair_of c))
+    → IsSomeAnd (slice_get (set entries i e') j) (λ c. P (pair_of c))
+place_set P entries i e e' j at pair there = elim (cases_order j i) [
+  | inl same ↦
+      let here : P (pair_of e) = subst (λ o. IsSomeAnd o (λ c. P (pair_of c))) (ap (slice_get entries) same ∙ at) there in
+      subst (λ o. IsSomeAnd o (λ c. P (pair_of c))) (sym (ap (slice_get (set entries i e')) same ∙ set-here entries i e e' at)) (subst P (sym pair) here)
+  | inr (inl less) ↦ subst (λ o. IsSomeAnd o (λ c. P (pair_of c))) (sym (set-other entries i j e' (λ e. omega arith))) there
+  | inr (inr more) ↦ subst (λ o. IsSomeAnd o (λ c. P (pair_of c))) (sym (set-other entries i j e' (λ e. omega arith))) there
+]
+
 pub heard_set : (entries : List Entry) (i : ℕ) (e e' : Entry) (children : List ℕ) (r : Pair) → slice_get entries i ≡ Some e → pair_of e' ≡ pair_of e → IsHeard entries children r → IsHeard (set entries i e') children r
-heard_set entries i e e' children r at pair (j, among, there) = (
-  j,
-  among,
-  elim (cases_order j i) [
-    | inl same ↦
-        let here : IsSomeAnd (Some e) (λ c. pair_of c ≡ r) = subst (λ o. IsSomeAnd o (λ c. pair_of c ≡ r)) (ap (slice_get entries) same ∙ at) there in
-        subst (λ o. IsSomeAnd o (λ c. pair_of c ≡ r)) (sym (ap (slice_get (set entries i e')) same ∙ set-here entries i e e' at)) (pair ∙ here)
-    | inr (inl less) ↦ subst (λ o. IsSomeAnd o (λ c. pair_of c ≡ r)) (sym (set-other entries i j e' (λ e. omega arith))) there
-    | inr (inr more) ↦ subst (λ o. IsSomeAnd o (λ c. pair_of c ≡ r)) (sym (set-other entries i j e' (λ e. omega arith))) there
-  ],
-)
+heard_set entries i e e' children r at pair (j, among, there) = (j, among, place_set (λ (q : Pair). q ≡ r) entries i e e' j at pair there)
 
 -- the table with one round more of an entry
 pub table_set : (s : System) (pairs : ℕ) (entries : List Entry) (i : ℕ) (e e' : Entry) (k : ℕ) → IsTable s pairs entries → slice_get entries i ≡ Some e
     → e.rounds ≡ Some k → pair_of e' ≡ pair_of e → e'.rounds ≡ Some (suc k)
     → e'.firsts.items ≡ e.firsts.items ++ fresh_of (labels s (pair_of e) k) (suc k) (labels s (pair_of e) (suc k))
     → ((r : Pair) → Asks s (labels s (pair_of e) k) r → Contains (map pair_of entries) r)
-    → ((r : Pair) → Asks s (labels s (pair_of e) k) r → IsHeard entries e'.children.items r) → IsTable s pairs (set entries i e')
-table_set s pairs entries i e e' k table at rounds pair rounds' firsts asks heard =
+    → ((r : Pair) → Asks s (labels s (pair_of e) k) r → IsHeard entries e'.children.items r)
+    → ((j : ℕ) → Contains e'.children.items j → IsAskedAt s entries (labels s (pair_of e) k) j)
+    → e'.label ≡ union_of e.label (set_of (map (λ f. f.atom) (fresh_of (labels s (pair_of e) k) (suc k) (labels s (pair_of e) (suc k))))) → IsTable s pairs (set entries i e')
+table_set s pairs entries i e e' k table at rounds pair rounds' firsts asks heard only label =
     let same = set-alike pair_of entries i e e' at pair in
     record {
       sound = table.sound;
       up_to = λ x there. elim (set-Contains entries i e' x there) [
-        | inl new ↦ subst (λ (z : Entry). IsUpTo s z) (sym new) (next_up s e e' k (table.up_to e (Contains-at entries i e at)) rounds pair rounds' firsts)
+        | inl new ↦ subst (λ (z : Entry). IsUpTo s z) (sym new) (next_up s e e' k (table.up_to e (Contains-at entries i e at)) rounds pair rounds' firsts label)
         | inr old ↦ table.up_to x old
       ];
       asked = λ x there m r done asked. subst (λ (z : List Pair). Contains z r) (sym same) (elim (set-Contains entries i e' x there) [
@@ -209,6 +218,14 @@ table_set s pairs entries i e e' k table at rounds pair rounds' firsts asks hear
             let asked' : Asks s (labels s (pair_of e) m) r = subst (λ (q : Pair). Asks s (labels s q m) r) (ap pair_of new ∙ pair) asked in
             subst (λ (z : Entry). IsHeard (set entries i e') z.children.items r) (sym new)
             (heard_set entries i e e' e'.children.items r at pair (heard r (subst (λ z. Asks s (labels s (pair_of e) z) r) last asked')))
+      ];
+      only = λ x there m j at_m child. elim (set-Contains entries i e' x there) [
+        | inr old ↦ place_set (Asks s (labels s (pair_of x) m)) entries i e e' j at pair (table.only x old m j at_m child)
+        | inl new ↦
+            let last : m ≡ k = let both : Some (suc m) ≡ Some (suc k) = sym at_m ∙ ap (λ (z : Entry). z.rounds) new ∙ rounds' in cc in
+            let same_label : labels s (pair_of e) k ≡ labels s (pair_of x) m = ap (λ z. labels s (pair_of e) z) (sym last) ∙ ap (λ (q : Pair). labels s q m) (sym (ap pair_of new ∙ pair)) in
+            place_set (Asks s (labels s (pair_of x) m)) entries i e e' j at pair
+            (subst (λ (z : List ℕ). IsAskedAt s entries z j) same_label (only j (subst (λ (z : Entry). Contains z.children.items j) new child)))
       ];
       different = subst AreDifferent (sym same) table.different;
       few = let few = table.few in omega (arith, set-length entries i e');
@@ -273,26 +290,26 @@ more_push entries e = record {
   longer = omega (arith, length-append entries (e ∷ []));
 }
 
+place_push : (P : Entry → Type 0) (entries : List Entry) (e : Entry) (j : ℕ) → IsSomeAnd (slice_get entries j) P → IsSomeAnd (slice_get (entries ++ e ∷ []) j) P
+place_push P entries e j there =
+    elim (slice_get entries j) as (λ o. slice_get entries j ≡ o → IsSomeAnd o P → IsSomeAnd (slice_get (entries ++ e ∷ []) j) P) [
+      | None ↦ λ at none. absurd none
+      | Some c ↦ λ at is. subst (λ o. IsSomeAnd o P) (sym (push-at entries e j c at)) is
+    ] refl there
+
 heard_push : (entries : List Entry) (e : Entry) (children : List ℕ) (r : Pair) → IsHeard entries children r → IsHeard (entries ++ e ∷ []) children r
-heard_push entries e children r (j, among, there) = (
-  j,
-  among,
-  elim (slice_get entries j) as (λ o. slice_get entries j ≡ o → IsSomeAnd o (λ c. pair_of c ≡ r) → IsSomeAnd (slice_get (entries ++ e ∷ []) j) (λ c. pair_of c ≡ r)) [
-    | None ↦ λ at none. absurd none
-    | Some c ↦ λ at is. subst (λ o. IsSomeAnd o (λ c. pair_of c ≡ r)) (sym (push-at entries e j c at)) is
-  ] refl there,
-)
+heard_push entries e children r (j, among, there) = (j, among, place_push (λ (c : Entry). pair_of c ≡ r) entries e j there)
 
 pub table_push : (s : System) (pairs : ℕ) (entries : List Entry) (e : Entry) → IsTable s pairs entries → length entries < pairs → (Contains (map pair_of entries) (pair_of e) → ⊥)
-    → e.rounds ≡ Some 0 → e.firsts.items ≡ fresh_of [] 0 (kind_label s e.kind) → IsTable s pairs (entries ++ e ∷ [])
-table_push s pairs entries e table room new rounds firsts =
+    → e.rounds ≡ Some 0 → e.firsts.items ≡ fresh_of [] 0 (kind_label s e.kind) → e.label ≡ set_of (map (λ f. f.atom) e.firsts.items) → IsTable s pairs (entries ++ e ∷ [])
+table_push s pairs entries e table room new rounds firsts all =
     let same = map-append pair_of entries (e ∷ []) in
     record {
       sound = table.sound;
       up_to = λ x there. elim (Contains-append_cases entries (e ∷ []) x there) [
         | inl old ↦ table.up_to x old
         | inr last ↦ elim ((Contains-cons x e []).0 last) [
-          | inl here ↦ subst (λ (z : Entry). IsUpTo s z) (sym here) (first_up s e rounds firsts)
+          | inl here ↦ subst (λ (z : Entry). IsUpTo s z) (sym here) (first_up s e rounds firsts all)
           | inr none ↦ absurd (Contains-none x none)
         ]
       ];
@@ -307,6 +324,13 @@ table_push s pairs entries e table room new rounds firsts =
         | inl old ↦ heard_push entries e x.children.items r (table.heard x old m r at_m asked)
         | inr last ↦ elim ((Contains-cons x e []).0 last) [
           | inl here ↦ let never : Some (suc m) ≡ Some 0 = sym at_m ∙ ap (λ (z : Entry). z.rounds) here ∙ rounds in cc
+          | inr none ↦ absurd (Contains-none x none)
+        ]
+      ];
+      only = λ x there m j at_m child. elim (Contains-append_cases entries (e ∷ []) x there) [
+        | inl old ↦ place_push (λ (c : Entry). Asks s (labels s (pair_of x) m) (pair_of c)) entries e j (table.only x old m j at_m child)
+        | inr last ↦ elim ((Contains-cons x e []).0 last) [
+          | inl here ↦ let never : Some (suc m) ≡ Some 0 = sym at_m ∙ ap (λ (z : Entry). z.rounds) here ∙ rounds in absurd (cc)
           | inr none ↦ absurd (Contains-none x none)
         ]
       ];
@@ -343,10 +367,10 @@ pub record IsPushed (s : System) (pairs : ℕ) (old new : List Entry) (q : Pair)
   pub needed : (qs : List Pair) → AreNeeded s qs old → Needed s (Contains qs) q → AreNeeded s qs new
 
 pub pushed : (s : System) (pairs : ℕ) (old new : List Entry) (q : Pair) (e : Entry) → IsTable s pairs old → length old < pairs → (Contains (map pair_of old) q → ⊥)
-    → pair_of e ≡ q → e.rounds ≡ Some 0 → e.children.items ≡ [] → e.firsts.items ≡ fresh_of [] 0 (kind_label s q.0) → new ≡ old ++ e ∷ [] → IsPushed s pairs old new q
-pushed s pairs old new q e table room absent pair rounds none firsts is = subst (λ (z : List Entry). IsPushed s pairs old z q) (sym is) (record {
+    → pair_of e ≡ q → e.rounds ≡ Some 0 → e.children.items ≡ [] → e.firsts.items ≡ fresh_of [] 0 (kind_label s q.0) → e.label ≡ set_of (map (λ f. f.atom) e.firsts.items) → new ≡ old ++ e ∷ [] → IsPushed s pairs old new q
+pushed s pairs old new q e table room absent pair rounds none firsts all is = subst (λ (z : List Entry). IsPushed s pairs old z q) (sym is) (record {
   table = table_push s pairs old e table room (λ there. absent (subst (λ z. Contains (map pair_of old) z) pair there)) rounds
-      (subst (λ (z : Pair). e.firsts.items ≡ fresh_of [] 0 (kind_label s z.0)) (sym pair) firsts);
+      (subst (λ (z : Pair). e.firsts.items ≡ fresh_of [] 0 (kind_label s z.0)) (sym pair) firsts) all;
   more = more_push old e;
   place = subst (λ o. IsSomeAnd o (λ e. pair_of e ≡ q)) (sym (slice_get-push old e)) pair;
   appended = (
@@ -369,43 +393,6 @@ full s pairs entries q table all absent qs needed one =
     subst (HasMore (Needed s (Contains qs))) same
     (one_more (Needed s (Contains qs)) (map pair_of entries) q table.different (All-from_Contains (Needed s (Contains qs)) (map pair_of entries) needed) absent one)
 
--- an entry that only looks another
-up_same : (s : System) (e e' : Entry) → IsUpTo s e → pair_of e' ≡ pair_of e → e'.rounds ≡ e.rounds → e'.firsts.items ≡ e.firsts.items → IsUpTo s e'
-up_same s e e' up pair rounds firsts = record {
-  right = λ f there.
-      let was = up.right f (subst (λ (z : List First). Contains z f) firsts there) in
-      (subst (λ o. IsDone o f.round) (sym rounds) was.0, subst (λ (q : Pair). IsFirst (labels s q) f.atom (Some f.round)) (sym pair) was.1);
-  whole = λ k a done there.
-      let f = up.whole k a (subst (λ o. IsDone o k) rounds done) (subst (λ (q : Pair). Contains (labels s q k) a) pair there) in
-      (f.0, subst (λ (z : List First). Contains z f.0) (sym firsts) f.1, f.2);
-}
-
-pub table_same : (s : System) (pairs : ℕ) (entries : List Entry) (i : ℕ) (e e' : Entry) → IsTable s pairs entries → slice_get entries i ≡ Some e
-    → pair_of e' ≡ pair_of e → e'.rounds ≡ e.rounds → e'.firsts.items ≡ e.firsts.items → e'.children.items ≡ e.children.items → IsTable s pairs (set entries i e')
-table_same s pairs entries i e e' table at pair rounds firsts children =
-    let same = set-alike pair_of entries i e e' at pair in
-    record {
-      sound = table.sound;
-      up_to = λ x there. elim (set-Contains entries i e' x there) [
-        | inl new ↦ subst (λ (z : Entry). IsUpTo s z) (sym new) (up_same s e e' (table.up_to e (Contains-at entries i e at)) pair rounds firsts)
-        | inr old ↦ table.up_to x old
-      ];
-      asked = λ x there m r done asked. subst (λ (z : List Pair). Contains z r) (sym same) (elim (set-Contains entries i e' x there) [
-        | inr old ↦ table.asked x old m r done asked
-        | inl new ↦ table.asked e (Contains-at entries i e at) m r (subst (λ o. IsDone o (suc m)) (ap (λ (z : Entry). z.rounds) new ∙ rounds) done)
-            (subst (λ (q : Pair). Asks s (labels s q m) r) (ap pair_of new ∙ pair) asked)
-      ]);
-      heard = λ x there m r at_m asked. elim (set-Contains entries i e' x there) [
-        | inr old ↦ heard_set entries i e e' x.children.items r at pair (table.heard x old m r at_m asked)
-        | inl new ↦
-            subst (λ (z : List ℕ). IsHeard (set entries i e') z r) (sym (ap (λ (z : Entry). z.children.items) new ∙ children))
-            (heard_set entries i e e' e.children.items r at pair
-            (table.heard e (Contains-at entries i e at) m r (sym rounds ∙ sym (ap (λ (z : Entry). z.rounds) new) ∙ at_m) (subst (λ (q : Pair). Asks s (labels s q m) r) (ap pair_of new ∙ pair) asked)))
-      ];
-      different = subst AreDifferent (sym same) table.different;
-      few = let few = table.few in omega (arith, set-length entries i e');
-    }
-
 -- worked out up to k, and not only up to k
 pub farther : (o : Option ℕ) (k : ℕ) → IsDone o k → o ≢ Some k → IsDone o (suc k)
 farther None k done other = tt
@@ -415,7 +402,7 @@ farther (Some n) k done other = elim (cases_order n k) [
   | inr (inr more) ↦ omega arith
 ]
 
--- the table after a round was noted, or couldn't be
+-- the table after a round was noted
 pub record IsStep (s : System) (pairs : ℕ) (old new : List Entry) : Type 0 where
   pub table : IsTable s pairs new
   pub more : IsMore old new
@@ -423,9 +410,10 @@ pub record IsStep (s : System) (pairs : ℕ) (old new : List Entry) : Type 0 whe
 
 pub noted_step : (s : System) (pairs : ℕ) (old new : List Entry) (i : ℕ) (k : ℕ) (firsts : List First) (children : List ℕ) (e : Entry) → IsTable s pairs old → slice_get old i ≡ Some e
     → firsts ≡ fresh_of (labels s (pair_of e) k) (suc k) (labels s (pair_of e) (suc k))
-    → ((r : Pair) → Asks s (labels s (pair_of e) k) r → Contains (map pair_of old) r) → ((r : Pair) → Asks s (labels s (pair_of e) k) r → IsHeard old children r) → IsDone e.rounds k
+    → ((r : Pair) → Asks s (labels s (pair_of e) k) r → Contains (map pair_of old) r) → ((r : Pair) → Asks s (labels s (pair_of e) k) r → IsHeard old children r)
+    → ((j : ℕ) → Contains children j → IsAskedAt s old (labels s (pair_of e) k) j) → IsDone e.rounds k
     → NotedAt old new i k firsts children e → IsStep s pairs old new × IsSomeAnd (slice_get new i) (λ x. IsDone x.rounds (suc k))
-noted_step s pairs old new i k firsts children e table at fresh asks heard done (inl (e', is, rounds, pair, rounds', firsts', children')) =
+noted_step s pairs old new i k firsts children e table at fresh asks heard only done (inl (e', is, rounds, pair, rounds', firsts', children', label')) =
     let kept : IsKept e e' = record {
       pair = pair;
       rounds = λ m done. let le : m ≤ k = subst (λ o. IsDone o m) rounds done in subst (λ o. IsDone o m) (sym rounds') (omega arith);
@@ -433,14 +421,15 @@ noted_step s pairs old new i k firsts children e table at fresh asks heard done 
     } in (
       record {
         table = subst (λ (z : List Entry). IsTable s pairs z) (sym is) (table_set s pairs old i e e' k table at rounds pair rounds' (firsts' ∙ ap (λ z. e.firsts.items ++ z) fresh)
-            asks (λ r asked. subst (λ (z : List ℕ). IsHeard old z r) (sym children') (heard r asked)));
+            asks (λ r asked. subst (λ (z : List ℕ). IsHeard old z r) (sym children') (heard r asked)) (λ j child. only j (subst (λ (z : List ℕ). Contains z j) children' child))
+            (label' ∙ ap (λ (z : List First). union_of e.label (set_of (map (λ (f : First). f.atom) z))) fresh));
         more = subst (λ (z : List Entry). IsMore old z) (sym is) (more_set old i e e' at kept);
         same = ap (map pair_of) is ∙ set-alike pair_of old i e e' at pair;
       },
       subst (λ (z : List Entry). IsSomeAnd (slice_get z i) (λ x. IsDone x.rounds (suc k))) (sym is)
           (subst (λ o. IsSomeAnd o (λ x. IsDone x.rounds (suc k))) (sym (set-here old i e e' at)) (subst (λ o. IsDone o (suc k)) (sym rounds') (omega arith))),
     )
-noted_step s pairs old new i k firsts children e table at fresh asks heard done (inr (is, other)) = (
+noted_step s pairs old new i k firsts children e table at fresh asks heard only done (inr (is, other)) = (
   record {
     table = subst (λ (z : List Entry). IsTable s pairs z) (sym is) table;
     more = subst (λ (z : List Entry). IsMore old z) (sym is) (more_itself old);
@@ -450,18 +439,14 @@ noted_step s pairs old new i k firsts children e table at fresh asks heard done 
       (subst (λ o. IsSomeAnd o (λ x. IsDone x.rounds (suc k))) (sym at) (farther e.rounds k done other)),
 )
 
-pub untouched_step : (s : System) (pairs : ℕ) (old new : List Entry) (i : ℕ) (e : Entry) → IsTable s pairs old → slice_get old i ≡ Some e → IsUntouched old new i → IsStep s pairs old new
-untouched_step s pairs old new i e table at touch =
+pub untouched_more : (old new : List Entry) (i : ℕ) (e : Entry) → slice_get old i ≡ Some e → IsUntouched old new i → IsMore old new
+untouched_more old new i e at touch =
     let (e', is, some, pair, rounds, firsts, children) = touch e at in
-    record {
-      table = subst (λ (z : List Entry). IsTable s pairs z) (sym is) (table_same s pairs old i e e' table at pair rounds firsts children);
-      more = subst (λ (z : List Entry). IsMore old z) (sym is) (more_set old i e e' at (record {
-        pair = pair;
-        rounds = λ m done. subst (λ o. IsDone o m) (sym rounds) done;
-        at_rest = λ rest. absurd (some rest);
-      }));
-      same = ap (map pair_of) is ∙ set-alike pair_of old i e e' at pair;
-    }
+    subst (λ (z : List Entry). IsMore old z) (sym is) (more_set old i e e' at (record {
+      pair = pair;
+      rounds = λ m done. subst (λ o. IsDone o m) (sym rounds) done;
+      at_rest = λ rest. absurd (some rest);
+    }))
 
 pub on_err : {T E : Type 0} (P : Type 0) (r : Result T E) → P → OnErr r P
 on_err P (Ok x) h = tt

@@ -20,8 +20,9 @@ use Rattle.need_table.specs.declared.entries.Entry.{Entry}
 use Rattle.need_table.specs.declared.agenda.Agenda.{Agenda}
 use Rattle.need_table.specs.Rows.{row_in, IsRicher, IsEmptyBelow, IsDue}
 use Rattle.need_table.specs.Agendas.{IsBehind, AreKnown, Hears, IsGoing, IsAppended}
-use Rattle.need_table.specs.Tables.{pair_of, labels, raised, rested, IsDone, IsHeard, IsUpTo, IsTable, IsMore, AllRest}
-use Rattle.need_table.proofs.FillLemmas.{set-alike, set-length, set-here, set-other, set-Contains, heard_set, more_set}
+use Rattle.need_table.specs.Tables.{pair_of, labels, raised, rested, IsDone, IsHeard, IsAskedAt, IsUpTo, IsTable, IsMore, AllRest}
+use Rattle.need_table.proofs.OrderLemmas.{appended_at}
+use Rattle.need_table.proofs.FillLemmas.{set-alike, set-length, set-here, set-other, set-Contains, place_set, heard_set, more_set}
 use Rattle.need_table.proofs.ChildLemmas.{some_at}
 use Rattle.need_table.proofs.RowLemmas.{due_later}
 
@@ -111,6 +112,13 @@ module _ (s : System) (pairs : ℕ) (entries : List Entry) (g : Agenda) (go : Is
       let same = still i n m e at rounds (omega arith) less in
       go.table.heard e (Contains-at entries i e at) n r rounds (subst (λ (z : List ℕ). Asks s z r) same asks)
 
+  -- and nothing else stands there
+  only_early : (i n m j : ℕ) (e : Entry) → slice_get entries i ≡ Some e → e.rounds ≡ Some n → n ≤ suc m → m < k → Contains e.children.items j → IsAskedAt s entries (labels s (pair_of e) m) j
+  only_early i zero m j e at rounds from less child = absurd (not_start i e at rounds (omega arith))
+  only_early i (suc n) m j e at rounds from less child =
+      let same = still i n m e at rounds (omega arith) less in
+      subst (λ (z : List ℕ). IsAskedAt s entries z j) (sym same) (go.table.only e (Contains-at entries i e at) n j rounds child)
+
 -- an entry in another's place, as it is read
 set_cases : (entries : List Entry) (i : ℕ) (e e' : Entry) (j : ℕ) (x : Entry) → slice_get entries i ≡ Some e → slice_get (set entries i e') j ≡ Some x → ((j ≡ i) × (x ≡ e')) ⊎ ((j ≢ i) × (slice_get entries j ≡ Some x))
 set_cases entries i e e' j x at at_j = elim (cases_order j i) [
@@ -136,6 +144,8 @@ module _ (s : System) (pairs : ℕ) (entries : List Entry) (g : Agenda) (go : Is
       record {
         right = λ f there. let was = up.right f there in let old : f.round ≤ n = subst (λ o. IsDone o f.round) rounds was.0 in (omega arith, was.1);
         whole = λ m a done there. whole_at s pairs entries g go k early m done i e at a there;
+        order = up.order;
+        all = up.all;
       }
 
   raised_table : IsTable s pairs (set entries i (raised k e))
@@ -161,6 +171,13 @@ module _ (s : System) (pairs : ℕ) (entries : List Entry) (g : Agenda) (go : Is
               let last : k ≡ suc m = let both : Some k ≡ Some (suc m) = sym (ap (λ (z : Entry). z.rounds) new) ∙ at_m in cc in
               let heard = heard_early s pairs entries g go k early i n m e r at rounds (omega arith) (omega arith) (subst (λ (z : Entry). Asks s (labels s (pair_of z) m) r) new asks) in
               subst (λ (z : Entry). IsHeard (set entries i e') z.children.items r) (sym new) (heard_set entries i e e' e.children.items r at refl heard)
+        ];
+        only = λ x there m j at_m child. elim (set-Contains entries i e' x there) [
+          | inr old ↦ place_set (Asks s (labels s (pair_of x) m)) entries i e e' j at refl (table.only x old m j at_m child)
+          | inl new ↦
+              let last : k ≡ suc m = let both : Some k ≡ Some (suc m) = sym (ap (λ (z : Entry). z.rounds) new) ∙ at_m in cc in
+              let only = only_early s pairs entries g go k early i n m j e at rounds (omega arith) (omega arith) (subst (λ (z : Entry). Contains z.children.items j) new child) in
+              subst (λ (z : Entry). IsAskedAt s (set entries i e') (labels s (pair_of z) m) j) (sym new) (place_set (Asks s (labels s (pair_of e) m)) entries i e e' j at refl only)
         ];
         different = subst AreDifferent (sym same) table.different;
         few = let few = table.few in omega (arith, set-length entries i e');
@@ -292,11 +309,6 @@ module _ (s : System) (pairs : ℕ) (entries : List Entry) (g g' : Agenda) (go :
   }
 
 -- new entries behind all, which are due in round 0
-appended_at : {X : Type 0} (xs ys : List X) (j : ℕ) (x : X) → slice_get (xs ++ ys) j ≡ Some x → (slice_get xs j ≡ Some x) ⊎ ((length xs ≤ j) × Contains ys x)
-appended_at [] ys j x at = inr (omega arith, Contains-at ys j x at)
-appended_at (z ∷ xs) ys zero x at = inl at
-appended_at (z ∷ xs) ys (suc j) x at = elim (appended_at xs ys j x at) [ inl old ↦ inl old | inr new ↦ let le = new.0 in inr (omega arith, new.1) ]
-
 pub going_pushed : (s : System) (pairs : ℕ) (entries new : List Entry) (g g' : Agenda) → IsGoing s pairs entries g → IsTable s pairs new → IsAppended entries new → g'.first ≡ g.first → g'.askers ≡ g.askers
     → IsRicher g.due g'.due → ((j : ℕ) → length entries ≤ j → j < length new → Contains (row_in g'.due 0) j) → IsGoing s pairs new g'
 going_pushed s pairs entries new g g' go table (extra, is, start) first askers more started =
@@ -365,6 +377,9 @@ table_rested s pairs entries g go nothing =
         heard = λ x there m r at_m asks.
             let e = map-Contains rested entries x there in
             let never : None ≡ Some (suc m) = sym (ap (λ (z : Entry). z.rounds) e.2) ∙ at_m in cc;
+        only = λ x there m j at_m child.
+            let e = map-Contains rested entries x there in
+            let never : None ≡ Some (suc m) = sym (ap (λ (z : Entry). z.rounds) e.2) ∙ at_m in absurd (cc);
         different = subst AreDifferent (sym same) table.different;
         few = let few = table.few in omega (arith, length-map entries rested);
       },
@@ -383,6 +398,8 @@ table_rested s pairs entries g go nothing =
         record {
           right = λ f in_e. (tt, (up.right f in_e).1);
           whole = λ m a d in_m. whole_at s pairs entries g go m (λ q less. nothing q) m (omega arith) at.0 e at.1 a in_m;
+          order = up.order;
+          all = up.all;
         }
 
     asked_later : (e : Entry) → Contains entries e → (m : ℕ) (r : Pair) → Asks s (labels s (pair_of e) m) r → Contains (map pair_of entries) r

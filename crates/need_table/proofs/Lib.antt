@@ -1,7 +1,9 @@
 mod PlaceLemmas
 pub mod TableLemmas
+mod OrderLemmas
 pub mod FillLemmas
 pub mod ChildLemmas
+mod GainLemmas
 pub mod BoundLemmas
 pub mod SettleLemmas
 pub mod PlainLemmas

@@ -299,7 +299,7 @@ pub pairs_noted : (old new : List Entry) (i k : ℕ) (firsts : List First) (chil
 pairs_noted old new i k firsts children within noted =
     let e = element_at old i within in
     elim (noted e.0 e.1) [
-      | inl (e', is, rounds, pair, next, firsts, children) ↦ ap (map pair_of) is ∙ set-alike pair_of old i e.0 e' e.1 pair
+      | inl (e', is, rounds, pair, next, firsts, children, label) ↦ ap (map pair_of) is ∙ set-alike pair_of old i e.0 e' e.1 pair
       | inr (is, other) ↦ ap (map pair_of) is
     ]
 

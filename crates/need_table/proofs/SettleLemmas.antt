@@ -40,7 +40,7 @@ rest_start (x ∷ xs) zero resting = refl
 rest_start (x ∷ xs) (suc n) resting =
     let none = resting 0 x (omega arith) refl in
     let rest = rest_start xs n (λ j e less at. resting (suc j) e (omega arith) at) in
-    λ i. record { kind = x.kind; parent = x.parent; firsts = x.firsts; children = x.children; rounds = none i } ∷ rest i
+    λ i. record { kind = x.kind; parent = x.parent; label = x.label; firsts = x.firsts; children = x.children; rounds = none i } ∷ rest i
 
 pub rest_step : (now old : List Entry) (i : ℕ) (d : Entry) → now ≡ map rested (take i old) ++ drop i old → i < length old
     → set now i (rested (get_or now i d)) ≡ map rested (take (i + 1) old) ++ drop (i + 1) old
@@ -71,7 +71,7 @@ more_rested entries = record {
     rested_at (e ∷ es) (suc i) x at = rested_at es i x at
 
     same_rested : (x : Entry) → x.rounds ≡ None → rested x ≡ x
-    same_rested x none = λ i. record { kind = x.kind; parent = x.parent; firsts = x.firsts; children = x.children; rounds = sym none i }
+    same_rested x none = λ i. record { kind = x.kind; parent = x.parent; label = x.label; firsts = x.firsts; children = x.children; rounds = sym none i }
 
 -- the table at rest
 pub record IsSettled (s : System) (pairs : ℕ) (old new : List Entry) : Type 0 where
@@ -111,9 +111,9 @@ last_is (g ∷ fs) f there = elim ((Contains-cons f g fs).0 there) [
   | inr behind ↦ let rest = last_is fs f behind in omega arith
 ]
 
--- the label of an entry at rest
-pub rest_label : (s : System) (e : Entry) → IsUpTo s e → e.rounds ≡ None → IsRest s e.kind e.parent (set_of (map (λ f. f.atom) e.firsts.items))
-rest_label s e up none =
+-- the atoms of an entry at rest
+rest_atoms : (s : System) (e : Entry) → IsUpTo s e → e.rounds ≡ None → IsRest s e.kind e.parent (set_of (map (λ f. f.atom) e.firsts.items))
+rest_atoms s e up none =
     let atoms = map (λ (f : First). f.atom) e.firsts.items in
     let k = last_round e.firsts.items in
     let label = grown s k e.kind e.parent in
@@ -133,14 +133,18 @@ rest_label s e up none =
       whole = λ m. among_all (grown s m e.kind e.parent) (set_of atoms) (λ a there. all m a there);
     }
 
+-- and its label
+pub rest_label : (s : System) (e : Entry) → IsUpTo s e → e.rounds ≡ None → IsRest s e.kind e.parent e.label
+rest_label s e up none = subst (λ (z : List ℕ). IsRest s e.kind e.parent z) (sym up.all) (rest_atoms s e up none)
+
 pub label_at_rest : (s : System) (pairs : ℕ) (entries : List Entry) (i : ℕ) (q : Pair) (x : Entry) → IsTable s pairs entries → AllRest entries → IsSomeAnd (slice_get entries i) (λ e. pair_of e ≡ q)
-    → x ≡ get_or entries i x → IsRest s q.0 q.1 (set_of (map (λ f. f.atom) x.firsts.items))
+    → x ≡ get_or entries i x → IsRest s q.0 q.1 x.label
 label_at_rest s pairs entries i q x table rest at read =
     let e = some_at (λ e. pair_of e ≡ q) (slice_get entries i) at in
     let here : x ≡ e.0 = read ∙ get_or_from_slice_get entries i e.0 x e.1 in
     let there = Contains-at entries i e.0 e.1 in
-    subst (λ (z : Entry). IsRest s q.0 q.1 (set_of (map (λ (f : First). f.atom) z.firsts.items))) (sym here)
-    (subst (λ (z : Pair). IsRest s z.0 z.1 (set_of (map (λ (f : First). f.atom) e.0.firsts.items))) e.2 (rest_label s e.0 (table.up_to e.0 there) (rest e.0 there)))
+    subst (λ (z : Entry). IsRest s q.0 q.1 z.label) (sym here)
+    (subst (λ (z : Pair). IsRest s z.0 z.1 e.0.label) e.2 (rest_label s e.0 (table.up_to e.0 there) (rest e.0 there)))
 
 -- the round that stands with an atom is its first
 round_in-some : (fs : List First) (a r : ℕ) → round_in fs a ≡ Some r → (f : First) × Contains fs f × (f.atom ≡ a) × (f.round ≡ r)

@@ -6,3 +6,4 @@ pub mod Places
 pub mod PlainViews
 pub mod Rows
 pub mod Tables
+pub mod Turns

@@ -1,11 +1,10 @@
 -- The table of pairs, while it is filled.
-use Rattle.std.specs.Prelude.{◌≡◌, ◌≢◌, ◌⊎◌, ◌++◌, set, ◌≤◌, ℕ, suc, List, [], ◌∷◌, map, length, not, nat_le, Option, Some, None, Contains, IsSomeAnd, slice_get, ◌==◌, if◌then◌else◌}
-use Rattle.std.specs.List.{filter, flat_map}
-use Rattle.tp_base.specs.Classes.{has_class}
+use Rattle.std.specs.Prelude.{◌≡◌, ◌≢◌, ◌⊎◌, ◌&&◌, ◌++◌, set, ◌≤◌, ◌<◌, ℕ, suc, List, [], ◌∷◌, map, length, not, nat_le, Option, Some, None, Contains, IsSomeAnd, slice_get, ◌==◌, if◌then◌else◌}
+use Rattle.std.specs.List.{filter}
+use Rattle.tp_base.specs.Classes.{has_class, union_of}
 use Rattle.simple_core.specs.declared.system.System.{System}
-use Rattle.simple_core.specs.declared.rules.Spawn.{Spawn}
 use Rattle.simple_core.specs.Systems.{IsSound}
-use Rattle.simple_core.specs.Labels.{given_by_links}
+use Rattle.simple_core.specs.Labels.{set_of}
 use Rattle.simple_core.specs.Rounds.{grown, IsFirst}
 use Rattle.simple_core.specs.Pairs.{Pair, Asks, Needed, AreDifferent}
 use Rattle.need_table.specs.declared.entries.First.{First}
@@ -14,9 +13,19 @@ use Rattle.need_table.specs.declared.entries.Entry.{Entry}
 abbrev pub pair_of : Entry → Pair
 pair_of e = (e.kind, e.parent)
 
--- the atoms whose first round is at most k
-abbrev pub atoms_by : ℕ → List First → List ℕ
-atoms_by k firsts = map (λ f. f.atom) (filter (λ f. nat_le f.round k) firsts)
+-- the atoms whose first round is one from `from` to `to`
+abbrev pub atoms_within : ℕ → ℕ → List First → List ℕ
+atoms_within from to firsts = map (λ f. f.atom) (filter (λ f. (nat_le from f.round) && (nat_le f.round to)) firsts)
+
+-- the rounds never fall
+abbrev pub AreInOrder : List First → Type 0
+AreInOrder firsts = (i j : ℕ) (f g : First) → i ≤ j → slice_get firsts i ≡ Some f → slice_get firsts j ≡ Some g → f.round ≤ g.round
+
+-- so many come before the round
+pub record IsPlaceFrom (firsts : List First) (round place : ℕ) : Type 0 where
+  pub within : place ≤ length firsts
+  pub before : (i : ℕ) (f : First) → i < place → slice_get firsts i ≡ Some f → f.round < round
+  pub from : (i : ℕ) (f : First) → place ≤ i → slice_get firsts i ≡ Some f → round ≤ f.round
 
 -- the atoms of next that own doesn't have, with the round
 abbrev pub fresh_of : List ℕ → ℕ → List ℕ → List First
@@ -30,25 +39,36 @@ abbrev pub IsDone : Option ℕ → ℕ → Type 0
 IsDone None k = Unit {0}
 IsDone (Some n) k = k ≤ n
 
--- each atom that the label has in a round that was worked out is there, with its first round
+-- each atom that the label has in a round that was worked out is there, with its first round, in the order of these, and all of
+-- them in one set
 pub record IsUpTo (s : System) (e : Entry) : Type 0 where
   pub right : (f : First) → Contains e.firsts.items f → IsDone e.rounds f.round × IsFirst (labels s (pair_of e)) f.atom (Some f.round)
   pub whole : (k a : ℕ) → IsDone e.rounds k → Contains (labels s (pair_of e) k) a → (f : First) × Contains e.firsts.items f × (f.atom ≡ a)
+  pub order : AreInOrder e.firsts.items
+  pub all : e.label ≡ set_of (map (λ f. f.atom) e.firsts.items)
 
 abbrev pub AreUpTo : System → List Entry → Type 0
 AreUpTo s entries = (e : Entry) → Contains entries e → IsUpTo s e
+
+abbrev pub AreOrdered : List Entry → Type 0
+AreOrdered entries = (e : Entry) → Contains entries e → AreInOrder e.firsts.items
 
 -- one of these places has the pair
 abbrev pub IsHeard : List Entry → List ℕ → Pair → Type 0
 IsHeard entries children r = (j : ℕ) × Contains children j × IsSomeAnd (slice_get entries j) (λ c. pair_of c ≡ r)
 
+-- the place has a pair that the label asks
+abbrev pub IsAskedAt : System → List Entry → List ℕ → ℕ → Type 0
+IsAskedAt s entries own j = IsSomeAnd (slice_get entries j) (λ c. Asks s own (pair_of c))
+
 -- different pairs, at most so many; what they ask in rounds before the last that was worked out stands in the table,
--- and what they ask in the last of these at the places `children`
+-- and what they ask in the last of these at the places `children`, where nothing else stands
 pub record IsTable (s : System) (pairs : ℕ) (entries : List Entry) : Type 0 where
   pub sound : IsSound s
   pub up_to : AreUpTo s entries
   pub asked : (e : Entry) → Contains entries e → (k : ℕ) (r : Pair) → IsDone e.rounds (suc k) → Asks s (labels s (pair_of e) k) r → Contains (map pair_of entries) r
   pub heard : (e : Entry) → Contains entries e → (k : ℕ) (r : Pair) → e.rounds ≡ Some (suc k) → Asks s (labels s (pair_of e) k) r → IsHeard entries e.children.items r
+  pub only : (e : Entry) → Contains entries e → (k j : ℕ) → e.rounds ≡ Some (suc k) → Contains e.children.items j → IsAskedAt s entries (labels s (pair_of e) k) j
   pub different : AreDifferent (map pair_of entries)
   pub few : length entries ≤ pairs
 
@@ -65,7 +85,7 @@ pub record IsMore (old new : List Entry) : Type 0 where
 -- the entry at i got the atoms new and the places that it asks, if k was its last round; then it has one round more
 abbrev pub NotedAt : List Entry → List Entry → ℕ → ℕ → List First → List ℕ → Entry → Type 0
 NotedAt old new i k firsts children e = ((e' : Entry) × (new ≡ set old i e') × (e.rounds ≡ Some k) × (pair_of e' ≡ pair_of e) × (e'.rounds ≡ Some (suc k)) × (e'.firsts.items ≡ e.firsts.items ++ firsts)
-    × (e'.children.items ≡ children)) ⊎ ((new ≡ old) × (e.rounds ≢ Some k))
+    × (e'.children.items ≡ children) × (e'.label ≡ union_of e.label (set_of (map (λ f. f.atom) firsts)))) ⊎ ((new ≡ old) × (e.rounds ≢ Some k))
 
 abbrev pub IsNoted : List Entry → List Entry → ℕ → ℕ → List First → List ℕ → Type 0
 IsNoted old new i k firsts children = (e : Entry) → slice_get old i ≡ Some e → NotedAt old new i k firsts children e
@@ -82,13 +102,6 @@ IsUntouched old new i = (e : Entry) → slice_get old i ≡ Some e → (e' : Ent
 -- each pair of the table is needed for those of qs
 abbrev pub AreNeeded : System → List Pair → List Entry → Type 0
 AreNeeded s qs entries = (q : Pair) → Contains (map pair_of entries) q → Needed s (Contains qs) q
-
--- the kinds that the label adds by these rules, and their labels
-abbrev pub kinds_from : List ℕ → List Spawn → List ℕ
-kinds_from own spawns = map (λ c. c.kind) (filter (λ c. has_class c.needs own) spawns)
-
-abbrev pub given_from : System → ℕ → List ℕ → List ℕ → List Spawn → List ℕ
-given_from s k own seen spawns = flat_map (given_by_links s.down) (map (λ j. grown s k j seen) (kinds_from own spawns))
 
 -- the rounds up to t were worked out, for each entry
 abbrev pub AllDone : List Entry → ℕ → Type 0

@@ -2,9 +2,10 @@
 ghost use Rattle.std.specs.Prelude.{◌≡◌, ◌≢◌, ◌≤◌, ◌<◌, ◌-◌, ◌+◌, ◌^◌, ℕ, [], Contains, length, Some, slice_get, IfSome, IsSomeAnd, OnOk};
 ghost use Rattle.need_table.specs.declared.entries.First.{First};
 ghost use Rattle.need_table.specs.declared.entries.Entry.{Entry};
+ghost use Rattle.need_table.specs.Tables.{AreInOrder, AreOrdered};
 ghost use Rattle.need_table.specs.Rows.{row_in, IsRicher, AreSameBelow, IsDue};
 
-use crate::entries::{Entry, First};
+use crate::entries::{Entry, First, place_from};
 use crate::rows::Rows;
 use std::alloc::Global;
 use tp_base::NoMemory;
@@ -105,38 +106,21 @@ fn listen_at(
     Ok(known)
 }
 
-// The first round from this one on that brought an atom.
+// The first round from this one on that brought an atom. Logarithmic in all.
 fn next_round(firsts: &[First], from: u64) -> Option<u64>
+    requires { AreInOrder firsts.now }
     ensures within { IfSome result (λ w. from ≤ w) }
     ensures least { (f : First) → Contains firsts.now f → from ≤ f.round → IsSomeAnd result (λ w. w ≤ f.round) }
 {
-    let mut least: Option<u64> = None;
-    let mut rest = firsts;
-    'firsts: while let Some((first, others)) = rest.split_first() {
-        least = sooner(least, first.round, from);
-        rest = others;
-    }
-    least
-}
-
-// The sooner of two rounds, where the second counts from this one on.
-fn sooner(least: Option<u64>, round: u64, from: u64) -> Option<u64>
-    requires { IfSome least (λ w. from ≤ w) }
-    ensures within { IfSome result (λ w. from ≤ w) }
-    ensures old { IfSome least (λ w. IsSomeAnd result (λ v. v ≤ w)) }
-    ensures new { from ≤ round → IsSomeAnd result (λ v. v ≤ round) }
-{
-    if round < from {
-        return least;
-    }
-    match least {
-        Some(w) if w <= round => Some(w),
-        _ => Some(round),
+    match firsts.get(place_from(firsts, from)) {
+        Some(first) => Some(first.round),
+        None => None,
     }
 }
 
 // The same, of the entry at a place.
 fn next_at(entries: &[Entry], j: usize, from: u64) -> Option<u64>
+    requires { AreOrdered entries.now }
     ensures within { IfSome result (λ w. from ≤ w) }
     ensures least { (c : Entry) (f : First) → slice_get entries.now j ≡ Some c → Contains c.firsts.items f → from ≤ f.round → IsSomeAnd result (λ w. w ≤ f.round) }
 {
@@ -146,7 +130,7 @@ fn next_at(entries: &[Entry], j: usize, from: u64) -> Option<u64>
     }
 }
 
-/// Makes the entry at i due where one at these places has an atom from this round on. Linear in their atoms.
+/// Makes the entry at i due where one at these places has an atom from this round on. Logarithmic in the atoms of each.
 pub(crate) fn expect(
     entries: &[Entry],
     due: &mut Rows,
@@ -154,6 +138,7 @@ pub(crate) fn expect(
     from: u64,
     children: &[usize],
 ) -> Result<(), NoMemory>
+    requires { AreOrdered entries.now }
     ensures due { OnOk result ((j : ℕ) (c : Entry) (f : First) → Contains children.now j → slice_get entries.now j ≡ Some c → Contains c.firsts.items f → from ≤ f.round → IsDue due.new i from f.round) }
     ensures more { OnOk result (IsRicher due.old due.new) }
     ensures same { OnOk result (AreSameBelow from due.old due.new) }
@@ -180,6 +165,7 @@ pub(crate) fn tell(
     requires place { i < length entries.now }
     requires first { agenda.old.first ≤ i }
     requires round { k + 1 < 2 ^ 64 }
+    requires order { AreOrdered entries.now }
     ensures children { OnOk result ((e : Entry) (j : ℕ) (c : Entry) (f : First) → slice_get entries.now i ≡ Some e → Contains e.children.items j → slice_get entries.now j ≡ Some c → Contains c.firsts.items f → k + 1 ≤ f.round → IsDue agenda.new.due i (k + 1) f.round) }
     ensures askers { OnOk result ((f : First) → Contains new.now f → (a : ℕ) → Contains (row_in agenda.old.askers (i - agenda.old.first)) a → Contains (row_in agenda.new.due (k + 1)) a) }
     ensures own { OnOk result ((f : First) → Contains new.now f → Contains (row_in agenda.new.due (k + 1)) i) }

@@ -8,24 +8,10 @@ ghost use Rattle.need_table.specs.Tables.{pair_of, labels, IsTable, IsMore, AreN
 use crate::entries::First;
 use crate::pair_table::Table;
 use crate::settling::fill;
-use gathered::Gathered;
+use rule_index::IndexedSystem;
 use simple_core::{GainFault, System};
 use std::alloc::Global;
 use tp_base::{Atom, ClassSet, NoMemory};
-
-// All atoms.
-fn atoms_of(alloc: Global, firsts: &[First]) -> Result<ClassSet, NoMemory>
-    ensures { IfOk result (λ l. l ≡ set_of (map (λ f. f.atom) firsts.now)) }
-{
-    let mut label = Gathered::new(alloc);
-    let mut rest = firsts;
-    'firsts: while let Some((first, others)) = rest.split_first() {
-        label.add(first.atom)?;
-        rest = others;
-    }
-    let label = label.into_set()?;
-    Ok(label)
-}
 
 // The round that stands with the atom.
 fn round_of(firsts: &[First], atom: Atom) -> Option<u64>
@@ -63,7 +49,6 @@ pub(crate) fn first_at(
 
 // The label of a pair that is there already.
 fn known_label(
-    alloc: Global,
     system: &System,
     table: &Table,
     kind: u32,
@@ -76,7 +61,7 @@ fn known_label(
 {
     match table.find(kind, parent) {
         Some(i) => {
-            let label = atoms_of(alloc, &table.entry(i).firsts)?;
+            let label = table.entry(i).label.copy()?;
             Ok(Some(label))
         }
         None => Ok(None),
@@ -85,6 +70,32 @@ fn known_label(
 
 // Fills the table, and answers the label.
 fn try_ask(
+    alloc: Global,
+    system: &IndexedSystem,
+    table: &mut Table,
+    pairs: u32,
+    kind: u32,
+    parent: &ClassSet,
+) -> Result<ClassSet, GainFault>
+    requires kind { kind < length system.now.kinds }
+    requires table { IsTable system.now pairs table.old }
+    requires at_rest { AllRest table.old }
+    ensures table { OnOk result (IsTable system.now pairs table.new) }
+    ensures more { IsMore table.old table.new }
+    ensures at_rest { OnOk result (AllRest table.new) }
+    ensures label { IfOk result (λ l. IsRest system.now kind parent.now l) }
+    ensures there { OnOk result (Contains (map pair_of table.new) (kind, parent.now)) }
+    ensures needed { OnOk result ((qs : List Pair) → AreNeeded system.now qs table.old → Needed system.now (Contains qs) (kind, parent.now) → AreNeeded system.now qs table.new) }
+    ensures spent { result ≡ Err GainFault.Spent → (qs : List Pair) → AreNeeded system.now qs table.old → Needed system.now (Contains qs) (kind, parent.now)
+        → HasMore (Needed system.now (Contains qs)) pairs }
+{
+    let i = fill(alloc, system, table, pairs, kind, parent)?;
+    let label = table.entry(i).label.copy()?;
+    Ok(label)
+}
+
+// The same, with the rules of the system found by their atoms. Linear in the rules besides.
+fn ask_anew(
     alloc: Global,
     system: &System,
     table: &mut Table,
@@ -104,9 +115,8 @@ fn try_ask(
     ensures spent { result ≡ Err GainFault.Spent → (qs : List Pair) → AreNeeded system.now qs table.old → Needed system.now (Contains qs) (kind, parent.now)
         → HasMore (Needed system.now (Contains qs)) pairs }
 {
-    let i = fill(alloc, system, table, pairs, kind, parent)?;
-    let label = atoms_of(alloc, &table.entry(i).firsts)?;
-    Ok(label)
+    let indexed = IndexedSystem::new(alloc, system)?;
+    try_ask(alloc, &indexed, table, pairs, kind, parent)
 }
 
 /// The same, with the table as it was after a refusal.
@@ -131,11 +141,11 @@ pub(crate) fn ask(
     ensures spent { result ≡ Err GainFault.Spent → (qs : List Pair) → AreNeeded system.now qs table.old → Needed system.now (Contains qs) (kind, parent.now)
         → HasMore (Needed system.now (Contains qs)) pairs }
 {
-    if let Some(label) = known_label(alloc, system, table, kind, parent)? {
+    if let Some(label) = known_label(system, table, kind, parent)? {
         return Ok(label);
     }
     let before = table.len();
-    match try_ask(alloc, system, table, pairs, kind, parent) {
+    match ask_anew(alloc, system, table, pairs, kind, parent) {
         Ok(label) => Ok(label),
         Err(fault) => {
             table.truncate(before);

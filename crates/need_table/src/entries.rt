@@ -1,8 +1,9 @@
 //! One pair of the table, and its label in each round so far.
-ghost use Rattle.std.specs.Prelude.{◌≡◌, ◌↔◌, [], ◌∷◌, Some, IfOk, IsTrue};
+ghost use Rattle.std.specs.Prelude.{◌≡◌, ◌↔◌, ◌≤◌, ◌<◌, ◌+◌, ◌^◌, [], ◌∷◌, map, take, drop, length, Some, Contains, IfOk, IsTrue};
 ghost use Rattle.tp_base.specs.Classes.{has_class};
 ghost use Rattle.simple_core.specs.Labels.{set_of};
-ghost use Rattle.need_table.specs.Tables.{atoms_by, fresh_of};
+ghost use Rattle.need_table.specs.declared.entries.First.{First};
+ghost use Rattle.need_table.specs.Tables.{atoms_within, fresh_of, AreInOrder, IsPlaceFrom};
 
 use gathered::Gathered;
 use std::alloc::Global;
@@ -15,30 +16,79 @@ pub(crate) struct First {
     pub(crate) round: u64,
 }
 
-/// A pair. `rounds` is the last round for which it was worked out, and `None` where it has come to rest; `children` has the
-/// places of the pairs that its label asks.
+/// A pair. `label` is its last label, and `firsts` has the atoms of this in the order of their first rounds. `rounds` is the last
+/// round for which it was worked out, and `None` where it has come to rest; `children` has the places of the pairs that its label
+/// asks.
 #[derive(Drop)]
 pub(crate) struct Entry {
     pub(crate) kind: u32,
     pub(crate) parent: ClassSet,
+    pub(crate) label: ClassSet,
     pub(crate) firsts: Vec<First>,
     pub(crate) children: Vec<usize>,
     pub(crate) rounds: Option<u64>,
 }
 
-/// The atoms whose first round is at most this one.
-pub(crate) fn label_by(alloc: Global, firsts: &[First], round: u64) -> Result<ClassSet, NoMemory>
-    ensures { IfOk result (λ l. l ≡ set_of (atoms_by round firsts.now)) }
+/// How many of the firsts come before this round. Logarithmic in all.
+pub(crate) fn place_from(firsts: &[First], round: u64) -> usize
+    requires { AreInOrder firsts.now }
+    ensures { IsPlaceFrom firsts.now round result }
+{
+    firsts.partition_point(|first| first.round < round)
+}
+
+// The firsts from this place on.
+fn behind(firsts: &[First], place: usize) -> &[First]
+    requires { place ≤ length firsts.now }
+    ensures { result.now ≡ drop place firsts.now }
+{
+    firsts.split_at(place).1
+}
+
+// The firsts before this place.
+fn before(firsts: &[First], place: usize) -> &[First]
+    requires { place ≤ length firsts.now }
+    ensures { result.now ≡ take place firsts.now }
+{
+    firsts.split_at(place).0
+}
+
+// The firsts of these rounds.
+fn within(firsts: &[First], from: u64, to: u64) -> &[First]
+    requires order { AreInOrder firsts.now }
+    requires round { to + 1 < 2 ^ 64 }
+    ensures { (f : First) → Contains result.now f ↔ (Contains firsts.now f × (from ≤ f.round) × (f.round ≤ to)) }
+{
+    let known = before(firsts, place_from(firsts, to + 1));
+    behind(known, place_from(known, from))
+}
+
+/// All atoms.
+pub(crate) fn atoms_of(alloc: Global, firsts: &[First]) -> Result<ClassSet, NoMemory>
+    ensures { IfOk result (λ l. l ≡ set_of (map (λ f. f.atom) firsts.now)) }
 {
     let mut label = Gathered::new(alloc);
     let mut rest = firsts;
     'firsts: while let Some((first, others)) = rest.split_first() {
-        if first.round <= round {
-            label.add(first.atom)?;
-        }
+        label.add(first.atom)?;
         rest = others;
     }
     let label = label.into_set()?;
+    Ok(label)
+}
+
+/// The atoms whose first round is one of these. The others cost a search.
+pub(crate) fn label_within(
+    alloc: Global,
+    firsts: &[First],
+    from: u64,
+    to: u64,
+) -> Result<ClassSet, NoMemory>
+    requires order { AreInOrder firsts.now }
+    requires round { to + 1 < 2 ^ 64 }
+    ensures { IfOk result (λ l. l ≡ set_of (atoms_within from to firsts.now)) }
+{
+    let label = atoms_of(alloc, within(firsts, from, to))?;
     Ok(label)
 }
 

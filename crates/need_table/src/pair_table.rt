@@ -3,7 +3,7 @@ ghost use Rattle.std.specs.Prelude.{◌≡◌, ◌↔◌, ◌+◌, ◌≤◌, �
 ghost use Rattle.need_table.specs.declared.entries.Entry.{Entry};
 ghost use Rattle.need_table.specs.Tables.{pair_of, rested, raised, IsNoted, IsUntouched};
 
-use crate::entries::{Entry, First, is_at};
+use crate::entries::{Entry, First, atoms_of, is_at};
 use crate::places::Places;
 use std::alloc::Global;
 use std::marker::Model;
@@ -145,8 +145,11 @@ fn note(
     ensures ok { OnOk result (IsNoted entries.old.items entries.new.items i k new.now children.items) }
     ensures err { OnErr result (IsUntouched entries.old.items entries.new.items i) }
 {
+    let alloc = *entries.allocator();
     if is_at(&entries[i], k) {
         let entry = &mut entries[i];
+        let atoms = atoms_of(alloc, new)?;
+        entry.label.union(&atoms)?;
         entry.firsts.extend_from_slice(new)?;
         entry.children = children;
         entry.rounds = Some(k + 1);

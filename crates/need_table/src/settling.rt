@@ -9,7 +9,8 @@ use crate::agenda::{Agenda, start};
 use crate::filling::place_of;
 use crate::pair_table::Table;
 use crate::turning::advance;
-use simple_core::{GainFault, System};
+use rule_index::IndexedSystem;
+use simple_core::GainFault;
 use std::alloc::Global;
 use tp_base::ClassSet;
 
@@ -17,7 +18,7 @@ use tp_base::ClassSet;
 // are gone through again from there, with a step for each in which nothing is due.
 fn settle(
     alloc: Global,
-    system: &System,
+    system: &IndexedSystem,
     table: &mut Table,
     agenda: &mut Agenda,
     pairs: u32,
@@ -42,7 +43,7 @@ fn settle(
 /// Adds the pair with all that it needs, and sets the table at rest.
 pub(crate) fn fill(
     alloc: Global,
-    system: &System,
+    system: &IndexedSystem,
     table: &mut Table,
     pairs: u32,
     kind: u32,

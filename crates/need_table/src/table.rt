@@ -19,10 +19,12 @@ struct Question {
     parent: ClassSet,
 }
 
-/// A table of pairs, at most so many. It answers what it knows, and works out what it doesn't. A new pair has a turn, and then one
-/// in each round after one in which its label, or one that it asks or asked, got an atom. A turn costs a look at each rule of the
-/// system, at the atoms of its label and of those that it asks, and at each pair that asks it. Where it asks new pairs, it waits for
-/// them and is made again, which costs a step for each round so far besides.
+/// A table of pairs, at most so many. It answers what it knows, and works out what it doesn't; then it first notes for each atom
+/// which rules look at it, which is linear in the rules. A new pair has a turn, and then one in each round after one in which its
+/// label, or one that it asks or asked, got an atom. A turn costs a look at what is new of the label and at the rules that need
+/// that, and at the pairs that it asks and what is new of these; where it brings an atom, a copy of the label and a look at each
+/// pair that asks it, too. Where what is new of the label makes it ask something else, all of it and all atoms of what it asks then
+/// are looked at. Where it asks new pairs, it waits for them and is made again, which costs a step for each round so far besides.
 #[derive(Drop)]
 pub struct PlainSummaries {
     system: System,

@@ -8,9 +8,11 @@ ghost use Rattle.need_table.specs.Agendas.{IsBehind, IsGoing};
 
 use crate::agenda::{Agenda, start};
 use crate::entries::Entry;
-use crate::filling::{asked_by, step};
+use crate::filling::asked_by;
+use crate::gaining::step;
 use crate::pair_table::Table;
-use simple_core::{GainFault, System};
+use rule_index::IndexedSystem;
+use simple_core::GainFault;
 use std::alloc::Global;
 
 // Whether there is an entry at i that isn't at rest, and no round after k was worked out for it.
@@ -30,7 +32,7 @@ fn is_behind(entries: &[Entry], i: usize, k: u64) -> bool
 // Gives an entry the round after k, if what it asks then is there already. Else what it asks is added, and the entry stays due.
 fn turn(
     alloc: Global,
-    system: &System,
+    system: &IndexedSystem,
     table: &mut Table,
     agenda: &mut Agenda,
     pairs: u32,
@@ -62,7 +64,7 @@ fn turn(
 /// Does the next thing that is due in the round k, an entry's turn, and answers the round with which to go on.
 pub(crate) fn advance(
     alloc: Global,
-    system: &System,
+    system: &IndexedSystem,
     table: &mut Table,
     agenda: &mut Agenda,
     pairs: u32,

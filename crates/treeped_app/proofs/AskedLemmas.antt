@@ -4,7 +4,7 @@ use Rattle.std.specs.List.{flat_map}
 use Rattle.std.proofs.lemmas.Bool.{cases_lt}
 use Rattle.std.proofs.lemmas.List.{drop_more, drop_all, length-map}
 use Rattle.std.proofs.lemmas.List.Concat.{flat_map-append}
-use Rattle.std.proofs.lemmas.List.Elements.{All-nil, All-cons, All-head, All-tail, All-contains, All-from_get_or, Contains-append_left}
+use Rattle.std.proofs.lemmas.List.Elements.{All-head, All-tail, All-contains, All-from_get_or, Contains-append_left}
 use Rattle.std.proofs.Math.ListN.{get_or-map}
 use Rattle.tp_base.specs.declared.atoms.TheConstants.{MOST_ATOMS}
 use Rattle.tp_base.proofs.Rising.{Contains-here, Contains-behind}
@@ -43,6 +43,7 @@ use Rattle.judge.specs.Spending.{MaySpend, HasToSpend}
 use Rattle.judge.specs.TheSystem.{the_system, seen_atom}
 use Rattle.judge.specs.Witnesses.{trace}
 use Rattle.dead_script.specs.Asked.{by_number, InOrder, AreAsked}
+use Rattle.dead_script.proofs.AskedLemmas.{in_order_known}
 use Rattle.treeped_app.proofs.TablesLemmas.{same_auxiliaries, same_atom, same_system}
 
 -- ---- a list without repeats takes nothing twice
@@ -60,18 +61,7 @@ stays_kept kept xs x is = let more = grown kept xs in subst (λ z. Contains z x)
 
 -- ---- numbers
 
-not_past : (numbers : List ℕ) (k n : ℕ) → InOrder k numbers n → k ≤ n
-not_past [] k n order = omega (arith, order)
-not_past (j ∷ numbers) k n (inl (before, order)) = not_past numbers k n order
-not_past (j ∷ numbers) k n (inr (next, order)) = omega (arith, not_past numbers (k + 1) n order)
-
--- each number has something
-pub each_within : (numbers : List ℕ) (k n : ℕ) → InOrder k numbers n → All (λ j. j < n) numbers
-each_within [] k n order = All-nil (λ j. j < n)
-each_within (j ∷ numbers) k n (inl (before, order)) = All-cons (λ j. j < n) j numbers (omega (arith, before, not_past numbers k n order)) (each_within numbers k n order)
-each_within (j ∷ numbers) k n (inr (next, order)) = All-cons (λ j. j < n) j numbers (omega (arith, next, not_past numbers (k + 1) n order)) (each_within numbers (k + 1) n order)
-
--- and each below the last has a number
+-- each below the last has a number
 each_reached : (numbers : List ℕ) (k n : ℕ) → InOrder k numbers n → (i : ℕ) → k ≤ i → i < n → Contains numbers i
 each_reached [] k n order i from to = absurd (omega (arith, order))
 each_reached (j ∷ numbers) k n (inl (before, order)) i from to = Contains-behind i j numbers (each_reached numbers k n order i from to)
@@ -110,7 +100,7 @@ module _ (f : Guard → List Guard) (gs : List Guard) where
   once_each (j ∷ numbers) k kept are (inl (before, order)) =
       with_all-append kept (one j) (all_of numbers) ∙ ap (λ z. with_all z (all_of numbers)) (known_again kept (one j) (are j before)) ∙ once_each numbers k kept are order
   once_each (j ∷ numbers) k kept are (inr (next, order)) =
-      let within : k < length gs = omega (arith, not_past numbers (k + 1) (length gs) order) in
+      let within : k < length gs = omega (arith, (in_order_known (k + 1) (length gs) numbers order).0) in
       with_all-append kept (one j) (all_of numbers) ∙ ap (λ z. with_all (with_all kept (one z)) (all_of numbers)) next
       ∙ once_each numbers (k + 1) (with_all kept (one k)) (one_more k kept are) order ∙ sym (with_all-append kept (one k) (flat_map f (drop (k + 1) gs)))
       ∙ ap (λ z. with_all kept (flat_map f z)) (sym (drop_more gs k always within))
@@ -266,7 +256,7 @@ module _ (extra gs : List Guard) (numbers : List ℕ) (asked : AreAsked extra gs
         judged_as_asked answers told (inl (are, for, enough)) = inl (
           items_as_asked items answers are,
           subst (λ (z : List Guard). AreAnswersFor ss each n page limits (map holding z) (by_number spent told numbers)) (sym asked.of_probes)
-              (answers_at told for numbers (each_within numbers 0 (length gs) asked.in_order)),
+              (answers_at told for numbers (in_order_known 0 (length gs) numbers asked.in_order).1),
           λ has. enough (subst (λ (s : System). HasToSpend limits.plain s page limits) (sym system_of_asked) has),
         )
         judged_as_asked answers told (inr (by, by', more)) = inr (

@@ -8,7 +8,7 @@ use Rattle.tp_base.proofs.Rising.{Contains-here, Contains-behind, Contains-cons,
 use Rattle.tp_io.specs.Files.{Load}
 use Rattle.tp_io.specs.Sinks.{Adds, Rose}
 use Rattle.tp_base.specs.declared.places.TheConstants.{MOST_BYTES}
-use Rattle.tp_base.proofs.Truths.{or_assoc}
+use Rattle.tp_base.proofs.Truths.{or_assoc, or_false}
 use Rattle.run_ends.specs.declared.status.Status.{Status}
 use Rattle.run_ends.specs.declared.status.Status.TheVariants as status
 use Rattle.run_ends.specs.declared.refusals.JudgeRefusal.{JudgeRefusal}
@@ -128,10 +128,6 @@ one_more done before last =
     ∙ any_joined (loads_of before) (last ∷ [])
     ∙ ap (λ b. b || any_failed (last ∷ [])) (all_had before)
     ∙ or_false last.failed
-  where
-    or_false : (b : Bool) → (b || false) ≡ b
-    or_false true = refl
-    or_false false = refl
 
 grouped : (loads : List Load) (done : List Visit) (before : List Wanted) (last : Load) → loads ++ all_loads done ++ loads_of before ++ last ∷ [] ≡ loads ++ up_to done before last
 grouped loads done before last = append_assoc (loads ++ all_loads done) (loads_of before) (last ∷ []) ∙ append_assoc loads (all_loads done) (loads_of before ++ last ∷ [])

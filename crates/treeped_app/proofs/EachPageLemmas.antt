@@ -1,5 +1,5 @@
 -- What the best answers of a site say of each page.
-use Rattle.std.proofs.Common.{◌≡◌, ◌↔◌, ◌⊎◌, ℕ, zero, suc, ◌<◌, ◌≤◌, List, [], ◌∷◌, length, map, Contains, Option, Some, slice_get, Ok, refl, sym, ap, ◌∙◌, subst, inl, inr, arith}
+use Rattle.std.proofs.Common.{◌≡◌, ℕ, zero, suc, ◌<◌, ◌≤◌, List, [], ◌∷◌, length, Contains, Some, slice_get, refl, sym, ap, ◌∙◌, subst, inl, inr, arith}
 use Rattle.std.proofs.lemmas.Option.{slice_get_within}
 use Rattle.css_prune.proofs.AlikeLemmas.{alike_length}
 use Rattle.tp_base.proofs.Rising.{Contains-cons, Contains-none, Contains-here, Contains-behind}
@@ -14,7 +14,7 @@ use Rattle.jq_sem.specs.Statements.{Statement}
 use Rattle.guard_sem.specs.Guards.{Guard}
 use Rattle.limits.specs.declared.budgets.Limits.{Limits}
 use Rattle.usage_report.specs.Answers.{Answer, used, maybe, used_unshown, unused, skipped, spent}
-use Rattle.site_judge.specs.Sites.{rank, Best, Site, IsAnswerOn, IsBest, IsSite}
+use Rattle.site_judge.specs.Sites.{rank, Best, IsBest, IsSite}
 use Rattle.site_judge.proofs.SiteLemmas.{all_pages_site}
 use Rattle.treeped_app.specs.Answers.{IsRightExactly, AreRightExactly}
 use Rattle.treeped_app.specs.Laws.{IsNeverReached, IsOfEachPage}
@@ -23,20 +23,18 @@ use Rattle.treeped_app.specs.Runs.{Told, Run, IsSaid, AreSaid, IsWhole}
 use Rattle.treeped_app.specs.Tasks.{Visit, Task, visits}
 use Rattle.css_read.specs.Shapes.{IsAlikeOutcome, IsAlike, AreAlike}
 use Rattle.treeped_app.proofs.SheetLemmas.{one_sheet_read}
+use Rattle.treeped_app.proofs.SiteLemmas.{items_in}
 
 -- ---- at a place of a list
 
-abbrev lists_of : List Said → List (List Answer)
-lists_of said = map (λ (s : Said). s.items) said
-
-pub place_of : (said : List Said) (s : Said) → Contains said s → (p : ℕ) × (slice_get (lists_of said) p ≡ Some s.items)
+pub place_of : (said : List Said) (s : Said) → Contains said s → (p : ℕ) × (slice_get (items_in said) p ≡ Some s.items)
 place_of [] s there = absurd (Contains-none s there)
 place_of (x ∷ said) s there = elim ((Contains-cons s x said).0 there) [
   | inl same ↦ (0, ap (λ (z : Said). Some z.items) (sym same))
   | inr behind ↦ let rest = place_of said s behind in (suc rest.0, rest.1)
 ]
 
-page_at : (said : List Said) (p : ℕ) (answers : List Answer) → slice_get (lists_of said) p ≡ Some answers → (s : Said) × Contains said s × (s.items ≡ answers)
+page_at : (said : List Said) (p : ℕ) (answers : List Answer) → slice_get (items_in said) p ≡ Some answers → (s : Said) × Contains said s × (s.items ≡ answers)
 page_at [] p answers at = cc
 page_at (x ∷ said) zero answers at = (x, Contains-here x x said refl, cc)
 page_at (x ∷ said) (suc p) answers at = let rest = page_at said p answers at in (rest.0, Contains-behind rest.0 x said rest.1, rest.2)
@@ -109,22 +107,22 @@ module _ (r : Run) (t : Task) (said : List Said) (whole : IsWhole r t said) wher
       ∙ alike_length a.inputs.sheet.items b.inputs.sheet.items (alike a b there there')
       ∙ sym (right_many b.inputs.tree b.inputs.exact b.inputs.stmts (guards_in t.mode b.inputs) (length b.inputs.names) t.limits b.inputs.sheet.items b.items (right_on b there'))
 
-  first_many : (all : List Said) → ((s : Said) → Contains all s → Contains said s) → IsSite (lists_of all) (site_on all)
+  first_many : (all : List Said) → ((s : Said) → Contains all s → Contains said s) → IsSite (items_in all) (site_on all)
   first_many [] are = all_pages_site 0 [] (λ answers there. absurd (Contains-none answers there))
-  first_many (x ∷ all) are = all_pages_site (length x.items) (lists_of (x ∷ all)) (λ answers there. listed (x ∷ all) are answers there)
+  first_many (x ∷ all) are = all_pages_site (length x.items) (items_in (x ∷ all)) (λ answers there. listed (x ∷ all) are answers there)
     where
-      listed : (ys : List Said) → ((s : Said) → Contains ys s → Contains said s) → (answers : List Answer) → Contains (lists_of ys) answers → length answers ≡ length x.items
+      listed : (ys : List Said) → ((s : Said) → Contains ys s → Contains said s) → (answers : List Answer) → Contains (items_in ys) answers → length answers ≡ length x.items
       listed [] all' answers there = absurd (Contains-none answers there)
-      listed (y ∷ ys) all' answers there = elim ((Contains-cons answers y.items (lists_of ys)).0 there) [
+      listed (y ∷ ys) all' answers there = elim ((Contains-cons answers y.items (items_in ys)).0 there) [
         | inl same ↦ ap length same ∙ many y x (all' y (Contains-here y y ys refl)) (are x (Contains-here x x all refl))
         | inr behind ↦ listed ys (λ s at. all' s (Contains-behind s y ys at)) answers behind
       ]
 
-  pub site : IsSite (lists_of said) (site_on said)
+  pub site : IsSite (items_in said) (site_on said)
   site = first_many said (λ s there. there)
 
   module _ (k : ℕ) (b : Best) (at : slice_get (site_on said).items k ≡ Some b) where
-    best : IsBest (lists_of said) k b
+    best : IsBest (items_in said) k b
     best = site.items k b at
 
     -- the page that gives the best answer

@@ -4,6 +4,8 @@ use Rattle.std.proofs.Common.{◌≡◌, ℕ, zero, suc, ◌<◌, ◌≤◌, Boo
 use Rattle.std.specs.List.{list_any}
 use Rattle.std.proofs.lemmas.Bool.{true≢false, or_left, or_right}
 use Rattle.std.proofs.lemmas.List.Elements.{All-nil, All-cons, All-same}
+use Rattle.std.proofs.lemmas.Option.{slice_get_within}
+use Rattle.tp_base.proofs.Lists.{some_and}
 use Rattle.tp_base.specs.declared.places.Place.{Place}
 use Rattle.tree_sem.specs.Trees.{LabelTree}
 use Rattle.tree_sem.specs.declared.actions.Step.{Step}
@@ -166,16 +168,11 @@ module _ (t : LabelTree) (exact : List ExactStatement) (ss : List Statement) (gu
       let steps' = (trace ss guards n t (matching s) proof).0 in
       All-same (λ (x : Step). x.stmt < length places) u.steps steps' is.shows.1 (legal_placed t ss guards n limits t steps' is.witness.legal)
 
-  is_within : (steps : List Step) (i : ℕ) (P : Step → Type 0) → IsSomeAnd (slice_get steps i) P → i < length steps
-  is_within [] i P is = absurd is
-  is_within (s ∷ steps) zero P is = omega arith
-  is_within (s ∷ steps) (suc i) P is = let less = is_within steps i P is in omega (arith, less)
-
   doubt_reportable : (o : Outcome) (proof : Proof) (steps : ℕ) (shown : Option Unfolded) (broken : Option ℕ) → IsReportable places o (used proof steps shown) → IsInDoubt t exact ss guards n limits shown broken
       → IsReportable places o (maybe proof steps shown broken)
   doubt_reportable o proof steps None broken is doubt = (is.0, tt, tt)
   doubt_reportable o proof steps (Some u) None is doubt = absurd doubt
-  doubt_reportable o proof steps (Some u) (Some i) is doubt = (is.0, is.1, is_within u.steps i _ doubt.1)
+  doubt_reportable o proof steps (Some u) (Some i) is doubt = let there = some_and (slice_get u.steps i) _ doubt.1 in (is.0, is.1, slice_get_within u.steps i there.0 there.1)
 
   one_reportable : (o : Outcome) (a : Answer) → IsRightExactly t exact ss guards n limits o a → IsReportable places o a
   one_reportable (judged s) (used proof steps shown) is = (tt, shown_placed s proof steps shown is.0)

@@ -6,7 +6,6 @@ use Rattle.jq_sem.specs.declared.sharp.ExactStmt.{ExactStmt}
 use Rattle.jq_sem.specs.declared.sharp.Sharp.{Sharp}
 use Rattle.jq_sem.specs.Sharp.{ExactStatement, wides}
 use Rattle.jq_sem.specs.SharpViews.{exacts_of}
-use Rattle.jq_sem.specs.Statements.{Statement}
 use Rattle.jq_sem.specs.Views.{statements_of}
 use Rattle.jq_words.specs.declared.faults.ScriptFault.{ScriptFault}
 use Rattle.jq_words.specs.declared.faults.ScriptFault.TheVariants as script

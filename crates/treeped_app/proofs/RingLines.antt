@@ -32,7 +32,8 @@ use Rattle.jq_read.specs.Script.{at_top, nothing_read, script_of, script_with}
 use Rattle.ring_reads.specs.Readings.{IsRead}
 use Rattle.ring_reads.specs.RingScripts.{IsOneNode, ReadsClasses, ReadsRingRoots, ReadsRingMarkup}
 use Rattle.ring_reads.specs.RingWords.{Look, look, quoted_text, box_of, classes_of, box_words, last_words, ScansRings}
-use Rattle.treeped_app.proofs.RingScript.{word, Place, Gives, gives_then, context, state, IsCalled, IsBehindRoot, root_read, append_call, class_call}
+use Rattle.ring_reads.proofs.ScriptWords.{word}
+use Rattle.treeped_app.proofs.RingScript.{Place, Gives, gives_then, context, state, IsCalled, IsBehindRoot, root_read, append_call, class_call}
 
 gives_more : {X : Type 0} (P Q : X → Type 0) (r : Outcome X) → ((x : X) → P x → Q x) → Gives P r → Gives Q r
 gives_more P Q (Ok x) more first = more x first

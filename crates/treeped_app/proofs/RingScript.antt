@@ -10,7 +10,6 @@ use Rattle.tree_sem.specs.Trees.{LabelTree}
 use Rattle.sel_core.specs.Selectors.{Selector}
 use Rattle.sel_core.specs.Reading as sel
 use Rattle.sel_core.specs.Lists.{read_strict_list}
-use Rattle.js_scan.specs.declared.token.TokenKind.{TokenKind}
 use Rattle.js_scan.specs.declared.token.TokenKind.TheVariants.{Name, Text, Mark}
 use Rattle.jq_sem.specs.Sharp.{ExactChain, ExactStatement}
 use Rattle.jq_words.specs.declared.faults.TheConstants.{MOST_OPEN, MOST_STATEMENTS, MOST_FOREST_NODES}
@@ -40,9 +39,7 @@ use Rattle.jq_forms.specs.ListParts.{and_list}
 use Rattle.ring_reads.specs.Readings.{IsRead}
 use Rattle.ring_reads.specs.RingScripts.{IsOneNode}
 use Rattle.ring_reads.specs.RingWords.{quoted_text}
-
-abbrev pub word : TokenKind → List ℕ → ℕ × Bool → Word
-word kind spelling place = record { kind = kind; spelling = spelling; at = place.0; later = place.1 }
+use Rattle.ring_reads.proofs.ScriptWords.{word}
 
 abbrev pub Gives : {X : Type 0} → (X → Type 0) → Outcome X → Type 0
 Gives P (Ok x) = P x

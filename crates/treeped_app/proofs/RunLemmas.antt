@@ -1,8 +1,8 @@
 -- From the parts of a run to its end.
-use Rattle.std.proofs.Common.{◌≡◌, ◌||◌, ℕ, Bool, false, if◌then◌else◌, List, [], ◌∷◌, ◌++◌, length, take, Contains, Some, None, Result, Ok, Err, refl, sym, ap, ◌∙◌, subst, inl, inr, append_assoc, append-nil}
+use Rattle.std.proofs.Common.{◌≡◌, ◌||◌, ℕ, Bool, false, if◌then◌else◌, List, [], ◌∷◌, ◌++◌, length, take, Some, None, Result, Ok, Err, refl, sym, ap, ◌∙◌, subst, inl, inr, append_assoc, append-nil}
 use Rattle.std.specs.List.{list_any}
 use Rattle.std.proofs.Math.Seq.{take-append_seam}
-use Rattle.tp_base.proofs.Rising.{Contains-cons, Contains-none}
+use Rattle.tp_base.proofs.Lists.{Contains-only}
 use Rattle.tp_io.specs.Files.{Load}
 use Rattle.tp_io.specs.Sinks.{Adds, AddsPrefix, Rose}
 use Rattle.limits.specs.declared.budgets.Limits.{Limits}
@@ -20,7 +20,7 @@ use Rattle.treeped_app.specs.Summary.{summary}
 use Rattle.treeped_app.specs.Modes.{Texts, Said, text_on, text_of, of_last, site_by, best_in, verdicts_in, is_open, is_unused, status_by, status_on, status_of}
 use Rattle.treeped_app.specs.Tasks.{Names, Source, one, ring, Wanted, Visit, visits, only_visit, loads_of, all_loads, succeeded, failed, Task, task_by, command}
 use Rattle.run_ends.specs.Tells.{Put}
-use Rattle.treeped_app.specs.Runs.{Told, Run, run_of, Ends, Fit, AreTexts, AreHeld, IsSaid, AreSaid, IsSilent, IsWhole, IsAt, IsLast, IsLoaded, ring_texts}
+use Rattle.treeped_app.specs.Runs.{Told, Run, run_of, Ends, Fit, AreTexts, AreSaid, IsWhole, IsAt, IsLast, IsLoaded, ring_texts}
 use Rattle.treeped_app.specs.Inputs.{AllLoaded, IsLastOf, IsSaidOf, IsSaying, Written}
 
 -- ---- loads
@@ -96,9 +96,6 @@ not_whole r t said report_fault.Memory whole prefix rose = inr (inr (t, said, wh
 
 -- ---- one page
 
-only_one : (s a : Said) → Contains (s ∷ []) a → a ≡ s
-only_one s a there = elim ((Contains-cons a s []).0 there) [ inl same ↦ same | inr behind ↦ absurd (Contains-none a behind) ]
-
 -- a source with one visit
 module _ (told : Told) (words : List (List ℕ)) (start end : List Load) (out : Put) (s : Source) (m : Mode) (limits : Limits) (task : command words ≡ Some (task_by s m limits)) where
   abbrev r' : Run
@@ -117,7 +114,7 @@ module _ (told : Told) (words : List (List ℕ)) (start end : List Load) (out : 
         record { texts = subst (AreTexts told v) (sym same) texts; read = subst (λ k. Rattle.treeped_app.specs.Runs.read_inputs m k u.texts ≡ Ok u.inputs) (sym number) is.read; answers = is.answers; traces = is.traces },
         tt,
       );
-      one_sheet = λ a b there there'. ap (λ (z : Said). z.texts.sheet) (only_one u a there ∙ sym (only_one u b there'));
+      one_sheet = λ a b there there'. ap (λ (z : Said). z.texts.sheet) (sym (Contains-only u a there) ∙ Contains-only u b there');
     }
 
     no_start : start ≡ start ++ all_loads []

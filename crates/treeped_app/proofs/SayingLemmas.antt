@@ -25,6 +25,7 @@ use Rattle.run_trace.specs.Traces.{AreTracked}
 use Rattle.run_trace.proofs.AnswerLemmas.{traces_placed}
 use Rattle.usage_report.specs.Reportable.{AreReportable, AreTraceable}
 use Rattle.dead_script.specs.Verdicts.{IsProbed}
+use Rattle.dead_script.proofs.AskedLemmas.{in_order_known}
 use Rattle.run_ends.specs.declared.stops.Stop.{Stop}
 use Rattle.run_ends.specs.declared.stops.Stop.TheVariants as stop
 use Rattle.treeped_app.specs.Answers.{AreRight, AreRightFor, IsSpent}
@@ -33,7 +34,7 @@ use Rattle.treeped_app.specs.Modes.{Texts, Inputs, Said, places_of, goals_in, ex
 use Rattle.treeped_app.specs.Runs.{IsSheetOf, read_inputs}
 use Rattle.treeped_app.specs.Views.{inputs_of, said_of}
 use Rattle.treeped_app.specs.declared.saying.Said as held
-use Rattle.treeped_app.proofs.AskedLemmas.{each_within, each_of, system_of_asked, within_as_asked, fault_as_asked, given_as_asked, told_in_order, judged_as_asked}
+use Rattle.treeped_app.proofs.AskedLemmas.{each_of, system_of_asked, within_as_asked, fault_as_asked, given_as_asked, told_in_order, judged_as_asked}
 use Rattle.treeped_app.proofs.WritingLemmas.{all_unmapped}
 use Rattle.treeped_app.proofs.DeadLemmas.{of_guards, guards_over}
 use Rattle.treeped_app.proofs.SheetLemmas.{sheet_read}
@@ -165,7 +166,7 @@ probed_by x u is order =
     let all = probed_of s is in
     record {
       one_each = sym (length-map numbers (λ k. get_or told k spent)) ∙ all.0;
-      known = each_within numbers 0 (length u.others.items) order;
+      known = (in_order_known 0 (length u.others.items) numbers order).1;
       probed =
           all_unmapped (IsProbed (places_of s.inputs)) answer_of u.others.items
           (each_of (IsProbed (places_of s.inputs)) spent told numbers (subst (InOrder 0 numbers) (sym (length-map u.others.items answer_of)) order) all.1);

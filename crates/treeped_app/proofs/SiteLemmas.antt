@@ -3,6 +3,7 @@ use Rattle.std.proofs.Common.{◌≡◌, ℕ, zero, suc, ◌+◌, ◌-◌, ◌<�
 use Rattle.std.proofs.lemmas.List.{length-map, map-append}
 use Rattle.tp_base.specs.declared.places.Place.{Place}
 use Rattle.tp_base.proofs.Rising.{Contains-cons, Contains-none}
+use Rattle.tp_base.proofs.Truths.{or_false}
 use Rattle.std.specs.List.{list_any}
 use Rattle.std.proofs.lemmas.Bool.{true≢false}
 use Rattle.css_prune.proofs.AlikeLemmas.{alike_length}
@@ -31,6 +32,7 @@ use Rattle.treeped_app.specs.Runs.{Told, Holds, run_of, Ends, AreTexts, IsSaid, 
 use Rattle.treeped_app.specs.Inputs.{AllLoaded, IsSaidOf}
 use Rattle.treeped_app.specs.Sites.{IsBegun, HasFirst, HasNext, IsKept, PageAdded, MorePages, Finished, all_places, page_wanted, best_answers, text_of_site, site_status}
 use Rattle.treeped_app.specs.Views.{inputs_of}
+use Rattle.treeped_app.proofs.PruneLemmas.{items_many}
 use Rattle.treeped_app.proofs.ExactLemmas.{all_reportable}
 use Rattle.treeped_app.proofs.RunLemmas.{all_joined, load_stops, say_stops, not_whole}
 use Rattle.css_read.specs.Shapes.{IsAlikeOutcome, AreAlike}
@@ -128,12 +130,6 @@ first_added places [] (a ∷ answers) rep = absurd rep
 first_added places (i ∷ items) [] rep = absurd rep
 first_added places (i ∷ items) (a ∷ answers) rep = ((omega arith, omega arith, rep.0), first_added places items answers rep.1)
 
-as_many : (places : List Place) (items : List Item) (answers : List Answer) → page.AreReportable places items answers → length answers ≡ length items
-as_many places [] [] rep = refl
-as_many places [] (a ∷ answers) rep = absurd rep
-as_many places (i ∷ items) [] rep = absurd rep
-as_many places (i ∷ items) (a ∷ answers) rep = ap suc (as_many places items answers rep.1)
-
 better_many : (bs cs : List sites.Best) → length bs ≡ length cs → length (sites.all_better bs cs) ≡ length bs
 better_many [] [] e = refl
 better_many [] (c ∷ cs) e = refl
@@ -152,7 +148,7 @@ kept_read sheet seen is = subst (λ (z : List ℕ). IsSheetOf z (inputs_of seen.
 pub can_add : (sheet : List ℕ) (seen : Seen) (mode : Mode) (limits : Limits) (k : Option ℕ) (s : Said) → IsKept sheet seen → s.texts.sheet ≡ sheet → IsSaidOf mode limits k s → length s.items ≡ length seen.site.items
 can_add sheet seen mode limits k s can same is =
     let alike = one_sheet_read can.mode mode can.page k can.texts s.texts (inputs_of seen.last) s.inputs (can.same ∙ sym same) can.read is.read in
-    as_many (places_of s.inputs) s.inputs.sheet.items s.items (rep_of mode limits s is.answers) ∙ sym (alike_length (inputs_of seen.last).sheet.items s.inputs.sheet.items alike.items) ∙ sym can.many
+    items_many (places_of s.inputs) s.inputs.sheet.items s.items (rep_of mode limits s is.answers) ∙ sym (alike_length (inputs_of seen.last).sheet.items s.inputs.sheet.items alike.items) ∙ sym can.many
 
 -- and then another one
 pub added_can : (sheet : List ℕ) (old new : Seen) (mode : Mode) (limits : Limits) (k : ℕ) (s : Said) → IsKept sheet old → s.texts.sheet ≡ sheet → IsSaidOf mode limits (Some k) s → HasNext s old new → IsKept sheet new
@@ -170,7 +166,7 @@ added_can sheet old new mode limits k s can same is next =
       read = is.read ∙ ap Ok (sym next.last);
       many =
           ap (λ (z : sites.Site). length z.items) next.site ∙ better_many old.site.items (sites.items_on (old.site.pages + 1) s.items) (sym many ∙ sym on) ∙ sym many
-          ∙ as_many (places_of s.inputs) s.inputs.sheet.items s.items (rep_of mode limits s is.answers) ∙ ap (λ (z : Inputs). length z.sheet.items) (sym next.last);
+          ∙ items_many (places_of s.inputs) s.inputs.sheet.items s.items (rep_of mode limits s is.answers) ∙ ap (λ (z : Inputs). length z.sheet.items) (sym next.last);
       pages = ap (λ (z : sites.Site). z.pages) next.site ∙ number ∙ sym (ap length next.places ∙ length-append (all_places old) (places_of s.inputs ∷ []));
       reportable =
           subst (λ (z : sites.Site). AreReportable (all_places new) (inputs_of new.last).sheet.items z.items) (sym next.site)
@@ -191,7 +187,7 @@ first_can sheet seen mode limits s same is first = record {
   same = same;
   read = is.read ∙ ap Ok (sym first.last);
   many =
-      ap (λ (z : sites.Site). length z.items) first.site ∙ length-map s.items _ ∙ as_many (places_of s.inputs) s.inputs.sheet.items s.items (rep_of mode limits s is.answers)
+      ap (λ (z : sites.Site). length z.items) first.site ∙ length-map s.items _ ∙ items_many (places_of s.inputs) s.inputs.sheet.items s.items (rep_of mode limits s is.answers)
       ∙ ap (λ (z : Inputs). length z.sheet.items) (sym first.last);
 }
 
@@ -213,7 +209,7 @@ of_last_is : (f : Said → List ℕ) (s : Said) (more : List Said) → of_last f
 of_last_is f s [] = refl
 of_last_is f s (x ∷ more) = of_last_is f x more
 
-abbrev items_in : List Said → List (List Answer)
+abbrev pub items_in : List Said → List (List Answer)
 items_in said = map (λ (s : Said). s.items) said
 
 abbrev places_in : List Said → List (List Place)
@@ -446,13 +442,9 @@ module _ (told : Told) (words : List (List ℕ)) (start : List Load) (mode : Mod
     status_is =
         ap (λ (b : Bool). status_by_lines (if b then best_in said' else lines_on said') (verdicts_in mode said')) on_pages
         ∙ ap (status_by_lines (best_in said')) (no_verdicts mode on_pages)
-        ∙ ap (λ b. status_by b (list_any is_unused (best_in said') || false)) (or_none (list_any is_open (best_in said')))
-        ∙ ap (status_by (list_any is_open (best_in said'))) (or_none (list_any is_unused (best_in said')))
+        ∙ ap (λ b. status_by b (list_any is_unused (best_in said') || false)) (or_false (list_any is_open (best_in said')))
+        ∙ ap (status_by (list_any is_open (best_in said'))) (or_false (list_any is_unused (best_in said')))
         ∙ sym (ap site_status all.2.site)
-      where
-        or_none : (b : Bool) → (b || false) ≡ b
-        or_none true = refl
-        or_none false = refl
 
     pub site_ends : (out : Put) (result : Result Status Stop) → Finished mode x.sheet new out result → Ends (run_of told words start end out) result
     site_ends out (Ok st) (adds, status) = (t', begun.0 ∷ all.0, whole out, subst (λ z. Adds out.held out.held' z) (sym text_is) adds, status ∙ sym status_is)

@@ -1,7 +1,7 @@
 -- How the answers of statements themselves tell whether a verdict is open, and whether it is dead.
 use Rattle.std.proofs.Common.{◌≡◌, ℕ, zero, suc, ◌+◌, ◌<◌, ◌||◌, Bool, true, false, List, [], ◌∷◌, length, map, drop, get_or, take, Option, Some, None, slice_get, unwrap_or, option_map, refl, sym, ap, ◌∙◌, arith}
 use Rattle.std.specs.List.{list_any}
-use Rattle.std.proofs.lemmas.List.{length-map}
+use Rattle.std.proofs.lemmas.List.{length-map, drop-map}
 use Rattle.std.proofs.lemmas.Option.{unwrap_or-slice_get, slice_get-map}
 use Rattle.usage_report.specs.declared.answers.Answer as code
 use Rattle.usage_report.specs.Answers.{Answer, used, maybe, used_unshown, unused, skipped, spent}
@@ -75,13 +75,8 @@ pub so_without : (q : Question) (answers : List code.Answer) (numbers : List ℕ
 so_without q answers numbers at none =
     sym (ap (is_so_of q) (slice_get-map (λ j. get_or (map answer_of answers) j spent) numbers at ∙ ap (option_map (λ j. get_or (map answer_of answers) j spent)) none))
 
-map_drop : {X Y : Type 0} (f : X → Y) (xs : List X) (n : ℕ) → drop n (map f xs) ≡ map f (drop n xs)
-map_drop f xs zero = refl
-map_drop f [] (suc n) = refl
-map_drop f (x ∷ xs) (suc n) = map_drop f xs n
-
 pub told_behind : (answers : List code.Answer) (numbers : List ℕ) (n : ℕ) → told_by answers (drop n numbers) ≡ drop n (told_by answers numbers)
-told_behind answers numbers n = sym (map_drop (λ j. get_or (map answer_of answers) j spent) numbers n)
+told_behind answers numbers n = sym (drop-map (λ j. get_or (map answer_of answers) j spent) n numbers)
 
 abbrev pub any_so : Question → List Stmt → List Answer → Bool
 any_so q stmts told = list_any (is_so q) (dead.verdicts (statements_of stmts) told)

@@ -63,6 +63,7 @@ fn is_so_at(question: Question, site: &Site, item: usize) -> bool
     }
 }
 
+// Whether it is so of an answer.
 fn is_so(question: Question, answer: &Answer) -> bool
     ensures { result ≡ is_answer_so question (answer_of answer.now) }
 {

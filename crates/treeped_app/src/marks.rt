@@ -66,6 +66,7 @@ pub(crate) fn any_marked(sharp: &[Sharps]) -> bool
     sharp.iter().any(|marks| is_marked(marks))
 }
 
+// Whether marks are any.
 fn is_marked(marks: &Sharps) -> bool
     ensures { result ≡ has_marks marks.now }
 {

@@ -1,5 +1,5 @@
 //! A run on one page, or on a ring.
-ghost use Rattle.std.specs.Prelude.{◌≡◌, ◌≤◌, List, ℕ, Some, false, length};
+ghost use Rattle.std.specs.Prelude.{◌≡◌, ◌≤◌, List, ℕ, Some, false};
 ghost use Rattle.command_words.specs.Orders.{takes_pages};
 ghost use Rattle.triple_gen.specs.declared.triple.TheConstants.{MOST_BOXES};
 ghost use Rattle.tp_io.specs.Files.{Load};

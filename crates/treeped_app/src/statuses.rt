@@ -46,7 +46,8 @@ pub(crate) fn status_by(unsure: bool, unused: bool) -> Status
     }
 }
 
-pub(crate) fn any_open(answers: &[Answer]) -> bool
+// Whether an answer leaves something open. Linear in them.
+fn any_open(answers: &[Answer]) -> bool
     ensures { result ≡ list_any (λ a. spec.is_open (answer_of a)) answers.now }
 {
     answers.iter().any(|a| is_open(a))
@@ -62,12 +63,14 @@ pub(crate) fn is_open(answer: &Answer) -> bool
     )
 }
 
-pub(crate) fn any_unused(answers: &[Answer]) -> bool
+// Whether an answer is unused. Linear in them.
+fn any_unused(answers: &[Answer]) -> bool
     ensures { result ≡ list_any (λ a. spec.is_unused (answer_of a)) answers.now }
 {
     answers.iter().any(|a| is_unused(a))
 }
 
+/// Whether there are no steps.
 pub(crate) fn is_unused(answer: &Answer) -> bool
     ensures { result ≡ spec.is_unused (answer_of answer.now) }
 {

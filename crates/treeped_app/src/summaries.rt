@@ -1,5 +1,5 @@
 //! The line on a ring of boxes, in the place of a report.
-ghost use Rattle.std.specs.Prelude.{◌≡◌, ◌≤◌, ◌++◌, map, IfOk, OnOk, OnErr};
+ghost use Rattle.std.specs.Prelude.{◌≡◌, ◌++◌, map, IfOk, OnOk, OnErr};
 ghost use Rattle.std.specs.Fmt.{decimal};
 ghost use Rattle.tp_io.specs.Sinks.{Adds, AddsPrefix, Rose};
 ghost use Rattle.usage_report.specs.Views.{answer_of};
@@ -20,6 +20,7 @@ pub(crate) enum Form {
     Spent,
 }
 
+// Whether an answer is of a form.
 fn is_of(form: Form, answer: &Answer) -> bool
     ensures { result ≡ spec.is_of form (answer_of answer.now) }
 {
@@ -47,6 +48,7 @@ fn count_of(form: Form, answers: &[Answer]) -> usize
     count
 }
 
+// The steps of an answer.
 fn steps_of(answer: &Answer) -> u64
     ensures { result ≡ spec.steps_of (answer_of answer.now) }
 {
@@ -68,6 +70,7 @@ fn all_steps(answers: &[Answer]) -> u64
     sum
 }
 
+// Puts words and a number behind a line.
 fn put_number(line: &mut Vec<u8>, words: &[u8], number: u64) -> Result<(), NoMemory>
     ensures { OnOk result (line.new.items ≡ line.old.items ++ words.now ++ decimal number) }
 {
@@ -77,6 +80,7 @@ fn put_number(line: &mut Vec<u8>, words: &[u8], number: u64) -> Result<(), NoMem
     Ok(())
 }
 
+// Puts words behind a line, and how many answers are of a form.
 fn put_count(
     line: &mut Vec<u8>,
     words: &[u8],

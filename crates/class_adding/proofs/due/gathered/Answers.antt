@@ -1,8 +1,8 @@
 use Rattle.std.proofs.Common.{ℕ, List, Contains, IsTrue, inl, inr, sym, subst}
 use Rattle.std.proofs.lemmas.List.Elements.{Contains-append_right}
+use Rattle.rule_index.proofs.IndexLemmas.{first_rest}
 use Rattle.class_adding.specs.declared.looking.Look.{Look}
 use Rattle.class_adding.specs.Work.{IsNear}
-use Rattle.class_adding.proofs.AddedLemmas.{first_rest}
 use Rattle.class_adding.proofs.WrittenLemmas.{left_first, left_next, done_next, done_all}
 use Rattle.class_adding.proofs.DueLemmas.{near_more, from_none}
 use Rattle.class_adding.proofs.due.gathered.Goals as goal

@@ -18,5 +18,4 @@ returns c =
       few = c.in_ok-labels.ensures.few;
       rising = subst (λ (z : List (List ℕ)). (v : List ℕ) → Contains z v → IsStrictlyIncreasing (label_in t v)) (sym all) c.in_ok-labels.ensures.rising;
       start = subst (λ (z : LabelTree). IsStart z nodes c.in_ok-work.work) same c.in_ok-work.ensures;
-      remembered = c.new-2.ensures;
     }

@@ -1,7 +1,7 @@
 use Rattle.std.proofs.Common.{◌^◌, List, Contains, sym, subst}
 use Rattle.tp_base.proofs.Rising.{Contains-behind}
+use Rattle.rule_index.proofs.IndexLemmas.{first_rest}
 use Rattle.class_adding.specs.declared.gifts.Gift.{Gift}
-use Rattle.class_adding.proofs.AddedLemmas.{first_rest}
 use Rattle.class_adding.proofs.GiftLemmas.{gifts_next, first_early}
 use Rattle.class_adding.proofs.gifts.gift_after.Goals as goal
 

@@ -1,4 +1,4 @@
-use Rattle.class_adding.proofs.AddedLemmas.{first_rest}
+use Rattle.rule_index.proofs.IndexLemmas.{first_rest}
 use Rattle.class_adding.proofs.GiftLemmas.{giving_some, giving_none}
 use Rattle.class_adding.proofs.gifts.gifts_of.Goals as goal
 

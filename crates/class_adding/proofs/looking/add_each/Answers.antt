@@ -2,7 +2,7 @@ use Rattle.std.proofs.Common.{[], get_or, refl, sym, ◌∙◌, subst}
 use Rattle.std.specs.List.Sorted.{IsStrictlyIncreasing}
 use Rattle.tp_base.proofs.ClassLemmas.{IsStrictlyIncreasing-union_of}
 use Rattle.simple_core.specs.Labels.{given_by_links}
-use Rattle.class_adding.proofs.AddedLemmas.{first_rest}
+use Rattle.rule_index.proofs.IndexLemmas.{first_rest}
 use Rattle.class_adding.proofs.FreshLemmas.{each_next, each_end}
 use Rattle.class_adding.proofs.looking.add_each.Goals as goal
 

@@ -3,9 +3,10 @@ use Rattle.std.proofs.lemmas.List.{get_or_read}
 use Rattle.std.specs.List.Sorted.{IsStrictlyIncreasing}
 use Rattle.tp_base.proofs.ClassLemmas.{IsStrictlyIncreasing-union_of}
 use Rattle.simple_core.specs.Labels.{given_by_links}
+use Rattle.rule_index.specs.Asking.{AreMet}
 use Rattle.closed_page.specs.Gains.{label_in}
 use Rattle.closed_page.specs.Labelled.{node_of}
-use Rattle.class_adding.specs.Fresh.{AreMet, set_at}
+use Rattle.class_adding.specs.Fresh.{set_at}
 use Rattle.class_adding.proofs.FreshLemmas.{given_more, AreCallers}
 use Rattle.class_adding.proofs.looking.given_within.Goals as goal
 

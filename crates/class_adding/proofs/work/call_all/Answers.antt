@@ -1,8 +1,8 @@
 use Rattle.std.proofs.Common.{IsTrue, inl}
+use Rattle.rule_index.proofs.IndexLemmas.{first_rest}
 use Rattle.class_adding.specs.declared.looking.Look.{Look}
 use Rattle.closed_page.specs.Labelled.{IsHeard}
 use Rattle.closed_page.proofs.CallLemmas.{heard_more}
-use Rattle.class_adding.proofs.AddedLemmas.{first_rest}
 use Rattle.class_adding.proofs.WrittenLemmas.{left_first, left_next, done_next, done_all}
 use Rattle.class_adding.proofs.work.call_all.Goals as goal
 

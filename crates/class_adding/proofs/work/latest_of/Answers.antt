@@ -1,6 +1,6 @@
 use Rattle.std.proofs.Common.{◌≤◌, IfSome, inl, arith}
+use Rattle.rule_index.proofs.IndexLemmas.{first_rest}
 use Rattle.class_adding.specs.declared.looking.Look.{Look}
-use Rattle.class_adding.proofs.AddedLemmas.{first_rest}
 use Rattle.class_adding.proofs.WrittenLemmas.{left_first, left_next, done_next, done_all, until_more}
 use Rattle.class_adding.proofs.work.latest_of.Goals as goal
 

@@ -1,4 +1,4 @@
-use Rattle.class_adding.proofs.AddedLemmas.{first_rest}
+use Rattle.rule_index.proofs.IndexLemmas.{first_rest}
 use Rattle.class_adding.proofs.WrittenLemmas.{waiting_start, waiting_next, waiting_all}
 use Rattle.class_adding.proofs.work.wait_all.Goals as goal
 

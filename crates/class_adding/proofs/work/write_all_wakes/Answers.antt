@@ -1,6 +1,6 @@
 use Rattle.std.proofs.Common.{◌≡◌, ◌<◌, None, length, arith}
+use Rattle.rule_index.proofs.IndexLemmas.{first_rest}
 use Rattle.class_adding.specs.declared.looking.Look.{Look}
-use Rattle.class_adding.proofs.AddedLemmas.{first_rest}
 use Rattle.class_adding.proofs.WrittenLemmas.{writing_start, writing_next, writing_all, left_first}
 use Rattle.class_adding.proofs.work.write_all_wakes.Goals as goal
 

@@ -1,7 +1,6 @@
 use Rattle.std.proofs.Common.{map}
 use Rattle.guard_sem.specs.OfSelectors.{of_selector}
 use Rattle.css_read.specs.Views.{item_of}
-use Rattle.need_table.proofs.ChildLemmas.{first_rest}
 use Rattle.judge.specs.Answers.{judged_in}
 use Rattle.judge.proofs.GuardLemmas.{guards_next}
 use Rattle.judge.proofs.simplifying.guards_of.Goals as goal
@@ -9,4 +8,4 @@ use Rattle.judge.proofs.simplifying.guards_of.Goals as goal
 pub items-preserved : goal.items-preserved
 items-preserved c =
     guards_next c.items.guards.items c.add_guard.new.guards.items (map of_selector (judged_in (map item_of c.args.items.now))) c.items.rest.now c.in-Some.later.now c.in-Some.item.now
-    (first_rest c.items.rest.now c.in-Some.item.now c.in-Some.later.now c.in-Some.ensures.cases) c.in_ok-add_guard.ensures c.items.invariant
+    c.in-Some.ensures.cases.0 c.in_ok-add_guard.ensures c.items.invariant

@@ -2,7 +2,7 @@ use Rattle.std.proofs.Common.{◌≡◌, ◌≤◌, Some, slice_get, Contains}
 use Rattle.need_table.specs.declared.entries.First.{First}
 use Rattle.need_table.specs.declared.entries.Entry.{Entry}
 use Rattle.need_table.specs.Rows.{IsRicher, IsDue}
-use Rattle.need_table.proofs.ChildLemmas.{first_rest}
+use Rattle.rule_index.proofs.IndexLemmas.{first_rest}
 use Rattle.need_table.proofs.RowLemmas.{added_richer, added_here, added_same, same_twice, due_later, left_next, left_none}
 use Rattle.need_table.proofs.agenda.expect.Goals as goal
 

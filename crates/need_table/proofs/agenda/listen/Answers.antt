@@ -1,6 +1,6 @@
 use Rattle.std.proofs.Common.{◌≤◌, ◌-◌, Contains}
 use Rattle.need_table.specs.Rows.{row_in}
-use Rattle.need_table.proofs.ChildLemmas.{first_rest}
+use Rattle.rule_index.proofs.IndexLemmas.{first_rest}
 use Rattle.need_table.proofs.RowLemmas.{left_next, left_none}
 use Rattle.need_table.proofs.agenda.listen.Goals as goal
 

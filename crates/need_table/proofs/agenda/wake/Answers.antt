@@ -1,6 +1,6 @@
 use Rattle.std.proofs.Common.{Contains, arith}
 use Rattle.need_table.specs.Rows.{row_in, IsRicher}
-use Rattle.need_table.proofs.ChildLemmas.{first_rest}
+use Rattle.rule_index.proofs.IndexLemmas.{first_rest}
 use Rattle.need_table.proofs.RowLemmas.{added_richer, added_here, added_same, same_twice, left_next, left_none}
 use Rattle.need_table.proofs.agenda.wake.Goals as goal
 

@@ -13,7 +13,7 @@ stands c =
     let room : length c.args.table.now < c.args.pairs = omega (arith, c.if-place-pairs.false, c.len-place.ensures) in
     pushed c.args.system.now c.args.pairs c.args.table.now c.push.new.self (c.args.kind, c.args.parent.now) c.in_ok-entry-in-None.entry
     c.requires.table room (c.in-None.ensures.none.0 refl)
-    c.in_ok-entry-in-None.ensures.pair c.in_ok-entry-in-None.ensures.rounds c.in_ok-entry-in-None.ensures.children c.in_ok-entry-in-None.ensures.firsts c.in_ok-push-in-None.ensures.ok
+    c.in_ok-entry-in-None.ensures.pair c.in_ok-entry-in-None.ensures.rounds c.in_ok-entry-in-None.ensures.children c.in_ok-entry-in-None.ensures.firsts c.in_ok-entry-in-None.ensures.label c.in_ok-push-in-None.ensures.ok
 
 pub returns-then-place-pairs-clause-spent : goal.returns-then-place-pairs-clause-spent
 returns-then-place-pairs-clause-spent c = λ is qs needed one.

@@ -1,8 +1,9 @@
 use Rattle.std.proofs.Common.{◌≡◌, List, Some, Err, IsSomeAnd, slice_get, refl, sym, subst, arith, rules}
 use Rattle.simple_core.specs.declared.summaries.GainFault.TheVariants.{Spent}
 use Rattle.need_table.specs.declared.entries.Entry.{Entry}
-use Rattle.need_table.specs.Tables.{pair_of, labels}
+use Rattle.need_table.specs.Tables.{pair_of}
 use Rattle.need_table.specs.Agendas.{IsGoing}
+use Rattle.need_table.specs.Turns.{IsAsked}
 use Rattle.need_table.proofs.FillLemmas.{more_twice}
 use Rattle.need_table.proofs.ChildLemmas.{needed_same}
 use Rattle.need_table.proofs.GoingLemmas.{IsRaised, raised_all, appended_same, going_pushed}
@@ -47,8 +48,10 @@ step-requires-clause-rounds c =
 pub step-requires-clause-asked : goal.step-requires-clause-asked
 step-requires-clause-asked c =
     let r = raise (goal.at.step-requires-clause-asked c).After-raise in
-    let same : c.asked_by.new.table ≡ c.raise.new.self = appended_same c.raise.new.self c.asked_by.new.table c.in_ok-asked.ensures.appended (omega (arith, c.len.ensures, c.if-len-before.true, c.len-before.ensures, r.count)) in
-    subst (λ (z : List Entry). IsSomeAnd (slice_get z c.args.i) (λ e. c.in_ok-asked.asked.own ≡ labels c.args.system.now (pair_of e) c.args.k)) (sym same) c.in_ok-asked.ensures.asked
+    let a = c.in_ok-asked.asked in
+    let new = c.asked_by.new.table in
+    let same : new ≡ c.raise.new.self = appended_same c.raise.new.self new c.in_ok-asked.ensures.appended (omega (arith, c.len.ensures, c.if-len-before.true, c.len-before.ensures, r.count)) in
+    subst (λ (z : List Entry). IsSomeAnd (slice_get z c.args.i) (λ e. IsAsked c.args.system.now new (pair_of e) c.args.k e.label a.fresh a.from a.children.items)) (sym same) c.in_ok-asked.ensures.asked
 
 pub returns-in_err-step-clause-more : goal.returns-in_err-step-clause-more
 returns-in_err-step-clause-more c =

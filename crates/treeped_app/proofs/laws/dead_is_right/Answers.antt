@@ -1,4 +1,3 @@
-use Rattle.jq_sem.specs.Statements.{Statement}
 use Rattle.dead_script.specs.Probes.{all_probes}
 use Rattle.dead_script.proofs.VerdictLemmas.{verdicts_right}
 use Rattle.command_words.specs.declared.words.Mode.TheVariants.{Dead}

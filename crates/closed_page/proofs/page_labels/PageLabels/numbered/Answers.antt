@@ -1,8 +1,8 @@
 use Rattle.std.proofs.Common.{List, ℕ, Option, length, Contains, sym, ◌∙◌, subst}
 use Rattle.tree_sem.specs.Trees.{LabelTree}
 use Rattle.tp_base.proofs.Rising.{Contains-none}
+use Rattle.row_index.specs.Rows.{AreByNumber}
 use Rattle.closed_page.specs.declared.first_rounds.NodeFirst.{NodeFirst}
-use Rattle.closed_page.specs.Rows.{AreByNumber}
 use Rattle.closed_page.specs.Labelled.{AreRelated, AreAllLabels}
 use Rattle.closed_page.proofs.LabelledLemmas.{related_page}
 use Rattle.closed_page.proofs.page_labels.PageLabels.numbered.Goals as goal

@@ -1,0 +1,15 @@
+use Rattle.std.proofs.Common.{◌≡◌, length}
+use Rattle.class_adding.specs.Asking.{Went}
+use Rattle.class_adding.specs.Filling.{AsksIn}
+use Rattle.class_adding.proofs.RoundLemmas.{IsLooking}
+use Rattle.class_adding.proofs.asker.Asker.look_at_all.Given as goal
+
+abbrev pub invariant-nodes : goal.invariant-nodes
+invariant-nodes g l = record {
+  looking : IsLooking l.initial.self.system.now l.labels.labels l.k l.labels.nodes (g.S.Summaries.known l.self.sums.now) l.gains.items l.looks.items l.work.due.items l.rest;
+  went : Went g.S.Summaries (AsksIn l.initial.self.system.now l.labels.labels) l.initial.self l.self;
+  spent : g.S.Summaries.spent_on l.self.sums.now ≡ g.S.Summaries.spent_on l.initial.self.sums.now;
+}
+
+abbrev pub decreases-nodes : goal.decreases-nodes
+decreases-nodes g l = length l.rest

@@ -1,8 +1,0 @@
-use Rattle.std.proofs.Common.{◌+◌, ◌∙◌, ap}
-use Rattle.class_adding.specs.Indexes.{given_in}
-use Rattle.closed_page.specs.Rows.{row_of}
-use Rattle.class_adding.proofs.IndexLemmas.{label_more}
-use Rattle.class_adding.proofs.indexed_system.add_by_each.Goals as goal
-
-pub loop-i-preserved : goal.loop-i-preserved
-loop-i-preserved c = label_more (given_in c.args.label.now) c.args.rules.now c.args.index.now (λ a. a + 1) c.args.fresh.now c.args.next.now c.loop-i.next c.add_rules.new.next c.of.result.now c.loop-i.i c.at-atom.result c.at-atom.ensures c.loop-i.invariant (c.of.ensures ∙ ap (λ z. row_of c.args.index.now (z + 1)) c.atom.view_is) c.in_ok-add_rules.ensures

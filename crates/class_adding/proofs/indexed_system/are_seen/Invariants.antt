@@ -1,6 +1,0 @@
-use Rattle.std.proofs.Common.{take}
-use Rattle.class_adding.specs.Fresh.{AreUnseen}
-use Rattle.class_adding.proofs.indexed_system.are_seen.Given as goal
-
-abbrev pub invariant-loop-i : goal.invariant-loop-i
-invariant-loop-i l = AreUnseen l.links (take l.i l.label)

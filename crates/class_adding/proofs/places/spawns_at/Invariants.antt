@@ -1,6 +1,0 @@
-use Rattle.std.proofs.Common.{take}
-use Rattle.class_adding.specs.Indexes.{AreSpawnsAt}
-use Rattle.class_adding.proofs.places.spawns_at.Given as goal
-
-abbrev pub invariant-loop-i : goal.invariant-loop-i
-invariant-loop-i l = AreSpawnsAt (take l.i l.spawns) l.index

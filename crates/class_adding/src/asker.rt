@@ -1,0 +1,32 @@
+//! What closing a page asks, and of what.
+ghost use Rattle.std.specs.Prelude.{◌≡◌, ◌<◌, length, Contains, All, OnOk};
+ghost use Rattle.class_adding.specs.Asking.{IsReady, Went, TellsSpent};
+
+use crate::gift_table::GiftTable;
+use rule_index::IndexedSystem;
+use simple_core::{GainFault, Summaries};
+use tp_base::ClassSet;
+
+/// The rules of a page, the summaries that are asked for added children, and what is remembered of these.
+#[derive(Drop)]
+pub(crate) struct Asker<'a, 's, S: Summaries> {
+    pub(crate) system: &'a IndexedSystem<'s>,
+    pub(crate) sums: &'a mut S,
+    pub(crate) remembered: &'a mut GiftTable,
+}
+
+impl<'a, 's, S: Summaries> Asker<'a, 's, S> {
+    /// Asks for a child of the kind, so that it is known.
+    pub(crate) fn ask(&mut self, kind: u32, seen: &ClassSet) -> Result<(), GainFault>
+        requires kind { kind < length self.old.system.now.kinds }
+        requires visible { All (Contains self.old.system.now.visible) seen.now }
+        requires ready { IsReady S.Summaries self.old }
+        ensures known { OnOk result (S.known self.new.sums.now (kind, seen.now)) }
+        ensures went { Went S.Summaries (λ q. q ≡ (kind, seen.now)) self.old self.new }
+        ensures rows { self.new.remembered.now ≡ self.old.remembered.now }
+        ensures spent { TellsSpent S.Summaries result self.old self.new }
+    {
+        self.sums.gain(kind, seen)?;
+        Ok(())
+    }
+}

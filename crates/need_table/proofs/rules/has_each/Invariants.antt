@@ -1,6 +1,0 @@
-use Rattle.std.proofs.Common.{◌≡◌, take, true}
-use Rattle.tp_base.specs.Classes.{all_among}
-use Rattle.need_table.proofs.rules.has_each.Given as goal
-
-abbrev pub invariant-loop-i : goal.invariant-loop-i
-invariant-loop-i l = all_among (take l.i l.needs) l.label ≡ true

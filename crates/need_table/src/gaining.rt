@@ -1,0 +1,148 @@
+//! One round more of an entry.
+ghost use Rattle.std.specs.Prelude.{◌≡◌, ◌+◌, ◌<◌, ◌^◌, ℕ, suc, map, slice_get, Some, IsSomeAnd, IfOk, OnOk};
+ghost use Rattle.std.specs.List.{flat_map};
+ghost use Rattle.std.specs.List.Sorted.{IsStrictlyIncreasing};
+ghost use Rattle.tp_base.specs.Classes.{union_of};
+ghost use Rattle.need_table.specs.Tables.{pair_of, IsDone, IsMore, AreOrdered};
+ghost use Rattle.need_table.specs.Rows.{IsEmptyBelow, AreSameBelow};
+ghost use Rattle.need_table.specs.Agendas.{AreKnown, IsGoing};
+ghost use Rattle.need_table.specs.Turns.{given_at, given_above, IsAsked, IsGained};
+
+use crate::agenda::{Agenda, listen, tell};
+use crate::entries::{Entry, fresh, label_within};
+use crate::filling::Asked;
+use crate::pair_table::Table;
+use gathered::Gathered;
+use rule_index::IndexedSystem;
+use std::alloc::Global;
+use tp_base::{ClassSet, NoMemory};
+
+// Adds what the entry at a place gives by atoms of these rounds.
+fn add_child(
+    alloc: Global,
+    system: &IndexedSystem,
+    entries: &[Entry],
+    from: u64,
+    to: u64,
+    j: usize,
+    next: &mut Gathered,
+) -> Result<(), NoMemory>
+    requires round { to + 1 < 2 ^ 64 }
+    requires order { AreOrdered entries.now }
+    requires rises { IsStrictlyIncreasing next.old }
+    ensures { OnOk result (next.new ≡ union_of next.old (given_at system.now entries.now from to j)) }
+{
+    if let Some(entry) = entries.get(j) {
+        let label = label_within(alloc, &entry.firsts, from, to)?;
+        system.add_down(&label, next)?;
+    }
+    Ok(())
+}
+
+// Adds what the entries at these places give by atoms of these rounds.
+fn add_children(
+    alloc: Global,
+    system: &IndexedSystem,
+    entries: &[Entry],
+    from: u64,
+    to: u64,
+    children: &[usize],
+    next: &mut Gathered,
+) -> Result<(), NoMemory>
+    requires round { to + 1 < 2 ^ 64 }
+    requires order { AreOrdered entries.now }
+    requires rises { IsStrictlyIncreasing next.old }
+    ensures { OnOk result (next.new ≡ union_of next.old (flat_map (given_at system.now entries.now from to) children.now)) }
+{
+    let mut rest = children;
+    'places: while let Some((j, others)) = rest.split_first() {
+        add_child(alloc, system, entries, from, to, *j, next)?;
+        rest = others;
+    }
+    Ok(())
+}
+
+// Adds what the label of the parent gives. After round 0 that is there already.
+fn add_above(
+    system: &IndexedSystem,
+    parent: &ClassSet,
+    k: u64,
+    next: &mut Gathered,
+) -> Result<(), NoMemory>
+    requires { IsStrictlyIncreasing next.old }
+    ensures { OnOk result (next.new ≡ union_of next.old (given_above system.now k parent.now)) }
+{
+    if k == 0 {
+        system.add_up(parent, next)?;
+    }
+    Ok(())
+}
+
+// What an entry gets in the round after k, its last one, and some of what it has. It costs a look at what is new of the label and
+// of what it asks, and at the rules that need that.
+fn gained(
+    alloc: Global,
+    system: &IndexedSystem,
+    table: &Table,
+    i: usize,
+    k: u64,
+    asked: &Asked,
+) -> Result<ClassSet, NoMemory>
+    requires round { k + 1 < 2 ^ 64 }
+    requires order { AreOrdered table.now }
+    requires known { AreKnown system.now k table.now }
+    requires asked { IsSomeAnd (slice_get table.now i) (λ e. IsAsked system.now table.now (pair_of e) k e.label asked.now.fresh asked.now.from asked.now.children.items) }
+    ensures { IfOk result (λ n. IsSomeAnd (slice_get table.now i) (λ e. IsGained system.now (pair_of e) k e.label n)) }
+{
+    let mut next = Gathered::new(alloc);
+    let entry = table.entry(i);
+    system.add_local(&entry.label, &asked.fresh, &mut next)?;
+    add_above(system, &entry.parent, k, &mut next)?;
+    add_children(
+        alloc,
+        system,
+        table.entries(),
+        asked.from,
+        k,
+        &asked.children,
+        &mut next,
+    )?;
+    let next = next.into_set()?;
+    Ok(next)
+}
+
+/// Gives an entry one round more than k, its last one, and tells those whom that concerns.
+pub(crate) fn step(
+    alloc: Global,
+    system: &IndexedSystem,
+    table: &mut Table,
+    agenda: &mut Agenda,
+    i: usize,
+    k: u64,
+    asked: Asked,
+) -> Result<(), NoMemory>
+    requires round { k + 1 < 2 ^ 64 }
+    requires going { (pairs : ℕ) × IsGoing system.now pairs table.old agenda.old }
+    requires early { IsEmptyBelow k agenda.old.due }
+    requires rounds { IsSomeAnd (slice_get table.old i) (λ e. e.rounds ≡ Some k) }
+    requires asked { IsSomeAnd (slice_get table.old i) (λ e. IsAsked system.now table.old (pair_of e) k e.label asked.fresh asked.from asked.children.items) }
+    ensures going { OnOk result ((pairs : ℕ) → IsGoing system.now pairs table.old agenda.old → IsGoing system.now pairs table.new agenda.new) }
+    ensures more { IsMore table.old table.new }
+    ensures same { OnOk result (map pair_of table.new ≡ map pair_of table.old) }
+    ensures rows { OnOk result (AreSameBelow (suc k) agenda.old.due agenda.new.due) }
+    ensures done { OnOk result (IsSomeAnd (slice_get table.new i) (λ e. IsDone e.rounds (suc k))) }
+{
+    let given = gained(alloc, system, table, i, k, &asked)?;
+    let new = fresh(alloc, &table.entry(i).label, &given, k + 1)?;
+    let first = agenda.first;
+    listen(
+        &mut agenda.askers,
+        first,
+        i,
+        &table.entry(i).children,
+        &asked.children,
+    )?;
+    table.note(i, k, &new, asked.children)?;
+    tell(table.entries(), agenda, i, k, &new)?;
+    Ok(())
+}

@@ -1,0 +1,12 @@
+use Rattle.std.proofs.Common.{◌∙◌}
+use Rattle.rule_index.specs.Indexes.{to_of}
+use Rattle.rule_index.proofs.IndexLemmas.{first_rest, row_next, row_end}
+use Rattle.rule_index.proofs.indexed_system.add_links.Goals as goal
+
+pub places-preserved : goal.places-preserved
+places-preserved c =
+    row_next to_of c.args.links.now c.places.next c.add_link.new.next c.places.rest.now c.in-Some.place.now c.in-Some.others.now (first_rest c.places.rest.now c.in-Some.place.now c.in-Some.others.now c.in-Some.ensures.cases) c.in_ok-add_link.ensures
+    ∙ c.places.invariant
+
+pub returns : goal.returns
+returns c = row_end to_of c.args.links.now c.places.next c.args.next.now c.places.rest.now c.args.row.now c.in_default.ensures.cases c.places.invariant

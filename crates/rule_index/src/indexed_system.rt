@@ -1,0 +1,329 @@
+//! The rules of a system, found by the atoms that they look at.
+ghost use Rattle.std.specs.Prelude.{◌≡◌, ◌≢◌, ◌++◌, ◌+◌, ℕ, Contains, IfOk, OnOk, IsFalse};
+ghost use Rattle.std.specs.List.Sorted.{IsStrictlyIncreasing};
+ghost use Rattle.tp_base.specs.Classes.{all_among, union_of};
+ghost use Rattle.simple_core.specs.Labels.{given_by_rules, given_by_links};
+ghost use Rattle.simple_core.specs.declared.rules.Link.{Link};
+ghost use Rattle.simple_core.specs.declared.rules.Spawn.{Spawn};
+ghost use Rattle.rule_index.specs.Asking.{IsMore, AreMet, AreUnseen, AsksAnew, AreKinds};
+ghost use Rattle.rule_index.specs.Indexes.{at_place, at_row, by_label, given_in, to_of, kind_of, AreLocalsAt, AreLinksAt};
+
+use crate::places::{links_at, locals_at, spawns_at};
+use gathered::Gathered;
+use row_index::Index;
+use simple_core::{Kind, Link, Local, Spawn, System};
+use std::alloc::Global;
+use std::marker::Model;
+use tp_base::{Atom, ClassSet, NoMemory};
+
+/// A system, and for each atom the places of the rules that look at it. What atoms give costs a look at them and at the
+/// rules that stand there. A contract sees the system.
+#[derive(Drop)]
+pub struct IndexedSystem<'a> {
+    system: &'a System,
+    local: Index,
+    up: Index,
+    down: Index,
+    child: Index,
+}
+
+impl<'a> Model for IndexedSystem<'a> {
+    ghost use Rattle.simple_core.specs.declared.system.System.{System};
+    ghost use Rattle.rule_index.specs.Indexes.{AreIndexes};
+
+    ghost Value = { System };
+
+    ghost view = { λ s. s.system.now };
+
+    ghost invariant = { λ s. AreIndexes s.system.now s.local s.up s.down s.child };
+}
+
+impl<'a> IndexedSystem<'a> {
+    /// Notes where each rule stands. Linear in the rules and in the largest atom that they look at.
+    pub fn new(alloc: Global, system: &'a System) -> Result<IndexedSystem<'a>, NoMemory>
+        ensures { IfOk result (λ s. s ≡ system.now) }
+    {
+        let local = locals_at(alloc, system.local.items())?;
+        let up = links_at(alloc, system.up.items())?;
+        let down = links_at(alloc, system.down.items())?;
+        let child = spawns_at(alloc, system.child.items())?;
+        Ok(IndexedSystem {
+            system,
+            local,
+            up,
+            down,
+            child,
+        })
+    }
+
+    /// The links from a child.
+    pub fn down_links(&self) -> &[Link]
+        ensures { result.now ≡ self.now.down }
+    {
+        self.system.down.items()
+    }
+
+    /// The atoms that links from a parent look at.
+    pub fn visible(&self) -> &ClassSet
+        ensures { result.now ≡ self.now.visible }
+    {
+        &self.system.visible
+    }
+
+    /// Adds what a label gives to its own node, where what only older atoms give is there.
+    pub fn add_local(
+        &self,
+        label: &ClassSet,
+        fresh: &ClassSet,
+        next: &mut Gathered,
+    ) -> Result<(), NoMemory>
+        requires { AreMet self.now.local label.now fresh.now }
+        ensures { OnOk result (IsMore label.now (given_by_rules self.now.local label.now) next.old next.new) }
+    {
+        add_by_needs(self.system.local.items(), &self.local, label, fresh, next)
+    }
+
+    /// Adds what the label of the parent gives.
+    pub fn add_up(&self, label: &ClassSet, next: &mut Gathered) -> Result<(), NoMemory>
+        requires { IsStrictlyIncreasing next.old }
+        ensures { OnOk result (next.new ≡ union_of next.old (given_by_links self.now.up label.now)) }
+    {
+        add_linked(self.system.up.items(), &self.up, label, next)
+    }
+
+    /// Adds what the label of a child gives.
+    pub fn add_down(&self, label: &ClassSet, next: &mut Gathered) -> Result<(), NoMemory>
+        requires { IsStrictlyIncreasing next.old }
+        ensures { OnOk result (next.new ≡ union_of next.old (given_by_links self.now.down label.now)) }
+    {
+        add_linked(self.system.down.items(), &self.down, label, next)
+    }
+
+    /// Whether a label that gets these atoms asks something else than before. Linear in them.
+    pub fn is_asking(&self, fresh: &ClassSet) -> bool
+        ensures { IsFalse result → (a : ℕ) → Contains fresh.now a → ¬ AsksAnew self.now a }
+    {
+        for i in 0..fresh.len() {
+            if self.asks(fresh.at(i)) {
+                return true;
+            }
+        }
+        false
+    }
+
+    // Whether a label that gets this atom asks something else than before.
+    fn asks(&self, atom: Atom) -> bool
+        ensures { IsFalse result → ¬ AsksAnew self.now atom }
+    {
+        self.system.visible.has(atom) || self.spawns(atom)
+    }
+
+    // Whether an atom adds a child.
+    fn spawns(&self, atom: Atom) -> bool
+        ensures { IsFalse result → (c : Spawn) → Contains self.now.child c → c.needs ≢ atom }
+    {
+        self.child.of(atom.0 as usize).len() != 0
+    }
+
+    /// Whether some link from a child looks at one of these atoms, so that they give something to the parent. Linear in them.
+    pub fn is_seen_above(&self, label: &ClassSet) -> bool
+        ensures { IsFalse result → AreUnseen self.now.down label.now }
+    {
+        are_seen(self.system.down.items(), &self.down, label)
+    }
+
+    /// Whether some link from a parent looks at one of these atoms, so that they give something to children. Linear in them.
+    pub fn is_seen_below(&self, label: &ClassSet) -> bool
+        ensures { IsFalse result → AreUnseen self.now.up label.now }
+    {
+        are_seen(self.system.up.items(), &self.up, label)
+    }
+
+    /// The kinds that a label adds; one may stand there more than once.
+    pub fn kinds_of(&self, alloc: Global, label: &ClassSet) -> Result<Vec<u32>, NoMemory>
+        ensures { IfOk result (λ v. AreKinds self.now label.now v.items) }
+    {
+        let mut kinds = Vec::new(alloc);
+        add_spawned(self.system.child.items(), &self.child, label, &mut kinds)?;
+        Ok(kinds)
+    }
+}
+
+// Whether some link looks at the atom.
+fn is_seen(links: &[Link], index: &Index, atom: Atom) -> bool
+    requires { AreLinksAt links.now index.now }
+    ensures { IsFalse result → (l : Link) → Contains links.now l → l.from ≢ atom }
+{
+    index.of(atom.0 as usize).len() != 0
+}
+
+// Whether some link looks at one of these atoms.
+fn are_seen(links: &[Link], index: &Index, label: &ClassSet) -> bool
+    requires { AreLinksAt links.now index.now }
+    ensures { IsFalse result → AreUnseen links.now label.now }
+{
+    for i in 0..label.len() {
+        if is_seen(links, index, label.at(i)) {
+            return true;
+        }
+    }
+    false
+}
+
+// Whether the label has each of these atoms. Logarithmic in the label for each.
+fn has_each(label: &ClassSet, needs: &ClassSet) -> bool
+    ensures { result ≡ all_among needs.now label.now }
+{
+    for i in 0..needs.len() {
+        if !label.has(needs.at(i)) {
+            return false;
+        }
+    }
+    true
+}
+
+fn add_rule(
+    rules: &[Local],
+    place: usize,
+    label: &ClassSet,
+    next: &mut Gathered,
+) -> Result<(), NoMemory>
+    ensures { OnOk result (next.new ≡ union_of next.old (at_place (given_in label.now) rules.now place)) }
+{
+    if let Some(rule) = rules.get(place) {
+        if has_each(label, &rule.needs) {
+            next.add(rule.gives)?;
+        }
+    }
+    Ok(())
+}
+
+fn add_rules(
+    rules: &[Local],
+    row: &[usize],
+    label: &ClassSet,
+    next: &mut Gathered,
+) -> Result<(), NoMemory>
+    ensures { OnOk result (next.new ≡ union_of next.old (at_row (given_in label.now) rules.now row.now)) }
+{
+    let mut rest = row;
+    'places: while let Some((place, others)) = rest.split_first() {
+        add_rule(rules, *place, label, next)?;
+        rest = others;
+    }
+    Ok(())
+}
+
+// Adds what the rules give that need one of these atoms.
+fn add_by_each(
+    rules: &[Local],
+    index: &Index,
+    label: &ClassSet,
+    fresh: &ClassSet,
+    next: &mut Gathered,
+) -> Result<(), NoMemory>
+    ensures { OnOk result (next.new ≡ union_of next.old (by_label (given_in label.now) rules.now index.now (λ a. a + 1) fresh.now)) }
+{
+    for i in 0..fresh.len() {
+        let atom = fresh.at(i);
+        add_rules(rules, index.of(atom.0 as usize + 1), label, next)?;
+    }
+    Ok(())
+}
+
+fn add_by_needs(
+    rules: &[Local],
+    index: &Index,
+    label: &ClassSet,
+    fresh: &ClassSet,
+    next: &mut Gathered,
+) -> Result<(), NoMemory>
+    requires index { AreLocalsAt rules.now index.now }
+    requires met { AreMet rules.now label.now fresh.now }
+    ensures { OnOk result (IsMore label.now (given_by_rules rules.now label.now) next.old next.new) }
+{
+    add_rules(rules, index.of(0), label, next)?;
+    add_by_each(rules, index, label, fresh, next)?;
+    Ok(())
+}
+
+fn add_link(links: &[Link], place: usize, next: &mut Gathered) -> Result<(), NoMemory>
+    ensures { OnOk result (next.new ≡ union_of next.old (at_place to_of links.now place)) }
+{
+    if let Some(link) = links.get(place) {
+        next.add(link.to)?;
+    }
+    Ok(())
+}
+
+fn add_links(links: &[Link], row: &[usize], next: &mut Gathered) -> Result<(), NoMemory>
+    ensures { OnOk result (next.new ≡ union_of next.old (at_row to_of links.now row.now)) }
+{
+    let mut rest = row;
+    'places: while let Some((place, others)) = rest.split_first() {
+        add_link(links, *place, next)?;
+        rest = others;
+    }
+    Ok(())
+}
+
+fn add_linked(
+    links: &[Link],
+    index: &Index,
+    label: &ClassSet,
+    next: &mut Gathered,
+) -> Result<(), NoMemory>
+    requires index { AreLinksAt links.now index.now }
+    requires rises { IsStrictlyIncreasing next.old }
+    ensures { OnOk result (next.new ≡ union_of next.old (given_by_links links.now label.now)) }
+{
+    for i in 0..label.len() {
+        let atom = label.at(i);
+        add_links(links, index.of(atom.0 as usize), next)?;
+    }
+    Ok(())
+}
+
+fn add_spawn(spawns: &[Spawn], place: usize, kinds: &mut Vec<u32>) -> Result<(), NoMemory>
+    ensures { OnOk result (kinds.new.items ≡ kinds.old.items ++ at_place kind_of spawns.now place) }
+{
+    if let Some(spawn) = spawns.get(place) {
+        kinds.push(spawn.kind)?;
+    }
+    Ok(())
+}
+
+fn add_spawns(spawns: &[Spawn], row: &[usize], kinds: &mut Vec<u32>) -> Result<(), NoMemory>
+    ensures { OnOk result (kinds.new.items ≡ kinds.old.items ++ at_row kind_of spawns.now row.now) }
+{
+    let mut rest = row;
+    'places: while let Some((place, others)) = rest.split_first() {
+        add_spawn(spawns, *place, kinds)?;
+        rest = others;
+    }
+    Ok(())
+}
+
+fn add_spawned(
+    spawns: &[Spawn],
+    index: &Index,
+    label: &ClassSet,
+    kinds: &mut Vec<u32>,
+) -> Result<(), NoMemory>
+    ensures { OnOk result (kinds.new.items ≡ kinds.old.items ++ by_label kind_of spawns.now index.now (λ a. a) label.now) }
+{
+    for i in 0..label.len() {
+        let atom = label.at(i);
+        add_spawns(spawns, index.of(atom.0 as usize), kinds)?;
+    }
+    Ok(())
+}
+
+impl<'a> IndexedSystem<'a> {
+    /// The kinds.
+    pub fn kinds(&self) -> &[Kind]
+        ensures { result.now ≡ self.now.kinds }
+    {
+        self.system.kinds.items()
+    }
+}
