@@ -1,6 +1,5 @@
-use sel_core::{
-    SelFault, Selector, Skip, fits, matches, read_selector, read_strict_list, write_selector,
-};
+use sel_core::{fits, matches};
+use sel_text::{SelFault, Selector, Skip, read_selector, read_strict_list, write_selector};
 use std::alloc::Global;
 use std::test::Fail;
 use test_building::{NodeRow, path_of, tree_of};

@@ -137,7 +137,3 @@ gifts_push s known rows rows' row are is there given = λ r in_rows. elim (Conta
 
 pub no_gifts : (s : System) (known : Pair → Type 0) (rows : List Row) → rows ≡ [] → AreGifts s known rows
 no_gifts s known rows none r there = absurd (Contains-none r (subst (λ (z : List Row). Contains z r) none there))
-
--- sets with the same members are one
-pub one_set : (xs ys : List ℕ) (r : Bool) → IsStrictlyIncreasing xs → IsStrictlyIncreasing ys → All (Contains ys) xs → IsTrue r ↔ All (Contains xs) ys → IsTrue r → xs ≡ ys
-one_set xs ys r up_x up_y within back same = same_members xs ys up_x up_y within (back.0 same)

@@ -3,7 +3,7 @@ use Rattle.std.proofs.Common.{◌≡◌, ◌≢◌, ◌↔◌, ℕ, List, [], �
 use Rattle.tp_base.specs.Classes.{union_of}
 use Rattle.tree_sem.specs.Trees.{LabelTree, node_at, label_at, children_at, edit_at, add_class}
 use Rattle.tree_sem.specs.Actions.{add_classes}
-use Rattle.tree_sem.proofs.EditLemmas.{node_at-edit_at, edit_at-edit_at, edit_at-same, label_at-add_class_other, children_at-add_class}
+use Rattle.tree_sem.proofs.EditLemmas.{node_at-edit_at, edit_at-edit_at, edit_at-same, label_at-add_class_other, children_at-add_class, children_at-add_classes}
 
 pub label_at-add_classes : (p classes : List ℕ) (t : LabelTree) → label_at p (edit_at p (add_classes classes) t) ≡ option_map (λ l. union_of l classes) (label_at p t)
 label_at-add_classes p classes t =
@@ -16,13 +16,6 @@ label_at-add_classes_other p q (c ∷ classes) t other =
     ap (label_at q) (sym (edit_at-edit_at p (add_classes classes) (add_class c) t))
     ∙ label_at-add_classes_other p q classes (edit_at p (add_class c) t) other
     ∙ label_at-add_class_other p q c t other
-
-pub children_at-add_classes : (p q classes : List ℕ) (t : LabelTree) → children_at q (edit_at p (add_classes classes) t) ≡ children_at q t
-children_at-add_classes p q [] t = ap (children_at q) (edit_at-same p (add_classes []) t (λ s at. refl))
-children_at-add_classes p q (c ∷ classes) t =
-    ap (children_at q) (sym (edit_at-edit_at p (add_classes classes) (add_class c) t))
-    ∙ children_at-add_classes p q classes (edit_at p (add_class c) t)
-    ∙ children_at-add_class p q c t
 
 children_node : (q : List ℕ) (t u : LabelTree) → children_at q u ≡ children_at q t → IsSome (node_at q u) → IsSome (node_at q t)
 children_node q t u same is = elim (node_at q t) as (λ o. node_at q t ≡ o → IsSome o) [

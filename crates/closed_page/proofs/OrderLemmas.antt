@@ -9,24 +9,13 @@ use Rattle.std.proofs.lemmas.Bool.{cases_lt, cases_order, cases_Bool, both_ways,
 use Rattle.std.proofs.lemmas.Cmp.{on_total, then_total, nat_cmp_total}
 use Rattle.std.proofs.lemmas.List.{get_or_default}
 use Rattle.std.proofs.lemmas.List.Sorted.{sorted_far, ranks_by}
+use Rattle.tp_base.proofs.Numbers.{nat_less, nat_same, never_less}
 use Rattle.closed_page.specs.declared.first_rounds.NodeFirst.{NodeFirst}
 use Rattle.closed_page.specs.declared.first_rounds.Spot.{Spot}
 use Rattle.closed_page.specs.Firsts.{first_cmp, IsFirstAt, IsRoundIn, IsBelow, IsChildIn}
 
-nat_less : (x y : ℕ) → x < y → nat_cmp x y ≡ Less
-nat_less x y lt = grind (arith, lt)
-
 nat_more : (x y : ℕ) → y < x → nat_cmp x y ≡ Greater
 nat_more x y lt = grind (arith, lt)
-
-nat_same : (x y : ℕ) → x ≡ y → nat_cmp x y ≡ Equal
-nat_same x y same = ap (nat_cmp x) (sym same) ∙ itself x
-  where
-    itself : (x : ℕ) → nat_cmp x x ≡ Equal
-    itself x = grind arith
-
-never_less : (o : Ordering) → o ≡ Less → is_lt o ≡ false → ⊥
-never_less o less not = let e : true ≡ false = ap is_lt (sym less) ∙ not in cc
 
 pub first_total : IsTotalOrder first_cmp
 first_total =

@@ -1,7 +1,6 @@
 //! The command by which the words are read.
-ghost use Rattle.std.specs.Prelude.{◌≡◌, IfOk, false};
+ghost use Rattle.std.specs.Prelude.{◌≡◌, IfOk};
 ghost use Rattle.clap.specs.Simple.{app_of, with_rule};
-ghost use Rattle.clap.specs.Walk.{rule_of};
 ghost use Rattle.command_words.specs.Command as spec;
 
 use clap::{Arg, ArgAction, Command};

@@ -15,7 +15,7 @@ use limits::{Limits, MOST_PAGES};
 use std::alloc::Global;
 use std::marker::Model;
 use thiserror::Error;
-use tp_base::NoMemory;
+use tp_base::{Items, NoMemory};
 
 /// A word of the command line. A contract sees the list of its bytes.
 #[derive(Drop)]
@@ -40,6 +40,7 @@ impl Word {
         })
     }
 
+    /// The word as text. Constant.
     pub fn as_str(&self) -> &str
         ensures { result.now ≡ self.now }
     {
@@ -48,26 +49,7 @@ impl Word {
 }
 
 /// Words of the command line, one after another. A contract sees the list of them.
-#[derive(Drop)]
-pub struct Words {
-    items: Vec<Word>,
-}
-
-impl Model for Words {
-    ghost use Rattle.std.specs.Prelude.{List, ℕ};
-
-    ghost Value = { List (List ℕ) };
-
-    ghost view = { λ w. w.items.items };
-}
-
-impl Words {
-    pub fn items(&self) -> &[Word]
-        ensures { result.now ≡ self.now }
-    {
-        &self.items
-    }
-}
+pub type Words = Items<Word>;
 
 /// What is written of a run: the report; the sheet without its unused selectors; the report, and what of the script is dead; the
 /// report with whole runs of statements in the place of steps; the report on several pages that use one sheet; or that sheet
@@ -129,7 +111,7 @@ fn words_of(alloc: Global, names: &[&str]) -> Result<Words, NoMemory>
     'names: for name in names {
         items.push(Word::new(alloc, name)?)?;
     }
-    Ok(Words { items })
+    Ok(Words::new(items))
 }
 
 fn names_of(alloc: Global, matches: &ArgMatches<'_>) -> Result<Words, NoMemory>

@@ -3,7 +3,7 @@ use Rattle.std.proofs.Common.{◌≡◌, ℕ, suc, ◌+◌, ◌==◌, Bool, true
 use Rattle.std.specs.List.{list_any, list_all}
 use Rattle.tp_base.specs.Names.{Named}
 use Rattle.tree_sem.specs.Trees.{LabelTree}
-use Rattle.jq_sem.specs.Statements.{Statement}
+use Rattle.jq_stmts.specs.Statements.{Statement}
 use Rattle.css_read.specs.declared.sheets.Range.{Range}
 use Rattle.css_read.specs.Effects.{effect}
 use Rattle.css_read.specs.Pruned.{Flagged, goes, with_flags, of_rule, bytes_of, begins_at_rule, is_skipped, has_string, is_fixed, gone_rules, end_of_last, list_cuts, lists_cuts, cuts, pruned}

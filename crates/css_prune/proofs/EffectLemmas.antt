@@ -4,9 +4,10 @@ use Rattle.std.proofs.lemmas.Bool.{false_from_ne_true}
 use Rattle.tp_base.specs.Names.{Named}
 use Rattle.tree_sem.specs.Trees.{LabelTree}
 use Rattle.tree_sem.specs.declared.actions.Event.{Event}
-use Rattle.sel_core.specs.Selectors.{Selector, Matches}
+use Rattle.sel_core.specs.Selectors.{Matches}
+use Rattle.sel_text.specs.Selectors.{Selector}
 use Rattle.jq_sem.specs.Events.{AreLegalEvents, end_of_events}
-use Rattle.jq_sem.specs.Statements.{Statement}
+use Rattle.jq_stmts.specs.Statements.{Statement}
 use Rattle.jq_sem.proofs.DecidedSelections.{Decided, match}
 use Rattle.css_read.specs.Effects.{effect, FailsTest, AllFail}
 use Rattle.css_read.specs.Pruned.{Flagged, with_flags, pruned}

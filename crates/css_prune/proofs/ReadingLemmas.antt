@@ -3,7 +3,7 @@ use Rattle.std.proofs.Common.{◌≡◌, ℕ, ◌≤◌, ◌==◌, if◌then◌e
 use Rattle.std.specs.Str.Lossy.{utf8_valid_len}
 use Rattle.std.proofs.lemmas.List.{length_push}
 use Rattle.tp_base.specs.Names.{Named}
-use Rattle.sel_core.specs.Reading as one
+use Rattle.sel_text.specs.Reading as one
 use Rattle.css_read.specs.declared.faults.TheConstants.{MOST_SELECTORS}
 use Rattle.css_read.specs.declared.faults.SheetFault.TheVariants.{NotUtf8, TooManySelectors}
 use Rattle.css_read.specs.declared.sheets.Range.{Range}

@@ -1,7 +1,7 @@
 -- The selectors of a sheet with their flags, as the code has them: in two lists of one length.
 use Rattle.std.specs.Prelude.{ℕ, suc, nat_eq, ◌==◌, ◌&&◌, ◌||◌, Bool, if◌then◌else◌, List, [], ◌∷◌, map, length, take, drop, slice_range, codes}
 use Rattle.std.specs.List.{list_any, starts_with}
-use Rattle.sel_core.specs.Grammar.{is_word}
+use Rattle.sel_text.specs.Grammar.{is_word}
 use Rattle.css_read.specs.declared.sheets.Range.{Range}
 use Rattle.css_read.specs.declared.sheets.SheetItem.{SheetItem}
 use Rattle.css_read.specs.Pruned as spec

@@ -6,9 +6,10 @@ use Rattle.std.specs.Prelude.{◌≡◌, ◌↔◌, ℕ, Bool, true, false, List
 use Rattle.tp_base.specs.Names.{Named}
 use Rattle.tree_sem.specs.Trees.{LabelTree}
 use Rattle.tree_sem.specs.declared.actions.Event.{Event}
-use Rattle.sel_core.specs.Selectors.{Selector, Matches}
+use Rattle.sel_core.specs.Selectors.{Matches}
+use Rattle.sel_text.specs.Selectors.{Selector}
 use Rattle.jq_sem.specs.Events.{AreLegalEvents, end_of_events, ReachesWithLosses}
-use Rattle.jq_sem.specs.Statements.{Statement}
+use Rattle.jq_stmts.specs.Statements.{Statement}
 use Rattle.css_read.specs.Effects.{effect}
 use Rattle.css_read.specs.Pruned.{Flagged, with_flags, pruned}
 use Rattle.css_read.specs.Reading.{read_sheet}

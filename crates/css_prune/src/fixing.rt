@@ -9,7 +9,7 @@ ghost use Rattle.css_prune.specs.Flags as flags;
 
 use crate::parts::{between, first_bytes, from_byte, from_offset};
 use css_read::{Outcome, Range, SheetItem};
-use sel_core::is_word;
+use sel_text::is_word;
 
 // The bytes of a selector.
 fn bytes_of<'a>(text: &'a [u8], item: &SheetItem) -> &'a [u8]

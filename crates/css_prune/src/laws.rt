@@ -1,11 +1,11 @@
 //! What is left of a sheet does at each node what the sheet does.
 ghost use Rattle.std.specs.Prelude.{Bool, List, ℕ};
-ghost use Rattle.sel_core.specs.Selectors.{Selector as selector};
-ghost use Rattle.jq_sem.specs.Views.{statements_of};
+ghost use Rattle.sel_text.specs.Selectors.{Selector as selector};
+ghost use Rattle.jq_stmts.specs.Views.{statements_of};
 ghost use Rattle.css_prune.specs.Alike.{IsPrunedAlike, IsReadAgain, KeepsPageEffects};
 ghost use Rattle.css_prune.specs.NodeEffects.{KeepsEffects, Tells};
 
-use jq_sem::Stmt;
+use jq_stmts::Stmt;
 use tree_sem::Tree;
 
 /// Where the script of a page never reaches the selectors that are flagged, whatever is lost between its steps, what

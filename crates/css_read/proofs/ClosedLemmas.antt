@@ -11,19 +11,19 @@ use Rattle.tp_base.specs.Names.{Named}
 use Rattle.tp_base.specs.declared.atoms.AtomKind.{AtomKind}
 use Rattle.tp_base.specs.declared.atoms.AtomKind.TheVariants as kind
 use Rattle.tp_base.proofs.Truths.{not_both}
-use Rattle.sel_core.specs.declared.faults.Skip.TheVariants.{Long}
-use Rattle.sel_core.specs.declared.faults.SelFault.{SelFault}
-use Rattle.sel_core.specs.declared.faults.SelFault.TheVariants as sel
-use Rattle.sel_core.specs.declared.faults.TheConstants.{MOST_PARTS}
-use Rattle.sel_core.specs.declared.selectors.Compound.{Compound}
-use Rattle.sel_core.specs.declared.selectors.Join.{Join}
-use Rattle.sel_core.specs.declared.selectors.Join.TheVariants.{Inside, Child}
-use Rattle.sel_core.specs.Bytes.{begins_with, in_name, begins_name, name_len, behind_close, is_passed, behind_gap}
-use Rattle.sel_core.specs.Grammar.{Outcome, ◌>>=◌, is_empty, left_at, behind_word, behind_dropped, Word, Front, in_quotes, before_quote, quoted, name_front, value_at, behind_end, behind_bracket, ended_part, valued_part, with_equals, behind_name, unless_apart, attribute_part, Begun, whole, wanting, given, any_part, first_part, name_at, part_of, behind_child, behind_space, behind_near, join_at, is_dropped_element, is_dropped_class}
-use Rattle.sel_core.specs.Syntax.{Item, part, joined, ended, whole_part, first_item, behind_join, later_item, item_at, finished_after, begun_after, Syntax, with_item, then_syntax, syntax_from, syntax_of}
-use Rattle.sel_core.specs.Reading.{Ending, then_read, compounds_of, selector_or, read_syntax, read_piece, read_selector}
-use Rattle.sel_core.specs.Selectors.{Selector}
-use Rattle.sel_core.proofs.NameLemmas.{not_byte}
+use Rattle.sel_text.specs.declared.faults.Skip.TheVariants.{Long}
+use Rattle.sel_text.specs.declared.faults.SelFault.{SelFault}
+use Rattle.sel_text.specs.declared.faults.SelFault.TheVariants as sel
+use Rattle.sel_text.specs.declared.faults.TheConstants.{MOST_PARTS}
+use Rattle.sel_text.specs.declared.selectors.Compound.{Compound}
+use Rattle.sel_text.specs.declared.selectors.Join.{Join}
+use Rattle.sel_text.specs.declared.selectors.Join.TheVariants.{Inside, Child}
+use Rattle.sel_text.specs.Bytes.{begins_with, in_name, begins_name, name_len, behind_close, is_passed, behind_gap}
+use Rattle.sel_text.specs.Grammar.{Outcome, ◌>>=◌, is_empty, left_at, behind_word, behind_dropped, Word, Front, in_quotes, before_quote, quoted, name_front, value_at, behind_end, behind_bracket, ended_part, valued_part, with_equals, behind_name, unless_apart, attribute_part, Begun, whole, wanting, given, any_part, first_part, name_at, part_of, behind_child, behind_space, behind_near, join_at, is_dropped_element, is_dropped_class}
+use Rattle.sel_text.specs.Syntax.{Item, part, joined, ended, whole_part, first_item, behind_join, later_item, item_at, finished_after, begun_after, Syntax, with_item, then_syntax, syntax_from, syntax_of}
+use Rattle.sel_text.specs.Reading.{Ending, then_read, compounds_of, selector_or, read_syntax, read_piece, read_selector}
+use Rattle.sel_text.specs.Selectors.{Selector}
+use Rattle.sel_text.proofs.NameLemmas.{not_byte}
 use Rattle.css_read.specs.Units.{is_quote, begins_comment, behind_string, behind_unit}
 use Rattle.css_read.proofs.FrontLemmas.{comment_unit, unit_end}
 use Rattle.css_read.proofs.TameLemmas.{IsClosed, ClosesStrings}

@@ -7,7 +7,7 @@ use Rattle.std.proofs.lemmas.Bool.Decides.{nat_tests}
 use Rattle.std.proofs.lemmas.Str.{IsCharBoundary-end, IsCharBoundary-before_ascii, IsCharBoundary-after_ascii}
 use Rattle.text_bytes.specs.Blanks.{is_blank}
 use Rattle.text_bytes.specs.Marks.{behind_mark}
-use Rattle.sel_core.specs.Bytes.{name_len, behind_close}
+use Rattle.sel_text.specs.Bytes.{name_len, behind_close}
 use Rattle.css_read.specs.declared.fronts.Front.TheVariants.{Passed, Closes, Styles}
 use Rattle.css_read.specs.Holders.{Step}
 use Rattle.css_read.specs.Rules.{Begun, begins, list_ends, prelude_ends, behind_block, holds_rules, at_block, at_rule, style_rule, next_front, depth_after}

@@ -5,7 +5,7 @@ use Rattle.std.proofs.lemmas.Bool.Decides.{nat_tests}
 use Rattle.std.proofs.lemmas.Str.{utf8_valid_len-IsUtf8}
 use Rattle.text_bytes.specs.OrderMark.{behind_order_mark}
 use Rattle.tp_base.specs.Names.{Named}
-use Rattle.sel_core.specs.Selectors.{Selector}
+use Rattle.sel_text.specs.Selectors.{Selector}
 use Rattle.css_read.specs.declared.sheets.Range.{Range}
 use Rattle.css_read.specs.Effects.{Style, Scope, scopes_of, style_of, effect_in, effect, fixed_rules, stayed_in, stayed, number_left, IsSameOutcome, IsMoved, AreMoved, FailsTest, AllFail, KeepsSheet, KeepsSheets}
 use Rattle.css_read.specs.Pruned.{with_flags, gone_rules, pruned}

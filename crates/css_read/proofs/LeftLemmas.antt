@@ -3,9 +3,9 @@ use Rattle.std.proofs.Common.{◌≡◌, ℕ, Bool, true, false, List, [], ◌�
 use Rattle.std.specs.Str.{IsUtf8}
 use Rattle.tp_base.specs.Names.{Named}
 use Rattle.tp_base.proofs.Fronts.{front_itself}
-use Rattle.sel_core.specs.Reading as one
-use Rattle.sel_core.specs.Selectors.{Selector}
-use Rattle.sel_core.specs.declared.faults.SelFault.TheVariants as sel
+use Rattle.sel_text.specs.Reading as one
+use Rattle.sel_text.specs.Selectors.{Selector}
+use Rattle.sel_text.specs.declared.faults.SelFault.TheVariants as sel
 use Rattle.css_read.specs.declared.faults.SheetFault.{SheetFault}
 use Rattle.css_read.specs.declared.faults.SheetFault.TheVariants.{TooManyAtoms, Memory}
 use Rattle.css_read.specs.declared.sheets.Range.{Range}

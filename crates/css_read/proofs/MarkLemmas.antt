@@ -8,6 +8,7 @@ use Rattle.std.proofs.lemmas.List.{length-take, append_cancel_right}
 use Rattle.text_bytes.specs.OrderMark.{behind_order_mark}
 use Rattle.tp_base.specs.Names.{Named}
 use Rattle.tp_base.proofs.Truths.{suc_not_zero, not_both}
+use Rattle.tp_base.proofs.Numbers.{none_more}
 use Rattle.css_read.specs.declared.fronts.Front.{Front}
 use Rattle.css_read.specs.declared.fronts.Front.TheVariants.{Passed, Opens, Closes, Styles}
 use Rattle.css_read.specs.declared.holders.Holder.{Holder}
@@ -363,9 +364,6 @@ Walks text all owners rules end pre k outer at ss =
     all ≡ pre ++ holders_from text (length pre) (k ∷ outer) ss → owners ≡ owners_from (length pre) (k ∷ outer) ss → length (rules_in ss) ≤ length rules → AllGo (gone_holders owners rules 0 all) (length pre) (k ∷ outer)
     → end ≡ last_end at (in_block (length outer) ss) → RuleGoes (rules_in ss) rules end ⊎ NoRule text (length pre) (k ∷ outer) ss owners
 
-zero_more : (n : ℕ) → n ≡ 0 + n
-zero_more n = omega arith
-
 walk_step : (text : List ℕ) (all : List Holder) (owners : List (Option ℕ)) (rules : List Bool) (end : ℕ) (f : Front) (bytes : List ℕ) (ss : List Span) (at : ℕ) (pre : List Holder) (k : ℕ) (outer : List ℕ) → 0 < length bytes
     → ((pre : List Holder) (k : ℕ) (outer : List ℕ) → Walks text all owners rules end pre k outer (at + length bytes) (steps_at (at + length bytes) ss))
     → Walks text all owners rules end pre k outer at ((record { front = f; from = at; to = at + length bytes }) ∷ steps_at (at + length bytes) ss)
@@ -379,7 +377,7 @@ walk_step text all owners rules end Passed bytes ss at pre k outer some later wh
 walk_step text all owners rules end (Styles len) bytes ss at pre k outer some later whole owned count go ends =
     let to = at + length bytes in
     let after = owners_from (length pre) (k ∷ outer) (steps_at to ss) in
-    let list : owners ≡ [] ++ Some (0 + k) ∷ after = owned ∙ ap (λ (m : ℕ). Some m ∷ after) (zero_more k) in
+    let list : owners ≡ [] ++ Some (0 + k) ∷ after = owned ∙ ap (λ (m : ℕ). Some m ∷ after) (none_more k) in
     let late = end_after to (length outer) ss in
     inl (record {
       rule = record { from = at; brace = at + len; to = to };
@@ -439,7 +437,7 @@ walk_step text all owners rules end Opens bytes ss at pre k outer some later who
     there : get_or (gone_holders owners rules 0 all) (length pre) false ≡ true
     there =
         ap (λ (hs : List Holder). get_or (gone_holders owners rules 0 hs) (length pre) false) whole
-        ∙ holder_goes owners rules 0 pre h after k go.0 (ap (λ (m : ℕ). Some m) (zero_more k)) (ap (λ (hs : List Holder). get_or (gone_holders owners rules 0 hs) k false) (sym whole) ∙ go.1)
+        ∙ holder_goes owners rules 0 pre h after k go.0 (ap (λ (m : ℕ). Some m) (none_more k)) (ap (λ (hs : List Holder). get_or (gone_holders owners rules 0 hs) k false) (sym whole) ∙ go.1)
 
     goes : AllGo (gone_holders owners rules 0 all) (length (pre ++ h ∷ [])) (length pre ∷ k ∷ outer)
     goes = (omega (arith, size), there, all_later (gone_holders owners rules 0 all) (length pre) (length (pre ++ h ∷ [])) (k ∷ outer) (omega (arith, size)) go)

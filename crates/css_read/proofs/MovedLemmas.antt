@@ -3,18 +3,18 @@ use Rattle.std.proofs.Common.{◌≡◌, ℕ, zero, suc, ◌+◌, ◌-◌, ◌�
 use Rattle.std.specs.Option.{ok_or}
 use Rattle.tp_base.specs.Names.{Named}
 use Rattle.tp_base.specs.declared.atoms.AtomKind.{AtomKind}
-use Rattle.sel_core.specs.declared.faults.Skip.TheVariants.{Bad, Long}
-use Rattle.sel_core.specs.declared.faults.SelFault.{SelFault}
-use Rattle.sel_core.specs.declared.faults.SelFault.TheVariants.{Skipped, TooManyAtoms, Memory}
-use Rattle.sel_core.specs.declared.faults.TheConstants.{MOST_PARTS}
-use Rattle.sel_core.specs.declared.selectors.Compound.{Compound}
-use Rattle.sel_core.specs.declared.selectors.Join.{Join}
+use Rattle.sel_text.specs.declared.faults.Skip.TheVariants.{Bad, Long}
+use Rattle.sel_text.specs.declared.faults.SelFault.{SelFault}
+use Rattle.sel_text.specs.declared.faults.SelFault.TheVariants.{Skipped, TooManyAtoms, Memory}
+use Rattle.sel_text.specs.declared.faults.TheConstants.{MOST_PARTS}
+use Rattle.sel_text.specs.declared.selectors.Compound.{Compound}
+use Rattle.sel_text.specs.declared.selectors.Join.{Join}
 use Rattle.text_bytes.specs.Blanks.{is_blank}
-use Rattle.sel_core.specs.Bytes.{behind_gap, name_len, begins_name}
-use Rattle.sel_core.specs.Grammar.{Outcome, ◌>>=◌, is_empty, left_at, Front, attribute_part, Begun, whole, wanting, given, behind_dropped, any_part, first_part, Word, name_at, part_of, behind_child, behind_space, behind_near, join_at}
-use Rattle.sel_core.specs.Syntax.{Item, part, joined, ended, whole_part, first_item, behind_join, later_item, item_at, finished_after, begun_after, Syntax, with_item, then_syntax, syntax_from, syntax_of}
-use Rattle.sel_core.specs.Reading.{Ending, then_read, placed, atom_of, atoms_of, compounds_of, selector_or, read_syntax, read_piece, read_selector}
-use Rattle.sel_core.specs.Selectors.{Selector}
+use Rattle.sel_text.specs.Bytes.{behind_gap, name_len, begins_name}
+use Rattle.sel_text.specs.Grammar.{Outcome, ◌>>=◌, is_empty, left_at, Front, attribute_part, Begun, whole, wanting, given, behind_dropped, any_part, first_part, Word, name_at, part_of, behind_child, behind_space, behind_near, join_at}
+use Rattle.sel_text.specs.Syntax.{Item, part, joined, ended, whole_part, first_item, behind_join, later_item, item_at, finished_after, begun_after, Syntax, with_item, then_syntax, syntax_from, syntax_of}
+use Rattle.sel_text.specs.Reading.{Ending, then_read, placed, atom_of, atoms_of, compounds_of, selector_or, read_syntax, read_piece, read_selector}
+use Rattle.sel_text.specs.Selectors.{Selector}
 use Rattle.css_read.proofs.Lengths.{gap_no_longer}
 
 -- ---- outcomes

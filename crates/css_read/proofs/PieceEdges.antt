@@ -6,7 +6,7 @@ use Rattle.std.proofs.lemmas.Bool.{and_parts}
 use Rattle.std.proofs.lemmas.Bool.Decides.{nat_tests}
 use Rattle.std.proofs.lemmas.List.{drop_at, take_at, length-take-le, take-append-drop, drop-drop}
 use Rattle.text_bytes.specs.Blanks.{is_blank}
-use Rattle.sel_core.specs.Bytes.{behind_close, behind_gap}
+use Rattle.sel_text.specs.Bytes.{behind_close, behind_gap}
 use Rattle.text_bytes.specs.Marks.{behind_mark}
 use Rattle.css_read.specs.Pieces.{with_unit, solid_len, piece_of, from_comma, first_piece, more_pieces, pieces}
 use Rattle.css_read.specs.Units.{is_one, begins_comment, begins_gap, behind_unit}

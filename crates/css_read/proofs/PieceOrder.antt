@@ -1,7 +1,7 @@
 -- The selectors of a list stand in order and apart.
 use Rattle.std.proofs.Common.{ℕ, zero, suc, ◌+◌, ◌-◌, ◌≤◌, ◌==◌, ◌&&◌, Bool, true, false, if◌then◌else◌, List, [], ◌∷◌, ◌++◌, length, take, codes, arith}
 use Rattle.std.proofs.lemmas.List.{length-take}
-use Rattle.sel_core.specs.Bytes.{behind_gap}
+use Rattle.sel_text.specs.Bytes.{behind_gap}
 use Rattle.css_read.specs.declared.sheets.Range.{Range}
 use Rattle.css_read.specs.Units.{behind_unit, begins_gap}
 use Rattle.css_read.specs.Pieces.{with_unit, solid_len, piece_of, from_comma, first_piece, more_pieces, pieces}

@@ -1,9 +1,9 @@
 -- What holds of what is read, if something is.
 use Rattle.std.proofs.Common.{Bool, true, false, if◌then◌else◌, ℕ, List, Ok, Err}
 use Rattle.tp_base.specs.Names.{Named}
-use Rattle.sel_core.specs.declared.faults.SelFault.TheVariants as sel
-use Rattle.sel_core.specs.Reading as one
-use Rattle.sel_core.specs.Selectors.{Selector}
+use Rattle.sel_text.specs.declared.faults.SelFault.TheVariants as sel
+use Rattle.sel_text.specs.Reading as one
+use Rattle.sel_text.specs.Selectors.{Selector}
 use Rattle.css_read.specs.declared.sheets.Range.{Range}
 use Rattle.css_read.specs.Reading.{Ending, then_read, item, item_from}
 use Rattle.css_read.specs.Sheets.{Outcome, judged, skipped, Item}

@@ -3,8 +3,8 @@ use Rattle.std.proofs.Common.{◌≡◌, List, [], ◌∷◌, ◌++◌, map, All
 use Rattle.std.proofs.lemmas.List.{map-append}
 use Rattle.std.proofs.lemmas.List.Elements.{All-append, All-cons, All-nil, All-weaker}
 use Rattle.tp_base.specs.Names.{Named}
-use Rattle.sel_core.specs.Results.{IsFront}
-use Rattle.sel_core.proofs.Sound.{readable_kept}
+use Rattle.sel_text.specs.Results.{IsFront}
+use Rattle.sel_text.proofs.Sound.{readable_kept}
 use Rattle.css_read.specs.declared.sheets.SheetItem.{SheetItem}
 use Rattle.css_read.specs.Readable.{IsReadableOutcome, AllReadable}
 use Rattle.css_read.specs.Sheets.{Outcome, judged, skipped, Item}

@@ -2,7 +2,7 @@
 use Rattle.std.proofs.Common.{◌≡◌, ℕ, zero, suc, ◌+◌, ◌-◌, ◌≤◌, ◌<◌, ◌==◌, ◌&&◌, Bool, true, false, if◌then◌else◌, nat_lt, List, [], ◌∷◌, ◌++◌, length, take, drop, codes, refl, arith, length-drop}
 use Rattle.std.proofs.lemmas.Bool.{false≢true}
 use Rattle.text_bytes.specs.OrderMark.{behind_order_mark}
-use Rattle.sel_core.specs.Bytes.{name_len}
+use Rattle.sel_text.specs.Bytes.{name_len}
 use Rattle.css_read.specs.declared.fronts.Front.TheVariants.{Passed, Opens, Closes, Styles}
 use Rattle.css_read.specs.Units.{behind_unit, begins_gap, from_first}
 use Rattle.css_read.specs.Rules.{Begun, begins, list_ends, prelude_ends, behind_block, holds_rules, at_block, at_rule, style_rule, next_front, depth_after, Rule, rules_at, rules_from, rules_of}

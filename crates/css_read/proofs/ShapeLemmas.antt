@@ -3,14 +3,14 @@ use Rattle.std.proofs.Common.{◌≡◌, ◌⊎◌, ℕ, Bool, true, false, nat_
 use Rattle.std.specs.Prelude.{slice_range}
 use Rattle.std.specs.Str.Lossy.{utf8_valid_len}
 use Rattle.tp_base.specs.Names.{Named, with_name}
-use Rattle.sel_core.specs.declared.faults.Skip.{Skip}
-use Rattle.sel_core.specs.declared.faults.SelFault.{SelFault}
-use Rattle.sel_core.specs.declared.faults.SelFault.TheVariants as sel
-use Rattle.sel_core.specs.declared.selectors.Compound.{Compound}
-use Rattle.sel_core.specs.Grammar as grammar
-use Rattle.sel_core.specs.Reading as one
-use Rattle.sel_core.specs.Selectors.{Selector}
-use Rattle.sel_core.specs.Syntax.{Syntax, syntax_of}
+use Rattle.sel_text.specs.declared.faults.Skip.{Skip}
+use Rattle.sel_text.specs.declared.faults.SelFault.{SelFault}
+use Rattle.sel_text.specs.declared.faults.SelFault.TheVariants as sel
+use Rattle.sel_text.specs.declared.selectors.Compound.{Compound}
+use Rattle.sel_text.specs.Grammar as grammar
+use Rattle.sel_text.specs.Reading as one
+use Rattle.sel_text.specs.Selectors.{Selector}
+use Rattle.sel_text.specs.Syntax.{Syntax, syntax_of}
 use Rattle.css_read.specs.declared.faults.SheetFault.{SheetFault}
 use Rattle.css_read.specs.declared.faults.SheetFault.TheVariants.{NotUtf8, TooManySelectors}
 use Rattle.css_read.specs.declared.sheets.Range.{Range}

@@ -4,7 +4,7 @@ use Rattle.std.specs.Option.{IsSomeAnd}
 use Rattle.std.proofs.lemmas.List.{map-append, length-take}
 use Rattle.std.proofs.lemmas.List.Elements.{All-nil, All-cons, All-head, All-tail, All-push, All-weaker}
 use Rattle.tp_base.specs.Names.{Named}
-use Rattle.sel_core.specs.Reading as one
+use Rattle.sel_text.specs.Reading as one
 use Rattle.css_read.specs.declared.faults.TheConstants.{MOST_SELECTORS}
 use Rattle.css_read.specs.declared.faults.SheetFault.TheVariants.{TooManySelectors}
 use Rattle.css_read.specs.declared.sheets.Range.{Range}

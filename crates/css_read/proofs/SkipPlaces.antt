@@ -4,16 +4,16 @@ use Rattle.std.specs.Prelude.{◌≢◌}
 use Rattle.std.specs.Option.{ok_or}
 use Rattle.tp_base.specs.Names.{Named}
 use Rattle.tp_base.specs.declared.atoms.AtomKind.{AtomKind}
-use Rattle.sel_core.specs.declared.faults.Skip.{Skip}
-use Rattle.sel_core.specs.declared.faults.Skip.TheVariants.{Bad}
-use Rattle.sel_core.specs.declared.faults.SelFault.{SelFault}
-use Rattle.sel_core.specs.declared.faults.SelFault.TheVariants.{Skipped, TooManyAtoms, Memory}
-use Rattle.sel_core.specs.declared.selectors.Compound.{Compound}
-use Rattle.sel_core.specs.declared.selectors.Join.{Join}
-use Rattle.sel_core.specs.Grammar.{Outcome, ◌>>=◌, left_at, Begun, whole, wanting, any_part, first_part, Word, name_at, part_of, behind_child, behind_space, behind_near, join_at}
-use Rattle.sel_core.specs.Syntax.{Item, part, joined, ended, whole_part, first_item, behind_join, later_item, item_at, finished_after, begun_after, Syntax, with_item, then_syntax, syntax_from, syntax_of}
-use Rattle.sel_core.specs.Reading.{Ending, then_read, placed, atom_of, atoms_of, compounds_of, selector_or, read_syntax, read_piece, read_selector}
-use Rattle.sel_core.specs.Selectors.{Selector}
+use Rattle.sel_text.specs.declared.faults.Skip.{Skip}
+use Rattle.sel_text.specs.declared.faults.Skip.TheVariants.{Bad}
+use Rattle.sel_text.specs.declared.faults.SelFault.{SelFault}
+use Rattle.sel_text.specs.declared.faults.SelFault.TheVariants.{Skipped, TooManyAtoms, Memory}
+use Rattle.sel_text.specs.declared.selectors.Compound.{Compound}
+use Rattle.sel_text.specs.declared.selectors.Join.{Join}
+use Rattle.sel_text.specs.Grammar.{Outcome, ◌>>=◌, left_at, Begun, whole, wanting, any_part, first_part, Word, name_at, part_of, behind_child, behind_space, behind_near, join_at}
+use Rattle.sel_text.specs.Syntax.{Item, part, joined, ended, whole_part, first_item, behind_join, later_item, item_at, finished_after, begun_after, Syntax, with_item, then_syntax, syntax_from, syntax_of}
+use Rattle.sel_text.specs.Reading.{Ending, then_read, placed, atom_of, atoms_of, compounds_of, selector_or, read_syntax, read_piece, read_selector}
+use Rattle.sel_text.specs.Selectors.{Selector}
 
 -- the place of a cause is at most `to`
 unfoldable IsBy : {A : Type 0} → ℕ → Outcome A → Type 0

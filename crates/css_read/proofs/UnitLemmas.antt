@@ -7,8 +7,8 @@ use Rattle.std.proofs.lemmas.Bool.{and_parts, or_parts, cases_Bool, eqb-true, no
 use Rattle.std.proofs.lemmas.Bool.Decides.{nat_tests}
 use Rattle.std.proofs.lemmas.List.{drop_at}
 use Rattle.text_bytes.specs.Blanks.{is_blank}
-use Rattle.sel_core.specs.Bytes.{begins_with, behind_close, behind_gap}
-use Rattle.sel_core.proofs.Gaps.{gap_skip}
+use Rattle.sel_text.specs.Bytes.{begins_with, behind_close, behind_gap}
+use Rattle.sel_text.proofs.Gaps.{gap_skip}
 use Rattle.css_read.specs.Pieces.{with_unit, solid_len}
 use Rattle.css_read.specs.declared.brackets.Bracket.{Bracket}
 use Rattle.css_read.specs.Units.{is_quote, begins_comment, begins_gap, behind_unit, after_byte, stops_at, from_first_in, behind_string}

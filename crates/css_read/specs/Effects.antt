@@ -6,7 +6,7 @@
 --     KeepsSheets    it is so for each sheet that a text is read as, and all flags
 use Rattle.std.specs.Prelude.{◌≡◌, ℕ, zero, suc, ◌+◌, ◌&&◌, not, Bool, true, false, if◌then◌else◌, List, [], ◌∷◌, ◌++◌, length, slice_range, Option, Some, None, get_or, Ok}
 use Rattle.tp_base.specs.Names.{Named}
-use Rattle.sel_core.specs.Selectors.{Selector}
+use Rattle.sel_text.specs.Selectors.{Selector}
 use Rattle.css_read.specs.declared.holders.Holder.{Holder}
 use Rattle.css_read.specs.Holders.{holders_of, owners_of}
 use Rattle.css_read.specs.Pruned.{Flagged, goes, with_flags, of_rule, is_fixed, gone_rules, pruned}

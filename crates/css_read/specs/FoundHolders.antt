@@ -2,7 +2,7 @@
 --     found_after     behind one more step
 --     found_from      behind all steps
 use Rattle.std.specs.Prelude.{ℕ, zero, suc, ◌-◌, not, Bool, true, false, if◌then◌else◌, List, [], ◌∷◌, ◌++◌, length, drop, Option, codes}
-use Rattle.sel_core.specs.Grammar.{is_word}
+use Rattle.sel_text.specs.Grammar.{is_word}
 use Rattle.css_read.specs.declared.fronts.Front.{Front}
 use Rattle.css_read.specs.declared.fronts.Front.TheVariants.{Passed, Opens, Closes, Styles}
 use Rattle.css_read.specs.declared.holders.Holder.{Holder}

@@ -2,7 +2,7 @@
 --     piece_of    without the white space and the comments at both ends
 --     pieces      one before each comma outside brackets, strings and comments, and one behind the last
 use Rattle.std.specs.Prelude.{ℕ, zero, suc, ◌+◌, ◌-◌, ◌==◌, ◌&&◌, Bool, true, if◌then◌else◌, List, [], ◌∷◌, length, take, codes}
-use Rattle.sel_core.specs.Bytes.{behind_gap}
+use Rattle.sel_text.specs.Bytes.{behind_gap}
 use Rattle.css_read.specs.declared.sheets.Range.{Range}
 use Rattle.css_read.specs.Units.{behind_unit, begins_gap, from_first}
 

@@ -1,7 +1,7 @@
 -- The selectors of a sheet that are judged: their atoms are names, each of a kind that has a place in a selector.
 use Rattle.std.specs.Prelude.{List, All}
 use Rattle.tp_base.specs.Names.{Named}
-use Rattle.sel_core.specs.Readable.{IsReadable}
+use Rattle.sel_text.specs.Readable.{IsReadable}
 use Rattle.css_read.specs.Sheets.{Outcome, judged, skipped, Item}
 
 abbrev pub IsReadableOutcome : List Named → Outcome → Type 0

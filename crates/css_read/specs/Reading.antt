@@ -7,9 +7,9 @@
 use Rattle.std.specs.Prelude.{ℕ, ◌==◌, nat_lt, slice_range, if◌then◌else◌, List, [], ◌∷◌, ◌++◌, length, Result, Ok, Err}
 use Rattle.std.specs.Str.Lossy.{utf8_valid_len}
 use Rattle.tp_base.specs.Names.{Named}
-use Rattle.sel_core.specs.declared.faults.SelFault.TheVariants as sel
-use Rattle.sel_core.specs.Reading as one
-use Rattle.sel_core.specs.Selectors.{Selector}
+use Rattle.sel_text.specs.declared.faults.SelFault.TheVariants as sel
+use Rattle.sel_text.specs.Reading as one
+use Rattle.sel_text.specs.Selectors.{Selector}
 use Rattle.css_read.specs.declared.faults.SheetFault.{SheetFault}
 use Rattle.css_read.specs.declared.faults.SheetFault.TheVariants.{NotUtf8, TooManySelectors, TooManyAtoms, Memory}
 use Rattle.css_read.specs.declared.faults.TheConstants.{MOST_SELECTORS}

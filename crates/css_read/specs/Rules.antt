@@ -4,8 +4,8 @@
 use Rattle.std.specs.Prelude.{ℕ, zero, suc, ◌+◌, ◌-◌, ◌==◌, ◌&&◌, ◌||◌, Bool, true, false, if◌then◌else◌, nat_eq, nat_lt, List, [], ◌∷◌, ◌++◌, length, take, drop, codes}
 use Rattle.std.specs.List.{starts_with}
 use Rattle.text_bytes.specs.OrderMark.{behind_order_mark}
-use Rattle.sel_core.specs.Bytes.{name_len}
-use Rattle.sel_core.specs.Grammar.{is_word}
+use Rattle.sel_text.specs.Bytes.{name_len}
+use Rattle.sel_text.specs.Grammar.{is_word}
 use Rattle.css_read.specs.declared.fronts.Front.{Front}
 use Rattle.css_read.specs.declared.fronts.Front.TheVariants.{Passed, Opens, Closes, Styles}
 use Rattle.css_read.specs.Units.{behind_unit, begins_gap, from_first}

@@ -1,7 +1,7 @@
 -- What is read of a sheet.
 use Rattle.std.specs.Prelude.{ℕ, List}
-use Rattle.sel_core.specs.declared.faults.Skip.{Skip}
-use Rattle.sel_core.specs.Selectors.{Selector}
+use Rattle.sel_text.specs.declared.faults.Skip.{Skip}
+use Rattle.sel_text.specs.Selectors.{Selector}
 use Rattle.css_read.specs.declared.sheets.Range.{Range}
 
 -- the selector that is judged, or why there is none and the place of the byte that says so

@@ -5,7 +5,7 @@ use Rattle.std.specs.Prelude.{ℕ, zero, suc, ◌-◌, ◌==◌, ◌&&◌, ◌||
 use Rattle.std.specs.List.{starts_with, list_any}
 use denote.Enum.Bare.{sameb}
 use Rattle.text_bytes.specs.Blanks.{is_blank}
-use Rattle.sel_core.specs.Bytes.{behind_close}
+use Rattle.sel_text.specs.Bytes.{behind_close}
 use Rattle.css_read.specs.contracts.brackets.Bracket.{the_type}
 use Rattle.css_read.specs.declared.brackets.Bracket.{Bracket}
 use Rattle.css_read.specs.declared.brackets.Bracket.TheVariants.{Round, Square, Curly}

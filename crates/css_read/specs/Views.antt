@@ -1,6 +1,6 @@
 -- What a sheet of the code is to the definitions.
 use Rattle.std.specs.Prelude.{map}
-use Rattle.sel_core.specs.Views.{selector_of}
+use Rattle.sel_text.specs.Views.{selector_of}
 use Rattle.css_read.specs.declared.sheets.Outcome.{Outcome}
 use Rattle.css_read.specs.declared.sheets.Outcome.TheVariants.{Judged, Skipped}
 use Rattle.css_read.specs.declared.sheets.SheetItem.{SheetItem}

@@ -1,6 +1,6 @@
 //! Finding the at-rules whose block holds rules, from left to right.
 ghost use Rattle.std.specs.Prelude.{◌≡◌, ◌≤◌, ◌<◌, ◌+◌, ◌^◌, nat_lt, not, All, drop, length, codes, IfOk, OnOk};
-ghost use Rattle.sel_core.specs.Grammar as grammar;
+ghost use Rattle.sel_text.specs.Grammar as grammar;
 ghost use Rattle.tp_base.specs.declared.places.TheConstants.{MOST_BYTES};
 ghost use Rattle.css_read.specs.declared.fronts.Front.TheVariants.{Opens};
 ghost use Rattle.css_read.specs.FoundHolders as found;
@@ -13,7 +13,7 @@ use crate::fronts::{Front, next_front};
 use crate::holders::{Holder, HolderList, Holders, Owners};
 use crate::sheets::Range;
 use crate::units::begins_gap;
-use sel_core::{is_word, name_len};
+use sel_text::{is_word, name_len};
 use std::alloc::{AllocError, Global};
 use text_bytes::behind_order_mark;
 use tp_base::NoMemory;

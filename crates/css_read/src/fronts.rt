@@ -5,7 +5,7 @@ ghost use Rattle.css_read.specs.Rules as spec;
 ghost use Rattle.css_read.specs.Fronts.{front_view, list_len, IsStart};
 
 use crate::units::{begins_gap, behind_unit, from_first};
-use sel_core::{is_word, name_len};
+use sel_text::{is_word, name_len};
 use std::alloc::{AllocError, Global};
 
 /// What a text begins with, where a rule may begin.

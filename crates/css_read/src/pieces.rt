@@ -5,7 +5,7 @@ ghost use Rattle.css_read.specs.Pieces as spec;
 
 use crate::sheets::Range;
 use crate::units::{begins_gap, behind_unit, from_first};
-use sel_core::behind_gap;
+use sel_text::behind_gap;
 use std::alloc::{AllocError, Global};
 
 // How many bytes there are up to the white space and the comments at the end. Linear.

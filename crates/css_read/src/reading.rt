@@ -1,7 +1,7 @@
 //! Reading a sheet, from left to right.
 ghost use Rattle.std.specs.Prelude.{◌≡◌, ◌≤◌, ◌<◌, ◌+◌, All, length, map, slice_range, IfOk, OnOk};
 ghost use Rattle.text_bytes.specs.Rests.{IsRest};
-ghost use Rattle.sel_core.specs.Results.{IsFront};
+ghost use Rattle.sel_text.specs.Results.{IsFront};
 ghost use Rattle.css_read.specs.Drafts.{draft_of};
 ghost use Rattle.css_read.specs.Fronts.{list_len};
 ghost use Rattle.css_read.specs.Order.{AreApart, AreInRules, range_of};
@@ -18,7 +18,7 @@ use crate::fronts::{Front, depth_after, next_front};
 use crate::pieces::first_piece;
 use crate::sheets::{Outcome, Range, Ranges, Sheet, SheetItem, SheetItems};
 use bstr::ByteSlice;
-use sel_core::{SelFault, read_selector};
+use sel_text::{SelFault, read_selector};
 use std::alloc::Global;
 use text_bytes::behind_order_mark;
 use tp_base::AtomTable;
@@ -55,7 +55,7 @@ fn read_item(
 }
 
 // Reads the selector at a piece of a rule, if there may be one more.
-#[tactic(auto, unfolding(crate::specs::Reading::add_item), using(sel_core::proofs::Fronts::front_itself))]
+#[tactic(auto, unfolding(crate::specs::Reading::add_item), using(sel_text::proofs::Fronts::front_itself))]
 fn add_item(
     alloc: Global,
     text: &[u8],
@@ -84,7 +84,7 @@ fn add_item(
 }
 
 // Reads the selectors of a rule's list.
-#[tactic(auto, using(crate::proofs::ItemSteps::begins, crate::proofs::ItemSteps::first_fails, crate::proofs::ItemSteps::goes_on, crate::proofs::ItemSteps::fails, crate::proofs::ItemSteps::ends, sel_core::proofs::Fronts::front_of_front, text_bytes::proofs::Rests::of_rest))]
+#[tactic(auto, using(crate::proofs::ItemSteps::begins, crate::proofs::ItemSteps::first_fails, crate::proofs::ItemSteps::goes_on, crate::proofs::ItemSteps::fails, crate::proofs::ItemSteps::ends, sel_text::proofs::Fronts::front_of_front, text_bytes::proofs::Rests::of_rest))]
 fn add_items(
     alloc: Global,
     text: &[u8],
@@ -124,7 +124,7 @@ pub(crate) struct Draft {
 
 impl Draft {
     // Reads the rule that goes from one offset to another, if it is one.
-    #[tactic(auto, unfolding(crate::specs::Reading::add_rules, crate::specs::Reading::add_rule), using(sel_core::proofs::Fronts::front_itself))]
+    #[tactic(auto, unfolding(crate::specs::Reading::add_rules, crate::specs::Reading::add_rule), using(sel_text::proofs::Fronts::front_itself))]
     fn add_front(
         &mut self,
         alloc: Global,
@@ -160,7 +160,7 @@ impl Draft {
 }
 
 // Reads the rules of a text.
-#[tactic(auto, using(crate::proofs::RuleSteps::begins, crate::proofs::RuleSteps::goes_on, crate::proofs::RuleSteps::fails, crate::proofs::RuleSteps::ends, sel_core::proofs::Fronts::front_itself, sel_core::proofs::Fronts::front_of_front, text_bytes::proofs::Rests::of_rest))]
+#[tactic(auto, using(crate::proofs::RuleSteps::begins, crate::proofs::RuleSteps::goes_on, crate::proofs::RuleSteps::fails, crate::proofs::RuleSteps::ends, sel_text::proofs::Fronts::front_itself, sel_text::proofs::Fronts::front_of_front, text_bytes::proofs::Rests::of_rest))]
 fn add_rules(alloc: Global, text: &[u8], atoms: &mut AtomTable) -> Result<Draft, SheetFault>
     ensures reads { Reads draft_of result atoms.new (spec.add_rules text.now spec.empty_sheet atoms.old (rules.rules_of text.now)) }
     ensures few { IfOk result (λ d. length d.items.items ≤ MOST_SELECTORS) }
@@ -189,7 +189,7 @@ fn add_rules(alloc: Global, text: &[u8], atoms: &mut AtomTable) -> Result<Draft,
 
 /// Reads a sheet. A byte order mark at its front is passed over. The names that were read before a refusal stay in
 /// the table. Linear in the file, in time and in memory.
-#[tactic(auto, unfolding(crate::specs::Reading::read_sheet), using(text_bytes::proofs::Utf8::valid_len, sel_core::proofs::Fronts::front_itself))]
+#[tactic(auto, unfolding(crate::specs::Reading::read_sheet), using(text_bytes::proofs::Utf8::valid_len, sel_text::proofs::Fronts::front_itself))]
 pub fn read_sheet(alloc: Global, text: &[u8], atoms: &mut AtomTable) -> Result<Sheet, SheetFault>
     ensures reads { Reads sheet_of result atoms.new (spec.read_sheet text.now atoms.old) }
     ensures count { IfOk result (λ s. length s.items ≤ MOST_SELECTORS) }

@@ -4,7 +4,7 @@ ghost use Rattle.text_bytes.specs.Rests.{IsRest};
 ghost use Rattle.css_read.specs.Units as spec;
 
 use crate::brackets::{Bracket, track};
-use sel_core::behind_close;
+use sel_text::behind_close;
 use std::alloc::{AllocError, Global};
 use text_bytes::is_blank;
 

@@ -6,10 +6,10 @@ use Rattle.std.proofs.lemmas.List.{map-append, map_more, take-map, take-take, le
 use Rattle.std.proofs.lemmas.List.Elements.{All-nil, All-cons, All-head, All-tail, All-take, All-drop}
 use Rattle.std.proofs.lemmas.List.FromFn.{length-range_with_len, length-map-range_with_len, take-map-range_with_len, map-range_with_len_more}
 use Rattle.std.proofs.lemmas.Option.{unwrap_or-slice_get}
-use Rattle.jq_sem.specs.declared.chains.Chain as code
-use Rattle.jq_sem.specs.declared.stmts.Stmt as stmt
-use Rattle.jq_sem.specs.Statements.{Chain, Statement}
-use Rattle.jq_sem.specs.Views.{chain_of, statement_of, statements_of}
+use Rattle.jq_stmts.specs.declared.chains.Chain as code
+use Rattle.jq_stmts.specs.declared.stmts.Stmt as stmt
+use Rattle.jq_stmts.specs.Statements.{Chain, Statement}
+use Rattle.jq_stmts.specs.Views.{chain_of, statement_of, statements_of}
 use Rattle.guard_sem.specs.Guards.{Guard, always}
 use Rattle.rule_translate.specs.Translation.{guard_of, of_chains}
 use Rattle.dead_script.specs.Probes.{probe, probes, all_probes, probe_guards}

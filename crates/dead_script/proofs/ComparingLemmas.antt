@@ -1,11 +1,11 @@
 -- What is the same, where its parts are.
 use Rattle.std.proofs.Common.{◌≡◌, ℕ, ◌+◌, ◌<◌, Decides, List, [], ◌∷◌, length, map, take, get_or, refl, sym, ap, ◌∙◌, arith}
 use Rattle.std.proofs.lemmas.List.{length-map, get_or-map, take_more_same}
-use Rattle.sel_core.specs.declared.selectors.Compound.{Compound}
-use Rattle.sel_core.specs.declared.selectors.Join.{Join}
-use Rattle.sel_core.specs.declared.selectors.Join.TheVariants.{Inside, Child}
-use Rattle.sel_core.specs.contracts.selectors.JoinPartialEq as its
-use Rattle.sel_core.specs.Parts.{selector_from}
+use Rattle.sel_text.specs.declared.selectors.Compound.{Compound}
+use Rattle.sel_text.specs.declared.selectors.Join.{Join}
+use Rattle.sel_text.specs.declared.selectors.Join.TheVariants.{Inside, Child}
+use Rattle.sel_text.specs.contracts.selectors.JoinPartialEq as its
+use Rattle.sel_text.specs.Parts.{selector_from}
 
 pub joins_decided : (j k : Join) → Decides (its.TheImpl.eq-value.it j k) (j ≡ k)
 joins_decided Inside Inside = (λ yes. refl, λ same. refl)

@@ -3,7 +3,7 @@
 --     is_unused a            there are no steps
 use Rattle.std.specs.Prelude.{ℕ, ◌+◌, ◌-◌, Bool, true, false, List, length, map}
 use Rattle.std.specs.List.{range_with_len}
-use Rattle.jq_sem.specs.Statements.{Statement}
+use Rattle.jq_stmts.specs.Statements.{Statement}
 use Rattle.guard_sem.specs.Guards.{Guard}
 use Rattle.rule_translate.specs.Translation.{guard_of}
 use Rattle.usage_report.specs.Answers.{Answer, unused}

@@ -1,10 +1,10 @@
 //! Whether chains are written the same.
 ghost use Rattle.std.specs.Prelude.{◌≡◌, ◌≤◌, true, map, take, length, List};
-ghost use Rattle.sel_core.specs.Views.{selector_of};
-ghost use Rattle.jq_sem.specs.Views.{root_of, call_of, chain_of};
+ghost use Rattle.sel_text.specs.Views.{selector_of};
+ghost use Rattle.jq_stmts.specs.Views.{root_of, call_of, chain_of};
 
-use jq_sem::{Call, Chain, Root};
-use sel_core::{Compound, Selector};
+use jq_stmts::{Call, Chain, Root};
+use sel_text::{Compound, Selector};
 
 // What is compared by what the definitions see of it.
 trait Compared {
@@ -53,7 +53,7 @@ impl Compared for Compound {
 }
 
 impl Compared for Selector {
-    ghost use Rattle.sel_core.specs.Selectors as spec;
+    ghost use Rattle.sel_text.specs.Selectors as spec;
 
     ghost Seen = { spec.Selector };
 

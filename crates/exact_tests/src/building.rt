@@ -1,9 +1,9 @@
 //! Statements with sharper calls, from short lists.
-use jq_sem::{
+use jq_stmts::{
     Call, Calls, Chain, Chains, ExactStmt, Root, Selectors, SharedCompounds, Sharp, SharpKind,
     Sharps, Stmt,
 };
-use sel_core::{Atoms, Compound, Selector};
+use sel_text::{Atoms, Compound, Selector};
 use std::alloc::Global;
 use test_building::{NodeRow, set_of, tree_of};
 use tp_base::{Atom, NoMemory, Place};

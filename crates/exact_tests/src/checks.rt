@@ -1,10 +1,10 @@
 //! Whether answers may be settled: steps never make too many nodes, and the proof is valid and unfolded.
 ghost use Rattle.std.specs.Prelude.{◌≤◌, All, IsTrue};
-ghost use Rattle.jq_sem.specs.SharpViews.{exact_of, exacts_of};
+ghost use Rattle.jq_stmts.specs.SharpViews.{exact_of, exacts_of};
 ghost use Rattle.jq_exact.specs.Room.{HasRoom, added_by};
 ghost use Rattle.proof_core.specs.Worlds.{HasFewSiblings};
 
-use jq_sem::ExactStmt;
+use jq_stmts::ExactStmt;
 use simple_core::{Kind, MOST_KINDS};
 use tree_sem::{Action, MOST_NODES, Tree};
 

@@ -1,6 +1,6 @@
 use crate::building::{C, Piece, page, statement};
 use jq_exact::{ReplayFault, replay_exact};
-use jq_sem::ExactStmt;
+use jq_stmts::ExactStmt;
 use std::alloc::Global;
 use std::test::Fail;
 use test_building::path_of;

@@ -1,6 +1,6 @@
 use crate::building::{A, B, C, D, Piece, page, statement};
 use jq_exact::selects_exact;
-use jq_sem::ExactStmt;
+use jq_stmts::ExactStmt;
 use std::alloc::Global;
 use std::test::Fail;
 use tp_base::{NoMemory, Path};

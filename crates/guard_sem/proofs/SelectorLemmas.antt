@@ -9,10 +9,11 @@ use Rattle.tree_sem.specs.Nodes.{IsNode, HasAtom, HasAtoms}
 use Rattle.tree_sem.proofs.BothLemmas.{last_of}
 use Rattle.tree_sem.proofs.NodeLemmas.{HasAtom-node, HasAtoms-node, HasAtoms-none}
 use Rattle.tree_sem.proofs.PathLemmas.{take_take}
-use Rattle.sel_core.specs.Selectors.{Join, child as to_parent, inside, Outer, Selector, IsAbove, Above, Matches, simple}
-use Rattle.sel_core.specs.declared.selectors.Compound.{Compound}
-use Rattle.sel_core.specs.declared.selectors.Join as code
-use Rattle.sel_core.specs.Parts.{and_then, with_parts, selector_from}
+use Rattle.sel_core.specs.Selectors.{IsAbove, Above, Matches}
+use Rattle.sel_text.specs.Selectors.{Join, child as to_parent, inside, Outer, Selector, simple}
+use Rattle.sel_text.specs.declared.selectors.Compound.{Compound}
+use Rattle.sel_text.specs.declared.selectors.Join as code
+use Rattle.sel_text.specs.Parts.{and_then, with_parts, selector_from}
 use Rattle.guard_sem.specs.Guards.{Guard, atom, guards_of}
 use Rattle.guard_sem.specs.Holding.{Holds, HoldAll}
 use Rattle.guard_sem.specs.OfSelectors.{of_compound, of_join, of_parts, of_selector, with_joined}

@@ -16,7 +16,7 @@ use crate::seen_rules::{add_seen, hand_up, seen_atoms};
 use crate::simplified::{MOST_VISIBLE, Simplified, SimplifyFault};
 use crate::spawns::all_spawns;
 use guard_sem::Rule;
-use sel_core::Atoms;
+use sel_text::Atoms;
 use simple_core::{Kinds, Link, Links, Local, Locals, Spawns, System};
 use std::alloc::Global;
 use tp_base::{ClassSet, NoMemory};

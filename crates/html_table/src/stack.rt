@@ -64,7 +64,7 @@ impl<'a> OpenElements<'a> {
     }
 
     /// What they take their memory from.
-    pub fn alloc(&self) -> Global {
+    pub fn allocator(&self) -> Global {
         *self.items.allocator()
     }
 
@@ -120,7 +120,7 @@ impl<'a> OpenElements<'a> {
     pub(crate) fn behind_end(&self, ended: Element<'_>) -> Result<Option<usize>, NoMemory>
         ensures { IfOk result (λ left. left ≡ option_map length (spec.behind (spec.has_name (element_of ended.entry).name) (spec.end_scope (element_of ended.entry).kind) (reverse self.now))) }
     {
-        let name = lowered(self.alloc(), ended.name)?;
+        let name = lowered(self.allocator(), ended.name)?;
         let place = self.names.get(name.as_slice());
         let stop = self.nearest(self.items.len()).stop_of_end(ended.kind);
         Ok(behind_place(place, stop))
@@ -132,7 +132,7 @@ impl<'a> OpenElements<'a> {
     {
         let outside = self.items.len();
         let nearest = self.nearest(outside).with(element.kind, outside);
-        let lower = lowered(self.alloc(), element.name)?;
+        let lower = lowered(self.allocator(), element.name)?;
         let name = self.names.enter(lower)?;
         let hides = self.names.at(name);
         self.items.push(Open {

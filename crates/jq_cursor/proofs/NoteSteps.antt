@@ -1,5 +1,5 @@
 -- The arguments in the brackets of a file, noted word by word.
-use Rattle.std.proofs.Common.{◌≡◌, ℕ, zero, suc, ◌+◌, ◌-◌, ◌<◌, Bool, true, false, ◌&&◌, if◌then◌else◌, List, [], ◌∷◌, ◌++◌, length, map, drop, take, reverse, codes, bytes_eq, nat_eq, Option, Some, None, Box, cond, refl, sym, ap, ◌∙◌, arith, append-nil, length-append}
+use Rattle.std.proofs.Common.{◌≡◌, ℕ, zero, suc, ◌+◌, ◌-◌, ◌<◌, ◌≤◌, Bool, true, false, ◌&&◌, if◌then◌else◌, List, [], ◌∷◌, ◌++◌, length, map, drop, take, reverse, codes, bytes_eq, nat_eq, Option, Some, None, Box, cond, refl, sym, ap, ◌∙◌, arith, append-nil, length-append}
 use Rattle.std.proofs.lemmas.List.{map-append, reverse-append}
 use Rattle.std.proofs.lemmas.Bool.{eqb-true}
 use Rattle.std.proofs.lemmas.Slice.Eq.{bytes_eq-Decides}
@@ -18,7 +18,7 @@ use Rattle.jq_cursor.specs.declared.argument_lists.ArgumentList.{ArgumentList}
 use Rattle.jq_cursor.specs.declared.open_lists.Open.{Open}
 use Rattle.jq_cursor.specs.declared.open_lists.Pending.{Pending}
 use Rattle.jq_cursor.specs.Lists.{Extent, extent}
-use Rattle.jq_cursor.specs.Spans.{span, span_at, and_comma, extent_from}
+use Rattle.jq_cursor.specs.Spans.{span, span_at, and_comma, extent_from, CanCount}
 use Rattle.jq_cursor.specs.Notes.{Ascends, extent_in, IsNote, above, GoesOn, Holds, Ends, AllEnd}
 use Rattle.jq_cursor.specs.Commas.{pending_in, with_comma}
 use Rattle.jq_cursor.proofs.SpanSteps.{more_one, ends_one, over, from_span}
@@ -124,40 +124,52 @@ last_semicolon w closed is = rw (no_close [] w closed, is) refl
 comma_span : (w : Word) (ws : List Word) (n : ℕ) → closed_by w ≡ None → is_mark (codes ";") w ≡ false → is_mark (codes ",") w ≡ true → span [] n (w ∷ ws) ≡ span [] (n + 1) ws
 comma_span w ws n closed semicolon is = turned [] [] n (n + 1) w ws (no_end [] w closed semicolon) (still [] w closed (comma_opens w is)) (ap (λ b. n + (if b then 1 else 0)) is)
 
+-- ---- how many commas there may be
+
+one_passed : (n : ℕ) (ws : List Word) → CanCount n ws → CanCount n (drop 1 ws)
+one_passed n [] few = few
+one_passed n (w ∷ ws) few = omega (arith, few)
+
+first_passed : (n : ℕ) (ws : List Word) (w : Word) → ws ≡ w ∷ drop 1 ws → n ≡ 0 → length ws ≤ 18446744073709551615 → CanCount n (drop 1 ws)
+first_passed n ws w here none few = omega (arith, ap length here, none, few)
+
+one_counted : (n : ℕ) (ws : List Word) (w : Word) → ws ≡ w ∷ drop 1 ws → CanCount n ws → CanCount (n + 1) (drop 1 ws)
+one_counted n ws w here few = omega (arith, ap length here, few)
+
 -- ---- all brackets that are open
 
 above_more : (os : List Open) (o : Open) → above (os ++ o ∷ []) ≡ o.bracket ∷ above os
 above_more os o = ap reverse (map-append (λ (x : Open). x.bracket) os (o ∷ [])) ∙ reverse-append (map (λ (x : Open). x.bracket) os) (o.bracket ∷ [])
 
 module _ (all : List Word) where
-  goes_to : (list : Option Pending) (bs cs : List Bracket) (ws rest : List Word) → ((n : ℕ) → span bs n ws ≡ span cs n rest) → GoesOn all list bs ws → GoesOn all list cs rest
-  goes_to None bs cs ws rest step on = tt
-  goes_to (Some p) bs cs ws rest step on = (on.0, on.1 ∙ step p.commas)
+  goes_to : (list : Option Pending) (bs cs : List Bracket) (ws : List Word) → ((n : ℕ) → span bs n ws ≡ span cs n (drop 1 ws)) → GoesOn all list bs ws → GoesOn all list cs (drop 1 ws)
+  goes_to None bs cs ws step on = tt
+  goes_to (Some p) bs cs ws step on = (on.0, one_passed p.commas ws on.1, on.2 ∙ step p.commas)
 
-  all_same : (os : List Open) (ws rest : List Word) → ((bs : List Bracket) (n : ℕ) → span bs n ws ≡ span bs n rest) → Holds all os ws → Holds all os rest
-  all_same [] ws rest step on = tt
-  all_same (o ∷ os) ws rest step on = (goes_to (pending_in o.list) (above os) (above os) ws rest (step (above os)) on.0, all_same os ws rest step on.1)
+  all_same : (os : List Open) (ws : List Word) → ((bs : List Bracket) (n : ℕ) → span bs n ws ≡ span bs n (drop 1 ws)) → Holds all os ws → Holds all os (drop 1 ws)
+  all_same [] ws step on = tt
+  all_same (o ∷ os) ws step on = (goes_to (pending_in o.list) (above os) (above os) ws (step (above os)) on.0, all_same os ws step on.1)
 
-  all_inner : (os : List Open) (old new : Open) (ws rest : List Word) → new.bracket ≡ old.bracket
-      → ((b : Bracket) (bs : List Bracket) (n : ℕ) → span (b ∷ bs) n ws ≡ span (b ∷ bs) n rest) → GoesOn all (pending_in new.list) [] rest
-      → Holds all (os ++ old ∷ []) ws → Holds all (os ++ new ∷ []) rest
-  all_inner [] old new ws rest same step last on = (last, tt)
-  all_inner (o ∷ os) old new ws rest same step last on =
+  all_inner : (os : List Open) (old new : Open) (ws : List Word) → new.bracket ≡ old.bracket
+      → ((b : Bracket) (bs : List Bracket) (n : ℕ) → span (b ∷ bs) n ws ≡ span (b ∷ bs) n (drop 1 ws)) → GoesOn all (pending_in new.list) [] (drop 1 ws)
+      → Holds all (os ++ old ∷ []) ws → Holds all (os ++ new ∷ []) (drop 1 ws)
+  all_inner [] old new ws same step last on = (last, tt)
+  all_inner (o ∷ os) old new ws same step last on =
       let before = rw (above_more os old) at on.0 in
-      let behind = goes_to (pending_in o.list) (old.bracket ∷ above os) (old.bracket ∷ above os) ws rest (step old.bracket (above os)) before in
-      (rw (above_more os new ∙ ap (λ b. b ∷ above os) same) behind, all_inner os old new ws rest same step last on.1)
+      let behind = goes_to (pending_in o.list) (old.bracket ∷ above os) (old.bracket ∷ above os) ws (step old.bracket (above os)) before in
+      (rw (above_more os new ∙ ap (λ b. b ∷ above os) same) behind, all_inner os old new ws same step last on.1)
 
-  now_open : (os : List Open) (new : Open) (ws rest : List Word) → ((bs : List Bracket) (n : ℕ) → span bs n ws ≡ span (new.bracket ∷ bs) n rest) → GoesOn all (pending_in new.list) [] rest
-      → Holds all os ws → Holds all (os ++ new ∷ []) rest
-  now_open [] new ws rest step last on = (last, tt)
-  now_open (o ∷ os) new ws rest step last on =
-      (rw (above_more os new) (goes_to (pending_in o.list) (above os) (new.bracket ∷ above os) ws rest (step (above os)) on.0), now_open os new ws rest step last on.1)
+  now_open : (os : List Open) (new : Open) (ws : List Word) → ((bs : List Bracket) (n : ℕ) → span bs n ws ≡ span (new.bracket ∷ bs) n (drop 1 ws)) → GoesOn all (pending_in new.list) [] (drop 1 ws)
+      → Holds all os ws → Holds all (os ++ new ∷ []) (drop 1 ws)
+  now_open [] new ws step last on = (last, tt)
+  now_open (o ∷ os) new ws step last on =
+      (rw (above_more os new) (goes_to (pending_in o.list) (above os) (new.bracket ∷ above os) ws (step (above os)) on.0), now_open os new ws step last on.1)
 
-  all_close : (os : List Open) (old : Open) (ws rest : List Word) → ((bs : List Bracket) (n : ℕ) → span (old.bracket ∷ bs) n ws ≡ span bs n rest)
-      → Holds all (os ++ old ∷ []) ws → Holds all os rest
-  all_close [] old ws rest step on = tt
-  all_close (o ∷ os) old ws rest step on =
-      (goes_to (pending_in o.list) (old.bracket ∷ above os) (above os) ws rest (step (above os)) (rw (above_more os old) at on.0), all_close os old ws rest step on.1)
+  all_close : (os : List Open) (old : Open) (ws : List Word) → ((bs : List Bracket) (n : ℕ) → span (old.bracket ∷ bs) n ws ≡ span bs n (drop 1 ws))
+      → Holds all (os ++ old ∷ []) ws → Holds all os (drop 1 ws)
+  all_close [] old ws step on = tt
+  all_close (o ∷ os) old ws step on =
+      (goes_to (pending_in o.list) (old.bracket ∷ above os) (above os) ws (step (above os)) (rw (above_more os old) at on.0), all_close os old ws step on.1)
 
   last_goes : (os : List Open) (old : Open) (ws : List Word) → Holds all (os ++ old ∷ []) ws → GoesOn all (pending_in old.list) [] ws
   last_goes [] old ws on = on.0
@@ -166,7 +178,7 @@ module _ (all : List Word) where
   ends_at : (list : Option Pending) (bs : List Bracket) (whole : Bool) (ws : List Word) → is_empty bs ≡ whole → ((n : ℕ) → span bs n ws ≡ span_at n bs ws)
       → GoesOn all list bs ws → Ends all list whole ws
   ends_at None bs whole ws closed step on = tt
-  ends_at (Some p) bs whole ws closed step on = (on.0, bs, closed, on.1 ∙ step p.commas)
+  ends_at (Some p) bs whole ws closed step on = (on.0, on.1, bs, closed, on.2 ∙ step p.commas)
 
   all_ended : (os : List Open) (old : Open) (ws : List Word) → ((bs : List Bracket) (n : ℕ) → span (old.bracket ∷ bs) n ws ≡ span_at n (old.bracket ∷ bs) ws)
       → Holds all (os ++ old ∷ []) ws → AllEnd all os ws
@@ -185,20 +197,23 @@ none_open all os ws none = rw none tt
 pub plain : (all : List Word) (os : List Open) (ws : List Word) (w : Word) → ws ≡ w ∷ drop 1 ws → closed_by w ≡ None → is_mark (codes ";") w ≡ false → is_mark (codes ",") w ≡ false
     → opened_by w ≡ None → Holds all os ws → Holds all os (drop 1 ws)
 plain all os ws w here closed semicolon comma opened on =
-    all_same all os ws (drop 1 ws) (λ bs n. ap (span bs n) here ∙ plain_span w (drop 1 ws) closed opened semicolon comma bs n) on
+    all_same all os ws (λ bs n. ap (span bs n) here ∙ plain_span w (drop 1 ws) closed opened semicolon comma bs n) on
 
 pub opens : (all : List Word) (os : List Open) (ws : List Word) (w : Word) (b : Bracket) → ws ≡ w ∷ drop 1 ws → closed_by w ≡ None → is_mark (codes ";") w ≡ false
     → is_mark (codes ",") w ≡ false → opened_by w ≡ Some b → Holds all os ws → Holds all (os ++ record { bracket = b; list = None } ∷ []) (drop 1 ws)
 opens all os ws w b here closed semicolon comma opened on =
-    now_open all os (record { bracket = b; list = None }) ws (drop 1 ws) (λ bs n. ap (span bs n) here ∙ open_span w (drop 1 ws) b closed opened semicolon comma bs n) tt on
+    now_open all os (record { bracket = b; list = None }) ws (λ bs n. ap (span bs n) here ∙ open_span w (drop 1 ws) b closed opened semicolon comma bs n) tt on
 
 pub opens_call : (all : List Word) (os : List Open) (ws : List Word) (w : Word) (b : Bracket) (p : Box Pending Global) → ws ≡ w ∷ drop 1 ws → closed_by w ≡ None
-    → is_mark (codes ";") w ≡ false → is_mark (codes ",") w ≡ false → opened_by w ≡ Some b → p.value ≡ record { list = ws; commas = 0 } → IsRest all ws → Holds all os ws
+    → is_mark (codes ";") w ≡ false → is_mark (codes ",") w ≡ false → opened_by w ≡ Some b → p.value ≡ record { list = ws; commas = 0 } → IsRest all ws → length ws ≤ 18446744073709551615 → Holds all os ws
     → Holds all (os ++ record { bracket = b; list = Some p } ∷ []) (drop 1 ws)
-opens_call all os ws w b p here closed semicolon comma opened is part on =
-    now_open all os (record { bracket = b; list = Some p }) ws (drop 1 ws)
-    (λ bs n. ap (span bs n) here ∙ open_span w (drop 1 ws) b closed opened semicolon comma bs n)
-    (rw (ap (λ (x : Pending). x.list) is) part, rw (ap (λ (x : Pending). x.list) is, ap (λ (x : Pending). x.commas) is) refl) on
+opens_call all os ws w b p here closed semicolon comma opened is part few on =
+    now_open all os (record { bracket = b; list = Some p }) ws
+    (λ bs n. ap (span bs n) here ∙ open_span w (drop 1 ws) b closed opened semicolon comma bs n) (
+      rw (ap (λ (x : Pending). x.list) is) part,
+      first_passed p.value.commas ws w here (ap (λ (x : Pending). x.commas) is) few,
+      rw (ap (λ (x : Pending). x.list) is, ap (λ (x : Pending). x.commas) is) refl,
+    ) on
 
 pub closes_last : (all : List Word) (os before : List Open) (o : Open) (ws : List Word) (w : Word) (b : Bracket) → ws ≡ w ∷ drop 1 ws → closed_by w ≡ Some b
     → before ≡ os ++ o ∷ [] → Holds all before ws → Ends all (pending_in o.list) true ws
@@ -210,7 +225,7 @@ closes_last all os before o ws w b here closed is on =
 pub closes : (all : List Word) (os before : List Open) (o : Open) (ws : List Word) (w : Word) (b : Bracket) → ws ≡ w ∷ drop 1 ws → closed_by w ≡ Some b
     → before ≡ os ++ o ∷ [] → is_innermost b (o.bracket ∷ []) ≡ true → Holds all before ws → Holds all os (drop 1 ws)
 closes all os before o ws w b here closed is own on =
-    all_close all os o ws (drop 1 ws) (λ bs n. ap (span (o.bracket ∷ bs) n) here ∙ close_span w (drop 1 ws) b o.bracket closed own bs n) (rw is at on)
+    all_close all os o ws (λ bs n. ap (span (o.bracket ∷ bs) n) here ∙ close_span w (drop 1 ws) b o.bracket closed own bs n) (rw is at on)
 
 pub all_end : (all : List Word) (os before : List Open) (o : Open) (ws : List Word) (w : Word) (b : Bracket) → ws ≡ w ∷ drop 1 ws → closed_by w ≡ Some b
     → before ≡ os ++ o ∷ [] → is_innermost b (o.bracket ∷ []) ≡ false → Holds all before ws → AllEnd all os ws
@@ -227,22 +242,30 @@ semicolon_last all os before o ws w here closed mark is on =
 pub semicolon : (all : List Word) (os before : List Open) (o : Open) (ws : List Word) (w : Word) → ws ≡ w ∷ drop 1 ws → closed_by w ≡ None → is_mark (codes ";") w ≡ true
     → before ≡ os ++ o ∷ [] → Holds all before ws → Holds all (os ++ record { bracket = o.bracket; list = None } ∷ []) (drop 1 ws)
 semicolon all os before o ws w here closed mark is on =
-    all_inner all os o (record { bracket = o.bracket; list = None }) ws (drop 1 ws) refl
+    all_inner all os o (record { bracket = o.bracket; list = None }) ws refl
     (λ b bs n. ap (span (b ∷ bs) n) here ∙ inner_span w (drop 1 ws) closed (semicolon_opens w mark) b bs n) tt (rw is at on)
 
 counted : (all : List Word) (list : Option Pending) (ws : List Word) (w : Word) → ws ≡ w ∷ drop 1 ws → closed_by w ≡ None → is_mark (codes ";") w ≡ false → is_mark (codes ",") w ≡ true
     → GoesOn all list [] ws → GoesOn all (with_comma list) [] (drop 1 ws)
 counted all None ws w here closed other mark on = tt
-counted all (Some p) ws w here closed other mark on = (on.0, on.1 ∙ ap (span [] p.commas) here ∙ comma_span w (drop 1 ws) p.commas closed other mark)
+counted all (Some p) ws w here closed other mark on = (on.0, one_counted p.commas ws w here on.1, on.2 ∙ ap (span [] p.commas) here ∙ comma_span w (drop 1 ws) p.commas closed other mark)
 
 pub comma : (all : List Word) (os before : List Open) (o : Open) (list : Option (Box Pending Global)) (ws : List Word) (w : Word) → ws ≡ w ∷ drop 1 ws → closed_by w ≡ None
     → is_mark (codes ";") w ≡ false → is_mark (codes ",") w ≡ true → before ≡ os ++ o ∷ [] → pending_in list ≡ with_comma (pending_in o.list) → Holds all before ws
     → Holds all (os ++ record { bracket = o.bracket; list = list } ∷ []) (drop 1 ws)
 comma all os before o list ws w here closed other mark is more on =
     let held = rw is at on in
-    all_inner all os o (record { bracket = o.bracket; list = list }) ws (drop 1 ws) refl
+    all_inner all os o (record { bracket = o.bracket; list = list }) ws refl
     (λ b bs n. ap (span (b ∷ bs) n) here ∙ inner_span w (drop 1 ws) closed (comma_opens w mark) b bs n)
     (rw more (counted all (pending_in o.list) ws w here closed other mark (last_goes all os o ws held))) held
+
+few_in : (all : List Word) (list : Option Pending) (bs : List Bracket) (ws : List Word) → GoesOn all list bs ws → IfSome list (λ p. p.commas < 18446744073709551615)
+few_in all None bs ws on = tt
+few_in all (Some p) bs ws on = omega (arith, on.1)
+
+pub few_commas : (all : List Word) (os before : List Open) (o : Open) (ws : List Word) → before ≡ os ++ o ∷ [] → Holds all before ws
+    → IfSome (pending_in o.list) (λ p. p.commas < 18446744073709551615)
+few_commas all os before o ws is on = few_in all (pending_in o.list) [] ws (last_goes all os o ws (rw is at on))
 
 -- ---- the end
 
@@ -301,7 +324,7 @@ is_noted : (all : List Word) (p : Pending) (v : Word) (list : ArgumentList) (who
     → ((left : List Bracket) → is_empty left ≡ whole → extent_in list ≡ extent_from (drop 1 p.list) (span_at p.commas left behind)) → IsNote all v.at list
 is_noted all p v list whole behind sorted ends here given ws w part there same =
     ap (λ xs. extent (drop 1 xs)) (same_rest all ws p.list w v sorted part ends.0 there here same)
-    ∙ from_span (drop 1 p.list) (span_at p.commas ends.1 behind) ends.3 ∙ sym (given ends.1 ends.2)
+    ∙ from_span (drop 1 p.list) (span_at p.commas ends.2 behind) ends.4 ∙ sym (given ends.2 ends.3)
 
 one_or : (b : Bool) (all : List Word) (at : ℕ) (mine list : ArgumentList) (other : Option ArgumentList) → (b ≡ true → IsNote all at mine) → (other ≡ Some list → IsNote all at list)
     → cond b (Some mine) other ≡ Some list → IsNote all at list

@@ -2,12 +2,12 @@
 use Rattle.std.proofs.Common.{◌≡◌, ℕ, ◌+◌, ◌<◌, Bool, true, false, List, [], ◌∷◌, ◌++◌, length, map, get_or, refl, sym, ap, ◌∙◌, arith, append_assoc}
 use Rattle.std.specs.List.{list_all}
 use Rattle.std.proofs.lemmas.List.{map-append}
-use Rattle.sel_core.specs.declared.selectors.Compound.{Compound}
-use Rattle.sel_core.specs.declared.selectors.Join.{Join}
-use Rattle.sel_core.specs.declared.selectors.Selector as code
-use Rattle.sel_core.specs.Parts.{and_then, with_parts, selector_from}
-use Rattle.sel_core.specs.Selectors.{Selector, simple}
-use Rattle.sel_core.specs.Views.{selector_of}
+use Rattle.sel_text.specs.declared.selectors.Compound.{Compound}
+use Rattle.sel_text.specs.declared.selectors.Join.{Join}
+use Rattle.sel_text.specs.declared.selectors.Selector as code
+use Rattle.sel_text.specs.Parts.{and_then, with_parts, selector_from}
+use Rattle.sel_text.specs.Selectors.{Selector, simple}
+use Rattle.sel_text.specs.Views.{selector_of}
 use Rattle.jq_words.specs.Brackets.{is_empty}
 
 pub alone : (parts : List Compound) (joins : List Join) (c : Compound) → length joins ≡ 0 → 0 < length parts → c ≡ get_or parts 0 c → selector_from parts joins ≡ simple c.atoms

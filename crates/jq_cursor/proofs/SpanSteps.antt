@@ -1,5 +1,6 @@
 -- Arguments, word by word.
 use Rattle.std.proofs.Common.{◌≡◌, ℕ, suc, ◌+◌, Bool, true, false, List, [], ◌∷◌, take, drop, refl, sym, ap, ◌∙◌, arith}
+use Rattle.tp_base.proofs.Numbers.{none_more}
 use Rattle.jq_words.specs.declared.brackets.Bracket.{Bracket}
 use Rattle.jq_words.specs.Words.{Word}
 use Rattle.jq_words.specs.Brackets.{is_empty, brackets_behind, ends_argument, argument_len, left_open, commas, arguments, behind_arguments, argument_count}
@@ -70,13 +71,10 @@ unfolding argument_len
 bare [] = refl
 bare (w ∷ ws) = bare_one (ends_argument false [] w) w ws refl
 
-and_none : (n : ℕ) → n ≡ 0 + n
-and_none n = omega arith
-
 pub whole_extent : (ws : List Word) → extent ws ≡ extent_from ws (span [] 0 ws)
 unfolding extent argument_count
 whole_extent ws =
-    rw (all_taken [] 0 ws, bare ws) (ap (λ n. extent_from ws (span_at n (left_open [] (arguments ws)) (behind_arguments ws))) (and_none (commas [] (arguments ws))))
+    rw (all_taken [] 0 ws, bare ws) (ap (λ n. extent_from ws (span_at n (left_open [] (arguments ws)) (behind_arguments ws))) (none_more (commas [] (arguments ws))))
 
 pub from_span : (ws : List Word) (s : Span) → span [] 0 ws ≡ s → extent ws ≡ extent_from ws s
 from_span ws s is = whole_extent ws ∙ ap (extent_from ws) is

@@ -12,7 +12,7 @@ use Rattle.jq_cursor.specs.declared.open_lists.Open.{Open}
 use Rattle.jq_cursor.specs.declared.open_lists.Pending.{Pending}
 use Rattle.jq_cursor.specs.Commas.{pending_in}
 use Rattle.jq_cursor.specs.Lists.{Extent, extent}
-use Rattle.jq_cursor.specs.Spans.{span, span_at}
+use Rattle.jq_cursor.specs.Spans.{span, span_at, CanCount}
 
 -- all of these stand behind an offset
 abbrev pub AllBehind : ℕ → List Word → Type 0
@@ -38,7 +38,7 @@ above os = reverse (map (λ o. o.bracket) os)
 -- the arguments in a bracket, where they are to be noted, go on with these words
 abbrev pub GoesOn : List Word → Option Pending → List Bracket → List Word → Type 0
 GoesOn all None bs ws = ⊤
-GoesOn all (Some p) bs ws = IsRest all p.list × (span [] 0 (drop 1 p.list) ≡ span bs p.commas ws)
+GoesOn all (Some p) bs ws = IsRest all p.list × CanCount p.commas ws × (span [] 0 (drop 1 p.list) ≡ span bs p.commas ws)
 
 -- so do those in all brackets that are open, which stand from the outermost inward
 abbrev pub Holds : List Word → List Open → List Word → Type 0
@@ -48,7 +48,7 @@ Holds all (o ∷ os) ws = GoesOn all (pending_in o.list) (above os) ws × Holds 
 -- the arguments in a bracket end before these words, with all their brackets closed or not
 abbrev pub Ends : List Word → Option Pending → Bool → List Word → Type 0
 Ends all None whole ws = ⊤
-Ends all (Some p) whole ws = IsRest all p.list × (left : List Bracket) × (is_empty left ≡ whole) × (span [] 0 (drop 1 p.list) ≡ span_at p.commas left ws)
+Ends all (Some p) whole ws = IsRest all p.list × CanCount p.commas ws × (left : List Bracket) × (is_empty left ≡ whole) × (span [] 0 (drop 1 p.list) ≡ span_at p.commas left ws)
 
 -- those in all of some brackets end so, with brackets that aren't closed
 abbrev pub AllEnd : List Word → List Open → List Word → Type 0

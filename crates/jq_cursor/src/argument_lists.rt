@@ -1,5 +1,5 @@
 //! The arguments in a bracket, read word by word.
-ghost use Rattle.std.specs.Prelude.{◌≡◌, List, false, IfOk, IfErr};
+ghost use Rattle.std.specs.Prelude.{◌≡◌, ◌<◌, List, false, IfOk, IfErr};
 ghost use Rattle.jq_words.specs.Brackets as brackets;
 ghost use Rattle.jq_words.specs.declared.brackets.Bracket.{Bracket};
 ghost use Rattle.jq_words.specs.declared.faults.ScriptFault.TheVariants.{Memory};
@@ -27,18 +27,14 @@ fn ends_list(open_brackets: &OpenBrackets, word: &Word<'_>) -> bool
 }
 
 // One comma more, where a word is one outside brackets.
-fn and_comma(
-    open_brackets: &OpenBrackets,
-    word: &Word<'_>,
-    commas: usize,
-) -> Result<usize, ScriptFault>
-    ensures gives { IfOk result (λ n. n ≡ spans.and_comma open_brackets.now word.now commas) }
-    ensures only_memory { IfErr result (λ e. e ≡ Memory) }
+fn and_comma(open_brackets: &OpenBrackets, word: &Word<'_>, commas: usize) -> usize
+    requires { commas < 18446744073709551615 }
+    ensures { result ≡ spans.and_comma open_brackets.now word.now commas }
 {
     if open_brackets.is_empty() && word.is_mark(b",") {
-        return commas.checked_add(1).ok_or(ScriptFault::Memory);
+        return commas + 1;
     }
-    Ok(commas)
+    commas
 }
 
 // Whether no argument begins with these words.
@@ -58,20 +54,16 @@ pub(crate) fn ended<'a>(
     commas: usize,
     whole: bool,
     behind: &Words<'a>,
-) -> Result<ArgumentList<'a>, ScriptFault>
-    ensures gives { IfOk result (λ l. (left : List Bracket) → brackets.is_empty left ≡ whole → extent_in l ≡ spans.extent_from inside.now (spans.span_at commas left behind.now)) }
-    ensures only_memory { IfErr result (λ e. e ≡ Memory) }
+) -> ArgumentList<'a>
+    requires { commas < 18446744073709551615 }
+    ensures { (left : List Bracket) → brackets.is_empty left ≡ whole → extent_in result ≡ spans.extent_from inside.now (spans.span_at commas left behind.now) }
 {
-    let count = if is_bare(inside) {
-        0
-    } else {
-        commas.checked_add(1).ok_or(ScriptFault::Memory)?
-    };
-    Ok(ArgumentList {
+    let count = if is_bare(inside) { 0 } else { commas + 1 };
+    ArgumentList {
         count,
         whole,
         behind: behind.again(),
-    })
+    }
 }
 
 /// The arguments that begin with these words. Linear in them.
@@ -80,6 +72,7 @@ pub(crate) fn read_list<'a>(
     alloc: Global,
     words: &Words<'a>,
 ) -> Result<ArgumentList<'a>, ScriptFault>
+    requires { spans.CanCount 0 words.now }
     ensures gives { IfOk result (λ l. extent_in l ≡ spec.extent words.now) }
     ensures only_memory { IfErr result (λ e. e ≡ Memory) }
 {
@@ -88,11 +81,11 @@ pub(crate) fn read_list<'a>(
     let mut commas: usize = 0;
     'words: while let Some(word) = rest.first() {
         if ends_list(&open_brackets, &word) {
-            return ended(words, commas, open_brackets.is_empty(), &rest);
+            return Ok(ended(words, commas, open_brackets.is_empty(), &rest));
         }
-        commas = and_comma(&open_brackets, &word, commas)?;
+        commas = and_comma(&open_brackets, &word, commas);
         open_brackets.pass(&word)?;
         rest.pass();
     }
-    ended(words, commas, open_brackets.is_empty(), &rest)
+    Ok(ended(words, commas, open_brackets.is_empty(), &rest))
 }

@@ -5,8 +5,10 @@ ghost use Rattle.jq_cursor.specs.Keywords.{jquery};
 
 use jq_words::{Words, begins, begins_name_among};
 
+/// The names of jQuery's function.
 pub const JQUERY: [&[u8]; 2] = [b"$", b"jQuery"];
 
+/// The names of what holds the page.
 pub const PAGES: [&[u8]; 2] = [b"document", b"window"];
 
 /// Whether J stands first. Constant.

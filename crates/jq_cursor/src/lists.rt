@@ -1,5 +1,5 @@
 //! The words of a file, and how far the arguments in its brackets reach.
-ghost use Rattle.std.specs.Prelude.{◌≡◌, [], ◌∷◌, ◌++◌, Some, None, true, false, length, drop, codes, OnOk, IfOk, IfErr, IfSome, IfNone};
+ghost use Rattle.std.specs.Prelude.{◌≡◌, ◌≤◌, [], ◌∷◌, ◌++◌, Some, None, true, false, length, drop, codes, OnOk, IfOk, IfErr, IfSome, IfNone};
 ghost use Rattle.js_scan.specs.Tokens.{InOrder};
 ghost use Rattle.jq_words.specs.Words as spec;
 ghost use Rattle.jq_words.specs.Words.{is_mark};
@@ -66,7 +66,8 @@ impl<'a> Lists<'a> {
     #[tactic(auto, using(crate::proofs::NoteSteps::noted))]
     pub(crate) fn get(&self, words: &Words<'_>) -> Option<&ArgumentList<'a>>
         requires { IsRest self.now words.now }
-        ensures { IfSome result (λ l. extent_in l.now ≡ extent (drop 1 words.now)) }
+        ensures few { length words.now ≤ 18446744073709551615 }
+        ensures noted { IfSome result (λ l. extent_in l.now ≡ extent (drop 1 words.now)) }
     {
         let word = words.first()?;
         self.notes.get(&word.at())
@@ -191,7 +192,7 @@ impl<'a> Lists<'a> {
     }
 
     // A `,` parts the arguments in the innermost bracket.
-    #[tactic(auto, using(crate::proofs::NoteSteps::comma, crate::proofs::NoteSteps::none_open))]
+    #[tactic(auto, using(crate::proofs::NoteSteps::comma, crate::proofs::NoteSteps::few_commas, crate::proofs::NoteSteps::none_open))]
     fn count_comma(
         &self,
         opened: &mut Vec<Open<'a>>,
@@ -210,7 +211,7 @@ impl<'a> Lists<'a> {
             return Ok(());
         };
         let bracket = last.bracket;
-        let list = and_comma(last.list)?;
+        let list = and_comma(last.list);
         opened.push(Open { bracket, list })?;
         Ok(())
     }
@@ -262,7 +263,7 @@ impl<'a> Lists<'a> {
         let Some(word) = pending.list.first() else {
             return Ok(());
         };
-        let noted = ended(&pending.list.behind(), pending.commas, whole, behind)?;
+        let noted = ended(&pending.list.behind(), pending.commas, whole, behind);
         self.notes.insert(word.at(), noted)?;
         Ok(())
     }

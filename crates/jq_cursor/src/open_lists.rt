@@ -1,9 +1,8 @@
 //! Brackets that are open, with the arguments in them.
-ghost use Rattle.std.specs.Prelude.{◌≡◌, IfOk, IfErr};
-ghost use Rattle.jq_words.specs.declared.faults.ScriptFault.TheVariants.{Memory};
+ghost use Rattle.std.specs.Prelude.{◌≡◌, ◌<◌, IfSome};
 ghost use Rattle.jq_cursor.specs.Commas.{pending_in, with_comma};
 
-use jq_words::{Bracket, ScriptFault, Words};
+use jq_words::{Bracket, Words};
 
 /// The words from a call's bracket on, and how many commas its arguments have so far.
 #[derive(Drop)]
@@ -20,15 +19,13 @@ pub(crate) struct Open<'a> {
 }
 
 /// One comma more.
-pub(crate) fn and_comma(
-    list: Option<Box<Pending<'_>>>,
-) -> Result<Option<Box<Pending<'_>>>, ScriptFault>
-    ensures gives { IfOk result (λ l. pending_in l ≡ with_comma (pending_in list.entry)) }
-    ensures only_memory { IfErr result (λ e. e ≡ Memory) }
+pub(crate) fn and_comma(list: Option<Box<Pending<'_>>>) -> Option<Box<Pending<'_>>>
+    requires { IfSome (pending_in list) (λ p. p.commas < 18446744073709551615) }
+    ensures { pending_in result ≡ with_comma (pending_in list.entry) }
 {
     let Some(mut pending) = list else {
-        return Ok(None);
+        return None;
     };
-    pending.commas = pending.commas.checked_add(1).ok_or(ScriptFault::Memory)?;
-    Ok(Some(pending))
+    pending.commas += 1;
+    Some(pending)
 }

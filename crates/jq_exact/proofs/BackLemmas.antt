@@ -7,21 +7,22 @@ use Rattle.tree_sem.specs.Nodes.{IsNode}
 use Rattle.tree_sem.proofs.NodeLemmas.{IsNode-front}
 use Rattle.node_marks.specs.Marks.{IsFree, HasParentIn, HasAncestorIn, HasChildIn, HasDescendantIn, HasOtherIn}
 use Rattle.node_marks.specs.Ranks.{under, IsUnder, AreRanked, HasNearestIn}
-use Rattle.sel_core.specs.declared.selectors.Compound.{Compound}
-use Rattle.sel_core.specs.declared.selectors.Selector as code_selector
-use Rattle.sel_core.specs.Selectors.{Selector}
+use Rattle.sel_text.specs.declared.selectors.Compound.{Compound}
+use Rattle.sel_text.specs.declared.selectors.Selector as code_selector
+use Rattle.sel_text.specs.Selectors.{Selector}
 use Rattle.std.proofs.lemmas.Bool.{or_cases}
-use Rattle.jq_sem.specs.declared.chains.Call as code
-use Rattle.jq_sem.specs.declared.chains.Call.TheVariants.{Find, Children, Parent, Parents, Filter, Has, Around, Near, Add, End}
-use Rattle.jq_sem.specs.declared.sharp.SharpKind.{SharpKind}
-use Rattle.jq_sem.specs.declared.sharp.SharpKind.TheVariants as sharp
-use Rattle.jq_sem.specs.SharpViews.{with_kind}
-use Rattle.sel_core.specs.Views.{selector_of}
-use Rattle.jq_sem.specs.Views.{atoms_of, call_of}
-use Rattle.jq_sem.specs.Statements.{find, children, parent, parents, filter, has, around, near, add, FitsOne, MayFit}
-use Rattle.jq_sem.specs.Sharp.{plain, closest, siblings, wide_call}
-use Rattle.jq_sem.proofs.MarkLemmas.{IsMarked-node}
-use Rattle.jq_sem.proofs.SharpLemmas.{wide-with_kind}
+use Rattle.jq_stmts.specs.declared.chains.Call as code
+use Rattle.jq_stmts.specs.declared.chains.Call.TheVariants.{Find, Children, Parent, Parents, Filter, Has, Around, Near, Add, End}
+use Rattle.jq_stmts.specs.declared.sharp.SharpKind.{SharpKind}
+use Rattle.jq_stmts.specs.declared.sharp.SharpKind.TheVariants as sharp
+use Rattle.jq_stmts.specs.SharpViews.{with_kind}
+use Rattle.sel_text.specs.Views.{selector_of}
+use Rattle.jq_stmts.specs.Views.{atoms_of, call_of}
+use Rattle.jq_sem.specs.Statements.{FitsOne, MayFit}
+use Rattle.jq_stmts.specs.Statements.{find, children, parent, parents, filter, has, around, near, add}
+use Rattle.jq_stmts.specs.Sharp.{plain, closest, siblings, wide_call}
+use Rattle.node_marks.proofs.SetLemmas.{marked_node}
+use Rattle.jq_stmts.proofs.SharpLemmas.{wide-with_kind}
 use Rattle.jq_exact.specs.Firsts.{leads_back, adds, is_parted, parted_or_first, IsBefore}
 use Rattle.jq_exact.proofs.FirstLemmas.{added_by}
 
@@ -41,7 +42,7 @@ module _ (t : LabelTree) (ranks made : List ℕ) (cs : List (List ℕ)) where
         let h = (over k low w).0 on in
         let x = w ++ h.0 ∷ h.1 in
         let both = (fit k low x).0 h.2 in
-        (IsNode-front t w (h.0 ∷ h.1) (IsMarked-node t (under k chosen) x h.2), x, (both.0, length w, shorter w h.0 h.1, take_front w (h.0 ∷ h.1)), both.1),
+        (IsNode-front t w (h.0 ∷ h.1) (marked_node t (under k chosen) x h.2), x, (both.0, length w, shorter w h.0 h.1, take_front w (h.0 ∷ h.1)), both.1),
     λ h.
         let x = h.1 in
         let rest = cut x h.2.1 h.2.2 in
@@ -55,7 +56,7 @@ module _ (t : LabelTree) (ranks made : List ℕ) (cs : List (List ℕ)) where
         let h = (over k low w).0 on in
         let x = w ++ h.0 ∷ [] in
         let both = (fit k low x).0 h.1 in
-        (IsNode-front t w (h.0 ∷ []) (IsMarked-node t (under k chosen) x h.1), x, (both.0, h.0, w, refl, refl), both.1),
+        (IsNode-front t w (h.0 ∷ []) (marked_node t (under k chosen) x h.1), x, (both.0, h.0, w, refl, refl), both.1),
     λ h.
         let x = h.1 in
         let whole : x ≡ w ++ h.2.1 ∷ [] = h.2.3 ∙ ap (λ z. z ++ h.2.1 ∷ []) h.2.4 in
@@ -84,13 +85,13 @@ module _ (t : LabelTree) (ranks made : List ℕ) (cs : List (List ℕ)) where
 
   pub before_filter : AreRanked t made (λ k v. FitsOne t cs v × IsUnder t k ranks v) → IsBefore t (plain (filter cs)) ranks made
   before_filter fit k low w = (
-    λ on. let both = (fit k low w).0 on in (IsMarked-node t (under k ranks) w both.1, w, (both.0, refl), both.1),
+    λ on. let both = (fit k low w).0 on in (marked_node t (under k ranks) w both.1, w, (both.0, refl), both.1),
     λ h. (fit k low w).1 (subst (FitsOne t cs) h.2.1 h.2.0, subst (IsUnder t k ranks) h.2.1 h.3),
   )
 
   pub before_has : AreRanked t made (λ k v. HasDescendantIn (FitsOne t cs) v × IsUnder t k ranks v) → IsBefore t (plain (has cs)) ranks made
   before_has over k low w = (
-    λ on. let both = (over k low w).0 on in (IsMarked-node t (under k ranks) w both.1, w, (refl, both.0.0, both.0.1, both.0.2), both.1),
+    λ on. let both = (over k low w).0 on in (marked_node t (under k ranks) w both.1, w, (refl, both.0.0, both.0.1, both.0.2), both.1),
     λ h. (over k low w).1 (subst (HasDescendantIn (FitsOne t cs)) h.2.0 (h.2.1, h.2.2, h.2.3), subst (IsUnder t k ranks) h.2.0 h.3),
   )
 

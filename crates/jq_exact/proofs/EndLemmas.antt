@@ -1,8 +1,8 @@
 -- What an `end` leaves of a chain is the same, told from the last call back and from the first call on.
 use Rattle.std.proofs.Common.{◌≡◌, ℕ, zero, suc, List, [], ◌∷◌, refl, sym, ap, ◌∙◌}
 use mathlib.Core.List.{reverse_aux}
-use Rattle.jq_sem.specs.Statements.{Root, matched, back}
-use Rattle.jq_sem.specs.Sharp.{ExactCall, plain}
+use Rattle.jq_stmts.specs.Statements.{Root, matched, back}
+use Rattle.jq_stmts.specs.Sharp.{ExactCall, plain}
 use Rattle.jq_exact.specs.Exact.{set_before, stands}
 use Rattle.jq_exact.specs.Standing.{standing}
 

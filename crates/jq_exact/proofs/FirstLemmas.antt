@@ -6,13 +6,14 @@ use Rattle.tree_sem.specs.Trees.{LabelTree, count_of}
 use Rattle.tree_sem.specs.Nodes.{IsNode}
 use Rattle.node_marks.specs.Marks.{path_at, mark, IsMarked, IsSetOf}
 use Rattle.node_marks.specs.Ranks.{rank, IsUnder, AreRanked, IsEarly, IsReached, IsLeastRank}
-use Rattle.sel_core.specs.Selectors.{Selector}
-use Rattle.jq_sem.specs.declared.chains.Call as code
-use Rattle.jq_sem.specs.declared.sharp.Sharp.{Sharp}
-use Rattle.jq_sem.specs.Statements.{find, children, parent, parents, filter, has, around, near, add, back, MatchesOne}
-use Rattle.jq_sem.specs.Sharp.{ExactCall, plain, closest, siblings, first}
-use Rattle.jq_sem.specs.Views.{call_of}
-use Rattle.jq_sem.specs.SharpViews.{kind_at, with_kind, exact_calls}
+use Rattle.sel_text.specs.Selectors.{Selector}
+use Rattle.jq_stmts.specs.declared.chains.Call as code
+use Rattle.jq_stmts.specs.declared.sharp.Sharp.{Sharp}
+use Rattle.jq_sem.specs.Statements.{MatchesOne}
+use Rattle.jq_stmts.specs.Statements.{find, children, parent, parents, filter, has, around, near, add, back}
+use Rattle.jq_stmts.specs.Sharp.{ExactCall, plain, closest, siblings, first}
+use Rattle.jq_stmts.specs.Views.{call_of}
+use Rattle.jq_stmts.specs.SharpViews.{kind_at, with_kind, exact_calls}
 use Rattle.node_marks.proofs.NumberLemmas.{node_there, marked_at}
 use Rattle.node_marks.proofs.RankSets.{ranked_at, first_of}
 use Rattle.jq_sem.proofs.SelectionLemmas.{FitsOne-node, MayFit-node, made_node}

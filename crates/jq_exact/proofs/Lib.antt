@@ -2,6 +2,7 @@ mod BackLemmas
 mod CallLemmas
 mod EndLemmas
 mod FirstLemmas
+pub mod MarkLemmas
 mod NumberLemmas
 mod OrderedLemmas
 mod PlainLemmas

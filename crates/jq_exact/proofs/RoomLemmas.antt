@@ -17,7 +17,7 @@ use Rattle.tree_sem.specs.declared.actions.Step.{Step}
 use Rattle.tree_sem.proofs.CountLemmas.{count_of-add_classes, count_of-add_trees}
 use Rattle.tree_sem.proofs.EditLemmas.{edit_at-none}
 use Rattle.jq_sem.specs.Reachability.{after_statement}
-use Rattle.jq_sem.specs.Sharp.{ExactStatement, wides}
+use Rattle.jq_stmts.specs.Sharp.{ExactStatement, wides}
 use Rattle.jq_exact.specs.Exact.{IsLegalExactly, after_exact_step}
 use Rattle.jq_exact.specs.Room.{added_by, HasRoom}
 

@@ -10,7 +10,7 @@ use Rattle.tree_sem.specs.declared.actions.Step.{Step}
 use Rattle.tree_sem.proofs.SeriesLemmas.{can_legal}
 use Rattle.css_read.specs.Sheets as sheets
 use Rattle.jq_sem.specs.Reachability.{end_of}
-use Rattle.jq_sem.specs.Sharp.{ExactStatement, wides, is_sharp_statement}
+use Rattle.jq_stmts.specs.Sharp.{ExactStatement, wides, is_sharp_statement}
 use Rattle.simple_core.specs.declared.system.System.{System}
 use Rattle.proof_check.specs.declared.proofs.Proof.{Proof}
 use Rattle.proof_check.specs.declared.unfolded.Unfolded.{Unfolded}

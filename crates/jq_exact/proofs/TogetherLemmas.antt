@@ -4,13 +4,14 @@ use Rattle.std.proofs.lemmas.Bool.{cases_eq, false≢true, or_parts}
 use Rattle.tree_sem.specs.Trees.{LabelTree, count_of, node_at}
 use Rattle.node_marks.specs.Marks.{IsMarked, mark, path_at}
 use Rattle.tp_base.specs.declared.no_memory.NoMemory.{NoMemory}
-use Rattle.jq_sem.specs.declared.chains.Chain as code_chain
-use Rattle.jq_sem.specs.declared.sharp.ExactStmt.{ExactStmt}
-use Rattle.jq_sem.specs.Statements.{Root, this, InRoot}
-use Rattle.jq_sem.specs.Sharp.{ExactCall, plain, closest, siblings, first, ExactChain, ExactStatement}
-use Rattle.jq_sem.specs.SharpViews.{exact_chain, exact_handlers, exact_of}
-use Rattle.jq_sem.specs.Views.{chain_of}
-use Rattle.jq_sem.proofs.MarkLemmas.{IsMarked-node}
+use Rattle.jq_stmts.specs.declared.chains.Chain as code_chain
+use Rattle.jq_stmts.specs.declared.sharp.ExactStmt.{ExactStmt}
+use Rattle.jq_sem.specs.Statements.{InRoot}
+use Rattle.jq_stmts.specs.Statements.{Root, this}
+use Rattle.jq_stmts.specs.Sharp.{ExactCall, plain, closest, siblings, first, ExactChain, ExactStatement}
+use Rattle.jq_stmts.specs.SharpViews.{exact_chain, exact_handlers, exact_of}
+use Rattle.jq_stmts.specs.Views.{chain_of}
+use Rattle.node_marks.proofs.SetLemmas.{marked_node}
 use Rattle.jq_sem.proofs.SetLemmas.{on_ok}
 use Rattle.jq_sem.proofs.TogetherLemmas.{made_larger, made_union}
 use Rattle.jq_exact.specs.declared.evaluation.Named.{Named}
@@ -64,13 +65,13 @@ module _ (t : LabelTree) (U : Option (List ℕ) → Type 0) (some : (u : Option 
 -- the node that `this` names, alone
 alone : (t : LabelTree) (marks : List Bool) (w : List ℕ) → IsMarked t marks w → (v : List ℕ) → (v ≡ w) ↔ InRoot t (Some w) this v
 alone t marks w on v = (
-  λ same. (subst (λ z. IsSome (node_at z t)) (sym same) (IsMarked-node t marks w on), ap Some (sym same)),
+  λ same. (subst (λ z. IsSome (node_at z t)) (sym same) (marked_node t marks w on), ap Some (sym same)),
   λ is. let some : Some w ≡ Some v = is.1 in let same : w ≡ v = cc in sym same,
 )
 
 -- all marked nodes, each by its own name
 pub by_names : (t : LabelTree) (marks : List Bool) (v : List ℕ) → IsMarked t marks v ↔ ((u : Option (List ℕ)) × NamedBy t (Nodes marks) u × InRoot t u this v)
-by_names t marks v = (λ on. (Some v, on, (IsMarked-node t marks v on, refl)), λ m. from m)
+by_names t marks v = (λ on. (Some v, on, (marked_node t marks v on, refl)), λ m. from m)
   where
     from : ((u : Option (List ℕ)) × NamedBy t (Nodes marks) u × InRoot t u this v) → IsMarked t marks v
     from (None, named, is) = absurd named

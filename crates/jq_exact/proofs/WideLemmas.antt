@@ -6,12 +6,13 @@ use Rattle.tree_sem.specs.Trees.{LabelTree, node_at}
 use Rattle.tree_sem.specs.declared.actions.Event.{Event}
 use Rattle.tree_sem.specs.declared.actions.Event.TheVariants.{Step, Take, Cut}
 use Rattle.tree_sem.proofs.NodeLemmas.{HasAtoms-none}
-use Rattle.sel_core.specs.Selectors.{Selector}
+use Rattle.sel_text.specs.Selectors.{Selector}
 use Rattle.jq_sem.specs.Statements as script
-use Rattle.jq_sem.specs.Statements.{Root, matched, Call, find, children, parent, parents, filter, has, around, near, add, back, IsMade, InRoot, InCalls, SelectedUnder}
+use Rattle.jq_sem.specs.Statements.{IsMade, InRoot, InCalls, SelectedUnder}
+use Rattle.jq_stmts.specs.Statements.{Root, matched, Call, find, children, parent, parents, filter, has, around, near, add, back}
 use Rattle.jq_sem.specs.Events.{IsLegalEvent, after_event, AreLegalEvents}
 use Rattle.jq_sem.specs.Reachability.{after_step}
-use Rattle.jq_sem.specs.Sharp.{ExactCall, plain, closest, siblings, first, ExactChain, ExactStatement, wide_call, wide_chain, wides}
+use Rattle.jq_stmts.specs.Sharp.{ExactCall, plain, closest, siblings, first, ExactChain, ExactStatement, wide_call, wide_chain, wides}
 use Rattle.jq_sem.proofs.SelectionLemmas.{InCalls-node}
 use Rattle.jq_sem.proofs.TogetherLemmas.{made_larger}
 use Rattle.jq_exact.specs.Exact.{IsMadeExactly, MadeExactly, set_before, stands, InExactly, UnderExactly, SelectedExactly}

@@ -7,9 +7,10 @@ use Rattle.tree_sem.specs.Series.{AreLegalBy}
 use Rattle.tree_sem.specs.Trees.{LabelTree}
 use Rattle.tree_sem.specs.declared.actions.Event.{Event}
 use Rattle.tree_sem.specs.declared.actions.Event.TheVariants.{Step, Take, Cut}
-use Rattle.sel_core.specs.Selectors.{Selector, Matches}
+use Rattle.sel_core.specs.Selectors.{Matches}
+use Rattle.sel_text.specs.Selectors.{Selector}
 use Rattle.jq_sem.specs.Events.{after_event, end_of_events}
-use Rattle.jq_sem.specs.Sharp.{ExactStatement, wides}
+use Rattle.jq_stmts.specs.Sharp.{ExactStatement, wides}
 use Rattle.jq_exact.specs.Exact.{IsLegalExactly}
 
 -- the root is never cut

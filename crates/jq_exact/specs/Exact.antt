@@ -9,9 +9,10 @@ use Rattle.tree_sem.specs.Series.{AreLegalBy}
 use Rattle.tree_sem.specs.Trees.{LabelTree}
 use Rattle.tree_sem.specs.declared.actions.Step.{Step}
 use Rattle.node_marks.specs.Marks.{HasOtherIn, IsFree, IsFirstIn}
-use Rattle.jq_sem.specs.Statements.{Root, matched, back, FitsOne, MayFit, IsMade, InRoot}
+use Rattle.jq_sem.specs.Statements.{FitsOne, MayFit, IsMade, InRoot}
+use Rattle.jq_stmts.specs.Statements.{Root, matched, back}
 use Rattle.jq_sem.specs.Reachability.{after_step}
-use Rattle.jq_sem.specs.Sharp.{ExactCall, plain, closest, siblings, first, ExactChain, ExactStatement, wides}
+use Rattle.jq_stmts.specs.Sharp.{ExactCall, plain, closest, siblings, first, ExactChain, ExactStatement, wides}
 
 abbrev pub IsMadeExactly : LabelTree → (List ℕ → Type 0) → ExactCall → List ℕ → Type 0
 IsMadeExactly t S (plain c) v = IsMade t S c v

@@ -12,8 +12,8 @@ use Rattle.tree_sem.specs.Trees.{LabelTree, count_of}
 use Rattle.tree_sem.specs.Nodes.{IsNode}
 use Rattle.node_marks.specs.Marks.{path_at, IsMarked}
 use Rattle.node_marks.specs.Ranks.{IsUnder, AreRanked, IsEarly, IsReached, HasUnranked}
-use Rattle.jq_sem.specs.Statements.{find, children, parent, parents, filter, has, add}
-use Rattle.jq_sem.specs.Sharp.{ExactCall, plain, closest, siblings}
+use Rattle.jq_stmts.specs.Statements.{find, children, parent, parents, filter, has, add}
+use Rattle.jq_stmts.specs.Sharp.{ExactCall, plain, closest, siblings}
 use Rattle.jq_exact.specs.Exact.{IsMadeExactly, MadeExactly}
 use Rattle.jq_exact.specs.Together.{is_first, FromNodes}
 

@@ -9,9 +9,9 @@ use Rattle.tree_sem.specs.Trees.{LabelTree}
 use Rattle.tree_sem.specs.declared.actions.Step.{Step}
 use Rattle.jq_sem.specs.Statements.{Selected}
 use Rattle.jq_sem.specs.Reachability.{AreLegal}
-use Rattle.jq_sem.specs.Sharp.{ExactStatement, wide_of, wides, is_sharp_statement}
+use Rattle.jq_stmts.specs.Sharp.{ExactStatement, wide_of, wides, is_sharp_statement}
 use Rattle.jq_sem.specs.Events.{ReachesWithLosses}
-use Rattle.sel_core.specs.Selectors.{Selector}
+use Rattle.sel_text.specs.Selectors.{Selector}
 use Rattle.jq_exact.specs.Events.{ReachesExactly}
 use Rattle.jq_exact.specs.Exact.{SelectedExactly, AreLegalExactly}
 

@@ -6,6 +6,7 @@ pub mod Laws
 pub mod Ordered
 pub mod Replays
 pub mod Room
+pub mod Scripts
 pub mod Settling
 pub mod SharpProofs
 pub mod Standing

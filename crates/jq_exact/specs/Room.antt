@@ -8,7 +8,7 @@ use Rattle.tree_sem.specs.Trees.{LabelTree, count_of}
 use Rattle.tree_sem.specs.declared.actions.Action.{Action}
 use Rattle.tree_sem.specs.declared.actions.Action.TheVariants.{Classes, Inside, Beside}
 use Rattle.tree_sem.specs.declared.tree_fault.TheConstants.{MOST_NODES}
-use Rattle.jq_sem.specs.Sharp.{ExactStatement}
+use Rattle.jq_stmts.specs.Sharp.{ExactStatement}
 
 abbrev pub added_by : Action → ℕ
 added_by (Classes classes) = 0

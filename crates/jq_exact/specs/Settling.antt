@@ -9,7 +9,7 @@ use Rattle.limits.specs.declared.budgets.TheConstants.{MOST_LIST}
 use Rattle.tree_sem.specs.Trees.{LabelTree}
 use Rattle.tree_sem.specs.declared.actions.Step.{Step}
 use Rattle.jq_sem.specs.Reachability.{AreLegal, end_of}
-use Rattle.jq_sem.specs.Sharp.{ExactStatement, wides}
+use Rattle.jq_stmts.specs.Sharp.{ExactStatement, wides}
 use Rattle.simple_core.specs.declared.system.System.{System}
 use Rattle.proof_check.specs.declared.proofs.Proof.{Proof}
 use Rattle.proof_check.specs.declared.unfolded.Unfolded.{Unfolded}

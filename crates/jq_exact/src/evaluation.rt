@@ -2,9 +2,9 @@
 ghost use Rattle.std.specs.Prelude.{◌≡◌, ◌↔◌, ◌⊎◌, ◌+◌, ◌<◌, ℕ, length, take, drop, List, Option, Some, true, false, IfOk, IsTrue};
 ghost use Rattle.node_marks.specs.Marks.{IsMarked, path_at};
 ghost use Rattle.tree_sem.specs.Trees.{count_of};
-ghost use Rattle.jq_sem.specs.Views.{chain_of, root_of};
-ghost use Rattle.jq_sem.specs.SharpViews.{with_kind, exact_chain, exact_of};
-ghost use Rattle.jq_sem.specs.declared.sharp.SharpKind.TheVariants as sharp;
+ghost use Rattle.jq_stmts.specs.Views.{chain_of, root_of};
+ghost use Rattle.jq_stmts.specs.SharpViews.{with_kind, exact_chain, exact_of};
+ghost use Rattle.jq_stmts.specs.declared.sharp.SharpKind.TheVariants as sharp;
 ghost use Rattle.jq_exact.specs.Exact.{IsMadeExactly, MadeExactly, SelectedExactly};
 ghost use Rattle.jq_exact.specs.Standing.{after};
 ghost use Rattle.jq_exact.specs.Together as spec;
@@ -13,7 +13,8 @@ ghost use Rattle.jq_exact.specs.Together.{NamedBy, InOne};
 use crate::firsts::{first_ask, firsts_of, is_none_made, lead_back, least_made};
 use crate::sets::of_exact_call;
 use crate::standing_calls::standing;
-use jq_sem::{Call, Chain, ExactStmt, Root, Sharp, SharpKind, kind_at, matching};
+use jq_sem::matching;
+use jq_stmts::{Call, Chain, ExactStmt, Root, Sharp, SharpKind, kind_at};
 use node_marks::{Marks, NumberedTree};
 use std::alloc::Global;
 use tp_base::NoMemory;
@@ -215,6 +216,7 @@ fn asks_first(calls: &MarkedCalls, numbers: &[usize]) -> bool
     false
 }
 
+/// Whether a mark says that the first node alone is kept. Constant.
 pub fn is_first(kind: Option<SharpKind>) -> bool
     ensures yes { IsTrue result → kind ≡ Some sharp.First }
     ensures no { (result ≡ false) → (c : _) → spec.is_first (with_kind c kind) ≡ false }

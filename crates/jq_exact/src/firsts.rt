@@ -1,17 +1,17 @@
 //! Calls from each of several nodes that ask for a first node, for all these nodes at once: of each node the least number in the
 //! set that the calls make of it.
-ghost use Rattle.std.specs.Prelude.{◌≡◌, ◌↔◌, ◌<◌, ◌≤◌, ℕ, [], ◌∷◌, Some, true, false, length, take, map, get_or, IsTrue, IsNone, IfSome, IfOk};
+ghost use Rattle.std.specs.Prelude.{◌≡◌, ◌↔◌, ◌<◌, ◌≤◌, [], ◌∷◌, Some, true, false, length, take, map, get_or, IsTrue, IsNone, IfSome, IfOk};
 ghost use Rattle.tree_sem.specs.Trees.{count_of};
 ghost use Rattle.tree_sem.specs.Nodes.{IsNode};
 ghost use Rattle.node_marks.specs.Marks.{IsSetOf, HasDescendantIn};
 ghost use Rattle.node_marks.specs.Ranks.{IsUnder, AreRanked, HasNearestIn};
 ghost use Rattle.jq_sem.specs.Statements as call;
 ghost use Rattle.jq_sem.specs.Statements.{FitsOne, MayFit};
-ghost use Rattle.jq_sem.specs.Sharp.{plain, closest, siblings, first};
-ghost use Rattle.jq_sem.specs.declared.sharp.SharpKind.TheVariants as sharp;
-ghost use Rattle.jq_sem.specs.SharpViews.{with_kind};
-ghost use Rattle.sel_core.specs.Views.{selector_of};
-ghost use Rattle.jq_sem.specs.Views.{atoms_of, call_of};
+ghost use Rattle.jq_stmts.specs.Sharp.{plain, closest, siblings, first};
+ghost use Rattle.jq_stmts.specs.declared.sharp.SharpKind.TheVariants as sharp;
+ghost use Rattle.jq_stmts.specs.SharpViews.{with_kind};
+ghost use Rattle.sel_text.specs.Views.{selector_of};
+ghost use Rattle.jq_stmts.specs.Views.{atoms_of, call_of};
 ghost use Rattle.jq_exact.specs.Firsts as spec;
 ghost use Rattle.jq_exact.specs.Firsts.{IsBefore, AreBefore, AreLeastMade, IsFirstMade, IsNoneMade};
 ghost use Rattle.jq_exact.specs.Together as together;
@@ -19,9 +19,10 @@ ghost use Rattle.jq_exact.specs.Together.{asks_first, numbered, stood};
 
 use crate::evaluation::{MarkedCalls, is_first};
 use crate::sets::takes_all;
-use jq_sem::{Call, SharpKind, fitting, kind_at, matching, may_fit};
+use jq_sem::{fitting, matching, may_fit};
+use jq_stmts::{Call, SharpKind, kind_at};
 use node_marks::{Marks, NumberedTree, Ranks};
-use sel_core::{Compound, Selector};
+use sel_text::{Compound, Selector};
 use tp_base::NoMemory;
 
 /// The least numbers of the nodes in sets that calls make: of each node, and of no node.

@@ -1,29 +1,19 @@
 //! Exact steps of a script's statements, taken one after another.
 ghost use Rattle.std.specs.Prelude.{◌≡◌, ◌⊎◌, ℕ, ◌<◌, length, take, OnOk, IfErr, IsErrOf};
+ghost use Rattle.tree_sem.specs.Replays.{step_of};
 ghost use Rattle.tree_sem.specs.Series.{CanTake, IsIllegalAt, IsFullAt};
 ghost use Rattle.jq_sem.specs.Reachability.{end_of};
-ghost use Rattle.jq_sem.specs.Sharp.{wides};
-ghost use Rattle.jq_sem.specs.SharpViews.{exacts_of};
+ghost use Rattle.jq_stmts.specs.Sharp.{wides};
+ghost use Rattle.jq_stmts.specs.SharpViews.{exacts_of};
 ghost use Rattle.jq_exact.specs.Exact.{IsLegalExactly, after_exact_step, AreLegalExactly};
-ghost use Rattle.jq_exact.specs.Replays.{step_of, IsReplay, IsStep};
+ghost use Rattle.jq_exact.specs.Replays.{IsReplay, IsStep};
 
 use crate::selection::selects_exact;
-use jq_sem::{ExactStmt, act};
+use jq_sem::act;
+use jq_stmts::ExactStmt;
 use std::alloc::Global;
-use thiserror::Error;
 use tp_base::NoMemory;
-use tree_sem::{Step, Tree, TreeFault};
-
-/// Why a step was not taken. The number is that of the step, counted from 0.
-#[derive(Clone, Copy, Debug, PartialEq, Eq, Error)]
-pub enum ReplayFault {
-    #[error("step {0} is not legal")]
-    IllegalStep(usize),
-    #[error("step {0} makes too many nodes")]
-    TooManyNodes(usize),
-    #[error("no memory at step {0}")]
-    Memory(usize),
-}
+use tree_sem::{ReplayFault, Step, Tree, TreeFault};
 
 /// Takes the steps one after another. It stops at the first one whose statement doesn't select its node exactly, or
 /// that would make too many nodes, and leaves the tree as it was before that step. Each step costs what

@@ -1,15 +1,16 @@
 //! The sets that exact calls make, as marks for all nodes of a tree.
 ghost use Rattle.std.specs.Prelude.{◌≡◌, ◌↔◌, ℕ, List, [], ◌∷◌, false, Some, IsTrue, IfOk};
 ghost use Rattle.node_marks.specs.Marks.{IsMarked};
-ghost use Rattle.jq_sem.specs.Views.{atoms_of, call_of};
-ghost use Rattle.jq_sem.specs.Sharp.{plain, closest as spec_closest, siblings as spec_siblings, first as spec_first};
-ghost use Rattle.jq_sem.specs.SharpViews.{with_kind};
-ghost use Rattle.jq_sem.specs.declared.sharp.SharpKind.TheVariants as sharp;
+ghost use Rattle.jq_stmts.specs.Views.{atoms_of, call_of};
+ghost use Rattle.jq_stmts.specs.Sharp.{plain, closest as spec_closest, siblings as spec_siblings, first as spec_first};
+ghost use Rattle.jq_stmts.specs.SharpViews.{with_kind};
+ghost use Rattle.jq_stmts.specs.declared.sharp.SharpKind.TheVariants as sharp;
 ghost use Rattle.jq_exact.specs.Exact.{IsMadeExactly};
 
-use jq_sem::{Call, SharpKind, fitting, may_fit, of_call};
+use jq_sem::{fitting, may_fit, of_call};
+use jq_stmts::{Call, SharpKind};
 use node_marks::{Marks, NumberedTree};
-use sel_core::Compound;
+use sel_text::Compound;
 use tp_base::NoMemory;
 
 /// What a call makes of a set, of which some may be kept.

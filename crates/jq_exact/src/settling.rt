@@ -1,23 +1,23 @@
 //! The answers for the statements that are judged, settled by a replay of the steps of sharper calls.
 ghost use Rattle.std.specs.Prelude.{◌≡◌, ◌≤◌, All, length, map, IfOk, IfSome};
 ghost use Rattle.limits.specs.declared.budgets.TheConstants.{MOST_LIST};
-ghost use Rattle.jq_sem.specs.Sharp.{is_sharp_statement};
-ghost use Rattle.jq_sem.specs.SharpViews.{exacts_of};
+ghost use Rattle.jq_stmts.specs.Sharp.{is_sharp_statement};
+ghost use Rattle.jq_stmts.specs.SharpViews.{exacts_of};
 ghost use Rattle.proof_check.specs.declared.proofs.Proof as check;
 ghost use Rattle.usage_report.specs.Answers.{used};
 ghost use Rattle.usage_report.specs.Views.{answer_of};
 ghost use Rattle.jq_exact.specs.Room.{HasRoom};
 ghost use Rattle.jq_exact.specs.Settling.{AreSettled, IsSettled, IsReplayed, IsOutcome, IsUnfolded, broken_by, settled_by};
 
-use crate::replays::{ReplayFault, replay_exact};
+use crate::replays::replay_exact;
 use crate::sharp_proofs::has_sharp_step;
 use crate::sharp_statements::sharp_statements;
-use jq_sem::ExactStmt;
+use jq_stmts::ExactStmt;
 use proof_check::Unfolded;
 use simple_core::System;
 use std::alloc::Global;
 use tp_base::NoMemory;
-use tree_sem::{Step, Tree};
+use tree_sem::{ReplayFault, Step, Tree};
 use usage_report::Answer;
 
 /// What a replay of an answer's steps came to.

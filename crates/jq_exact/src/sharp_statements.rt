@@ -1,12 +1,12 @@
 //! Which statements have a call that is sharper than what is judged in its place.
 ghost use Rattle.std.specs.Prelude.{◌≡◌, Some, map, IfOk};
-ghost use Rattle.jq_sem.specs.Sharp.{is_sharp, has_sharp, have_sharp, is_sharp_statement};
-ghost use Rattle.jq_sem.specs.SharpViews.{with_kind, exact_calls, exact_handlers, exact_of, exacts_of};
-ghost use Rattle.jq_sem.specs.Views.{call_of, chain_of};
-ghost use Rattle.jq_sem.specs.declared.sharp.SharpKind.TheVariants as sharp_kind;
+ghost use Rattle.jq_stmts.specs.Sharp.{is_sharp, has_sharp, have_sharp, is_sharp_statement};
+ghost use Rattle.jq_stmts.specs.SharpViews.{with_kind, exact_calls, exact_handlers, exact_of, exacts_of};
+ghost use Rattle.jq_stmts.specs.Views.{call_of, chain_of};
+ghost use Rattle.jq_stmts.specs.declared.sharp.SharpKind.TheVariants as sharp_kind;
 
 use crate::sets::takes_all;
-use jq_sem::{Call, Chain, ExactStmt, Sharp, SharpKind, kind_at};
+use jq_stmts::{Call, Chain, ExactStmt, Sharp, SharpKind, kind_at};
 use std::alloc::Global;
 use tp_base::NoMemory;
 

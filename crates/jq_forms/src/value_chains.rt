@@ -10,10 +10,13 @@ use jq_cursor::{Cursor, Enclosed, JQUERY, is_jquery_call, spelled};
 use jq_words::{ScriptFault, Words, begins, begins_any_name, is_one_of, row_of};
 use std::alloc::Global;
 
+/// The calls that read a value without an argument.
 pub const READ_BARE: [&[u8]; 2] = [b"val", b"text"];
 
+/// The calls that read a value by one argument.
 pub const READ_ONE: [&[u8]; 2] = [b"css", b"data"];
 
+/// The calls that read a value where one argument is given, and give one where there are two.
 pub const READ_SINGLE: [&[u8]; 1] = [b"attr"];
 
 // Whether a call reads a value with so many arguments, which begin with these words.

@@ -1,9 +1,8 @@
-pub mod SharedCallSteps
-pub mod MarkSteps
 pub mod FirstSteps
 pub mod PlacesSteps
 pub mod RootSteps
 pub mod TargetSteps
+pub mod HandlerSteps
 pub mod ParameterSteps
 pub mod StatingSteps
 pub mod SelectorLaws

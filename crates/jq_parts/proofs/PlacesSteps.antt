@@ -3,9 +3,10 @@ use Rattle.std.proofs.Common.{◌≡◌, ℕ, zero, suc, ◌+◌, ◌-◌, ◌<�
 use Rattle.std.proofs.lemmas.List.{map-append, length-map, take_all}
 use Rattle.std.proofs.lemmas.Slice.Eq.{bytes_eq-Decides}
 use Rattle.std.specs.List.{take-map}
+use Rattle.std.specs.Option.{option_or}
 use Rattle.jq_parts.specs.declared.entries.Entry.{Entry}
 use Rattle.jq_parts.specs.declared.values.Declaration as code
-use Rattle.jq_parts.specs.Bindings.{Declaration, latest, or_else}
+use Rattle.jq_parts.specs.Bindings.{Declaration, latest}
 use Rattle.jq_parts.specs.Views.{declaration_of, declarations_of}
 use Rattle.jq_parts.specs.Places.{last_in, name_of, names_in, HideThose, IsIndexed}
 
@@ -26,21 +27,21 @@ pushed es e = map-append (λ (x : Entry). x.declaration) es (e ∷ [])
 
 -- ---- the place of a name
 
-first_or : (b : Bool) (q : List ℕ) (n : ℕ) → or_else None (if b then Some n else None) ≡ (if b then Some (n + 0) else None)
+first_or : (b : Bool) (q : List ℕ) (n : ℕ) → option_or None (if b then Some n else None) ≡ (if b then Some (n + 0) else None)
 first_or true q n = ap Some (omega arith)
 first_or false q n = refl
 
-later_or : (b : Bool) (n m k : ℕ) (r x : Option ℕ) → m ≡ k → or_else (if b then Some m else r) x ≡ (if b then Some k else or_else r x)
+later_or : (b : Bool) (n m k : ℕ) (r x : Option ℕ) → m ≡ k → option_or (if b then Some m else r) x ≡ (if b then Some k else option_or r x)
 later_or true n m k r x is = ap Some is
 later_or false n m k r x is = refl
 
 last_more : (n : ℕ) (q m : List ℕ) (ms : List (List ℕ)) → last_in n q (ms ++ m ∷ []) ≡ (if bytes_eq m q then Some (n + length ms) else last_in n q ms)
 last_more n q m [] = first_or (bytes_eq m q) q n
 last_more n q m (k ∷ ms) =
-    ap (λ r. or_else r (if bytes_eq k q then Some n else None)) (last_more (suc n) q m ms)
+    ap (λ r. option_or r (if bytes_eq k q then Some n else None)) (last_more (suc n) q m ms)
     ∙ later_or (bytes_eq m q) n (suc n + length ms) (n + suc (length ms)) (last_in (suc n) q ms) (if bytes_eq k q then Some n else None) (omega arith)
 
-or_none : (x y : Option ℕ) → or_else x y ≡ None → (x ≡ None) × (y ≡ None)
+or_none : (x y : Option ℕ) → option_or x y ≡ None → (x ≡ None) × (y ≡ None)
 or_none (Some a) y is = cc
 or_none None y is = (refl, is)
 
@@ -71,7 +72,7 @@ here true q e es n k x same none found =
 
 chosen : (r : Option ℕ) (q : List ℕ) (e : Entry) (es : List Entry) (n k : ℕ) (x : Entry) → last_in (suc n) q (names_in es) ≡ r
     → ((j : ℕ) → last_in (suc n) q (names_in es) ≡ Some j → Stands q es (suc n) j x)
-    → or_else r (if bytes_eq (name_of e) q then Some n else None) ≡ Some k → Stands q (e ∷ es) n k x
+    → option_or r (if bytes_eq (name_of e) q then Some n else None) ≡ Some k → Stands q (e ∷ es) n k x
 unfolding latest
 chosen None q e es n k x is further found = here (bytes_eq (name_of e) q) q e es n k x refl (none_from (suc n) q es is) found
 chosen (Some j) q e es n k x is further found =

@@ -1,14 +1,14 @@
 -- One statement more, and its place.
 use Rattle.std.proofs.Common.{◌≡◌, ℕ, ◌≤◌, List, [], ◌∷◌, ◌++◌, length, map, sym, ◌∙◌, arith}
 use Rattle.std.proofs.lemmas.List.{map-append, append_assoc, append-nil, length-map}
-use Rattle.jq_sem.specs.declared.sharp.ExactStmt.{ExactStmt}
-use Rattle.jq_sem.specs.Sharp.{ExactStatement}
-use Rattle.jq_sem.specs.SharpViews.{exact_of, exacts_of}
+use Rattle.jq_stmts.specs.declared.sharp.ExactStmt.{ExactStmt}
+use Rattle.jq_stmts.specs.Sharp.{ExactStatement}
+use Rattle.jq_stmts.specs.SharpViews.{exact_of, exacts_of}
 use Rattle.jq_parts.specs.declared.placing.Stated.{Stated}
 use Rattle.jq_words.specs.declared.faults.TheConstants.{MOST_CALLS, MOST_OPEN}
-use Rattle.jq_parts.specs.MarkedCalls.{marked_chain_of}
+use Rattle.jq_chains.specs.MarkedCalls.{marked_chain_of, calls_in}
 use Rattle.jq_parts.specs.ScopeViews.{stated_in}
-use Rattle.jq_parts.specs.Stating.{calls_in, IsCounted}
+use Rattle.jq_parts.specs.Stating.{IsCounted}
 
 pub one_stated : (text : List ℕ) (ss : List Stated) (s : Stated) → map (stated_in text) (ss ++ s ∷ []) ≡ map (stated_in text) ss ++ stated_in text s ∷ []
 one_stated text ss s = map-append (stated_in text) ss (s ∷ [])

@@ -9,15 +9,15 @@ use Rattle.tp_base.specs.declared.atoms.AtomKind.TheVariants as kind
 use Rattle.tp_base.proofs.ClassLemmas.{Contains-with_class}
 use Rattle.tp_base.proofs.NamesLemmas.{with_name-below, with_name-longer}
 use Rattle.tp_base.proofs.Rising.{All-from_Contains}
-use Rattle.sel_core.specs.Lists.{read_strict_list}
-use Rattle.sel_core.specs.Reading.{Ending}
-use Rattle.sel_core.specs.Selectors.{Selector}
+use Rattle.sel_text.specs.Lists.{read_strict_list}
+use Rattle.sel_text.specs.Reading.{Ending}
+use Rattle.sel_text.specs.Selectors.{Selector}
 use Rattle.html_tokens.specs.Words as tags
 use Rattle.jq_words.specs.declared.faults.ScriptFault.TheVariants.{ComplexArgument}
 use Rattle.jq_words.specs.Words.{Outcome, ◌>>=◌}
 use Rattle.jq_words.specs.Brackets.{is_empty}
 use Rattle.jq_cursor.specs.Selections.{with_selectors, selectors, compounds, and_class, with_classes, class_set, with_attribute}
-use Rattle.jq_sem.specs.Tables.{AreAtoms, AreCompoundsOver, AreSelectorsOver}
+use Rattle.jq_stmts.specs.Tables.{AreAtoms, AreCompoundsOver, AreSelectorsOver}
 use Rattle.jq_parts.proofs.SelectorLaws.{IsListOver, list_over, AreAtoms-more}
 
 -- ---- letters of an argument

@@ -6,9 +6,9 @@
 --     admitted      whether the call may stand there
 --     ended         whether a chain may end with a value
 use Rattle.std.specs.Prelude.{ℕ, ◌&&◌, not, Bool, true, false, if◌then◌else◌, List, [], ◌∷◌, ◌++◌, map, drop, codes, Option, Some, None, Ok, Err}
-use Rattle.sel_core.specs.Selectors.{simple}
-use Rattle.jq_sem.specs.Sharp.{ExactCall, ExactChain, plain, closest, siblings, wide_call}
-use Rattle.jq_sem.specs.Statements.{find, children, parent, parents, filter, has, back, standing}
+use Rattle.sel_text.specs.Selectors.{simple}
+use Rattle.jq_stmts.specs.Sharp.{ExactCall, ExactChain, plain, closest, siblings, wide_call}
+use Rattle.jq_stmts.specs.Statements.{find, children, parent, parents, filter, has, back, standing}
 use Rattle.jq_words.specs.declared.faults.ScriptFault.TheVariants.{UnknownCall, UnknownForm}
 use Rattle.jq_words.specs.Words.{Word, is_any_name, begins, Outcome, unexpected}
 use Rattle.jq_words.specs.Brackets.{is_empty}
@@ -16,7 +16,7 @@ use Rattle.jq_words.specs.Calls.{Form, moves, finding, to_children, to_parent, t
 use Rattle.jq_cursor.specs.Lists.{extent, counts}
 use Rattle.jq_parts.specs.Bindings.{Value, elements, everywhere, markup, placed}
 use Rattle.jq_parts.specs.Scopes.{matched_chain}
-use Rattle.jq_parts.specs.SharedCalls.{has_parents}
+use Rattle.jq_chains.specs.SharedCalls.{has_parents}
 
 -- the elements of a value, if it has any
 abbrev pub elements_in : Value → Option ExactChain

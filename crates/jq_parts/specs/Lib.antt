@@ -2,17 +2,12 @@
 pub mod Arguments
 pub mod Bindings
 pub mod Calls
-pub mod Links
-pub mod MarkedCalls
 pub mod Markup
 pub mod Parameters
 pub mod Roots
 pub mod ScopeViews
 pub mod Scopes
-pub mod SharedCalls
-pub mod SharedChains
 pub mod Stating
 pub mod Views
 -- Invariants, and the states of the code.
-pub mod Marks
 pub mod Places

@@ -2,13 +2,13 @@
 --     last_in       the place of the last one of a name
 --     IsIndexed     a table tells the last place of each name, and each entry the place of the one that it hides
 use Rattle.std.specs.Prelude.{◌≡◌, ⊤, ℕ, suc, if◌then◌else◌, List, [], ◌∷◌, ◌++◌, map, bytes_eq, Option, Some, None}
+use Rattle.std.specs.Option.{option_or}
 use Rattle.jq_parts.specs.declared.entries.Entry.{Entry}
-use Rattle.jq_parts.specs.Bindings.{or_else}
 
 -- the place of the last of these names that is this one, where the first has this place
 abbrev pub last_in : ℕ → List ℕ → List (List ℕ) → Option ℕ
 last_in n q [] = None
-last_in n q (m ∷ ms) = or_else (last_in (suc n) q ms) (if bytes_eq m q then Some n else None)
+last_in n q (m ∷ ms) = option_or (last_in (suc n) q ms) (if bytes_eq m q then Some n else None)
 
 abbrev pub name_of : Entry → List ℕ
 name_of e = e.declaration.name.now

@@ -2,14 +2,14 @@
 use Rattle.std.specs.Prelude.{ℕ, map, List, Option, option_map}
 use Rattle.tp_base.specs.Places.{place_at}
 use Rattle.tree_sem.specs.declared.actions.Action.{Action}
-use Rattle.jq_sem.specs.Sharp.{ExactStatement}
+use Rattle.jq_stmts.specs.Sharp.{ExactStatement}
 use Rattle.jq_parts.specs.declared.markup.Grown as code_grown
 use Rattle.jq_parts.specs.declared.placing.Stated.{Stated}
 use Rattle.jq_parts.specs.declared.scopes.Handler as code_handler
 use Rattle.jq_parts.specs.declared.scopes.Scope as code_scope
-use Rattle.jq_parts.specs.declared.shared_chains.SharedChain.{SharedChain}
-use Rattle.jq_parts.specs.MarkedCalls.{marked_chain_of}
-use Rattle.jq_parts.specs.SharedChains.{shared_of}
+use Rattle.jq_chains.specs.declared.shared_chains.SharedChain.{SharedChain}
+use Rattle.jq_chains.specs.MarkedCalls.{marked_chain_of}
+use Rattle.jq_chains.specs.SharedChains.{shared_of}
 use Rattle.jq_parts.specs.Markup.{Grown, grown}
 use Rattle.jq_parts.specs.Views.{declarations_of}
 use Rattle.jq_parts.specs.Scopes.{Handler, Scope}

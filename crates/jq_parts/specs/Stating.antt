@@ -2,19 +2,16 @@
 use Rattle.std.specs.Prelude.{ℕ, ◌≤◌, nat_le, nat_lt, if◌then◌else◌, List, [], ◌∷◌, ◌++◌, length, map, sum, Option, Some, None, Ok, Err}
 use Rattle.tp_base.specs.Places.{place_at}
 use Rattle.tree_sem.specs.declared.actions.Action.{Action}
-use Rattle.jq_sem.specs.Sharp.{ExactChain, ExactStatement}
+use Rattle.jq_stmts.specs.Sharp.{ExactChain, ExactStatement}
 use Rattle.jq_words.specs.declared.faults.ScriptFault.TheVariants.{TooLong, TooManyStatements}
 use Rattle.jq_words.specs.declared.faults.TheConstants.{MOST_STATEMENTS, MOST_CALLS, MOST_OPEN}
 use Rattle.jq_words.specs.Words.{Outcome}
+use Rattle.jq_chains.specs.MarkedCalls.{calls_in}
 use Rattle.jq_parts.specs.Scopes.{Handler}
 
 -- What a call does to the nodes of a chain, if it acts.
 abbrev pub Effect : Type 0
 Effect = Option (ExactChain × Action)
-
--- how many calls chains have together
-abbrev pub calls_in : List ExactChain → ℕ
-calls_in chains = sum (map (λ c. length c.calls) chains)
 
 abbrev pub chains_of : List Handler → List ExactChain
 chains_of hs = map (λ h. h.chain) hs

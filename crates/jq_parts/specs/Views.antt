@@ -5,7 +5,7 @@ use Rattle.jq_parts.specs.declared.values.Value as code_value
 use Rattle.jq_parts.specs.declared.values.Value.TheVariants as code
 use Rattle.jq_parts.specs.declared.values.Bound as code_bound
 use Rattle.jq_parts.specs.declared.values.Declaration as code_declaration
-use Rattle.jq_parts.specs.SharedChains.{shared_of}
+use Rattle.jq_chains.specs.SharedChains.{shared_of}
 use Rattle.jq_parts.specs.Bindings.{Value, elements, everywhere, markup, placed, Declaration}
 
 abbrev pub value_of : code_value.Value → Value

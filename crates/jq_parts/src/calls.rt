@@ -1,24 +1,23 @@
 //! The calls of a chain: whether one may stand behind a value, and what the value is with it.
 ghost use Rattle.std.specs.Prelude.{◌≡◌, [], ◌∷◌, length, map, option_map, IfOk, IfErr, OnOk};
-ghost use Rattle.sel_core.specs.Selectors.{simple};
-ghost use Rattle.sel_core.specs.Views.{selector_of};
-ghost use Rattle.jq_sem.specs.Sharp.{first};
-ghost use Rattle.jq_sem.specs.Views as sem;
+ghost use Rattle.sel_text.specs.Selectors.{simple};
+ghost use Rattle.sel_text.specs.Views.{selector_of};
+ghost use Rattle.jq_stmts.specs.Sharp.{first};
+ghost use Rattle.jq_stmts.specs.Views as sem;
 ghost use Rattle.jq_words.specs.CallViews.{form_of, row_from};
 ghost use Rattle.jq_words.specs.Results.{Gives, Finds, IsBehind};
 ghost use Rattle.jq_words.specs.declared.faults.ScriptFault.TheVariants.{Memory};
 ghost use Rattle.jq_parts.specs.Calls as spec;
-ghost use Rattle.jq_parts.specs.MarkedCalls.{marked_of};
-ghost use Rattle.jq_parts.specs.SharedChains.{shared_of};
+ghost use Rattle.jq_chains.specs.MarkedCalls.{marked_of};
+ghost use Rattle.jq_chains.specs.SharedChains.{shared_of};
 ghost use Rattle.jq_parts.specs.Views.{value_of};
 
-use crate::marked_calls::MarkedCall;
-use crate::shared_chains::SharedChain;
 use crate::values::Value;
+use jq_chains::{MarkedCall, SharedChain};
 use jq_cursor::{Cursor, Reader, counts};
-use jq_sem::{Call, Root, Selectors, SharedCompounds, SharpKind};
+use jq_stmts::{Call, Root, Selectors, SharedCompounds, SharpKind};
 use jq_words::{Form, Row, ScriptFault, begins, place, row_of};
-use sel_core::{Atoms, Compound, Compounds, Joins, Selector};
+use sel_text::{Atoms, Compound, Compounds, Joins, Selector};
 use std::alloc::Global;
 use tp_base::NoMemory;
 

@@ -35,6 +35,7 @@ impl<'a> Model for Declarations<'a> {
 }
 
 impl<'a> Declarations<'a> {
+    /// No declarations yet. Constant.
     #[tactic(auto, using(crate::proofs::PlacesSteps::none_indexed))]
     pub fn new(alloc: Global) -> Self
         ensures { result ≡ [] }

@@ -3,16 +3,15 @@ ghost use Rattle.std.specs.List.{AllByRecursion};
 ghost use Rattle.std.specs.Prelude.{◌≡◌, ◌≤◌, ◌∷◌, ℕ, List, length, map, IfOk, IfErr};
 ghost use Rattle.tp_base.specs.Places.{place_at};
 ghost use Rattle.tp_base.specs.declared.places.TheConstants.{MOST_BYTES};
-ghost use Rattle.jq_sem.specs.SharpViews.{exact_of, exacts_of};
+ghost use Rattle.jq_stmts.specs.SharpViews.{exact_of, exacts_of};
 ghost use Rattle.jq_words.specs.declared.faults.ScriptFault.TheVariants.{Memory};
 ghost use Rattle.jq_words.specs.declared.faults.TheConstants.{MOST_CALLS, MOST_OPEN};
-ghost use Rattle.jq_parts.specs.MarkedCalls.{marked_chain_of};
+ghost use Rattle.jq_chains.specs.MarkedCalls.{marked_chain_of, calls_in};
 ghost use Rattle.jq_parts.specs.ScopeViews.{stated_in};
-ghost use Rattle.jq_parts.specs.Stating.{calls_in, IsCounted};
+ghost use Rattle.jq_parts.specs.Stating.{IsCounted};
 
-use crate::marked_calls::MarkedChain;
-use crate::marks::parted;
-use jq_sem::{ExactStmt, Stmt};
+use jq_chains::{MarkedChain, parted};
+use jq_stmts::{ExactStmt, Stmt};
 use jq_words::ScriptFault;
 use std::alloc::Global;
 use tp_base::{Cursor, NoMemory, Place};
@@ -28,7 +27,7 @@ pub struct Stated {
 }
 
 // A statement at a place, with its marks apart. Linear in its calls.
-#[tactic(auto, using(crate::proofs::MarkSteps::told_at))]
+#[tactic(auto, using(jq_chains::proofs::MarkSteps::told_at))]
 fn at_place(alloc: Global, place: Place, statement: Stated) -> Result<ExactStmt, NoMemory>
     requires few { length statement.handlers.items ≤ MOST_OPEN }
     requires short { calls_in (map marked_chain_of (statement.chain ∷ statement.handlers.items)) ≤ MOST_CALLS }

@@ -1,6 +1,6 @@
 //! What a chain begins with.
 ghost use Rattle.std.specs.Prelude.{◌≤◌, length, OnOk};
-ghost use Rattle.sel_core.specs.Results.{IsFront};
+ghost use Rattle.sel_text.specs.Results.{IsFront};
 ghost use Rattle.jq_words.specs.Results.{Gives, Finds, Turns, IsBehind};
 ghost use Rattle.jq_words.specs.declared.faults.TheConstants.{MOST_FOREST_NODES};
 ghost use Rattle.jq_parts.specs.Roots as spec;

@@ -7,8 +7,8 @@ ghost use Rattle.jq_parts.specs.Views.{value_of, declarations_of};
 ghost use Rattle.jq_parts.specs.ScopeViews.{handlers_of, scope_of};
 
 use crate::declarations::Declarations;
-use crate::shared_chains::SharedChain;
 use crate::values::Value;
+use jq_chains::SharedChain;
 use jq_words::{ScriptFault, letters};
 use std::alloc::Global;
 

@@ -2,14 +2,14 @@
 ghost use Rattle.std.specs.Prelude.{◌≡◌, ◌≤◌, ℕ, List, length, map, min, IfOk, OnOk};
 ghost use Rattle.jq_words.specs.Results.{Leaves};
 ghost use Rattle.jq_words.specs.declared.faults.TheConstants.{MOST_STATEMENTS};
-ghost use Rattle.jq_parts.specs.MarkedCalls.{marked_chain_of};
+ghost use Rattle.jq_chains.specs.MarkedCalls as marked;
+ghost use Rattle.jq_chains.specs.MarkedCalls.{marked_chain_of};
 ghost use Rattle.jq_parts.specs.Stating as spec;
 ghost use Rattle.jq_parts.specs.ScopeViews.{handlers_of, effect_of, stated_in};
 
-use crate::marked_calls::MarkedChain;
 use crate::placing::Stated;
 use crate::scopes::Handler;
-use crate::shared_chains::SharedChain;
+use jq_chains::{MarkedChain, SharedChain};
 use jq_words::{MOST_CALLS, MOST_STATEMENTS, ScriptFault};
 use std::alloc::Global;
 use tp_base::NoMemory;
@@ -17,7 +17,7 @@ use tree_sem::Action;
 
 // How many calls some chains have together, or the greatest number where they are more.
 fn calls_in(chains: &[MarkedChain]) -> usize
-    ensures { result ≡ min (spec.calls_in (map marked_chain_of chains.now)) usize.MAX }
+    ensures { result ≡ min (marked.calls_in (map marked_chain_of chains.now)) usize.MAX }
 {
     let mut count: usize = 0;
     for chain in chains {

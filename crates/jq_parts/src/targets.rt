@@ -1,19 +1,19 @@
 //! The chain on which markup is placed.
 ghost use Rattle.std.specs.Prelude.{◌≡◌, [], ◌∷◌, Bool, false, codes, drop, length, IfSome, IfNone};
-ghost use Rattle.sel_core.specs.Results.{IsFront};
+ghost use Rattle.sel_text.specs.Results.{IsFront};
 ghost use Rattle.jq_words.specs.Words.{Word, is_mark, is_name_among, is_form, spelled};
 ghost use Rattle.jq_words.specs.Results.{Gives, Finds};
 ghost use Rattle.jq_cursor.specs.Keywords.{jquery};
 ghost use Rattle.jq_parts.specs.Bindings.{bound};
 ghost use Rattle.jq_parts.specs.Arguments as spec;
-ghost use Rattle.jq_parts.specs.SharedChains.{shared_of};
+ghost use Rattle.jq_chains.specs.SharedChains.{shared_of};
 ghost use Rattle.jq_parts.specs.Views.{declarations_of};
 ghost use Rattle.jq_parts.specs.ScopeViews.{scope_of};
 
 use crate::declarations::Declarations;
 use crate::scopes::{Scope, used};
-use crate::shared_chains::SharedChain;
 use crate::values::{Value, matched, this_chain};
+use jq_chains::SharedChain;
 use jq_cursor::{PAGES, Reader, is_jquery_call, selectors, spelled};
 use jq_words::{ScriptFault, Word, Words, joined_texts, only, place, want_open};
 use std::alloc::Global;

@@ -1,13 +1,13 @@
 //! What a chain has come to, and the names that are bound to it.
 ghost use Rattle.std.specs.Prelude.{◌≡◌, map, IfOk};
-ghost use Rattle.sel_core.specs.Views.{selector_of};
+ghost use Rattle.sel_text.specs.Views.{selector_of};
 ghost use Rattle.jq_parts.specs.Scopes as spec;
-ghost use Rattle.jq_parts.specs.SharedChains.{shared_of};
+ghost use Rattle.jq_chains.specs.SharedChains.{shared_of};
 ghost use Rattle.jq_parts.specs.Views.{value_of};
 
-use crate::shared_chains::SharedChain;
-use jq_sem::{Root, Selectors};
-use sel_core::Selector;
+use jq_chains::SharedChain;
+use jq_stmts::{Root, Selectors};
+use sel_text::Selector;
 use std::alloc::Global;
 use std::rc::Rc;
 use tp_base::NoMemory;

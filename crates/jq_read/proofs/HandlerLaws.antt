@@ -7,25 +7,26 @@ use Rattle.std.proofs.lemmas.List.{length-map}
 use Rattle.text_bytes.specs.Attributes.{with_value}
 use Rattle.tp_base.specs.Names.{Named}
 use Rattle.tp_base.specs.Places.{place_at}
-use Rattle.jq_sem.specs.Sharp.{ExactChain, ExactStatement}
+use Rattle.jq_stmts.specs.Sharp.{ExactChain, ExactStatement}
 use Rattle.jq_words.specs.declared.faults.ScriptFault.TheVariants.{TooManyStatements, TooLong}
 use Rattle.jq_words.specs.declared.faults.TheConstants.{MOST_STATEMENTS, MOST_CALLS, MOST_OPEN}
 use Rattle.jq_words.specs.Words.{Word, Outcome, is_mark, begins, begins_name, place, want, want_name, want_open, end}
 use Rattle.jq_words.specs.Calls.{Form, moves, takes_first, unites, goes_back, classes, attributes, grows, places, handles, listens, passes}
 use Rattle.jq_parts.specs.Bindings.{Value, Declaration}
-use Rattle.jq_parts.specs.Scopes.{Handler}
+use Rattle.jq_parts.specs.Scopes.{Handler, with_handler}
 use Rattle.jq_cursor.specs.Selections.{selectors, compounds, class_set, is_attribute, with_attribute}
 use Rattle.jq_parts.specs.Markup.{Grown}
 use Rattle.jq_cursor.specs.TextArguments.{text_argument, some_argument}
 use Rattle.jq_parts.specs.Arguments.{markup_argument, target}
-use Rattle.jq_parts.specs.Stating.{Effect, stated, calls_in, chains_of, IsCounted}
+use Rattle.jq_parts.specs.Stating.{Effect, stated, chains_of, IsCounted}
+use Rattle.jq_chains.specs.MarkedCalls.{calls_in}
 use Rattle.jq_parts.specs.Parameters.{parameters}
 use Rattle.jq_parts.specs.Roots.{root}
 use Rattle.jq_forms.specs.Values.{is_chain}
 use Rattle.jq_forms.specs.declared.forms.StatementForm.{StatementForm}
 use Rattle.jq_forms.specs.declared.forms.StatementForm.TheVariants as form
 use Rattle.jq_read.specs.States.{Context, State, size, scope_in}
-use Rattle.jq_read.specs.Functions.{Block, function_body, function, handler_at, with_handler, in_handler, handed, rules_in}
+use Rattle.jq_read.specs.Functions.{Block, function_body, function, handler_at, in_handler, handed, rules_in}
 use Rattle.jq_forms.specs.Heads.{behind_name, want_function, handed_other, behind_one, behind_document}
 use Rattle.jq_parts.specs.Calls.{elements_in, dot_name, admitted, ended}
 use Rattle.jq_read.specs.CallArguments.{compounds_argument, move_arguments, unite_arguments, class_arguments, value_argument, attribute_arguments, grow_arguments, place_arguments}

@@ -1,6 +1,5 @@
 pub mod ChainSteps
 pub mod DeclarationSteps
-pub mod HandlerSteps
 pub mod SequenceSteps
 pub mod SeveralSteps
 pub mod ReadingLaws

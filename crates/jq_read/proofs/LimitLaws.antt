@@ -15,8 +15,8 @@ use Rattle.tree_sem.specs.declared.actions.Action.TheVariants.{Classes}
 use Rattle.html_subset.specs.declared.faults.PageFault.{PageFault}
 use Rattle.html_subset.specs.Reading.{read_forest}
 use Rattle.js_scan.specs.Tokens.{script_tokens}
-use Rattle.jq_sem.specs.Sharp.{ExactCall, plain, first, ExactChain, ExactStatement, wide_call, wide_chain, wide_of, wides}
-use Rattle.jq_sem.specs.Statements.{Chain, Statement, add, back}
+use Rattle.jq_stmts.specs.Sharp.{ExactCall, plain, first, ExactChain, ExactStatement, wide_call, wide_chain, wide_of, wides}
+use Rattle.jq_stmts.specs.Statements.{Chain, Statement, add, back}
 use Rattle.jq_words.specs.declared.faults.ScriptFault.TheVariants.{TooManyForestNodes, TooManyStatements, TooLong, ThisOutside}
 use Rattle.jq_words.specs.declared.faults.TheConstants.{MOST_STATEMENTS, MOST_CALLS, MOST_FOREST_NODES, MOST_OPEN}
 use Rattle.jq_words.specs.Words.{Word, words, Outcome, ◌>>=◌, is_mark, is_name, is_any_name, is_name_among, fits, first_is, is_form, spelled, begins, begins_name, place, unexpected, want, want_name, want_open, end}
@@ -30,7 +30,8 @@ use Rattle.jq_cursor.specs.Selections.{selectors, compounds, class_set, is_attri
 use Rattle.jq_parts.specs.Markup.{Grown, grown, forest, with_forest, nodes_in}
 use Rattle.jq_cursor.specs.TextArguments.{text_argument, some_argument}
 use Rattle.jq_parts.specs.Arguments.{markup_argument, forest_or, wrapped, wrapped_forest, target}
-use Rattle.jq_parts.specs.Stating.{Effect, stated, calls_in, chains_of}
+use Rattle.jq_parts.specs.Stating.{Effect, stated, chains_of}
+use Rattle.jq_chains.specs.MarkedCalls.{calls_in}
 use Rattle.jq_parts.specs.Parameters.{hidden, parameters, named_parameters, more_parameters}
 use Rattle.jq_parts.specs.Roots.{root, wrapped_root, root_of, jquery_argument, lettered_root, named_root}
 use Rattle.jq_forms.specs.Values.{is_chain}

@@ -1,6 +1,6 @@
 -- Functions and lists that are handed over, one by one.
 use Rattle.std.proofs.Common.{◌≡◌, ℕ, suc, ◌+◌, Bool, List, Ok, Err, Option, refl, arith}
-use Rattle.jq_sem.specs.Sharp.{ExactChain}
+use Rattle.jq_stmts.specs.Sharp.{ExactChain}
 use Rattle.jq_words.specs.declared.faults.ScriptFault.{ScriptFault}
 use Rattle.jq_words.specs.Words.{Word}
 use Rattle.jq_read.specs.States.{Context, State, size}

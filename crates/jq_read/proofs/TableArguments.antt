@@ -7,8 +7,8 @@ use Rattle.tp_base.specs.Names.{Named}
 use Rattle.tree_sem.specs.Trees.{LabelTree}
 use Rattle.tree_sem.specs.declared.actions.Action.{Action}
 use Rattle.tree_sem.specs.declared.actions.Action.TheVariants.{Classes}
-use Rattle.jq_sem.specs.Sharp.{ExactCall, plain, wide_call}
-use Rattle.jq_sem.specs.Statements.{add}
+use Rattle.jq_stmts.specs.Sharp.{ExactCall, plain, wide_call}
+use Rattle.jq_stmts.specs.Statements.{add}
 use Rattle.jq_words.specs.Words.{Word, is_name_among, first_is, begins, place, want_open}
 use Rattle.jq_words.specs.Texts.{texts}
 use Rattle.jq_words.specs.Calls.{Form, moves, finding, to_children, to_parent, to_parents, filtering, having, to_closest, to_siblings, takes_first, unites, goes_back, classes, attributes, grows, places, handles, listens, passes}
@@ -19,7 +19,7 @@ use Rattle.jq_parts.specs.Markup.{Grown}
 use Rattle.jq_cursor.specs.TextArguments.{text_argument, some_argument}
 use Rattle.jq_parts.specs.Arguments.{markup_argument, forest_or, wrapped, wrapped_forest, target}
 use Rattle.jq_parts.specs.Stating.{Effect}
-use Rattle.jq_sem.specs.Tables.{AreCompoundsOver, IsCallOver, AreCallsOver, AreTreesOver, IsActionOver}
+use Rattle.jq_stmts.specs.Tables.{AreCompoundsOver, IsCallOver, AreCallsOver, AreTreesOver, IsActionOver}
 use Rattle.jq_parts.proofs.TableLaws.{selectors_over, compounds_over, classes_over, attribute_over}
 use Rattle.jq_read.specs.States.{Context, State, size, scope_in}
 use Rattle.jq_parts.specs.Calls.{elements_in, made, and_call}

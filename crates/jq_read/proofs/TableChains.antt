@@ -3,9 +3,9 @@ use Rattle.std.proofs.Common.{ℕ, zero, suc, ◌-◌, ◌<◌, ◌==◌, Bool, 
 use Rattle.std.specs.Prelude.{IfOk}
 use Rattle.std.proofs.lemmas.List.Elements.{All-nil}
 use Rattle.std.proofs.lemmas.Result.{IfOk-weaker}
-use Rattle.sel_core.specs.Selectors.{simple}
-use Rattle.jq_sem.specs.Sharp.{plain, first, ExactChain, wide_chain}
-use Rattle.jq_sem.specs.Statements.{find, back}
+use Rattle.sel_text.specs.Selectors.{simple}
+use Rattle.jq_stmts.specs.Sharp.{plain, first, ExactChain, wide_chain}
+use Rattle.jq_stmts.specs.Statements.{find, back}
 use Rattle.jq_words.specs.Words.{Word, Outcome, is_mark, is_any_name, begins, begins_name, place, want, want_name, want_open}
 use Rattle.jq_words.specs.Calls.{Form, moves, takes_first, unites, goes_back, classes, attributes, grows, places, handles, listens, passes}
 use Rattle.jq_parts.specs.Bindings.{Value, elements, everywhere, markup, placed, Declaration}
@@ -15,7 +15,7 @@ use Rattle.jq_cursor.specs.TextArguments.{text_argument}
 use Rattle.jq_parts.specs.Stating.{chains_of}
 use Rattle.jq_parts.specs.Parameters.{hidden, parameters, named_parameters, more_parameters}
 use Rattle.jq_parts.specs.Roots.{root}
-use Rattle.jq_sem.specs.Tables.{AreCompoundsOver, AreSelectorsOver, AreChainsOver}
+use Rattle.jq_stmts.specs.Tables.{AreCompoundsOver, AreSelectorsOver, AreChainsOver}
 use Rattle.jq_parts.proofs.TableLaws.{compounds_over}
 use Rattle.jq_parts.proofs.SelectorLaws.{AreChainsOver-more}
 use Rattle.jq_read.specs.States.{Context, State, size, scope_in}

@@ -7,7 +7,7 @@ use Rattle.html_subset.specs.declared.faults.PageFault.{PageFault}
 use Rattle.html_subset.specs.Reading.{read_forest}
 use Rattle.html_subset.proofs.AtomLemmas.{AreForestOver, read_forest_over}
 use Rattle.html_subset.proofs.NamesKept.{read_forest_longer}
-use Rattle.jq_sem.specs.Sharp.{ExactChain}
+use Rattle.jq_stmts.specs.Sharp.{ExactChain}
 use Rattle.jq_words.specs.declared.faults.ScriptFault.TheVariants.{TooManyForestNodes}
 use Rattle.jq_words.specs.declared.faults.TheConstants.{MOST_FOREST_NODES}
 use Rattle.jq_words.specs.Words.{Word, is_mark, is_name, is_any_name, is_name_among, fits, is_form, spelled, place, unexpected, want, want_open}
@@ -20,7 +20,7 @@ use Rattle.jq_cursor.specs.Selections.{selectors}
 use Rattle.jq_parts.specs.Markup.{Grown, forest, with_forest, nodes_in}
 use Rattle.jq_parts.specs.Arguments.{elements_of, is_apart, named_target, wrapped_target, wrapped_this, bare_target, other_target, target_or, target}
 use Rattle.jq_parts.specs.Roots.{root, wrapped_root, root_of, jquery_argument, lettered_root, named_root}
-use Rattle.jq_sem.specs.Tables.{AreTreesOver}
+use Rattle.jq_stmts.specs.Tables.{AreTreesOver}
 use Rattle.jq_parts.proofs.TableLaws.{selectors_over}
 use Rattle.jq_read.proofs.ReadingLaws.{and_then, any_then, either}
 use Rattle.jq_read.proofs.TableStates.{IsExactOver, IsValueOver, AreBoundOver, used_over, this_over}

@@ -4,14 +4,14 @@ use Rattle.std.specs.Prelude.{Ok, IfOk}
 use Rattle.std.proofs.lemmas.Result.{IfOk-at_ok, IfOk-weaker}
 use Rattle.tp_base.specs.Names.{Named}
 use Rattle.js_scan.specs.Tokens.{script_tokens}
-use Rattle.jq_sem.specs.Sharp.{ExactStatement, wides}
-use Rattle.jq_sem.specs.Statements.{Statement}
+use Rattle.jq_stmts.specs.Sharp.{ExactStatement, wides}
+use Rattle.jq_stmts.specs.Statements.{Statement}
 use Rattle.jq_words.specs.declared.faults.TheConstants.{MOST_OPEN}
 use Rattle.jq_words.specs.Words.{Word, words, Outcome, is_mark, begins, begins_name, want, want_name, want_open, end}
 use Rattle.jq_parts.specs.Bindings.{Value, Declaration, under_bound}
 use Rattle.jq_parts.specs.Scopes.{places_of}
 use Rattle.jq_forms.specs.Values.{is_chain}
-use Rattle.jq_sem.specs.Tables.{AreStatementsOver}
+use Rattle.jq_stmts.specs.Tables.{AreStatementsOver}
 use Rattle.jq_forms.specs.declared.forms.StatementForm.{StatementForm}
 use Rattle.jq_forms.specs.declared.forms.StatementForm.TheVariants as form
 use Rattle.jq_read.specs.States.{Context, State, size}

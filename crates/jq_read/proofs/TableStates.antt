@@ -4,14 +4,15 @@ use Rattle.std.specs.Prelude.{Ok, Err, IfOk, IfSome, nat_le, nat_lt, bytes_eq, o
 use Rattle.std.specs.List.{AllByRecursion}
 use Rattle.tp_base.specs.Names.{Named}
 use Rattle.tp_base.specs.Places.{place_at}
-use Rattle.jq_sem.specs.Sharp.{ExactChain, ExactStatement, wide_chain, wide_of, wides}
+use Rattle.jq_stmts.specs.Sharp.{ExactChain, ExactStatement, wide_chain, wide_of, wides}
 use Rattle.jq_words.specs.declared.faults.ScriptFault.TheVariants.{ThisOutside}
 use Rattle.jq_words.specs.declared.faults.TheConstants.{MOST_STATEMENTS, MOST_CALLS}
 use Rattle.jq_parts.specs.Bindings.{Value, elements, everywhere, markup, placed, Declaration, bound, latest, if_chain}
 use Rattle.jq_parts.specs.Scopes.{Handler, Scope, used, if_bound, is_this, places_of, this_at}
 use Rattle.jq_parts.specs.Markup.{Grown, grown}
-use Rattle.jq_parts.specs.Stating.{Effect, stated, calls_in, chains_of}
-use Rattle.jq_sem.specs.Tables.{IsChainOver, AreChainsOver, AreTreesOver, IsActionOver, IsStatementOver, AreStatementsOver}
+use Rattle.jq_parts.specs.Stating.{Effect, stated, chains_of}
+use Rattle.jq_chains.specs.MarkedCalls.{calls_in}
+use Rattle.jq_stmts.specs.Tables.{IsChainOver, AreChainsOver, AreTreesOver, IsActionOver, IsStatementOver, AreStatementsOver}
 use Rattle.jq_parts.proofs.SelectorLaws.{IsChainOver-more, AreChainsOver-more, AreTreesOver-more, AreStatementsOver-more}
 use Rattle.jq_read.specs.States.{Context, State, with_names}
 use Rattle.jq_read.specs.Chains.{and_stated}

@@ -1,12 +1,12 @@
 -- The statements that are judged, one more at a time.
 use Rattle.std.proofs.Common.{◌≡◌, List, [], ◌∷◌, ◌++◌, sym, ap, ◌∙◌}
 use Rattle.std.proofs.lemmas.List.{map-append, append_assoc, append-nil}
-use Rattle.jq_sem.specs.declared.stmts.Stmt.{Stmt}
-use Rattle.jq_sem.specs.declared.sharp.ExactStmt.{ExactStmt}
-use Rattle.jq_sem.specs.Sharp.{wides}
-use Rattle.jq_sem.specs.SharpViews.{exacts_of}
-use Rattle.jq_sem.specs.Views.{statement_of, statements_of}
-use Rattle.jq_sem.proofs.SharpLemmas.{wide-exact_of}
+use Rattle.jq_stmts.specs.declared.stmts.Stmt.{Stmt}
+use Rattle.jq_stmts.specs.declared.sharp.ExactStmt.{ExactStmt}
+use Rattle.jq_stmts.specs.Sharp.{wides}
+use Rattle.jq_stmts.specs.SharpViews.{exacts_of}
+use Rattle.jq_stmts.specs.Views.{statement_of, statements_of}
+use Rattle.jq_stmts.proofs.SharpLemmas.{wide-exact_of}
 
 -- those that are there, and those that are left, are all of them
 abbrev pub AreWide : List Stmt → List ExactStmt → List ExactStmt → Type 0

@@ -6,8 +6,8 @@ use Rattle.tp_base.specs.Names.{Named}
 use Rattle.tree_sem.specs.Trees.{LabelTree}
 use Rattle.tree_sem.specs.declared.actions.Action.{Action}
 use Rattle.tree_sem.specs.declared.actions.Action.TheVariants.{Classes, Inside, Beside}
-use Rattle.jq_sem.specs.Sharp.{plain, ExactChain}
-use Rattle.jq_sem.specs.Statements.{add}
+use Rattle.jq_stmts.specs.Sharp.{plain, ExactChain}
+use Rattle.jq_stmts.specs.Statements.{add}
 use Rattle.jq_words.specs.declared.faults.ScriptFault.TheVariants.{ComplexArgument}
 use Rattle.jq_words.specs.Words.{Word, begins, Outcome, ◌>>=◌}
 use Rattle.jq_words.specs.Calls.{Form}

@@ -5,7 +5,7 @@ use Rattle.std.specs.List.{AllByRecursion, sum_by}
 use Rattle.tree_sem.specs.Trees.{LabelTree}
 use Rattle.tree_sem.specs.declared.actions.Action.{Action}
 use Rattle.tree_sem.specs.declared.actions.Action.TheVariants.{Classes, Inside, Beside}
-use Rattle.jq_sem.specs.Statements.{Chain, Statement}
+use Rattle.jq_stmts.specs.Statements.{Chain, Statement}
 use Rattle.jq_words.specs.declared.faults.TheConstants.{MOST_STATEMENTS, MOST_CALLS, MOST_FOREST_NODES}
 use Rattle.jq_parts.specs.Markup.{nodes_in}
 

@@ -6,8 +6,8 @@ use Rattle.tp_base.specs.Names.{Named}
 use Rattle.js_scan.specs.declared.token.ScanFault.{ScanFault}
 use Rattle.js_scan.specs.declared.token.ScanFault.TheVariants as scan
 use Rattle.js_scan.specs.Tokens.{script_tokens}
-use Rattle.jq_sem.specs.Sharp.{ExactStatement, wides}
-use Rattle.jq_sem.specs.Statements.{Statement}
+use Rattle.jq_stmts.specs.Sharp.{ExactStatement, wides}
+use Rattle.jq_stmts.specs.Statements.{Statement}
 use Rattle.jq_words.specs.declared.faults.ScriptFault.TheVariants.{Scan, Memory}
 use Rattle.jq_words.specs.declared.faults.TheConstants.{MOST_OPEN}
 use Rattle.jq_words.specs.Words.{Word, words, Outcome, ◌>>=◌}

@@ -3,7 +3,7 @@
 --     State       what was read up to there
 use Rattle.std.specs.Prelude.{ℕ, Bool, List, length}
 use Rattle.tp_base.specs.Names.{Named}
-use Rattle.jq_sem.specs.Sharp.{ExactStatement}
+use Rattle.jq_stmts.specs.Sharp.{ExactStatement}
 use Rattle.jq_parts.specs.Bindings.{Declaration}
 use Rattle.jq_parts.specs.Scopes.{Handler, Scope}
 use Rattle.jq_parts.specs.Markup.{Grown, grown}

@@ -1,9 +1,9 @@
 //! The arguments of a call that takes no function.
 ghost use Rattle.std.specs.Prelude.{◌≡◌, true, length, Some, None, Ok, IfOk, IfErr, OnOk};
-ghost use Rattle.sel_core.specs.Results.{IsFront};
-ghost use Rattle.jq_sem.specs.Sharp.{plain, first};
-ghost use Rattle.jq_sem.specs.Statements.{back};
-ghost use Rattle.jq_sem.specs.Views as sem;
+ghost use Rattle.sel_text.specs.Results.{IsFront};
+ghost use Rattle.jq_stmts.specs.Sharp.{plain, first};
+ghost use Rattle.jq_stmts.specs.Statements.{back};
+ghost use Rattle.jq_stmts.specs.Views as sem;
 ghost use Rattle.jq_words.specs.CallViews.{form_of};
 ghost use Rattle.jq_words.specs.Results.{Turns, IsRest};
 ghost use Rattle.jq_words.specs.declared.faults.ScriptFault.TheVariants.{Memory};
@@ -16,22 +16,23 @@ ghost use Rattle.jq_read.specs.Views.{done_of};
 
 use crate::readings::Reading;
 use crate::values::Done;
+use jq_chains::MarkedCall;
 use jq_cursor::{
     Cursor, Reader, add_attribute, class_set, compounds, is_attribute, selectors, some_argument,
     text_argument,
 };
 use jq_forms::and_list;
-use jq_parts::{MarkedCall, Value, elements, first_call, made, markup_argument, target, with_call};
-use jq_sem::{Call, Selectors};
+use jq_parts::{Value, elements, first_call, made, markup_argument, target, with_call};
+use jq_stmts::{Call, Selectors};
 use jq_words::{Form, ScriptFault, begins, place};
-use sel_core::Compound;
+use sel_text::Compound;
 use std::alloc::Global;
 use text_bytes::with_value;
 use tp_base::{AtomTable, ClassSet};
 use tree_sem::{Action, Forest, Trees};
 
 // A list of compounds, or no argument where there may be none.
-#[tactic(auto, unfolding(crate::specs::CallArguments::compounds_argument), using(sel_core::proofs::Fronts::front_itself, jq_words::proofs::Rests::itself, jq_words::proofs::Rests::is_rest))]
+#[tactic(auto, unfolding(crate::specs::CallArguments::compounds_argument), using(sel_text::proofs::Fronts::front_itself, jq_words::proofs::Rests::itself, jq_words::proofs::Rests::is_rest))]
 fn compounds_argument(
     reader: Reader<'_>,
     none: bool,
@@ -52,7 +53,7 @@ fn compounds_argument(
 }
 
 /// The arguments of a call that makes a set by a list of compounds.
-#[tactic(auto, unfolding(crate::specs::CallArguments::move_arguments), using(sel_core::proofs::Fronts::front_itself))]
+#[tactic(auto, unfolding(crate::specs::CallArguments::move_arguments), using(sel_text::proofs::Fronts::front_itself))]
 pub(crate) fn move_arguments(
     reading: &mut Reading<'_, '_>,
     form: Form,
@@ -67,10 +68,7 @@ pub(crate) fn move_arguments(
     let reader = reading.reader;
     let found = compounds_argument(reader, none, &mut reading.grown.atoms, &mut reading.words)?;
     let reached = with_call(reader.alloc, reached, made(form, found)?)?;
-    Ok(Done {
-        reached,
-        effect: None,
-    })
+    Ok(Done::nothing(reached))
 }
 
 /// A call that goes back one set.
@@ -79,10 +77,7 @@ pub(crate) fn go_back(alloc: Global, reached: Value) -> Result<Done, ScriptFault
     ensures only_memory { IfErr result (λ e. e ≡ Memory) }
 {
     let reached = with_call(alloc, reached, MarkedCall::plain(Call::End))?;
-    Ok(Done {
-        reached,
-        effect: None,
-    })
+    Ok(Done::nothing(reached))
 }
 
 /// A call that keeps the first node.
@@ -91,14 +86,11 @@ pub(crate) fn take_first(alloc: Global, reached: Value) -> Result<Done, ScriptFa
     ensures only_memory { IfErr result (λ e. e ≡ Memory) }
 {
     let reached = with_call(alloc, reached, first_call(alloc)?)?;
-    Ok(Done {
-        reached,
-        effect: None,
-    })
+    Ok(Done::nothing(reached))
 }
 
 /// The argument of a call that unites sets.
-#[tactic(auto, unfolding(crate::specs::CallArguments::unite_arguments), using(sel_core::proofs::Fronts::front_itself, jq_words::proofs::Rests::is_rest))]
+#[tactic(auto, unfolding(crate::specs::CallArguments::unite_arguments), using(sel_text::proofs::Fronts::front_itself, jq_words::proofs::Rests::is_rest))]
 pub(crate) fn unite_arguments(
     reading: &mut Reading<'_, '_>,
     reached: Value,
@@ -114,10 +106,7 @@ pub(crate) fn unite_arguments(
     let found = selectors(reader.alloc, at, &letters, &mut reading.grown.atoms)?;
     let call = MarkedCall::plain(Call::Add(Selectors::new(found)?));
     let reached = with_call(reader.alloc, reached, call)?;
-    Ok(Done {
-        reached,
-        effect: None,
-    })
+    Ok(Done::nothing(reached))
 }
 
 // What a call does to the elements of a value.
@@ -127,10 +116,7 @@ fn acting(reached: Value, action: Action) -> Result<Done, ScriptFault>
     ensures only_memory { IfErr result (λ e. e ≡ Memory) }
 {
     match elements(&reached)? {
-        None => Ok(Done {
-            reached,
-            effect: None,
-        }),
+        None => Ok(Done::nothing(reached)),
         Some(chain) => Ok(Done {
             reached,
             effect: Some((chain, action)),
@@ -139,7 +125,7 @@ fn acting(reached: Value, action: Action) -> Result<Done, ScriptFault>
 }
 
 /// Classes, and then a list where there is a comma.
-#[tactic(auto, unfolding(crate::specs::CallArguments::class_arguments), using(sel_core::proofs::Fronts::front_itself, jq_words::proofs::Rests::behind_rest, jq_words::proofs::Rests::is_rest, jq_words::proofs::Rests::of_rest))]
+#[tactic(auto, unfolding(crate::specs::CallArguments::class_arguments), using(sel_text::proofs::Fronts::front_itself, jq_words::proofs::Rests::behind_rest, jq_words::proofs::Rests::is_rest, jq_words::proofs::Rests::of_rest))]
 pub(crate) fn class_arguments(
     reading: &mut Reading<'_, '_>,
     room: usize,
@@ -166,7 +152,7 @@ pub(crate) fn class_arguments(
 }
 
 // The value that an attribute of this name gets, behind the comma.
-#[tactic(auto, unfolding(crate::specs::CallArguments::value_argument), using(sel_core::proofs::Fronts::front_itself, sel_core::proofs::Fronts::front_of_front, jq_words::proofs::Rests::passed_behind))]
+#[tactic(auto, unfolding(crate::specs::CallArguments::value_argument), using(sel_text::proofs::Fronts::front_itself, sel_text::proofs::Fronts::front_of_front, jq_words::proofs::Rests::passed_behind))]
 fn value_argument(
     reading: &mut Reading<'_, '_>,
     reached: Value,
@@ -200,7 +186,7 @@ fn value_argument(
 }
 
 /// An attribute that is read, or that gets a value.
-#[tactic(auto, unfolding(crate::specs::CallArguments::attribute_arguments), using(sel_core::proofs::Fronts::front_itself, jq_words::proofs::Rests::behind_rest, jq_words::proofs::Rests::is_rest, jq_words::proofs::Rests::of_rest))]
+#[tactic(auto, unfolding(crate::specs::CallArguments::attribute_arguments), using(sel_text::proofs::Fronts::front_itself, jq_words::proofs::Rests::behind_rest, jq_words::proofs::Rests::is_rest, jq_words::proofs::Rests::of_rest))]
 pub(crate) fn attribute_arguments(
     reading: &mut Reading<'_, '_>,
     reached: Value,
@@ -217,10 +203,7 @@ pub(crate) fn attribute_arguments(
         let done = value_argument(reading, reached, &name, at)?;
         return Ok(done);
     }
-    Ok(Done {
-        reached,
-        effect: None,
-    })
+    Ok(Done::nothing(reached))
 }
 
 fn added(beside: bool, forest: Forest) -> Action
@@ -234,7 +217,7 @@ fn added(beside: bool, forest: Forest) -> Action
 }
 
 /// Markup that is added.
-#[tactic(auto, unfolding(crate::specs::CallArguments::grow_arguments), using(sel_core::proofs::Fronts::front_itself, jq_words::proofs::Rests::is_rest))]
+#[tactic(auto, unfolding(crate::specs::CallArguments::grow_arguments), using(sel_text::proofs::Fronts::front_itself, jq_words::proofs::Rests::is_rest))]
 pub(crate) fn grow_arguments(
     reading: &mut Reading<'_, '_>,
     room: usize,
@@ -264,7 +247,7 @@ fn trees_in(reader: Reader<'_>, reached: Value) -> Trees
 }
 
 /// Where the root's markup is placed, which ends the chain.
-#[tactic(auto, unfolding(crate::specs::CallArguments::place_arguments), using(sel_core::proofs::Fronts::front_itself, jq_words::proofs::Rests::is_rest))]
+#[tactic(auto, unfolding(crate::specs::CallArguments::place_arguments), using(sel_text::proofs::Fronts::front_itself, jq_words::proofs::Rests::is_rest))]
 pub(crate) fn place_arguments(
     reading: &mut Reading<'_, '_>,
     room: usize,

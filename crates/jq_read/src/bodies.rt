@@ -1,6 +1,6 @@
 //! Functions, where they stand and where they are handed over.
 ghost use Rattle.std.specs.Prelude.{◌≡◌, false, option_map, None, OnOk, IfOk, IfErr};
-ghost use Rattle.sel_core.specs.Results.{IsFront};
+ghost use Rattle.sel_text.specs.Results.{IsFront};
 ghost use Rattle.jq_words.specs.Results.{Leaves, IsBehind};
 ghost use Rattle.jq_words.specs.declared.faults.ScriptFault.TheVariants.{Memory};
 ghost use Rattle.jq_parts.specs.ScopeViews.{handler_of};
@@ -10,16 +10,15 @@ ghost use Rattle.jq_read.specs.Readers.{context_of, state_of};
 ghost use Rattle.jq_parts.specs.Views.{value_of};
 ghost use Rattle.jq_parts.specs.Calls.{elements_in};
 
-use crate::functions::{count_seen, enter, leave};
 use crate::readings::Reading;
 use crate::sequences::block;
 use jq_forms::{and_list, called_with, handed_other, pass_name, want_function};
-use jq_parts::{Handler, Value, elements, parameters};
+use jq_parts::{Handler, Value, count_seen, elements, enter, leave, parameters};
 use jq_words::{ScriptFault, begins_name, place};
 
 /// The parameters and the block of a function, which may be a handler. Its declarations are seen in it alone.
 #[cycle(grammar)]
-#[tactic(auto, unfolding(crate::specs::Functions::function_body), using(sel_core::proofs::Fronts::front_itself, jq_words::proofs::Rests::behind_behind, crate::proofs::HandlerSteps::back))]
+#[tactic(auto, unfolding(crate::specs::Functions::function_body), using(sel_text::proofs::Fronts::front_itself, jq_words::proofs::Rests::behind_behind, jq_parts::proofs::HandlerSteps::back))]
 pub(crate) fn function_body(
     reading: &mut Reading<'_, '_>,
     handler: Option<Handler>,
@@ -48,7 +47,7 @@ pub(crate) fn function_body(
 
 /// A function, with a name or without, which may be a handler.
 #[cycle(grammar)]
-#[tactic(auto, unfolding(crate::specs::Functions::function), using(sel_core::proofs::Fronts::front_itself))]
+#[tactic(auto, unfolding(crate::specs::Functions::function), using(sel_text::proofs::Fronts::front_itself))]
 pub(crate) fn function(
     reading: &mut Reading<'_, '_>,
     handler: Option<Handler>,
@@ -67,7 +66,7 @@ pub(crate) fn function(
 
 /// Behind `function`, with its name.
 #[cycle(grammar)]
-#[tactic(auto, unfolding(crate::specs::Statements::named_function), using(sel_core::proofs::Fronts::front_itself, jq_words::proofs::Rests::behind_behind))]
+#[tactic(auto, unfolding(crate::specs::Statements::named_function), using(sel_text::proofs::Fronts::front_itself, jq_words::proofs::Rests::behind_behind))]
 pub(crate) fn named_function(reading: &mut Reading<'_, '_>, room: usize) -> Result<(), ScriptFault>
     ensures gives { Leaves (state_of reading.new, reading.new.words) result (spec.named_function (spec.block room) room (context_of reading.old) (state_of reading.old) reading.old.words) }
     ensures rest { OnOk result (IsBehind reading.old.words reading.new.words) }
@@ -93,7 +92,7 @@ pub(crate) fn handler_at(at: usize, reached: &Value) -> Result<Option<Handler>, 
 
 /// A function that is handed to a call on a value; or what else may stand there.
 #[cycle(grammar)]
-#[tactic(auto, unfolding(crate::specs::Functions::handed), using(sel_core::proofs::Fronts::front_itself))]
+#[tactic(auto, unfolding(crate::specs::Functions::handed), using(sel_text::proofs::Fronts::front_itself))]
 pub(crate) fn handed(
     reading: &mut Reading<'_, '_>,
     lists: bool,
@@ -124,7 +123,7 @@ pub(crate) fn handed(
 
 /// A function that is handed to no call, in brackets.
 #[cycle(grammar)]
-#[tactic(auto, unfolding(crate::specs::Statements::bracketed), using(sel_core::proofs::Fronts::front_itself, crate::proofs::SequenceSteps::deeper))]
+#[tactic(auto, unfolding(crate::specs::Statements::bracketed), using(sel_text::proofs::Fronts::front_itself, crate::proofs::SequenceSteps::deeper))]
 pub(crate) fn bracketed(reading: &mut Reading<'_, '_>, room: usize) -> Result<(), ScriptFault>
     ensures gives { Leaves (state_of reading.new, reading.new.words) result (spec.bracketed (spec.block room) room (context_of reading.old) (state_of reading.old) reading.old.words) }
     ensures rest { OnOk result (IsBehind reading.old.words reading.new.words) }
@@ -140,7 +139,7 @@ pub(crate) fn bracketed(reading: &mut Reading<'_, '_>, room: usize) -> Result<()
 
 /// Behind J: a function in brackets.
 #[cycle(grammar)]
-#[tactic(auto, unfolding(crate::specs::Statements::start), using(sel_core::proofs::Fronts::front_itself, jq_words::proofs::Rests::behind_rest))]
+#[tactic(auto, unfolding(crate::specs::Statements::start), using(sel_text::proofs::Fronts::front_itself, jq_words::proofs::Rests::behind_rest))]
 pub(crate) fn start(reading: &mut Reading<'_, '_>, room: usize) -> Result<(), ScriptFault>
     ensures gives { Leaves (state_of reading.new, reading.new.words) result (spec.start (spec.block room) room (context_of reading.old) (state_of reading.old) reading.old.words) }
     ensures rest { OnOk result (IsBehind reading.old.words reading.new.words) }
@@ -155,7 +154,7 @@ pub(crate) fn start(reading: &mut Reading<'_, '_>, room: usize) -> Result<(), Sc
 
 /// A function that is called where it stands.
 #[cycle(grammar)]
-#[tactic(auto, unfolding(crate::specs::Statements::once), using(sel_core::proofs::Fronts::front_itself))]
+#[tactic(auto, unfolding(crate::specs::Statements::once), using(sel_text::proofs::Fronts::front_itself))]
 pub(crate) fn once(reading: &mut Reading<'_, '_>, room: usize) -> Result<(), ScriptFault>
     ensures gives { Leaves (state_of reading.new, reading.new.words) result (spec.once (spec.block room) room (context_of reading.old) (state_of reading.old) reading.old.words) }
     ensures rest { OnOk result (IsBehind reading.old.words reading.new.words) }
@@ -172,7 +171,7 @@ pub(crate) fn once(reading: &mut Reading<'_, '_>, room: usize) -> Result<(), Scr
 
 /// Behind `setTimeout` or `setInterval`.
 #[cycle(grammar)]
-#[tactic(auto, unfolding(crate::specs::Statements::timer), using(sel_core::proofs::Fronts::front_itself, crate::proofs::SequenceSteps::deeper))]
+#[tactic(auto, unfolding(crate::specs::Statements::timer), using(sel_text::proofs::Fronts::front_itself, crate::proofs::SequenceSteps::deeper))]
 pub(crate) fn timer(reading: &mut Reading<'_, '_>, room: usize) -> Result<(), ScriptFault>
     ensures gives { Leaves (state_of reading.new, reading.new.words) result (spec.timer (spec.block room) room (context_of reading.old) (state_of reading.old) reading.old.words) }
     ensures rest { OnOk result (IsBehind reading.old.words reading.new.words) }

@@ -1,6 +1,6 @@
 //! What calls listen to, and what they do.
 ghost use Rattle.std.specs.Prelude.{◌≡◌, length, OnOk};
-ghost use Rattle.sel_core.specs.Results.{IsFront};
+ghost use Rattle.sel_text.specs.Results.{IsFront};
 ghost use Rattle.jq_words.specs.Results.{Leaves, Turns, IsRest, IsBehind};
 ghost use Rattle.jq_parts.specs.Views.{value_of};
 ghost use Rattle.jq_parts.specs.ScopeViews.{effect_of};
@@ -8,13 +8,14 @@ ghost use Rattle.jq_read.specs.Chains as spec;
 ghost use Rattle.jq_read.specs.Readers.{context_of, state_of};
 
 use crate::readings::Reading;
+use jq_chains::SharedChain;
 use jq_cursor::{compounds, text_argument};
-use jq_parts::{SharedChain, Value, below, stated};
+use jq_parts::{Value, below, stated};
 use jq_words::{ScriptFault, place};
 use tree_sem::Action;
 
 /// Adds the statement of a call whose name stands at an offset, where it acts.
-#[tactic(auto, unfolding(crate::specs::Chains::and_stated), using(sel_core::proofs::Fronts::front_itself))]
+#[tactic(auto, unfolding(crate::specs::Chains::and_stated), using(sel_text::proofs::Fronts::front_itself))]
 pub(crate) fn and_stated(
     reading: &mut Reading<'_, '_>,
     at: usize,
@@ -36,7 +37,7 @@ pub(crate) fn and_stated(
 }
 
 // Passes the second list of `on`, where there is one, and its comma; gives the elements that are listened to.
-#[tactic(auto, unfolding(crate::specs::Chains::listened), using(sel_core::proofs::Fronts::front_itself, jq_words::proofs::Rests::itself, jq_words::proofs::Rests::is_rest, jq_words::proofs::Rests::behind_behind))]
+#[tactic(auto, unfolding(crate::specs::Chains::listened), using(sel_text::proofs::Fronts::front_itself, jq_words::proofs::Rests::itself, jq_words::proofs::Rests::is_rest, jq_words::proofs::Rests::behind_behind))]
 fn listened(
     reading: &mut Reading<'_, '_>,
     reached: &Value,
@@ -61,7 +62,7 @@ fn listened(
 }
 
 /// Passes all that stands before the function of `on`; gives the elements that are listened to.
-#[tactic(auto, unfolding(crate::specs::Chains::listening), using(sel_core::proofs::Fronts::front_itself, jq_words::proofs::Rests::is_rest, jq_words::proofs::Rests::behind_behind, jq_words::proofs::Rests::behind_rest))]
+#[tactic(auto, unfolding(crate::specs::Chains::listening), using(sel_text::proofs::Fronts::front_itself, jq_words::proofs::Rests::is_rest, jq_words::proofs::Rests::behind_behind, jq_words::proofs::Rests::behind_rest))]
 pub(crate) fn listening(
     reading: &mut Reading<'_, '_>,
     reached: &Value,

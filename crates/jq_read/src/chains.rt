@@ -1,7 +1,7 @@
 //! Chains of calls.
-ghost use Rattle.std.specs.Prelude.{◌≡◌, ◌==◌, ◌&&◌, true, false, None, OnOk};
+ghost use Rattle.std.specs.Prelude.{◌≡◌, ◌==◌, ◌&&◌, true, false, OnOk};
 ghost use Rattle.jq_words.specs.CallViews.{row_from};
-ghost use Rattle.sel_core.specs.Results.{IsFront};
+ghost use Rattle.sel_text.specs.Results.{IsFront};
 ghost use Rattle.jq_words.specs.Results.{Leaves, Turns, IsRest, IsBehind};
 ghost use Rattle.jq_parts.specs.Views.{value_of};
 ghost use Rattle.jq_parts.specs.Calls.{elements_in};
@@ -36,19 +36,9 @@ fn is_left_out(fewest: usize, count: usize) -> bool
     count == 0 && fewest == 0
 }
 
-// With the value as it is, and nothing done.
-fn unchanged(reached: Value) -> Done
-    ensures { done_of result ≡ (value_of reached, None) }
-{
-    Done {
-        reached,
-        effect: None,
-    }
-}
-
 /// So many functions, or lists too where they may stand, with commas between them.
 #[cycle(grammar)]
-#[tactic(auto, using(sel_core::proofs::Fronts::front_itself, sel_core::proofs::Fronts::front_of_front, crate::proofs::SeveralSteps::goes_on, crate::proofs::SeveralSteps::fails, crate::proofs::SeveralSteps::comma_fails, crate::proofs::SeveralSteps::ends, jq_words::proofs::Rests::itself, jq_words::proofs::Rests::is_rest, jq_words::proofs::Rests::of_rest))]
+#[tactic(auto, using(sel_text::proofs::Fronts::front_itself, sel_text::proofs::Fronts::front_of_front, crate::proofs::SeveralSteps::goes_on, crate::proofs::SeveralSteps::fails, crate::proofs::SeveralSteps::comma_fails, crate::proofs::SeveralSteps::ends, jq_words::proofs::Rests::itself, jq_words::proofs::Rests::is_rest, jq_words::proofs::Rests::of_rest))]
 pub(crate) fn several(
     reading: &mut Reading<'_, '_>,
     lists: bool,
@@ -73,7 +63,7 @@ pub(crate) fn several(
 
 /// Events, and a function; or events, compounds and a function.
 #[cycle(grammar)]
-#[tactic(auto, unfolding(crate::specs::Chains::listen_arguments), using(sel_core::proofs::Fronts::front_itself, sel_core::proofs::Fronts::front_of_front, jq_words::proofs::Rests::behind_behind))]
+#[tactic(auto, unfolding(crate::specs::Chains::listen_arguments), using(sel_text::proofs::Fronts::front_itself, sel_text::proofs::Fronts::front_of_front, jq_words::proofs::Rests::behind_behind))]
 pub(crate) fn listen_arguments(
     reading: &mut Reading<'_, '_>,
     reached: &Value,
@@ -92,7 +82,7 @@ pub(crate) fn listen_arguments(
 
 /// The arguments of a call, of which there are so many, behind its opening bracket.
 #[cycle(grammar)]
-#[tactic(auto, unfolding(crate::specs::Chains::arguments_of), using(sel_core::proofs::Fronts::front_itself, jq_words::proofs::Rests::itself, jq_words::proofs::Rests::is_rest))]
+#[tactic(auto, unfolding(crate::specs::Chains::arguments_of), using(sel_text::proofs::Fronts::front_itself, jq_words::proofs::Rests::itself, jq_words::proofs::Rests::is_rest))]
 pub(crate) fn call_arguments(
     reading: &mut Reading<'_, '_>,
     reached: Value,
@@ -134,22 +124,22 @@ pub(crate) fn call_arguments(
         Form::Handles => {
             let count = at_least(row.fewest, count);
             several(reading, false, &reached, count, room)?;
-            Ok(unchanged(reached))
+            Ok(Done::nothing(reached))
         }
         Form::Listens => {
             listen_arguments(reading, &reached, count == 3, room)?;
-            Ok(unchanged(reached))
+            Ok(Done::nothing(reached))
         }
         Form::Passes => {
             several(reading, true, &reached, count, room)?;
-            Ok(unchanged(reached))
+            Ok(Done::nothing(reached))
         }
     }
 }
 
 /// A call from its `.` on.
 #[cycle(grammar)]
-#[tactic(auto, unfolding(crate::specs::Chains::call), using(sel_core::proofs::Fronts::front_itself, sel_core::proofs::Fronts::front_of_front, crate::proofs::SequenceSteps::deeper))]
+#[tactic(auto, unfolding(crate::specs::Chains::call), using(sel_text::proofs::Fronts::front_itself, sel_text::proofs::Fronts::front_of_front, crate::proofs::SequenceSteps::deeper))]
 pub(crate) fn call(
     reading: &mut Reading<'_, '_>,
     reached: Value,
@@ -172,7 +162,7 @@ pub(crate) fn call(
 
 /// The calls behind a root, each with its `.`.
 #[cycle(grammar)]
-#[tactic(auto, using(sel_core::proofs::Fronts::front_itself, sel_core::proofs::Fronts::front_of_front, crate::proofs::ChainSteps::goes_on, crate::proofs::ChainSteps::fails, crate::proofs::ChainSteps::ends, jq_words::proofs::Rests::itself, jq_words::proofs::Rests::is_rest, jq_words::proofs::Rests::of_rest))]
+#[tactic(auto, using(sel_text::proofs::Fronts::front_itself, sel_text::proofs::Fronts::front_of_front, crate::proofs::ChainSteps::goes_on, crate::proofs::ChainSteps::fails, crate::proofs::ChainSteps::ends, jq_words::proofs::Rests::itself, jq_words::proofs::Rests::is_rest, jq_words::proofs::Rests::of_rest))]
 pub(crate) fn calls(
     reading: &mut Reading<'_, '_>,
     reached: Value,
@@ -194,7 +184,7 @@ pub(crate) fn calls(
 
 /// A root and its calls.
 #[cycle(grammar)]
-#[tactic(auto, unfolding(crate::specs::Chains::chain), using(sel_core::proofs::Fronts::front_itself, sel_core::proofs::Fronts::front_of_front, jq_words::proofs::Rests::behind_rest))]
+#[tactic(auto, unfolding(crate::specs::Chains::chain), using(sel_text::proofs::Fronts::front_itself, sel_text::proofs::Fronts::front_of_front, jq_words::proofs::Rests::behind_rest))]
 pub(crate) fn chain(reading: &mut Reading<'_, '_>, room: usize) -> Result<Value, ScriptFault>
     ensures gives { Turns value_of (state_of reading.new) reading.new.words result (spec.chain (statements.block room 1) room (context_of reading.old) (state_of reading.old) reading.old.words) }
     ensures rest { OnOk result (IsBehind reading.old.words reading.new.words) }

@@ -1,6 +1,6 @@
 //! Declarations, one behind another.
 ghost use Rattle.std.specs.Prelude.{◌≡◌, option_map, OnOk, IfOk, IfErr};
-ghost use Rattle.sel_core.specs.Results.{IsFront};
+ghost use Rattle.sel_text.specs.Results.{IsFront};
 ghost use Rattle.jq_words.specs.Results.{Leaves, Turns, IsRest, IsBehind};
 ghost use Rattle.jq_words.specs.declared.faults.ScriptFault.TheVariants.{Memory};
 ghost use Rattle.jq_parts.specs.Scopes.{places_of};
@@ -67,7 +67,7 @@ fn bound_to(
 }
 
 // One declaration more, under the handlers round it.
-#[tactic(auto, using(sel_core::proofs::Fronts::front_itself, crate::proofs::HandlerSteps::declared))]
+#[tactic(auto, using(sel_text::proofs::Fronts::front_itself, jq_parts::proofs::HandlerSteps::declared))]
 fn declare<'a>(
     reading: &mut Reading<'_, 'a>,
     name: &'a [u8],
@@ -92,7 +92,7 @@ fn declare<'a>(
 
 // The value behind a name that is declared, where there is one: the chain, if it is one.
 #[cycle(grammar)]
-#[tactic(auto, unfolding(crate::specs::Statements::value_behind, crate::specs::Statements::declared_value), using(sel_core::proofs::Fronts::front_itself, jq_words::proofs::Rests::itself, jq_words::proofs::Rests::passed_behind))]
+#[tactic(auto, unfolding(crate::specs::Statements::value_behind, crate::specs::Statements::declared_value), using(sel_text::proofs::Fronts::front_itself, jq_words::proofs::Rests::itself, jq_words::proofs::Rests::passed_behind))]
 fn value_behind(reading: &mut Reading<'_, '_>, room: usize) -> Result<Option<Value>, ScriptFault>
     ensures gives { Turns (option_map value_of) (state_of reading.new) reading.new.words result (spec.value_behind (spec.block room) room (context_of reading.old) (state_of reading.old) reading.old.words) }
     ensures rest { OnOk result (IsRest reading.old.words reading.new.words) }
@@ -124,7 +124,7 @@ fn value_behind(reading: &mut Reading<'_, '_>, room: usize) -> Result<Option<Val
 
 // A name, and its value where there is one.
 #[cycle(grammar)]
-#[tactic(auto, unfolding(crate::specs::Statements::one), using(sel_core::proofs::Fronts::front_itself, sel_core::proofs::Fronts::front_of_front, jq_words::proofs::Rests::behind_rest))]
+#[tactic(auto, unfolding(crate::specs::Statements::one), using(sel_text::proofs::Fronts::front_itself, sel_text::proofs::Fronts::front_of_front, jq_words::proofs::Rests::behind_rest))]
 fn one(reading: &mut Reading<'_, '_>, room: usize) -> Result<(), ScriptFault>
     ensures gives { Leaves (state_of reading.new, reading.new.words) result (spec.one (spec.block room) room (context_of reading.old) (state_of reading.old) reading.old.words) }
     ensures rest { OnOk result (IsBehind reading.old.words reading.new.words) }
@@ -140,7 +140,7 @@ fn one(reading: &mut Reading<'_, '_>, room: usize) -> Result<(), ScriptFault>
 
 // Further ones, each behind a comma.
 #[cycle(grammar)]
-#[tactic(auto, using(sel_core::proofs::Fronts::front_itself, sel_core::proofs::Fronts::front_of_front, crate::proofs::DeclarationSteps::goes_on, crate::proofs::DeclarationSteps::fails, crate::proofs::DeclarationSteps::ends, jq_words::proofs::Rests::itself, jq_words::proofs::Rests::is_rest, jq_words::proofs::Rests::of_rest))]
+#[tactic(auto, using(sel_text::proofs::Fronts::front_itself, sel_text::proofs::Fronts::front_of_front, crate::proofs::DeclarationSteps::goes_on, crate::proofs::DeclarationSteps::fails, crate::proofs::DeclarationSteps::ends, jq_words::proofs::Rests::itself, jq_words::proofs::Rests::is_rest, jq_words::proofs::Rests::of_rest))]
 fn more_ones(reading: &mut Reading<'_, '_>, room: usize) -> Result<(), ScriptFault>
     ensures gives { Leaves (state_of reading.new, reading.new.words) result (spec.more_ones (spec.block room) room (context_of reading.old) (state_of reading.old) 0 reading.old.words) }
     ensures rest { OnOk result (IsRest reading.old.words reading.new.words) }
@@ -156,7 +156,7 @@ fn more_ones(reading: &mut Reading<'_, '_>, room: usize) -> Result<(), ScriptFau
 
 /// Behind `var`, `let` or `const`.
 #[cycle(grammar)]
-#[tactic(auto, unfolding(crate::specs::Statements::declaration), using(sel_core::proofs::Fronts::front_itself, sel_core::proofs::Fronts::front_of_front))]
+#[tactic(auto, unfolding(crate::specs::Statements::declaration), using(sel_text::proofs::Fronts::front_itself, sel_text::proofs::Fronts::front_of_front))]
 pub(crate) fn declaration(reading: &mut Reading<'_, '_>, room: usize) -> Result<(), ScriptFault>
     ensures gives { Leaves (state_of reading.new, reading.new.words) result (spec.declaration (spec.block room) room (context_of reading.old) (state_of reading.old) reading.old.words) }
     ensures rest { OnOk result (IsBehind reading.old.words reading.new.words) }

@@ -7,7 +7,6 @@ mod bound_names;
 mod calls;
 mod chains;
 mod declarations;
-mod functions;
 mod readings;
 mod script;
 mod sequences;

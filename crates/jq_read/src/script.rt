@@ -1,15 +1,15 @@
 //! A script file: its statements, or why it isn't read.
 ghost use Rattle.std.specs.Prelude.{◌≡◌, ◌≢◌, ◌≤◌, length, IfOk, IfErr};
 ghost use Rattle.tp_base.specs.declared.places.TheConstants.{MOST_BYTES};
-ghost use Rattle.jq_sem.specs.Sharp.{wides};
-ghost use Rattle.jq_sem.specs.SharpViews.{exacts_of};
-ghost use Rattle.jq_sem.specs.Views.{statements_of};
+ghost use Rattle.jq_stmts.specs.Sharp.{wides};
+ghost use Rattle.jq_stmts.specs.SharpViews.{exacts_of};
+ghost use Rattle.jq_stmts.specs.Views.{statements_of};
 ghost use Rattle.js_scan.specs.Tokens.{InOrder, script_tokens};
 ghost use Rattle.js_scan.specs.declared.token.ScanFault.TheVariants as scan;
-ghost use Rattle.sel_core.specs.Results.{IsFront};
+ghost use Rattle.sel_text.specs.Results.{IsFront};
 ghost use Rattle.jq_words.specs.Results.{Gives, Finds};
 ghost use Rattle.jq_words.specs.declared.faults.ScriptFault.TheVariants.{Memory, Scan};
-ghost use Rattle.jq_sem.specs.Tables.{AreStatementsOver};
+ghost use Rattle.jq_stmts.specs.Tables.{AreStatementsOver};
 ghost use Rattle.jq_read.specs.Script as spec;
 ghost use Rattle.jq_read.specs.Limits.{AreWithin};
 
@@ -17,7 +17,7 @@ use crate::readings::Reading;
 use crate::sequences::sequence;
 use jq_cursor::{Cursor, Lists, Reader};
 use jq_parts::{Declarations, Grown, Scope, placed};
-use jq_sem::{ExactStmt, Stmt};
+use jq_stmts::{ExactStmt, Stmt};
 use jq_words::{MOST_OPEN, ScriptFault, declared_in};
 use js_scan::{ScanFault, Token, scan};
 use std::alloc::Global;
@@ -52,7 +52,7 @@ fn one_memory(fault: ScriptFault) -> ScriptFault
 }
 
 // Reads a file whose words are known.
-#[tactic(auto, unfolding(crate::specs::Script::script_of), using(sel_core::proofs::Fronts::front_itself, crate::proofs::HandlerLaws::all_counted))]
+#[tactic(auto, unfolding(crate::specs::Script::script_of), using(sel_text::proofs::Fronts::front_itself, crate::proofs::HandlerLaws::all_counted))]
 fn read_words<'r>(
     alloc: Global,
     exact: bool,
@@ -95,7 +95,7 @@ fn read_words<'r>(
 }
 
 // Reads a file, with the calls that are sharper than what is judged in their place, or without.
-#[tactic(auto, unfolding(crate::specs::Script::script_with), using(sel_core::proofs::Fronts::front_itself))]
+#[tactic(auto, unfolding(crate::specs::Script::script_with), using(sel_text::proofs::Fronts::front_itself))]
 fn read_with(
     alloc: Global,
     exact: bool,
@@ -126,7 +126,7 @@ fn wide(alloc: Global, statements: Vec<ExactStmt>) -> Result<Vec<Stmt>, ScriptFa
 }
 
 // Reads a file without the sharp calls.
-#[tactic(auto, unfolding(crate::specs::Script::script), using(sel_core::proofs::Fronts::front_itself))]
+#[tactic(auto, unfolding(crate::specs::Script::script), using(sel_text::proofs::Fronts::front_itself))]
 fn read_file(alloc: Global, text: &[u8], atoms: &mut AtomTable) -> Result<Vec<Stmt>, ScriptFault>
     requires in_limit { length text.now ≤ MOST_BYTES }
     ensures reads { Finds (λ v. statements_of v.items) atoms.new result (spec.script text.now atoms.old) }
@@ -139,7 +139,7 @@ fn read_file(alloc: Global, text: &[u8], atoms: &mut AtomTable) -> Result<Vec<St
 
 /// Reads a script file: its statements, in the order of the names of their actions, or its first fault. Linear in the file but for
 /// look-ups of names.
-#[tactic(auto, using(sel_core::proofs::Fronts::front_itself, crate::proofs::LimitLaws::kept_within, crate::proofs::TableStatements::kept_over))]
+#[tactic(auto, using(sel_text::proofs::Fronts::front_itself, crate::proofs::LimitLaws::kept_within, crate::proofs::TableStatements::kept_over))]
 pub fn read_script(
     alloc: Global,
     text: &[u8],
@@ -160,7 +160,7 @@ pub fn read_script(
 
 /// The same where `closest`, `siblings` and `first` may stand: each statement is wide, and its sharp calls are marked. Linear in the
 /// file but for look-ups of names.
-#[tactic(auto, using(sel_core::proofs::Fronts::front_itself, crate::proofs::LimitLaws::exact_within, crate::proofs::TableStatements::exact_over))]
+#[tactic(auto, using(sel_text::proofs::Fronts::front_itself, crate::proofs::LimitLaws::exact_within, crate::proofs::TableStatements::exact_over))]
 pub fn read_exact(
     alloc: Global,
     text: &[u8],

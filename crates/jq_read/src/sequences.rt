@@ -1,6 +1,6 @@
 //! Statements, one after another, and in blocks.
 ghost use Rattle.std.specs.Prelude.{◌≡◌, ◌<◌, true, false, [], length, OnOk};
-ghost use Rattle.sel_core.specs.Results.{IsFront};
+ghost use Rattle.sel_text.specs.Results.{IsFront};
 ghost use Rattle.jq_words.specs.Results.{Leaves, Turns, IsRest, IsBehind};
 ghost use Rattle.jq_read.specs.Sequences as turns;
 ghost use Rattle.jq_read.specs.Statements as spec;
@@ -78,7 +78,7 @@ fn at_file_end(reader: Reader<'_>, in_block: bool, between: Between) -> Result<(
 
 // One turn of a sequence: a statement, or a condition.
 #[cycle(grammar)]
-#[tactic(auto, unfolding(crate::specs::Sequences::turn), using(sel_core::proofs::Fronts::front_itself, jq_words::proofs::Rests::behind_rest))]
+#[tactic(auto, unfolding(crate::specs::Sequences::turn), using(sel_text::proofs::Fronts::front_itself, jq_words::proofs::Rests::behind_rest))]
 fn turn(
     reading: &mut Reading<'_, '_>,
     between: Between,
@@ -100,7 +100,7 @@ fn turn(
 
 /// Statements up to the brace of their block, or to the end of the file.
 #[cycle(grammar)]
-#[tactic(auto, using(sel_core::proofs::Fronts::front_itself, sel_core::proofs::Fronts::front_of_front, crate::proofs::SequenceSteps::begins, crate::proofs::SequenceSteps::none_counted, crate::proofs::SequenceSteps::one_fits, crate::proofs::SequenceSteps::over, crate::proofs::SequenceSteps::file_ends, jq_words::proofs::Rests::itself, jq_words::proofs::Rests::is_rest, jq_words::proofs::Rests::of_rest, jq_words::proofs::Rests::shorter))]
+#[tactic(auto, using(sel_text::proofs::Fronts::front_itself, sel_text::proofs::Fronts::front_of_front, crate::proofs::SequenceSteps::begins, crate::proofs::SequenceSteps::none_counted, crate::proofs::SequenceSteps::one_fits, crate::proofs::SequenceSteps::over, crate::proofs::SequenceSteps::file_ends, jq_words::proofs::Rests::itself, jq_words::proofs::Rests::is_rest, jq_words::proofs::Rests::of_rest, jq_words::proofs::Rests::shorter))]
 pub(crate) fn sequence(
     reading: &mut Reading<'_, '_>,
     in_block: bool,
@@ -127,7 +127,7 @@ pub(crate) fn sequence(
 
 /// Statements in braces, where so many brackets may be opened.
 #[cycle(grammar)]
-#[tactic(auto, using(sel_core::proofs::Fronts::front_itself, crate::proofs::SequenceSteps::block_refused, crate::proofs::SequenceSteps::block_fails, crate::proofs::SequenceSteps::block_reads, jq_words::proofs::Rests::behind_first, jq_words::proofs::Rests::behind_rest))]
+#[tactic(auto, using(sel_text::proofs::Fronts::front_itself, crate::proofs::SequenceSteps::block_refused, crate::proofs::SequenceSteps::block_fails, crate::proofs::SequenceSteps::block_reads, jq_words::proofs::Rests::behind_first, jq_words::proofs::Rests::behind_rest))]
 pub(crate) fn block(reading: &mut Reading<'_, '_>, room: usize) -> Result<(), ScriptFault>
     ensures gives { Leaves (state_of reading.new, reading.new.words) result (spec.block room 0 (context_of reading.old) (state_of reading.old) reading.old.words) }
     ensures rest { OnOk result (IsBehind reading.old.words reading.new.words) }

@@ -1,7 +1,7 @@
 //! Statements, by their forms.
 ghost use Rattle.std.specs.Prelude.{◌≡◌, ◌≢◌, length, drop, OnOk};
 ghost use Rattle.jq_words.specs.Words.{place, spelled};
-ghost use Rattle.sel_core.specs.Results.{IsFront};
+ghost use Rattle.sel_text.specs.Results.{IsFront};
 ghost use Rattle.jq_words.specs.Results.{Leaves, IsBehind};
 ghost use Rattle.jq_words.specs.declared.faults.ScriptFault.TheVariants.{Memory, UnknownCall};
 ghost use Rattle.jq_read.specs.Statements as spec;
@@ -17,7 +17,7 @@ use jq_cursor::spelled;
 use jq_forms::{StatementForm, condition, list_statement, pass_document, returned, set};
 use jq_words::{ScriptFault, letters, place};
 
-// Why a call of J's own is refused.
+// Why a call of jQuery's own is refused.
 fn foreign(reading: &Reading<'_, '_>) -> ScriptFault
     ensures { result ≢ Memory → result ≡ UnknownCall (spelled (drop 2 reading.now.words)) (place (length reading.now.reader.text.now) (drop 2 reading.now.words)) }
 {
@@ -32,7 +32,7 @@ fn foreign(reading: &Reading<'_, '_>) -> ScriptFault
 
 // A chain, as a statement.
 #[cycle(grammar)]
-#[tactic(auto, unfolding(crate::specs::Statements::chain_statement), using(sel_core::proofs::Fronts::front_itself, jq_words::proofs::Rests::behind_rest))]
+#[tactic(auto, unfolding(crate::specs::Statements::chain_statement), using(sel_text::proofs::Fronts::front_itself, jq_words::proofs::Rests::behind_rest))]
 fn chain_statement(reading: &mut Reading<'_, '_>, room: usize) -> Result<(), ScriptFault>
     ensures gives { Leaves (state_of reading.new, reading.new.words) result (spec.chain_statement (spec.block room) room (context_of reading.old) (state_of reading.old) reading.old.words) }
     ensures rest { OnOk result (IsBehind reading.old.words reading.new.words) }
@@ -47,7 +47,7 @@ fn chain_statement(reading: &mut Reading<'_, '_>, room: usize) -> Result<(), Scr
 
 /// A statement of a form; of a branch, its condition.
 #[cycle(grammar)]
-#[tactic(auto, unfolding(crate::specs::Statements::statement_as, crate::specs::Statements::ready), using(sel_core::proofs::Fronts::front_itself, jq_words::proofs::Rests::passed, jq_words::proofs::Rests::behind_behind, jq_words::proofs::Rests::behind_rest, jq_words::proofs::Rests::on_ok_behind))]
+#[tactic(auto, unfolding(crate::specs::Statements::statement_as, crate::specs::Statements::ready), using(sel_text::proofs::Fronts::front_itself, jq_words::proofs::Rests::passed, jq_words::proofs::Rests::behind_behind, jq_words::proofs::Rests::behind_rest, jq_words::proofs::Rests::on_ok_behind))]
 pub(crate) fn statement(
     reading: &mut Reading<'_, '_>,
     form: StatementForm,

@@ -1,5 +1,10 @@
 //! What the arguments of a call leave.
-use jq_parts::{SharedChain, Value};
+ghost use Rattle.std.specs.Prelude.{◌≡◌, None};
+ghost use Rattle.jq_parts.specs.Views.{value_of};
+ghost use Rattle.jq_read.specs.Views.{done_of};
+
+use jq_chains::SharedChain;
+use jq_parts::Value;
 use tree_sem::Action;
 
 /// The chain's value, and what the call does.
@@ -7,4 +12,16 @@ use tree_sem::Action;
 pub(crate) struct Done {
     pub(crate) reached: Value,
     pub(crate) effect: Option<(SharedChain, Action)>,
+}
+
+impl Done {
+    /// With this value, and nothing done. Constant.
+    pub(crate) fn nothing(reached: Value) -> Self
+        ensures { done_of result ≡ (value_of reached, None) }
+    {
+        Done {
+            reached,
+            effect: None,
+        }
+    }
 }

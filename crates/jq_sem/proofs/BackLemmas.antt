@@ -1,7 +1,8 @@
 -- What an `end` leaves of a chain is the same, told from the last call back and from the first call on.
 use Rattle.std.proofs.Common.{◌≡◌, ℕ, zero, suc, List, [], ◌∷◌, refl, sym, ap, ◌∙◌}
 use mathlib.Core.List.{reverse_aux}
-use Rattle.jq_sem.specs.Statements.{Root, matched, Call, back, set_before, stands, standing}
+use Rattle.jq_sem.specs.Statements.{set_before, stands}
+use Rattle.jq_stmts.specs.Statements.{Root, matched, Call, back, standing}
 
 -- none of the calls is a `back`
 abbrev StandAll : List Call → Type 0

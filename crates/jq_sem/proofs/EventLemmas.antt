@@ -10,8 +10,10 @@ use Rattle.tree_sem.specs.Trees.{LabelTree, edit_at}
 use Rattle.tree_sem.proofs.BothLemmas.{act_both}
 use Rattle.tree_sem.proofs.LossLemmas.{taken_within, cut_within}
 use Rattle.tree_sem.proofs.WithinLemmas.{within_itself, within_both}
-use Rattle.sel_core.specs.Selectors.{Selector, Matches}
-use Rattle.jq_sem.specs.Statements.{Statement, Selected}
+use Rattle.sel_core.specs.Selectors.{Matches}
+use Rattle.sel_text.specs.Selectors.{Selector}
+use Rattle.jq_sem.specs.Statements.{Selected}
+use Rattle.jq_stmts.specs.Statements.{Statement}
 use Rattle.jq_sem.specs.Reachability.{IsLegal, after_step, after_statement, end_of, AreLegal, Reaches}
 use Rattle.jq_sem.specs.Events.{IsLoss, AreLegalEvents, end_of_events, ReachesWithLosses, events_of}
 use Rattle.jq_sem.proofs.KeptLemmas.{match_kept, selection_kept}

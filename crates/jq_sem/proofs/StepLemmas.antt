@@ -5,7 +5,7 @@ use Rattle.tree_sem.specs.declared.actions.Step.{Step}
 use Rattle.tree_sem.specs.Trees.{LabelTree}
 use Rattle.tree_sem.specs.Growth.{Grows}
 use Rattle.tree_sem.proofs.GrowthLemmas.{grows_itself, grows_both, act_grows}
-use Rattle.jq_sem.specs.Statements.{Statement}
+use Rattle.jq_stmts.specs.Statements.{Statement}
 use Rattle.jq_sem.specs.Reachability.{after_statement, after_step, end_of, AreLegal}
 
 pub end_of-append : (t : LabelTree) (stmts : List Statement) (a b : List Step) → end_of t stmts (a ++ b) ≡ end_of (end_of t stmts a) stmts b

@@ -14,8 +14,9 @@ use Rattle.tree_sem.specs.Series.{AreLegalBy, end_by}
 use Rattle.tree_sem.specs.declared.actions.Step as step
 use Rattle.tree_sem.specs.declared.actions.Event.{Event}
 use Rattle.tree_sem.specs.declared.actions.Event.TheVariants.{Step, Take, Cut}
-use Rattle.sel_core.specs.Selectors.{Selector, Matches}
-use Rattle.jq_sem.specs.Statements.{Statement}
+use Rattle.sel_core.specs.Selectors.{Matches}
+use Rattle.sel_text.specs.Selectors.{Selector}
+use Rattle.jq_stmts.specs.Statements.{Statement}
 use Rattle.jq_sem.specs.Reachability.{IsLegal, after_step}
 
 -- the root is never cut

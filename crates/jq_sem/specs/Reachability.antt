@@ -6,8 +6,10 @@ use Rattle.std.specs.Prelude.{ℕ, List, [], ◌∷◌, Option, Some, None, IsSo
 use Rattle.tree_sem.specs.Trees.{LabelTree}
 use Rattle.tree_sem.specs.Actions.{act}
 use Rattle.tree_sem.specs.declared.actions.Step.{Step}
-use Rattle.sel_core.specs.Selectors.{Selector, Matches}
-use Rattle.jq_sem.specs.Statements.{Statement, Selected}
+use Rattle.sel_core.specs.Selectors.{Matches}
+use Rattle.sel_text.specs.Selectors.{Selector}
+use Rattle.jq_sem.specs.Statements.{Selected}
+use Rattle.jq_stmts.specs.Statements.{Statement}
 
 abbrev pub IsLegal : LabelTree → List Statement → Step → Type 0
 IsLegal t stmts step = IsSomeAnd (slice_get stmts step.stmt) (λ s. Selected t s step.at)

@@ -1,8 +1,8 @@
 -- The calls of a chain that stand, as a list of references from the first one on.
 use Rattle.std.specs.Prelude.{Bool, true, false, List, [], ◌∷◌}
 use denote.Bor.{Bor}
-use Rattle.jq_sem.specs.declared.chains.Call.{Call}
-use Rattle.jq_sem.specs.Views.{call_of}
+use Rattle.jq_stmts.specs.declared.chains.Call.{Call}
+use Rattle.jq_stmts.specs.Views.{call_of}
 use Rattle.jq_sem.specs.Statements as script
 
 -- the root, or nothing of it

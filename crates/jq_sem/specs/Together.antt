@@ -6,10 +6,11 @@
 use Rattle.std.specs.Prelude.{◌≡◌, ℕ, List, [], ◌∷◌, Option, Some, None}
 use Rattle.tree_sem.specs.Trees.{LabelTree}
 use Rattle.node_marks.specs.Marks.{IsMarked, HasParentIn, HasAncestorIn}
-use Rattle.sel_core.specs.Selectors.{Join, child, inside}
+use Rattle.sel_text.specs.Selectors.{Join, child, inside}
 use Rattle.jq_sem.specs.declared.evaluation.This.{This}
 use Rattle.jq_sem.specs.declared.evaluation.This.TheVariants.{Nothing, Nodes}
-use Rattle.jq_sem.specs.Statements.{Root, Call, Chain, IsMade, InRoot, In}
+use Rattle.jq_sem.specs.Statements.{IsMade, InRoot, In}
+use Rattle.jq_stmts.specs.Statements.{Root, Call, Chain}
 
 abbrev pub IsUnder : Join → (List ℕ → Type 0) → List ℕ → Type 0
 IsUnder child S v = HasParentIn S v

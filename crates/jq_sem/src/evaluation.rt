@@ -5,12 +5,11 @@ ghost use Rattle.jq_sem.specs.Standing.{after, last_first};
 ghost use Rattle.jq_sem.specs.Statements as spec;
 ghost use Rattle.jq_sem.specs.Statements.{Selected};
 ghost use Rattle.jq_sem.specs.Together.{MadeOf, NamedBy, InRoots, InOne};
-ghost use Rattle.jq_sem.specs.Views.{chain_of, root_of, statement_of};
+ghost use Rattle.jq_stmts.specs.Views.{chain_of, root_of, statement_of};
 
-use crate::chains::{Call, Chain, Root};
 use crate::sets::{matching, of_call};
 use crate::standing_calls::standing;
-use crate::stmts::Stmt;
+use jq_stmts::{Call, Chain, Root, Stmt};
 use node_marks::{Marks, NumberedTree};
 use std::alloc::Global;
 use tp_base::NoMemory;

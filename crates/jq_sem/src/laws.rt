@@ -1,6 +1,6 @@
 //! What a larger tree keeps of a smaller one, and what losses and whole runs make of what is reached.
 ghost use Rattle.sel_core.specs.Selectors.{Matches};
-ghost use Rattle.sel_core.specs.Views.{selector_of};
+ghost use Rattle.sel_text.specs.Views.{selector_of};
 ghost use Rattle.jq_sem.specs.Events.{IsLoss, AreLegalEvents, end_of_events, ReachesWithLosses, events_of};
 ghost use Rattle.jq_sem.specs.Laws.{IsKept};
 ghost use Rattle.jq_sem.specs.Reachability.{end_of, AreLegal, Reaches};
@@ -9,11 +9,11 @@ ghost use Rattle.tree_sem.specs.Embedding.{IsWithin};
 ghost use Rattle.tree_sem.specs.Trees.{LabelTree};
 ghost use Rattle.tree_sem.specs.declared.actions.Step as step;
 ghost use Rattle.jq_sem.specs.Statements.{Selected};
-ghost use Rattle.jq_sem.specs.Views.{statement_of, statements_of};
+ghost use Rattle.jq_stmts.specs.Views.{statement_of, statements_of};
 ghost use Rattle.std.specs.Prelude.{◌≡◌, ◌↔◌, ℕ, List, All};
 
-use crate::stmts::Stmt;
-use sel_core::Selector;
+use jq_stmts::Stmt;
+use sel_text::Selector;
 use tree_sem::{Event, Step, Tree};
 
 /// A node that a selector matches has an image in each larger tree, and the selector matches the image.

@@ -2,10 +2,10 @@
 ghost use Rattle.std.specs.Prelude.{◌↔◌, IsTrue, IsSome, IfOk};
 ghost use Rattle.tree_sem.specs.Trees.{node_at};
 ghost use Rattle.jq_sem.specs.Statements.{Selected};
-ghost use Rattle.jq_sem.specs.Views.{statement_of};
+ghost use Rattle.jq_stmts.specs.Views.{statement_of};
 
 use crate::evaluation::selected;
-use crate::stmts::Stmt;
+use jq_stmts::Stmt;
 use node_marks::NumberedTree;
 use std::alloc::Global;
 use tp_base::{NoMemory, Path};

@@ -2,17 +2,17 @@
 ghost use Rattle.std.specs.Prelude.{◌≡◌, ◌↔◌, ℕ, List, map, IfOk};
 ghost use Rattle.tree_sem.specs.Nodes.{IsNode};
 ghost use Rattle.node_marks.specs.Marks.{IsMarked};
-ghost use Rattle.sel_core.specs.Selectors as spec;
+ghost use Rattle.sel_text.specs.Selectors as spec;
 ghost use Rattle.sel_core.specs.Selectors.{Matches};
-ghost use Rattle.sel_core.specs.Parts.{join_of, and_then, with_parts};
-ghost use Rattle.sel_core.specs.Views.{selector_of};
+ghost use Rattle.sel_text.specs.Parts.{join_of, and_then, with_parts};
+ghost use Rattle.sel_text.specs.Views.{selector_of};
 ghost use Rattle.jq_sem.specs.Statements.{FitsOne, MayFit, MatchesOne, IsMade};
 ghost use Rattle.jq_sem.specs.Together.{IsUnder};
-ghost use Rattle.jq_sem.specs.Views.{atoms_of, call_of};
+ghost use Rattle.jq_stmts.specs.Views.{atoms_of, call_of};
 
-use crate::chains::Call;
+use jq_stmts::Call;
 use node_marks::{Marks, NumberedTree};
-use sel_core::{Compound, Join, Selector};
+use sel_text::{Compound, Join, Selector};
 use tp_base::NoMemory;
 
 /// What a call makes of a set.

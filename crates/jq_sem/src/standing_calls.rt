@@ -2,9 +2,9 @@
 ghost use Rattle.std.specs.Prelude.{◌≡◌, [], map, IfOk};
 ghost use Rattle.jq_sem.specs.Statements as spec;
 ghost use Rattle.jq_sem.specs.Standing.{after, last_first};
-ghost use Rattle.jq_sem.specs.Views.{call_of};
+ghost use Rattle.jq_stmts.specs.Views.{call_of};
 
-use crate::chains::Call;
+use jq_stmts::Call;
 use std::alloc::Global;
 use tp_base::NoMemory;
 

@@ -44,3 +44,22 @@ some_taken (suc n) (w ∷ ws) some few = refl
 
 pub some_given : (others : Bool) (n : ℕ) (ws : List Word) → n ≡ argument_len others [] ws → n ≢ 0 → is_empty (take (argument_len others [] ws) ws) ≡ false
 some_given others n ws is some = some_taken (argument_len others [] ws) ws (subst (λ (k : ℕ). 0 < k) is (omega (arith, some))) (within others [] ws)
+
+-- ---- how many are counted
+
+-- Those that were passed and those that are left are together as many as the words, so that they can be counted. It is said of what can be
+-- counted, since that the words can be is known when the first one is read.
+pub record AreCounted (n : ℕ) (ws : List Word) : Type 0 where
+  pub fits : length ws ≤ 18446744073709551615 → n + length ws ≤ 18446744073709551615
+
+pub none_counted : (ws : List Word) → AreCounted 0 ws
+none_counted ws = record { fits = λ few. omega (arith, few) }
+
+pub one_fits : (n : ℕ) (w : Word) (ws : List Word) → ws ≡ w ∷ drop 1 ws → length ws ≤ 18446744073709551615 → AreCounted n ws → n < 18446744073709551615
+one_fits n w ws here few counted = let some : length ws ≡ suc (length (drop 1 ws)) = ap length here in omega (arith, some, counted.fits few)
+
+pub one_counted : (n : ℕ) (w : Word) (ws rest : List Word) → ws ≡ w ∷ drop 1 ws → length ws ≤ 18446744073709551615 → rest ≡ drop 1 ws → AreCounted n ws
+    → AreCounted (n + 1) rest
+one_counted n w ws rest here few is counted =
+    let some : length ws ≡ suc (length (drop 1 ws)) = ap length here in
+    record { fits = λ fewer. omega (arith, some, ap length is, counted.fits few) }

@@ -19,6 +19,7 @@ pub enum Bracket {
     Curly,
 }
 
+/// The bracket that a word opens, if it opens one. Constant.
 #[tactic(auto, unfolding(crate::specs::Brackets::opened_by))]
 pub fn opened_by(word: &Word<'_>) -> Option<Bracket>
     ensures { result ≡ spec.opened_by word.now }
@@ -34,6 +35,7 @@ pub fn opened_by(word: &Word<'_>) -> Option<Bracket>
     }
 }
 
+/// The bracket that a word closes, if it closes one. Constant.
 #[tactic(auto, unfolding(crate::specs::Brackets::closed_by))]
 pub fn closed_by(word: &Word<'_>) -> Option<Bracket>
     ensures { result ≡ spec.closed_by word.now }
@@ -65,6 +67,7 @@ impl Model for OpenBrackets {
 }
 
 impl OpenBrackets {
+    /// None is open. Constant.
     pub fn none(alloc: Global) -> Self
         ensures { result ≡ [] }
     {
@@ -73,18 +76,21 @@ impl OpenBrackets {
         }
     }
 
+    /// How many are open. Constant.
     pub fn len(&self) -> usize
         ensures { result ≡ length self.now }
     {
         self.items.len()
     }
 
+    /// Whether none is open. Constant.
     pub fn is_empty(&self) -> bool
         ensures { result ≡ spec.is_empty self.now }
     {
         self.items.is_empty()
     }
 
+    /// Whether a word closes another bracket than the innermost, or one that isn't open. Constant.
     #[tactic(auto, unfolding(crate::specs::Brackets::closes_outer))]
     pub fn closes_outer(&self, word: &Word<'_>) -> bool
         ensures { result ≡ spec.closes_outer self.now word.now }
@@ -119,7 +125,7 @@ fn ends_argument(others: bool, open_brackets: &OpenBrackets, word: &Word<'_>) ->
 }
 
 /// How many words the next argument has; where there are others, a comma ends it.
-#[tactic(auto, using(crate::proofs::ArgumentSteps::goes_on, crate::proofs::ArgumentSteps::over, crate::proofs::ArgumentSteps::ends))]
+#[tactic(auto, using(crate::proofs::ArgumentSteps::goes_on, crate::proofs::ArgumentSteps::over, crate::proofs::ArgumentSteps::ends, crate::proofs::ArgumentSteps::none_counted, crate::proofs::ArgumentSteps::one_fits, crate::proofs::ArgumentSteps::one_counted))]
 pub fn argument_len(alloc: Global, others: bool, words: &Words<'_>) -> Result<usize, ScriptFault>
     ensures gives { IfOk result (λ n. n ≡ spec.argument_len others [] words.now) }
     ensures only_memory { IfErr result (λ e. e ≡ Memory) }
@@ -132,7 +138,7 @@ pub fn argument_len(alloc: Global, others: bool, words: &Words<'_>) -> Result<us
             return Ok(count);
         }
         open_brackets.pass(&word)?;
-        count = count.checked_add(1).ok_or(ScriptFault::Memory)?;
+        count += 1;
         rest.pass();
     }
     Ok(count)

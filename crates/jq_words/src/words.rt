@@ -57,6 +57,7 @@ pub fn letters(alloc: Global, spelling: &[u8]) -> Result<Letters, ScriptFault>
 }
 
 impl<'a> Word<'a> {
+    /// Whether it is this mark. Linear in the spelling, as all tests of a spelling are.
     #[tactic(auto, unfolding(crate::specs::Words::is_mark))]
     pub fn is_mark(&self, spelling: &[u8]) -> bool
         ensures { result ≡ spec.is_mark spelling.now self.now }
@@ -64,6 +65,7 @@ impl<'a> Word<'a> {
         matches!(*self.kind, TokenKind::Mark) && self.spelling == spelling
     }
 
+    /// Whether it is this name.
     #[tactic(auto, unfolding(crate::specs::Words::is_name))]
     pub fn is_name(&self, spelling: &[u8]) -> bool
         ensures { result ≡ spec.is_name spelling.now self.now }
@@ -71,6 +73,7 @@ impl<'a> Word<'a> {
         matches!(*self.kind, TokenKind::Name) && self.spelling == spelling
     }
 
+    /// Whether it is a name. Constant.
     #[tactic(auto, unfolding(crate::specs::Words::is_any_name))]
     pub fn is_any_name(&self) -> bool
         ensures { result ≡ spec.is_any_name self.now }
@@ -78,6 +81,7 @@ impl<'a> Word<'a> {
         matches!(*self.kind, TokenKind::Name)
     }
 
+    /// Whether it is a number. Constant.
     #[tactic(auto, unfolding(crate::specs::Words::is_number))]
     pub fn is_number(&self) -> bool
         ensures { result ≡ spec.is_number self.now }
@@ -85,6 +89,7 @@ impl<'a> Word<'a> {
         matches!(*self.kind, TokenKind::Number)
     }
 
+    /// Whether it is the text of a string. Constant.
     #[tactic(auto, unfolding(crate::specs::Words::is_text))]
     pub fn is_text(&self) -> bool
         ensures { result ≡ spec.is_text self.now }
@@ -92,6 +97,7 @@ impl<'a> Word<'a> {
         matches!(*self.kind, TokenKind::Text(_))
     }
 
+    /// Whether it is one of these marks.
     #[tactic(auto, unfolding(crate::specs::Words::is_mark_among))]
     pub fn is_mark_among(&self, spellings: &[&[u8]]) -> bool
         ensures { result ≡ spec.is_mark_among (map (λ k. k.now) spellings.now) self.now }
@@ -99,6 +105,7 @@ impl<'a> Word<'a> {
         matches!(*self.kind, TokenKind::Mark) && is_one_of(spellings, self.spelling)
     }
 
+    /// Whether it is one of these names.
     #[tactic(auto, unfolding(crate::specs::Words::is_name_among))]
     pub fn is_name_among(&self, spellings: &[&[u8]]) -> bool
         ensures { result ≡ spec.is_name_among (map (λ k. k.now) spellings.now) self.now }
@@ -125,6 +132,7 @@ impl<'a> Word<'a> {
         letters(alloc, self.spelling)
     }
 
+    /// The offset in the file at which it begins. Constant.
     pub fn at(&self) -> usize
         ensures { result ≡ self.now.at }
     {
@@ -138,6 +146,7 @@ impl<'a> Word<'a> {
         self.gap.contains(&b'\n')
     }
 
+    /// Its bytes as they stand in the file. Constant.
     pub fn spelling(&self) -> &'a [u8]
         ensures { result.now ≡ self.now.spelling }
     {
@@ -259,6 +268,7 @@ impl<'a> Words<'a> {
     }
 }
 
+/// Whether the first word is this mark.
 #[tactic(auto, unfolding(crate::specs::Words::first_is))]
 pub fn begins(words: &Words<'_>, spelling: &[u8]) -> bool
     ensures gives { result ≡ spec.begins spelling.now words.now }
@@ -270,6 +280,7 @@ pub fn begins(words: &Words<'_>, spelling: &[u8]) -> bool
     }
 }
 
+/// Whether the first word is this name.
 #[tactic(auto, unfolding(crate::specs::Words::first_is))]
 pub fn begins_name(words: &Words<'_>, spelling: &[u8]) -> bool
     ensures gives { result ≡ spec.begins_name spelling.now words.now }
@@ -281,6 +292,7 @@ pub fn begins_name(words: &Words<'_>, spelling: &[u8]) -> bool
     }
 }
 
+/// Whether the first word is one of these names.
 #[tactic(auto, unfolding(crate::specs::Words::first_is))]
 pub fn begins_name_among(words: &Words<'_>, names: &[&[u8]]) -> bool
     ensures { spec.first_is (spec.is_name_among (map (λ k. k.now) names.now)) words.now ≡ result }
@@ -291,6 +303,7 @@ pub fn begins_name_among(words: &Words<'_>, names: &[&[u8]]) -> bool
     }
 }
 
+/// Whether the first word is a name. Constant.
 #[tactic(auto, unfolding(crate::specs::Words::first_is))]
 pub fn begins_any_name(words: &Words<'_>) -> bool
     ensures { result ≡ spec.first_is spec.is_any_name words.now }

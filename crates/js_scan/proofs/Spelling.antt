@@ -18,7 +18,8 @@ use Rattle.js_scan.specs.Comments.{is_in_line, behind_close}
 use Rattle.js_scan.specs.Texts.{Outcome, ok_or, ◌>>=◌, quoted}
 use Rattle.js_scan.specs.Marks.{mark_len, marks}
 use Rattle.js_scan.specs.Tokens.{Front, text_front, block_comment, slash, mark_front, front, divides_next, tokens_of, tokens_from, tokens, script_tokens, IsSpelled}
-use Rattle.js_scan.proofs.OwnBytes.{own_run, own_mark, own_text}
+use Rattle.text_bytes.proofs.Fronts.{own_run}
+use Rattle.js_scan.proofs.OwnBytes.{own_mark, own_text}
 
 bind_ok : {A B : Type 0} (r : Outcome A) (f : A → Outcome B) (y : B) → (r >>= f) ≡ Ok y → (x : A) × (r ≡ Ok x) × (f x ≡ Ok y)
 bind_ok (Ok x) f y read = (x, refl, read)

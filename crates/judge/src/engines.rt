@@ -1,4 +1,5 @@
-//! The answers to a question, by a table of pairs or by diagrams. Each function owns one large value and lends it on.
+//! The answers to a question, by a table of pairs or by diagrams. Each function owns one large value, which is freed as soon as its
+//! answers are there.
 ghost use Rattle.std.specs.Prelude.{◌≡◌, [], true, false, None, map, IfOk};
 ghost use Rattle.usage_report.specs.Views.{answer_of};
 ghost use Rattle.simple_core.specs.Pairs.{Pair, Asked};

@@ -1,7 +1,7 @@
 //! What is said of each selector of a sheet, and of further guards.
 ghost use Rattle.std.specs.Prelude.{◌≡◌, ◌≤◌, [], length, map, IfOk, IfErr, OnOk};
 ghost use Rattle.limits.specs.declared.budgets.TheConstants.{MOST_BRANCHES};
-ghost use Rattle.jq_sem.specs.Views.{statements_of};
+ghost use Rattle.jq_stmts.specs.Views.{statements_of};
 ghost use Rattle.css_read.specs.Views.{item_of};
 ghost use Rattle.usage_report.specs.Views.{answer_of};
 ghost use Rattle.proof_core.specs.declared.unfolded.TheConstants.{MOST_LISTED};
@@ -13,13 +13,12 @@ ghost use Rattle.judge.specs.Outcomes.{AreGiven, IsFault, IsWithin, AreJudged, I
 use crate::both::{Answers, Both};
 use crate::dealing::{for_guards, for_items};
 use crate::engines::answers_to;
-use crate::faults::JudgeFault;
 use crate::grounds::Question;
 use crate::simplifying::simplify_all;
 use css_read::{Sheet, SheetItem};
 use guard_sem::Guard;
-use guard_simplify::Simplified;
-use jq_sem::Stmt;
+use guard_simplify::{Simplified, SimplifyFault};
+use jq_stmts::Stmt;
 use limits::Limits;
 use simple_core::System;
 use std::alloc::Global;
@@ -55,11 +54,11 @@ fn judged_by(
     items: &[SheetItem],
     made: Simplified,
     limits: &Limits,
-) -> Result<Both, JudgeFault>
+) -> Result<Both, SimplifyFault>
     requires { MayBeAsked made.system page.now limits.now }
     ensures answers { IfOk result (λ b. AreDealt limits.now.plain made.system made.seen page.now (map item_of items.now) limits.now (map answer_of b.items) (map answer_of b.extra)) }
     ensures system { IfOk result (λ b. b.system ≡ made.system) }
-    ensures only_memory { IfErr result (λ e. e ≡ JudgeFault.Memory) }
+    ensures only_memory { IfErr result (λ e. e ≡ SimplifyFault.Memory) }
 {
     let question = Question {
         alloc,
@@ -89,7 +88,7 @@ pub fn judge_more(
     extra: Vec<Guard>,
     atoms: &AtomTable,
     limits: &Limits,
-) -> Result<Both, JudgeFault>
+) -> Result<Both, SimplifyFault>
     requires list { limits.now.list ≤ MOST_LISTED }
     requires nodes { limits.now.nodes ≤ MOST_BRANCHES }
     requires given { AreGiven (statements_of stmts.now) (map item_of sheet.now.items) extra.items (length atoms.now) page.now }
@@ -111,7 +110,7 @@ pub fn judge(
     stmts: &[Stmt],
     atoms: &AtomTable,
     limits: &Limits,
-) -> Result<Vec<Answer>, JudgeFault>
+) -> Result<Vec<Answer>, SimplifyFault>
     requires list { limits.now.list ≤ MOST_LISTED }
     requires nodes { limits.now.nodes ≤ MOST_BRANCHES }
     requires given { AreGiven (statements_of stmts.now) (map item_of sheet.now.items) [] (length atoms.now) page.now }

@@ -7,7 +7,6 @@ mod closing;
 mod copying;
 mod dealing;
 mod engines;
-mod faults;
 mod grounds;
 mod judging;
 mod laws;
@@ -16,7 +15,7 @@ mod proving;
 mod simplifying;
 
 pub use both::{Answers, Both};
-pub use faults::JudgeFault;
+pub use guard_simplify::SimplifyFault as JudgeFault;
 pub use judging::{judge, judge_more};
 pub use laws::{
     engines_agree, forests_are_kept, one_answer, one_guard, proof_shows, reached_at_root,

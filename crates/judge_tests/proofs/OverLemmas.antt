@@ -7,20 +7,20 @@ use Rattle.tree_sem.specs.Trees.{LabelTree, node_at}
 use Rattle.tree_sem.specs.Nodes.{HasAtom}
 use Rattle.tree_sem.specs.Order.{rest_of}
 use Rattle.tree_sem.proofs.NodeLemmas.{Contains-paths_of, HasAtom-node}
-use Rattle.sel_core.specs.declared.selectors.Compound.{Compound}
-use Rattle.sel_core.specs.declared.selectors.Join.{Join}
-use Rattle.sel_core.specs.Selectors.{Selector, simple}
-use Rattle.sel_core.specs.Parts.{and_then, with_parts, selector_from}
-use Rattle.jq_sem.specs.Views.{atoms_of}
+use Rattle.sel_text.specs.declared.selectors.Compound.{Compound}
+use Rattle.sel_text.specs.declared.selectors.Join.{Join}
+use Rattle.sel_text.specs.Selectors.{Selector, simple}
+use Rattle.sel_text.specs.Parts.{and_then, with_parts, selector_from}
+use Rattle.jq_stmts.specs.Views.{atoms_of}
 use Rattle.css_read.specs.declared.sheets.SheetItem.{SheetItem}
 use Rattle.css_read.specs.Sheets.{Outcome, judged, skipped, Item}
 use Rattle.css_read.specs.Views.{outcome_of, item_of}
-use Rattle.jq_sem.specs.Statements.{Statement}
+use Rattle.jq_stmts.specs.Statements.{Statement}
 use Rattle.guard_sem.specs.Guards.{Guard}
 use Rattle.guard_simplify.specs.Law.{IsOver}
 use Rattle.judge.specs.Answers.{judged_of, judged_in}
 use Rattle.judge.specs.Outcomes.{AreGiven}
-use Rattle.jq_sem.specs.Tables.{AreAtoms, AreCompoundsOver, IsSelectorOver, AreSelectorsOver}
+use Rattle.jq_stmts.specs.Tables.{AreAtoms, AreCompoundsOver, IsSelectorOver, AreSelectorsOver}
 
 pub atoms_more : (n : ℕ) (xs : List ℕ) (i a : ℕ) → i < length xs → slice_get xs i ≡ Some a → a < n → AreAtoms n (take i xs) → AreAtoms n (take (i + 1) xs)
 atoms_more n xs i a within is here so_far = All-more (λ a. a < n) xs i a within so_far (subst (λ a. a < n) (sym (get_or_from_slice_get xs i a a is)) here)

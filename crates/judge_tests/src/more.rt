@@ -10,7 +10,7 @@ use crate::texts::answers_text;
 use css_read::{Sheet, read_sheet};
 use guard_sem::{Guard, GuardNode};
 use html_subset::read_page;
-use jq_sem::Stmt;
+use jq_stmts::Stmt;
 use judge::{Both, JudgeFault, Limits, judge_more};
 use std::alloc::{AllocError, Global};
 use std::test::Fail;

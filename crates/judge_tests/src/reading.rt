@@ -1,6 +1,6 @@
 //! Statements from their texts.
 use jq_read::{ScriptFault, read_script};
-use jq_sem::Stmt;
+use jq_stmts::Stmt;
 use std::alloc::Global;
 use tp_base::{AtomTable, MOST_BYTES};
 

@@ -8,7 +8,7 @@ use crate::rows::{Budget, ROWS, Row, SPENT};
 use crate::texts::text_of;
 use css_read::{Sheet, read_sheet};
 use html_subset::read_page;
-use jq_sem::Stmt;
+use jq_stmts::Stmt;
 use judge::{JudgeFault, Limits, MOST_LISTED, judge};
 use limits::MOST_BRANCHES;
 use std::alloc::{AllocError, Global};

@@ -7,25 +7,12 @@ use indexmap::IndexMap;
 use std::alloc::Global;
 use std::hash::Hash;
 use std::marker::Model;
-use tp_base::NoMemory;
-
-#[derive(Drop)]
-struct Values<V> {
-    items: Vec<V>,
-}
-
-impl<V> Model for Values<V> {
-    ghost use Rattle.std.specs.Prelude.{List};
-
-    ghost Value = { List V };
-
-    ghost view = { λ v. v.items.items };
-}
+use tp_base::{Items, NoMemory};
 
 /// For each key the values that were put there, in order. A contract sees the entries: keys with their values.
 #[derive(Drop)]
 pub struct Multimap<K: Eq + Hash, V> {
-    map: IndexMap<K, Values<V>>,
+    map: IndexMap<K, Items<V>>,
 }
 
 impl<K: Eq + Hash, V> Model for Multimap<K, V> {
@@ -57,7 +44,7 @@ impl<K: Copy + Eq + Hash, V: Drop> Multimap<K, V> {
     {
         match self.map.get(&key) {
             None => &[],
-            Some(values) => &values.items,
+            Some(values) => values.items(),
         }
     }
 
@@ -67,26 +54,21 @@ impl<K: Copy + Eq + Hash, V: Drop> Multimap<K, V> {
         ensures err { OnErr result ((k : K) → values_at K.eq self.new k ≡ values_at K.eq self.old k) }
     {
         let mut values = self.taken(key)?;
-        let pushed = values.items.push(value);
+        let pushed = values.push(value);
         self.map.insert(key, values)?;
         pushed?;
         Ok(())
     }
 
     // The values of a key, which has an entry without any from then on.
-    fn taken(&mut self, key: K) -> Result<Values<V>, NoMemory>
+    fn taken(&mut self, key: K) -> Result<Items<V>, NoMemory>
         ensures taken { IfOk result (λ v. v ≡ values_at K.eq self.old key) }
         ensures there { OnOk result (lookup (K.eq key) self.new ≡ Some []) }
         ensures others { OnOk result ((k : K) → K.eq key k ≡ false → values_at K.eq self.new k ≡ values_at K.eq self.old k) }
         ensures err { OnErr result (self.new ≡ self.old) }
     {
         let alloc = self.allocator();
-        let none = Values {
-            items: Vec::new(alloc),
-        };
-        let old = self.map.insert(key, none)?;
-        Ok(old.unwrap_or(Values {
-            items: Vec::new(alloc),
-        }))
+        let old = self.map.insert(key, Items::new(Vec::new(alloc)))?;
+        Ok(old.unwrap_or(Items::new(Vec::new(alloc))))
     }
 }

@@ -1,5 +1,5 @@
 //! What is to be done, while the table is filled.
-ghost use Rattle.std.specs.Prelude.{◌≡◌, ◌≢◌, ◌≤◌, ◌<◌, ◌-◌, ◌+◌, ◌^◌, ℕ, [], Contains, length, Some, slice_get, IfSome, IsSomeAnd, OnOk};
+ghost use Rattle.std.specs.Prelude.{◌≡◌, ◌≤◌, ◌<◌, ◌-◌, ◌+◌, ◌^◌, ℕ, [], Contains, length, Some, slice_get, IfSome, IsSomeAnd, OnOk};
 ghost use Rattle.need_table.specs.declared.entries.First.{First};
 ghost use Rattle.need_table.specs.declared.entries.Entry.{Entry};
 ghost use Rattle.need_table.specs.Tables.{AreInOrder, AreOrdered};

@@ -1,6 +1,5 @@
 //! Questions to the table.
-ghost use Rattle.std.specs.Prelude.{◌≡◌, ◌≤◌, ◌<◌, ◌^◌, ℕ, [], ◌∷◌, ◌++◌, List, map, length, slice_get, Contains, IsSomeAnd, IfOk, OnOk, OnErr, IfSome};
-ghost use Rattle.simple_core.specs.Labels.{set_of};
+ghost use Rattle.std.specs.Prelude.{◌≡◌, ◌<◌, ◌^◌, ℕ, List, map, length, Contains, IfOk, OnOk, OnErr, IfSome};
 ghost use Rattle.simple_core.specs.Rounds.{IsRest, IsFirst};
 ghost use Rattle.simple_core.specs.Pairs.{Pair, Needed, HasMore};
 ghost use Rattle.need_table.specs.Tables.{pair_of, labels, IsTable, IsMore, AreNeeded, AllRest, round_in};
@@ -9,7 +8,7 @@ use crate::entries::First;
 use crate::pair_table::Table;
 use crate::settling::fill;
 use rule_index::IndexedSystem;
-use simple_core::{GainFault, System};
+use simple_core::GainFault;
 use std::alloc::Global;
 use tp_base::{Atom, ClassSet, NoMemory};
 
@@ -29,7 +28,7 @@ fn round_of(firsts: &[First], atom: Atom) -> Option<u64>
 
 /// The first round of an atom at an entry of a table at rest.
 pub(crate) fn first_at(
-    system: &System,
+    system: &IndexedSystem,
     table: &Table,
     kind: u32,
     parent: &ClassSet,
@@ -49,7 +48,7 @@ pub(crate) fn first_at(
 
 // The label of a pair that is there already.
 fn known_label(
-    system: &System,
+    system: &IndexedSystem,
     table: &Table,
     kind: u32,
     parent: &ClassSet,
@@ -94,35 +93,10 @@ fn try_ask(
     Ok(label)
 }
 
-// The same, with the rules of the system found by their atoms. Linear in the rules besides.
-fn ask_anew(
-    alloc: Global,
-    system: &System,
-    table: &mut Table,
-    pairs: u32,
-    kind: u32,
-    parent: &ClassSet,
-) -> Result<ClassSet, GainFault>
-    requires kind { kind < length system.now.kinds }
-    requires table { IsTable system.now pairs table.old }
-    requires at_rest { AllRest table.old }
-    ensures table { OnOk result (IsTable system.now pairs table.new) }
-    ensures more { IsMore table.old table.new }
-    ensures at_rest { OnOk result (AllRest table.new) }
-    ensures label { IfOk result (λ l. IsRest system.now kind parent.now l) }
-    ensures there { OnOk result (Contains (map pair_of table.new) (kind, parent.now)) }
-    ensures needed { OnOk result ((qs : List Pair) → AreNeeded system.now qs table.old → Needed system.now (Contains qs) (kind, parent.now) → AreNeeded system.now qs table.new) }
-    ensures spent { result ≡ Err GainFault.Spent → (qs : List Pair) → AreNeeded system.now qs table.old → Needed system.now (Contains qs) (kind, parent.now)
-        → HasMore (Needed system.now (Contains qs)) pairs }
-{
-    let indexed = IndexedSystem::new(alloc, system)?;
-    try_ask(alloc, &indexed, table, pairs, kind, parent)
-}
-
 /// The same, with the table as it was after a refusal.
 pub(crate) fn ask(
     alloc: Global,
-    system: &System,
+    system: &IndexedSystem,
     table: &mut Table,
     pairs: u32,
     kind: u32,
@@ -145,7 +119,7 @@ pub(crate) fn ask(
         return Ok(label);
     }
     let before = table.len();
-    match ask_anew(alloc, system, table, pairs, kind, parent) {
+    match try_ask(alloc, system, table, pairs, kind, parent) {
         Ok(label) => Ok(label),
         Err(fault) => {
             table.truncate(before);

@@ -1,6 +1,5 @@
 //! One pair of the table, and its label in each round so far.
-ghost use Rattle.std.specs.Prelude.{◌≡◌, ◌↔◌, ◌≤◌, ◌<◌, ◌+◌, ◌^◌, [], ◌∷◌, map, take, drop, length, Some, Contains, IfOk, IsTrue};
-ghost use Rattle.tp_base.specs.Classes.{has_class};
+ghost use Rattle.std.specs.Prelude.{◌≡◌, ◌↔◌, ◌≤◌, ◌<◌, ◌+◌, ◌^◌, map, take, drop, length, Some, Contains, IfOk, IsTrue};
 ghost use Rattle.simple_core.specs.Labels.{set_of};
 ghost use Rattle.need_table.specs.declared.entries.First.{First};
 ghost use Rattle.need_table.specs.Tables.{atoms_within, fresh_of, AreInOrder, IsPlaceFrom};

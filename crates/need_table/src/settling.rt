@@ -1,5 +1,5 @@
 //! From a question to a table at rest.
-ghost use Rattle.std.specs.Prelude.{◌≡◌, ◌≤◌, ◌<◌, ◌^◌, [], ℕ, suc, List, map, length, slice_get, Contains, IsSomeAnd, IfOk, OnOk, OnErr};
+ghost use Rattle.std.specs.Prelude.{◌≡◌, ◌<◌, [], ℕ, List, map, length, slice_get, Contains, IsSomeAnd, IfOk, OnOk};
 ghost use Rattle.simple_core.specs.Pairs.{Pair, Needed, HasMore};
 ghost use Rattle.need_table.specs.Tables.{pair_of, IsTable, IsMore, AreNeeded, AllRest};
 ghost use Rattle.need_table.specs.Rows.{row_in};

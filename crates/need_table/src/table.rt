@@ -7,6 +7,7 @@ ghost use Rattle.simple_core.specs.Knowledge.{KeepsAsking, TellsAfter, IsToldBy,
 
 use crate::asking::{ask, first_at};
 use crate::pair_table::Table;
+use rule_index::IndexedSystem;
 use simple_core::{GainFault, Summaries, System};
 use std::alloc::Global;
 use std::marker::Model;
@@ -19,21 +20,20 @@ struct Question {
     parent: ClassSet,
 }
 
-/// A table of pairs, at most so many. It answers what it knows, and works out what it doesn't; then it first notes for each atom
-/// which rules look at it, which is linear in the rules. A new pair has a turn, and then one in each round after one in which its
+/// A table of pairs, at most so many. It answers what it knows, and works out what it doesn't. A new pair has a turn, and then one in each round after one in which its
 /// label, or one that it asks or asked, got an atom. A turn costs a look at what is new of the label and at the rules that need
 /// that, and at the pairs that it asks and what is new of these; where it brings an atom, a copy of the label and a look at each
 /// pair that asks it, too. Where what is new of the label makes it ask something else, all of it and all atoms of what it asks then
 /// are looked at. Where it asks new pairs, it waits for them and is made again, which costs a step for each round so far besides.
 #[derive(Drop)]
-pub struct PlainSummaries {
-    system: System,
+pub struct PlainSummaries<'a> {
+    system: IndexedSystem<'a>,
     pairs: u32,
     table: Table,
     spent: Option<Question>,
 }
 
-impl Model for PlainSummaries {
+impl<'a> Model for PlainSummaries<'a> {
     ghost use Rattle.need_table.specs.PlainTables.{PlainTable};
 
     ghost Value = { PlainTable };
@@ -52,14 +52,18 @@ impl Model for PlainSummaries {
     ghost invariant = { λ t. IsPlain t.system t.pairs t.table (option_map question_of t.spent) };
 }
 
-impl PlainSummaries {
-    /// A table for the system, with no pair.
-    pub fn new(alloc: Global, system: &System, pairs: u32) -> Result<PlainSummaries, NoMemory>
+impl<'a> PlainSummaries<'a> {
+    /// A table for the system, with no pair. It notes for each atom which rules look at it, as `IndexedSystem::new` does.
+    pub fn new(
+        alloc: Global,
+        system: &'a System,
+        pairs: u32,
+    ) -> Result<PlainSummaries<'a>, NoMemory>
         requires { IsSound system.now }
         ensures { IfOk result (λ t. t ≡ record { system = system.now; pairs = pairs; known = []; spent = None }) }
     {
         Ok(PlainSummaries {
-            system: system.copy(alloc)?,
+            system: IndexedSystem::new(alloc, system)?,
             pairs,
             table: Table::new(alloc),
             spent: None,
@@ -67,7 +71,7 @@ impl PlainSummaries {
     }
 }
 
-impl Summaries for PlainSummaries {
+impl<'a> Summaries for PlainSummaries<'a> {
     ghost use Rattle.std.specs.Prelude.{Contains, Some};
 
     ghost system = { λ t. t.system };

@@ -3,5 +3,5 @@ pub mod NumberLemmas
 mod PassLemmas
 mod RankLemmas
 pub mod RankSets
-mod SetLemmas
+pub mod SetLemmas
 mod WalkLemmas

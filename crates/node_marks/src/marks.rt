@@ -21,12 +21,14 @@ impl Model for Marks {
 }
 
 impl Marks {
+    /// These marks. Constant.
     pub fn new(items: Vec<bool>) -> Self
         ensures { result ≡ items.items }
     {
         Marks { items }
     }
 
+    /// The marks. Constant.
     pub fn items(&self) -> &[bool]
         ensures { result.now ≡ self.now }
     {

@@ -15,49 +15,54 @@ impl<'a> NumberedTree<'a> {
     pub fn own_ranks(&self) -> Result<Ranks, NoMemory>
         ensures { IfOk result (λ m. AreRanked self.now m (IsEarly self.now)) }
     {
-        Ok(Ranks::new(passes::own(self.alloc(), self.count())?))
+        Ok(Ranks::new(passes::own(self.allocator(), self.count())?))
     }
 
     /// The numbers of the nodes of the set alone.
     pub fn ranks_in(&self, set: &Marks, ranks: &Ranks) -> Result<Ranks, NoMemory>
         ensures { IfOk result (λ m. AreRanked self.now m (λ k v. IsMarked self.now set.now v × IsUnder self.now k ranks.now v)) }
     {
-        Ok(Ranks::new(passes::chosen(self.alloc(), self.count(), set.items(), ranks.items())?))
+        Ok(Ranks::new(passes::chosen(self.allocator(), self.count(), set.items(), ranks.items())?))
     }
 
     /// That of the parent.
     pub fn ranks_below(&self, ranks: &Ranks) -> Result<Ranks, NoMemory>
         ensures { IfOk result (λ m. AreRanked self.now m (λ k v. IsNode self.now v × HasParentIn (IsUnder self.now k ranks.now) v)) }
     {
-        Ok(Ranks::new(passes::below(self.alloc(), self.parents(), ranks.items())?))
+        Ok(Ranks::new(passes::below(self.allocator(), self.parents(), ranks.items())?))
     }
 
     /// The least one of the nodes above.
     pub fn ranks_far_below(&self, ranks: &Ranks) -> Result<Ranks, NoMemory>
         ensures { IfOk result (λ m. AreRanked self.now m (λ k v. IsNode self.now v × HasAncestorIn (IsUnder self.now k ranks.now) v)) }
     {
-        Ok(Ranks::new(passes::far_below(self.alloc(), self.parents(), ranks.items())?))
+        Ok(Ranks::new(passes::far_below(self.allocator(), self.parents(), ranks.items())?))
     }
 
     /// The least one of the children.
     pub fn ranks_over(&self, ranks: &Ranks) -> Result<Ranks, NoMemory>
         ensures { IfOk result (λ m. AreRanked self.now m (λ k. HasChildIn (IsUnder self.now k ranks.now))) }
     {
-        Ok(Ranks::new(passes::over(self.alloc(), self.parents(), ranks.items())?))
+        Ok(Ranks::new(passes::over(self.allocator(), self.parents(), ranks.items())?))
     }
 
     /// The least one of the nodes below.
     pub fn ranks_far_over(&self, ranks: &Ranks) -> Result<Ranks, NoMemory>
         ensures { IfOk result (λ m. AreRanked self.now m (λ k. HasDescendantIn (IsUnder self.now k ranks.now))) }
     {
-        Ok(Ranks::new(passes::far_over(self.alloc(), self.parents(), ranks.items())?))
+        Ok(Ranks::new(passes::far_over(self.allocator(), self.parents(), ranks.items())?))
     }
 
     /// That of the first node from each one upward, itself first, that is in the set.
     pub fn nearest_ranks(&self, ranks: &Ranks, set: &Marks) -> Result<Ranks, NoMemory>
         ensures { IfOk result (λ m. AreRanked self.now m (λ k v. IsNode self.now v × HasNearestIn (IsMarked self.now set.now) (IsUnder self.now k ranks.now) v)) }
     {
-        Ok(Ranks::new(passes::nearest(self.alloc(), self.parents(), ranks.items(), set.items())?))
+        Ok(Ranks::new(passes::nearest(
+            self.allocator(),
+            self.parents(),
+            ranks.items(),
+            set.items(),
+        )?))
     }
 
     /// The least one of the other children of the parent.
@@ -65,9 +70,9 @@ impl<'a> NumberedTree<'a> {
         ensures { IfOk result (λ m. AreRanked self.now m (λ k v. IsNode self.now v × HasOtherIn (IsUnder self.now k ranks.now) v)) }
     {
         let parents = self.parents();
-        let behind = passes::behind(self.alloc(), parents, ranks.items())?;
-        let ahead = passes::ahead(self.alloc(), parents, ranks.items())?;
-        let made = passes::lesser(self.alloc(), self.count(), &behind, &ahead)?;
+        let behind = passes::behind(self.allocator(), parents, ranks.items())?;
+        let ahead = passes::ahead(self.allocator(), parents, ranks.items())?;
+        let made = passes::lesser(self.allocator(), self.count(), &behind, &ahead)?;
         Ok(Ranks::new(made))
     }
 
@@ -75,7 +80,7 @@ impl<'a> NumberedTree<'a> {
     pub fn ranks_up_to(&self, ranks: &Ranks, most: usize) -> Result<Ranks, NoMemory>
         ensures { IfOk result (λ m. AreRanked self.now m (λ k v. IsNode self.now v × (IsUnder self.now k ranks.now v ⊎ (most < k)))) }
     {
-        Ok(Ranks::new(passes::up_to(self.alloc(), self.count(), ranks.items(), most)?))
+        Ok(Ranks::new(passes::up_to(self.allocator(), self.count(), ranks.items(), most)?))
     }
 
     /// The least of all numbers; none where no node has one.
@@ -96,6 +101,6 @@ impl<'a> NumberedTree<'a> {
     pub fn reached(&self, set: &Marks, ranks: &Ranks) -> Result<Marks, NoMemory>
         ensures { IfOk result (λ m. IsSetOf self.now m (IsReached self.now ranks.now (IsMarked self.now set.now))) }
     {
-        Ok(Marks::new(passes::reached(self.alloc(), self.count(), set.items(), ranks.items())?))
+        Ok(Marks::new(passes::reached(self.allocator(), self.count(), set.items(), ranks.items())?))
     }
 }

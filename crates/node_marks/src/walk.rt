@@ -17,6 +17,7 @@ pub struct Walk<'a> {
 }
 
 impl<'a> Walk<'a> {
+    /// A walk that has gone nowhere. Constant.
     pub fn new(alloc: Global) -> Walk<'a>
         ensures parents { result.parents.items ≡ [] }
         ensures steps { result.steps.items ≡ [] }

@@ -15,28 +15,6 @@ pub add_classes_keeps : (cs : List ℕ) (s : LabelTree) → Grows s (add_classes
 add_classes_keeps cs s [] x at = let same : s ≡ x = cc in (add_classes cs s, refl, λ a has. union_of-keeps_left s.label cs a (subst (λ (z : LabelTree). Contains z.label a) (sym same) has))
 add_classes_keeps cs s (k ∷ q) x at = (x, at, λ a has. has)
 
--- the numbers of children stay where f leaves them
-pub children_kept : (f : LabelTree → LabelTree) → ((s : LabelTree) (r : List ℕ) → children_at r (f s) ≡ children_at r s) → (p q : List ℕ) (t : LabelTree) → children_at q (edit_at p f t) ≡ children_at q t
-children_kept f each [] q t = each t q
-children_kept f each (k ∷ p) [] t = ap Some (length_of-edit_tree (edit_at p f) t.below k)
-children_kept f each (k ∷ p) (m ∷ q) t = elim (cases_order m k) [
-  | inl same ↦
-      rw (same, tree_of-edit_tree (edit_at p f) t.below k)
-      (elim (tree_of t.below k) as (λ o. option_map (λ (n : LabelTree). length_of n.below) (option_and_then (node_at q) (option_map (edit_at p f) o)) ≡ option_map (λ n. length_of n.below) (option_and_then (node_at q) o)) [
-        | None ↦ refl
-        | Some c ↦ children_kept f each p q c
-      ])
-  | inr (inl less) ↦ ap (λ o. option_map (λ (n : LabelTree). length_of n.below) (option_and_then (node_at q) o)) (tree_of-edit_tree_other (edit_at p f) t.below k m (λ e. omega arith))
-  | inr (inr more) ↦ ap (λ o. option_map (λ (n : LabelTree). length_of n.below) (option_and_then (node_at q) o)) (tree_of-edit_tree_other (edit_at p f) t.below k m (λ e. omega arith))
-]
-
-pub children_at-add_classes : (p q cs : List ℕ) (t : LabelTree) → children_at q (edit_at p (add_classes cs) t) ≡ children_at q t
-children_at-add_classes p q cs t = children_kept (add_classes cs) same p q t
-  where
-    same : (s : LabelTree) (r : List ℕ) → children_at r (add_classes cs s) ≡ children_at r s
-    same s [] = refl
-    same s (k ∷ r) = refl
-
 -- and at another node, where f leaves those that were below it
 pub children_elsewhere : (f : LabelTree → LabelTree) → ((s : LabelTree) (m : ℕ) (r : List ℕ) → IsSome (node_at (m ∷ r) s) → children_at (m ∷ r) (f s) ≡ children_at (m ∷ r) s)
     → (p q : List ℕ) (t : LabelTree) → q ≢ p → IsSome (node_at q t) → children_at q (edit_at p f t) ≡ children_at q t

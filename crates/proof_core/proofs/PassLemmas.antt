@@ -4,10 +4,11 @@ use Rattle.std.proofs.lemmas.Bool.Decides.{Decides-eqb}
 use Rattle.std.proofs.lemmas.List.{append-nil, reverse-append}
 use Rattle.std.specs.Option.{option_copied}
 use Rattle.std.specs.Prelude.{Result, Ok, Err, OnOk, is_err}
+use Rattle.std.specs.Option.{option_or}
 use Rattle.proof_core.specs.declared.passes.Pass.{Pass}
 use Rattle.proof_core.specs.Passes.{first_place, passed_of, seen, way_for, named_for}
 use Rattle.proof_check.specs.Unfolding.{Passed, child_for, end_for}
-use Rattle.proof_core.specs.Worlds.{or_first}
+use Rattle.proof_core.proofs.WorldLemmas.{or_none}
 
 pub find_place : {X : Type 0} (test : X → Bool) (xs : List X) → find test xs ≡ option_and_then (slice_get xs) (first_place test xs)
 find_place test [] = refl
@@ -61,23 +62,19 @@ by_test true n e = ap Some e
 by_test false n e = refl
 
 -- one item more
-place_push : {X : Type 0} (test : X → Bool) (xs : List X) (x : X) → first_place test (xs ++ x ∷ []) ≡ or_first (first_place test xs) (if test x then Some (length xs) else None)
+place_push : {X : Type 0} (test : X → Bool) (xs : List X) (x : X) → first_place test (xs ++ x ∷ []) ≡ option_or (first_place test xs) (if test x then Some (length xs) else None)
 place_push {X} test [] x = by_test (test x) (length {A = X} []) refl
 place_push test (y ∷ xs) x =
     elim (test y) as (λ b. (if b then Some 0 else option_map (λ n. suc n) (first_place test (xs ++ x ∷ [])))
-    ≡ or_first (if b then Some 0 else option_map (λ n. suc n) (first_place test xs)) (if test x then Some (length (y ∷ xs)) else None)) [
+    ≡ option_or (if b then Some 0 else option_map (λ n. suc n) (first_place test xs)) (if test x then Some (length (y ∷ xs)) else None)) [
       | true ↦ refl
       | false ↦ ap (option_map (λ n. suc n)) (place_push test xs x) ∙ moved (first_place test xs) (test x)
     ]
   where
-    moved : (o : Option ℕ) (b : Bool) → option_map (λ n. suc n) (or_first o (if b then Some (length xs) else None)) ≡ or_first (option_map (λ n. suc n) o) (if b then Some (length (y ∷ xs)) else None)
+    moved : (o : Option ℕ) (b : Bool) → option_map (λ n. suc n) (option_or o (if b then Some (length xs) else None)) ≡ option_or (option_map (λ n. suc n) o) (if b then Some (length (y ∷ xs)) else None)
     moved (Some n) b = refl
     moved None true = ap Some (omega arith)
     moved None false = refl
-
-left : {X : Type 0} (o : Option X) → o ≡ or_first o None
-left None = refl
-left (Some x) = refl
 
 module _ {K X : Type 0} (test : K → X → Bool) where
   -- a table of first places, with an element more whose key is new
@@ -85,9 +82,9 @@ module _ {K X : Type 0} (test : K → X → Bool) where
       → ((k : K) → new k ≡ (if test k x then Some (length xs) else old k)) → (k : K) → new k ≡ first_place (test k) (xs ++ x ∷ [])
   first_new old new xs x is none step k =
       step k
-      ∙ elim (test k x) as (λ b. test k x ≡ b → (if b then Some (length xs) else old k) ≡ or_first (first_place (test k) xs) (if b then Some (length xs) else None)) [
-        | true ↦ λ e. ap (λ o. or_first o (Some (length xs))) (sym (sym (is k) ∙ none k e))
-        | false ↦ λ e. is k ∙ left (first_place (test k) xs)
+      ∙ elim (test k x) as (λ b. test k x ≡ b → (if b then Some (length xs) else old k) ≡ option_or (first_place (test k) xs) (if b then Some (length xs) else None)) [
+        | true ↦ λ e. ap (λ o. option_or o (Some (length xs))) (sym (sym (is k) ∙ none k e))
+        | false ↦ λ e. is k ∙ or_none (first_place (test k) xs)
       ] refl
       ∙ sym (place_push (test k) xs x)
 
@@ -96,13 +93,13 @@ module _ {K X : Type 0} (test : K → X → Bool) where
       → (k : K) → old k ≡ first_place (test k) (xs ++ x ∷ [])
   first_known old xs x is known k =
       is k
-      ∙ elim (test k x) as (λ b. test k x ≡ b → first_place (test k) xs ≡ or_first (first_place (test k) xs) (if b then Some (length xs) else None)) [
+      ∙ elim (test k x) as (λ b. test k x ≡ b → first_place (test k) xs ≡ option_or (first_place (test k) xs) (if b then Some (length xs) else None)) [
         | true ↦ λ e. stays (first_place (test k) xs) (ap is_some (sym (is k)) ∙ known k e)
-        | false ↦ λ e. left (first_place (test k) xs)
+        | false ↦ λ e. or_none (first_place (test k) xs)
       ] refl
       ∙ sym (place_push (test k) xs x)
     where
-      stays : (o : Option ℕ) → is_some o ≡ true → o ≡ or_first o (Some (length xs))
+      stays : (o : Option ℕ) → is_some o ≡ true → o ≡ option_or o (Some (length xs))
       stays None e = cc
       stays (Some n) e = refl
 

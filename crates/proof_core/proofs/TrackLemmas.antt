@@ -14,9 +14,10 @@ use Rattle.proof_check.specs.Unfolding.{Progress, Passed, with_step, with_childr
 use Rattle.proof_check.specs.Validity.{atoms_of, IsDown, Place}
 use Rattle.tree_sem.specs.Growth.{Grows}
 use Rattle.tree_sem.proofs.AddTreesLemmas.{children_at-add_trees, node_at-add_trees_new}
+use Rattle.tree_sem.proofs.EditLemmas.{children_at-add_classes}
 use Rattle.proof_core.specs.Readings.{end_by, AreLegalBy, step_at, Reading, IsReading}
 use Rattle.proof_core.proofs.KeepLemmas.{keeps_itself, keeps_both, kept_node, edit_keeps}
-use Rattle.proof_core.proofs.GrowthLemmas.{add_classes_keeps, children_at-add_classes, add_trees_keeps, children_at-add_trees_other, node_at-add_trees_none}
+use Rattle.proof_core.proofs.GrowthLemmas.{add_classes_keeps, add_trees_keeps, children_at-add_trees_other, node_at-add_trees_none}
 
 pub with_children-same : (v : List ℕ) (n : ℕ) (added : List ℕ → ℕ) → with_children v n added v ≡ added v + n
 with_children-same v n added = ap (λ b. if b then added v + n else added v) ((bytes_eq-Decides v v).1 refl)

@@ -3,15 +3,16 @@ use Rattle.std.proofs.Common.{◌≡◌, ◌<◌, ◌≤◌, ℕ, suc, Bool, tru
 use Rattle.std.proofs.lemmas.Bool.Decides.{Decides-eqb}
 use Rattle.std.specs.Prelude.{Result, Ok, Err, OnOk}
 use Rattle.std.proofs.lemmas.List.Elements.{All-contains}
+use Rattle.std.specs.Option.{option_or}
 use Rattle.tp_base.proofs.Lists.{Contains-at, drop_at}
 use Rattle.simple_core.specs.declared.rules.Kind.{Kind}
 use Rattle.simple_core.specs.declared.rules.Spawn.{Spawn}
 use Rattle.simple_core.specs.declared.system.System.{System}
 use Rattle.simple_core.specs.declared.system.TheConstants.{MOST_KINDS}
 use Rattle.proof_check.specs.Unfolding.{spawned}
-use Rattle.proof_core.specs.Worlds.{or_first, is_under, siblings_below, HasFewSiblings}
+use Rattle.proof_core.specs.Worlds.{is_under, siblings_below, HasFewSiblings}
 
-pub or_none : {X : Type 0} (o : Option X) → o ≡ or_first o None
+pub or_none : {X : Type 0} (o : Option X) → o ≡ option_or o None
 or_none None = refl
 or_none (Some x) = refl
 
@@ -26,31 +27,31 @@ on_three (Err e) p q s f = tt
 
 -- one kind more
 pub noted : (old new : ℕ → Option ℕ) (kind : Kind) (above : ℕ) → kind.above ≡ Some above → new above ≡ Some (unwrap_or (old above) kind.siblings) → ((j : ℕ) → (above == j) ≡ false → new j ≡ old j)
-    → (j : ℕ) → new j ≡ or_first (old j) (siblings_below j kind)
+    → (j : ℕ) → new j ≡ option_or (old j) (siblings_below j kind)
 noted old new kind above is added others j =
-    elim (above == j) as (λ b. (above == j) ≡ b → new j ≡ or_first (old j) (if b then Some kind.siblings else None)) [
-      | true ↦ λ e. subst (λ z. new z ≡ or_first (old z) (Some kind.siblings)) ((Decides-eqb above j).0 e) (added ∙ taken (old above))
+    elim (above == j) as (λ b. (above == j) ≡ b → new j ≡ option_or (old j) (if b then Some kind.siblings else None)) [
+      | true ↦ λ e. subst (λ z. new z ≡ option_or (old z) (Some kind.siblings)) ((Decides-eqb above j).0 e) (added ∙ taken (old above))
       | false ↦ λ e. others j e ∙ or_none (old j)
     ] refl
-    ∙ ap (λ o. or_first (old j) (if unwrap_or (option_map (λ i. i == j) o) false then Some kind.siblings else None)) (sym is)
+    ∙ ap (λ o. option_or (old j) (if unwrap_or (option_map (λ i. i == j) o) false then Some kind.siblings else None)) (sym is)
   where
-    taken : (o : Option ℕ) → Some (unwrap_or o kind.siblings) ≡ or_first o (Some kind.siblings)
+    taken : (o : Option ℕ) → Some (unwrap_or o kind.siblings) ≡ option_or o (Some kind.siblings)
     taken None = refl
     taken (Some n) = refl
 
-pub not_noted : (old : ℕ → Option ℕ) (kind : Kind) → kind.above ≡ None → (j : ℕ) → old j ≡ or_first (old j) (siblings_below j kind)
-not_noted old kind is j = or_none (old j) ∙ ap (λ o. or_first (old j) (if unwrap_or (option_map (λ i. i == j) o) false then Some kind.siblings else None)) (sym is)
+pub not_noted : (old : ℕ → Option ℕ) (kind : Kind) → kind.above ≡ None → (j : ℕ) → old j ≡ option_or (old j) (siblings_below j kind)
+not_noted old kind is j = or_none (old j) ∙ ap (λ o. option_or (old j) (if unwrap_or (option_map (λ i. i == j) o) false then Some kind.siblings else None)) (sym is)
 
 abbrev siblings_of : Option Kind → Option ℕ
 siblings_of o = option_map (λ (k : Kind). k.siblings) o
 
-pub known_pushed : (old new whole : ℕ → Option ℕ) (kinds : List Kind) (i : ℕ) (x : Kind) → slice_get kinds i ≡ Some x → ((j : ℕ) → new j ≡ or_first (old j) (siblings_below j x))
-    → ((j : ℕ) → whole j ≡ or_first (old j) (siblings_of (find (is_under j) (drop i kinds)))) → (j : ℕ) → whole j ≡ or_first (new j) (siblings_of (find (is_under j) (drop (suc i) kinds)))
+pub known_pushed : (old new whole : ℕ → Option ℕ) (kinds : List Kind) (i : ℕ) (x : Kind) → slice_get kinds i ≡ Some x → ((j : ℕ) → new j ≡ option_or (old j) (siblings_below j x))
+    → ((j : ℕ) → whole j ≡ option_or (old j) (siblings_of (find (is_under j) (drop i kinds)))) → (j : ℕ) → whole j ≡ option_or (new j) (siblings_of (find (is_under j) (drop (suc i) kinds)))
 known_pushed old new whole kinds i x at step before j =
-    before j ∙ ap (λ xs. or_first (old j) (siblings_of (find (is_under j) xs))) (drop_at kinds i x at)
-    ∙ apart (old j) (is_under j x) (find (is_under j) (drop (suc i) kinds)) ∙ ap (λ o. or_first o (siblings_of (find (is_under j) (drop (suc i) kinds)))) (sym (step j))
+    before j ∙ ap (λ xs. option_or (old j) (siblings_of (find (is_under j) xs))) (drop_at kinds i x at)
+    ∙ apart (old j) (is_under j x) (find (is_under j) (drop (suc i) kinds)) ∙ ap (λ o. option_or o (siblings_of (find (is_under j) (drop (suc i) kinds)))) (sym (step j))
   where
-    apart : (o : Option ℕ) (b : Bool) (r : Option Kind) → or_first o (siblings_of (cond b (Some x) r)) ≡ or_first (or_first o (if b then Some x.siblings else None)) (siblings_of r)
+    apart : (o : Option ℕ) (b : Bool) (r : Option Kind) → option_or o (siblings_of (cond b (Some x) r)) ≡ option_or (option_or o (if b then Some x.siblings else None)) (siblings_of r)
     apart (Some n) b r = refl
     apart None true r = refl
     apart None false r = refl

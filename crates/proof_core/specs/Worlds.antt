@@ -6,10 +6,6 @@ use Rattle.simple_core.specs.declared.rules.Kind.{Kind}
 use Rattle.simple_core.specs.declared.system.TheConstants.{MOST_KINDS}
 use Rattle.proof_core.specs.declared.worlds.Forests.{Forests}
 
-abbrev pub or_first : {X : Type 0} → Option X → Option X → Option X
-or_first None o = o
-or_first (Some x) o = Some x
-
 abbrev pub known_in : Forests → ℕ → Option ℕ
 known_in forests j = get_by (λ k. j == k) forests.children
 

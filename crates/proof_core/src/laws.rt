@@ -1,5 +1,5 @@
 //! What valid proofs show, for those that rest on one.
-ghost use Rattle.std.specs.Prelude.{◌≡◌, [], List};
+ghost use Rattle.std.specs.Prelude.{[], List};
 ghost use Rattle.tree_sem.specs.Nodes.{HasAtom};
 ghost use Rattle.simple_core.specs.SimpleSteps.{SimpleStep, AreLegal, end_of};
 ghost use Rattle.proof_check.specs.Validity.{IsValid};

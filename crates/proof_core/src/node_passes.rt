@@ -46,6 +46,7 @@ impl Model for NodePasses {
 }
 
 impl NodePasses {
+    /// No passes yet. Constant.
     pub fn new(alloc: Global) -> Self
         ensures { result ≡ [] }
     {

@@ -37,6 +37,7 @@ impl Model for Passes {
 }
 
 impl Passes {
+    /// No passes yet. Constant.
     pub fn new(alloc: Global) -> Self
         ensures { result ≡ [] }
     {
@@ -46,6 +47,7 @@ impl Passes {
         }
     }
 
+    /// How many there are. Constant.
     pub fn len(&self) -> usize
         ensures { result ≡ length self.now }
     {

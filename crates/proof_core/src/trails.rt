@@ -1,5 +1,5 @@
 //! The steps of an unfolding so far.
-ghost use Rattle.std.specs.Prelude.{◌≡◌, ◌+◌, ◌<◌, ◌≤◌, ◌*◌, ◌^◌, OnOk, IfOk, length, option_map, unwrap_or};
+ghost use Rattle.std.specs.Prelude.{◌≡◌, ◌+◌, ◌<◌, ◌≤◌, ◌*◌, ◌^◌, OnOk, IfOk, length};
 ghost use Rattle.simple_core.specs.declared.system.TheConstants.{MOST_KINDS};
 ghost use Rattle.tree_sem.specs.declared.tree_fault.TheConstants.{MOST_NODES};
 ghost use Rattle.proof_core.specs.Trails.{progress_of, grown_at, no_progress, step_of_forest, number_for, with_forest_of};
@@ -22,6 +22,7 @@ pub struct Trail {
 }
 
 impl Trail {
+    /// No steps yet. Constant.
     pub fn new(alloc: Global) -> Trail
         ensures { progress_of result ≡ no_progress }
     {
@@ -31,10 +32,12 @@ impl Trail {
         }
     }
 
+    /// The allocator that its memory comes from.
     pub fn allocator(&self) -> Global {
         *self.steps.allocator()
     }
 
+    /// The steps, without the trail. Constant.
     pub fn into_steps(self) -> Vec<Step>
         ensures { result.items ≡ (progress_of self).steps }
     {

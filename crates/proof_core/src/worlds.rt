@@ -1,8 +1,9 @@
 //! The system and the entries of a proof, as they are looked up while it is unfolded.
-ghost use Rattle.std.specs.Prelude.{◌≡◌, ◌==◌, ℕ, OnOk, IfOk, Some, false, option_map, unwrap_or, slice_get};
+ghost use Rattle.std.specs.Prelude.{◌≡◌, ◌==◌, ℕ, OnOk, IfOk, Some, false, unwrap_or, slice_get};
 ghost use Rattle.std.specs.Option.{option_copied};
+ghost use Rattle.std.specs.Option.{option_or};
 ghost use Rattle.proof_core.specs.Trails.{progress_of};
-ghost use Rattle.proof_core.specs.Worlds.{known_in, or_first, siblings_below, KnowsForests};
+ghost use Rattle.proof_core.specs.Worlds.{known_in, siblings_below, KnowsForests};
 ghost use Rattle.proof_check.specs.Unfolding as spec;
 
 use crate::trails::Trail;
@@ -52,7 +53,7 @@ impl Forests {
 
     // The first kind below another tells how many there are.
     fn note(&mut self, kind: &Kind) -> Result<(), NoMemory>
-        ensures { OnOk result ((j : ℕ) → known_in self.new j ≡ or_first (known_in self.old j) (siblings_below j kind.now)) }
+        ensures { OnOk result ((j : ℕ) → known_in self.new j ≡ option_or (known_in self.old j) (siblings_below j kind.now)) }
     {
         match kind.above {
             Some(above) => self.add(above, kind.siblings),

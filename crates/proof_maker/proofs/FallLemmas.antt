@@ -2,7 +2,7 @@
 use Rattle.std.proofs.Common.{◌≡◌, ℕ, ◌<◌, List, [], length, Contains, Option, Some, None, IsSomeAnd, option_map, option_and_then, option_to_list, unwrap_or, slice_get, inl, inr, refl, sym, ap, ◌∙◌, subst, arith}
 use Rattle.std.proofs.lemmas.Option.{slice_get_within}
 use Rattle.std.proofs.lemmas.List.{length-map}
-use Rattle.tp_base.proofs.Lists.{Contains-at, at_Contains, element_at, Contains-flat_map, flat_map-Contains}
+use Rattle.tp_base.proofs.Lists.{Contains-at, at_Contains, element_at, Contains-flat_map, flat_map-Contains, first_there, cons_cases}
 use Rattle.tp_base.proofs.Rising.{Contains-none}
 use Rattle.tree_sem.specs.Trees.{LabelTree}
 use Rattle.simple_core.specs.declared.system.System.{System}
@@ -33,7 +33,7 @@ use Rattle.proof_needs.specs.Numbers.{Tours}
 use Rattle.proof_needs.specs.Names.{named_at, named_all, wants_of, names_in}
 use Rattle.proof_needs.specs.Orders.{AreDealt}
 use Rattle.proof_maker.specs.Making.{IsListed, IsNumbered}
-use Rattle.proof_maker.proofs.PostLemmas.{first_there, cons_cases, post_distinct, post_each, post_closed, walks}
+use Rattle.proof_maker.proofs.PostLemmas.{post_distinct, post_each, post_closed, walks}
 use Rattle.proof_maker.proofs.RankLemmas.{falls}
 use Rattle.proof_maker.proofs.TourLemmas.{tour_post}
 

@@ -1,7 +1,6 @@
 -- The rows of what is remembered.
 --     no_rows, pushed_rows     each has what comes to its pair
 --     row_arrivals             what the row of a pair tells
---     one_set                  two sets with the same atoms
 use Rattle.std.proofs.Common.{◌≡◌, ◌↔◌, ℕ, ◌<◌, Bool, List, [], ◌∷◌, ◌++◌, length, slice_get, Some, Result, Ok, Err, IfOk, OnOk, OnErr, IsTrue, All, Contains, inl, inr, sym, subst}
 use Rattle.std.specs.List.Sorted.{IsStrictlyIncreasing}
 use Rattle.std.proofs.lemmas.List.Elements.{Contains-append_cases}
@@ -24,9 +23,6 @@ one_more s rows rows' g before new is = λ h there. elim (Contains-append_cases 
   | inl old ↦ before h old
   | inr last ↦ subst (λ (z : PlaceRow). AreArrivals s.visible (λ k. grown s k z.kind z.parent) z.arrivals) (sym (last_of g h last)) new
 ]
-
-pub one_set : (xs ys : List ℕ) (r : Bool) → IsStrictlyIncreasing xs → IsStrictlyIncreasing ys → All (Contains ys) xs → IsTrue r ↔ All (Contains xs) ys → IsTrue r → xs ≡ ys
-one_set xs ys r up_x up_y within back same = same_members xs ys up_x up_y within (back.0 same)
 
 -- what a row tells of its pair
 pub row_arrivals : (s : System) (rows : List PlaceRow) (kind : ℕ) (parent : List ℕ) (n : ℕ) (items : List Arrival) → IsPlaceMemo s rows → IsRowOf rows kind parent n → ((g : PlaceRow) → slice_get rows n ≡ Some g → items ≡ g.arrivals)

@@ -4,7 +4,7 @@ use Rattle.std.specs.List.{flat_map}
 use Rattle.std.proofs.lemmas.List.{map-append, take_all}
 use Rattle.std.proofs.lemmas.Option.{slice_get_within, slice_get_past}
 use Rattle.tp_base.proofs.Rising.{same_members, All-from_Contains, Contains-none}
-use Rattle.tp_base.proofs.Lists.{Contains-at, at_Contains, element_at, past_end, slice_get-take}
+use Rattle.tp_base.proofs.Lists.{Contains-at, at_Contains, element_at, past_end, slice_get-take, next_there, cons_cases, first_there}
 use Rattle.tree_sem.specs.Trees.{LabelTree}
 use Rattle.tree_sem.specs.Order.{Before}
 use Rattle.tree_sem.proofs.NodeLemmas.{Contains-map, map-Contains}
@@ -23,7 +23,6 @@ use Rattle.proof_needs.specs.Choices.{Choice, at_start, by_local, by_up, by_real
 use Rattle.proof_maker.specs.Needs.{setting_at, path_at, labels_at, triple_by, Needed, Walks, done, seen, new, named_by, entry_names, IsReason, IsItem, Comes, IsEntryOf, IsCanonical}
 use Rattle.proof_needs.specs.Triples.{Triple, Spot, page_node, added}
 use Rattle.proof_maker.proofs.ValidLemmas.{first_one, walked_lower}
-use Rattle.proof_maker.proofs.PostLemmas.{next_there, cons_cases, first_there}
 
 -- lists in a strict order with the same members are the same
 abbrev Rises : {K : Type 0} → (K → K → Type 0) → List K → Type 0

@@ -6,23 +6,13 @@ use Rattle.std.proofs.lemmas.List.{length-append}
 use Rattle.std.proofs.lemmas.List.Elements.{Contains-append_left, Contains-push, Contains-push_cases}
 use Rattle.std.proofs.lemmas.List.Sums.{position_or_len_is}
 use Rattle.std.proofs.lemmas.Option.{slice_get_within, slice_get-get_or, get_or_from_slice_get}
-use Rattle.tp_base.proofs.Lists.{Contains-at, at_Contains, push_cases}
+use Rattle.tp_base.proofs.Lists.{Contains-at, at_Contains, push_cases, cons_cases, first_there, next_there}
 use Rattle.tp_base.proofs.Rising.{Contains-none}
 use Rattle.proof_maker.specs.Needs.{Walks, done, seen, new}
 use Rattle.proof_maker.specs.Numbering.{Post}
 use Rattle.proof_maker.specs.Numbering as post
 use Rattle.proof_needs.specs.Numbers.{number_in}
 use Rattle.proof_needs.specs.Sets.{AreDistinct, IsMore}
-
-pub cons_cases : {X : Type 0} (y : X) (xs : List X) (x : X) → Contains (y ∷ xs) x → (y ≡ x) ⊎ Contains xs x
-cons_cases y xs x (zero, within, at) = inl at
-cons_cases y xs x (suc k, within, at) = inr (k, omega arith, at)
-
-pub first_there : {X : Type 0} (x : X) (xs : List X) → Contains (x ∷ xs) x
-first_there x xs = (0, omega arith, refl)
-
-pub next_there : {X : Type 0} (y : X) (xs : List X) (x : X) → Contains xs x → Contains (y ∷ xs) x
-next_there y xs x (k, within, at) = (suc k, omega arith, at)
 
 append_more : {X : Type 0} (xs ys : List X) → IsMore xs (xs ++ ys)
 append_more [] ys i x at = cc

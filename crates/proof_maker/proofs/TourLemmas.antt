@@ -1,11 +1,11 @@
 -- A walk that enters before it numbers is one in post-order, where names fall in rank.
 use Rattle.std.proofs.Common.{◌≡◌, ◌⊎◌, ℕ, ◌<◌, List, [], ◌∷◌, ◌++◌, if◌then◌else◌, Contains, inl, inr, sym, ap, subst, arith}
 use Rattle.std.proofs.lemmas.List.Elements.{Contains-append_left, Contains-push, Contains-push_cases}
+use Rattle.tp_base.proofs.Lists.{first_there, next_there}
 use Rattle.proof_maker.specs.Numbering.{Post}
 use Rattle.proof_maker.specs.Numbering as post
 use Rattle.proof_needs.specs.Numbers.{Walk, entering, numbering, Tour, done, known, new, nothing_entered, Tours}
 use Rattle.proof_needs.proofs.NumberLemmas.{not_any}
-use Rattle.proof_maker.proofs.PostLemmas.{first_there, next_there}
 
 module _ (names : ℕ → List ℕ) (rank : ℕ → ℕ) (falls : (k f : ℕ) → Contains (names k) f → rank f < rank k) where
   -- what was entered and has no number ranks above all that is walked to

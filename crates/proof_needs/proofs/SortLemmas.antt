@@ -14,6 +14,7 @@ use Rattle.std.proofs.lemmas.List.Sorted.{sorted_far, ranks_by, Contains-permuta
 use Rattle.std.proofs.lemmas.Map.Keys.{IsDistinct-IsPermutation, IsDistinct-from_apart, apart_from_distinct}
 use Rattle.std.proofs.lemmas.Option.{slice_get_within, get_or_from_slice_get, slice_get-get_or}
 use Rattle.tp_base.proofs.Lists.{Contains-at, at_Contains, element_at, push_cases}
+use Rattle.tp_base.proofs.Numbers.{nat_less, nat_same, never_less}
 use Rattle.tree_sem.specs.Order.{Before}
 use Rattle.proof_needs.specs.declared.orders.Rank.{Rank}
 use Rattle.proof_needs.specs.declared.needs.Needs.{Needs}
@@ -33,15 +34,6 @@ path_cases (k ∷ v) (l ∷ w) = elim (cases_order k l) [
   | inr (inl less) ↦ inl (inl less)
   | inr (inr more) ↦ inr (inr (inl more))
 ]
-
-nat_less : (x y : ℕ) → x < y → nat_cmp x y ≡ Less
-nat_less x y lt = grind (arith, lt)
-
-nat_same : (x y : ℕ) → x ≡ y → nat_cmp x y ≡ Equal
-nat_same x y same = ap (nat_cmp x) (sym same) ∙ itself x
-  where
-    itself : (x : ℕ) → nat_cmp x x ≡ Equal
-    itself x = grind arith
 
 -- the order of lists is that of a document
 pub before_less : (v w : List ℕ) → Before v w → slice_cmp nat_cmp v w ≡ Less
@@ -65,9 +57,6 @@ rank_cmp q r = ordering_then (nat_cmp q.round r.round) (ordering_then (slice_cmp
 pub rank_total : IsTotalOrder rank_cmp
 rank_total =
     then_total (on_total (λ (r : Rank). r.round) nat_cmp_total) (then_total (on_total (λ (r : Rank). r.path.items) nat_list_cmp_total) (then_total (on_total (λ (r : Rank). r.atom) nat_cmp_total) (on_total (λ (r : Rank). r.want) nat_cmp_total)))
-
-never_less : (o : Ordering) → o ≡ Less → is_lt o ≡ false → ⊥
-never_less o less not = let e : true ≡ false = ap is_lt (sym less) ∙ not in cc
 
 -- what isn't behind another want comes before it
 pub sooner : (q r : Rank) → is_lt (rank_cmp r q) ≡ false → (q.want ≡ r.want → ⊥) → IsBefore q r

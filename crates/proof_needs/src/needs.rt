@@ -1,7 +1,7 @@
 //! What the proof of an atom needs, and how the premises of a reason are followed.
 ghost use Rattle.std.specs.Prelude.{◌≡◌, ◌<◌, ◌++◌, ◌∷◌, [], ℕ, List, Option, Some, length, slice_get, unwrap_or, option_map, IfSome, OnOk};
 ghost use Rattle.tree_sem.specs.Paths.{parent_of};
-ghost use Rattle.proof_needs.specs.Choices.{needs_of, spawn_needs};
+ghost use Rattle.proof_needs.specs.Choices.{needs_of};
 ghost use Rattle.proof_needs.specs.Sets.{IsWith};
 ghost use Rattle.proof_needs.specs.Spots.{paths_in};
 ghost use Rattle.proof_needs.specs.Wants.{IsOfEach};

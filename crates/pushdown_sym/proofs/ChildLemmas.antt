@@ -2,7 +2,7 @@
 use Rattle.std.proofs.Common.{◌≡◌, ◌≢◌, ℕ, ◌+◌, ◌<◌, ◌==◌, true, false, not, List, [], ◌∷◌, ◌++◌, map, fold, take, length, get_or, All, Contains, Result, refl, sym, ap, subst, ◌∙◌, append-nil}
 use Rattle.std.specs.List.{filter, flat_map}
 use Rattle.std.specs.List.Sorted.{IsStrictlyIncreasing}
-use Rattle.std.proofs.lemmas.List.{take_more}
+use Rattle.std.proofs.lemmas.List.{take_more, map-append}
 use Rattle.std.proofs.lemmas.List.Concat.{flat_map-append, flat_map_single}
 use Rattle.std.proofs.lemmas.List.Sums.{fold-append}
 use Rattle.tree_sem.proofs.NodeLemmas.{map-Contains}
@@ -27,7 +27,7 @@ use Rattle.pushdown_sym.specs.Givers.{of_place, AreMakers}
 use Rattle.pushdown_sym.specs.Children.{child_by, children_by, children_of, stands, standing_by, standing_each, standing_of, with_child, different, term_of}
 use Rattle.pushdown_sym.proofs.AddLemmas.{cells_same}
 use Rattle.pushdown_sym.proofs.GiverLemmas.{filtered_places}
-use Rattle.pushdown_sym.proofs.LinkLemmas.{map-append, filtered_flat}
+use Rattle.pushdown_sym.proofs.LinkLemmas.{filtered_flat}
 use Rattle.pushdown_sym.proofs.DifferentLemmas.{fold_is, firsts_among, different_add}
 use Rattle.pushdown_sym.proofs.PlaceLemmas.{enough_places}
 use Rattle.pushdown_sym.proofs.StandingLemmas.{standing_add, standing_are, none_standing}

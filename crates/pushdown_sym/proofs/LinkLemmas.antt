@@ -3,7 +3,7 @@ use Rattle.std.proofs.Common.{◌≡◌, eqb, ℕ, zero, suc, ◌+◌, Bool, tru
 use Rattle.std.specs.List.{filter, flat_map}
 use Rattle.std.specs.List.Sorted.{IsStrictlyIncreasing}
 use Rattle.std.proofs.lemmas.Bool.{cases_Bool}
-use Rattle.std.proofs.lemmas.List.{take_more}
+use Rattle.std.proofs.lemmas.List.{take_more, map-append}
 use Rattle.std.proofs.lemmas.Option.{slice_get_within, get_or_from_slice_get}
 use Rattle.class_diagrams.specs.References.{Reference}
 use Rattle.class_diagrams.specs.declared.faults.DiagramFault.{DiagramFault}
@@ -80,10 +80,6 @@ no_child a cells j c sofar arena within none = record {
 -- ### links from children
 
 -- ### atoms with their diagrams
-
-pub map-append : {X Y : Type 0} (g : X → Y) (xs ys : List X) → map g (xs ++ ys) ≡ map g xs ++ map g ys
-map-append g [] ys = refl
-map-append g (x ∷ xs) ys = ap (λ zs. g x ∷ zs) (map-append g xs ys)
 
 pub paired_more : (f : ℕ → Reference) (atoms : List ℕ) (i b : ℕ) → slice_get atoms i ≡ Some b → paired f (take (i + 1) atoms) ≡ paired f (take i atoms) ++ (b, f b) ∷ []
 paired_more f atoms i b at =

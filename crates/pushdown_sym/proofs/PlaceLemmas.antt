@@ -20,6 +20,7 @@ use Rattle.tp_base.proofs.Rising.{Contains-here, Contains-behind, Contains-cons,
 use Rattle.simple_core.specs.declared.rules.Spawn.{Spawn}
 use Rattle.simple_core.specs.Givers.{places_from}
 use Rattle.simple_core.proofs.Members.{filter-Contains, Contains-filter}
+use Rattle.simple_core.proofs.PlaceLemmas.{places_from-Contains, places_from-is}
 use Rattle.pushdown_sym.specs.Givers.{of_place}
 use Rattle.pushdown_sym.proofs.GiverLemmas.{all_places}
 use Rattle.pushdown_sym.proofs.MapLemmas.{still_had, had_now}
@@ -27,39 +28,11 @@ use Rattle.pushdown_sym.proofs.MapLemmas.{still_had, had_now}
 -- ### the places of what passes
 
 module _ {X : Type 0} (passes : X → Bool) where
-  place_at : (k : ℕ) (xs : List X) (i : ℕ) (x : X) → slice_get xs i ≡ Some x → passes x ≡ true → Contains (places_from passes k xs) (k + i)
-  place_at k [] i x at pass = cc
-  place_at k (y ∷ xs) zero x at pass =
-      let same : y ≡ x = cc in
-      let first : k + 0 ≡ k = omega arith in
-      rw (ap passes same ∙ pass) (Contains-here (k + 0) k (places_from passes (suc k) xs) first)
-  place_at k (y ∷ xs) (suc i) x at pass =
-      let place : suc k + i ≡ k + suc i = omega arith in
-      let behind : Contains (places_from passes (suc k) xs) (k + suc i) = subst (λ n. Contains (places_from passes (suc k) xs) n) place (place_at (suc k) xs i x at pass) in
-      elim (cases_Bool (passes y)) [
-        | inl here ↦ rw here (Contains-behind (k + suc i) k (places_from passes (suc k) xs) behind)
-        | inr other ↦ rw other behind
-      ]
-
-  -- what stands at one of them
-  at_place : (k : ℕ) (xs : List X) (n : ℕ) → Contains (places_from passes k xs) n → (i : ℕ) × (n ≡ k + i) × (x : X) × (slice_get xs i ≡ Some x) × (passes x ≡ true)
-  at_place k [] n there = absurd (Contains-none n there)
-  at_place k (y ∷ xs) n there =
-      let further : Contains (places_from passes (suc k) xs) n → (i : ℕ) × (n ≡ k + i) × (x : X) × (slice_get (y ∷ xs) i ≡ Some x) × (passes x ≡ true)
-      = λ behind. let r = at_place (suc k) xs n behind in (suc r.0, omega (arith, r.1), r.2, r.3, r.4) in
-      elim (cases_Bool (passes y)) [
-        | inl here ↦ elim ((Contains-cons n k (places_from passes (suc k) xs)).0 (rw here at there)) [
-          | inl first ↦ (0, omega (arith, first), y, refl, here)
-          | inr behind ↦ further behind
-        ]
-        | inr other ↦ further (rw other at there)
-      ]
-
   rising_places : (k : ℕ) (xs : List X) → IsStrictlyIncreasing (places_from passes k xs)
   rising_places k [] = λ i less. absurd (omega arith)
   rising_places k (y ∷ xs) = elim (cases_Bool (passes y)) [
     | inl here ↦ rw here (rises_cons k (places_from passes (suc k) xs)
-        (All-from_Contains (λ n. k < n) (places_from passes (suc k) xs) (λ n there. let r = at_place (suc k) xs n there in omega (arith, r.1)))
+        (All-from_Contains (λ n. k < n) (places_from passes (suc k) xs) (λ n there. let r = places_from-is passes (suc k) xs n there in omega (arith, r.1)))
         (rising_places (suc k) xs))
     | inr other ↦ rw other (rising_places (suc k) xs)
   ]
@@ -86,7 +59,7 @@ module _ {X Y : Type 0} (f : X → List Y) (passes : X → Bool) (none : (x : X)
   passing_place : (i : ℕ) → passes_at i ≡ true → Contains (places_from passes 0 xs) i
   passing_place i pass = elim (slice_get xs i) as (λ (o : Option X). slice_get xs i ≡ o → unwrap_or (option_map passes o) false ≡ true → Contains (places_from passes 0 xs) i) [
     | None ↦ λ at e. cc
-    | Some x ↦ λ at e. let place : 0 + i ≡ i = omega arith in subst (λ n. Contains (places_from passes 0 xs) n) place (place_at passes 0 xs i x at e)
+    | Some x ↦ λ at e. let place : 0 + i ≡ i = omega arith in subst (λ n. Contains (places_from passes 0 xs) n) place (places_from-Contains passes 0 xs i x at e)
   ] refl pass
 
   pub enough_places : (places : List ℕ) → IsStrictlyIncreasing places → ((i : ℕ) (x : X) → slice_get xs i ≡ Some x → passes x ≡ true → Contains places i)
@@ -96,7 +69,7 @@ module _ {X Y : Type 0} (f : X → List Y) (passes : X → Bool) (none : (x : X)
       let same : filter passes_at places ≡ all = same_members (filter passes_at places) all (IsStrictlyIncreasing-filter passes_at places rises) (rising_places passes 0 xs)
       (All-from_Contains (Contains all) (filter passes_at places) (λ i there. passing_place i (filter-Contains passes_at places i there).1))
       (All-from_Contains (Contains (filter passes_at places)) all (λ i there.
-      let r = at_place passes 0 xs i there in
+      let r = places_from-is passes 0 xs i there in
       let is : i ≡ r.0 = omega (arith, r.1) in
       let at : slice_get xs i ≡ Some r.2 = ap (λ n. slice_get xs n) is ∙ r.3 in
       Contains-filter passes_at places i (whole i r.2 at r.4) (ap (λ (o : Option X). unwrap_or (option_map passes o) false) at ∙ r.4))) in

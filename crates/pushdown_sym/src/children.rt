@@ -1,9 +1,7 @@
 //! What a node gets from its children.
-ghost use Rattle.std.specs.Prelude.{◌≡◌, ℕ, false, List, [], ◌∷◌, All, map, IfOk};
+ghost use Rattle.std.specs.Prelude.{◌≡◌, false, [], ◌∷◌, All, map, IfOk};
 ghost use Rattle.std.specs.List.{flat_map};
 ghost use Rattle.std.specs.List.Sorted.{IsStrictlyIncreasing};
-ghost use Rattle.class_diagrams.specs.References.{Reference};
-ghost use Rattle.class_diagrams.specs.Trees.{Tree};
 ghost use Rattle.class_diagrams.specs.Arena.{tree_at, IsIn, IsArena};
 ghost use Rattle.diagram_ops.specs.Compositions.{atoms_of};
 ghost use Rattle.pushdown_sym.specs.declared.gathering.Child.{Child};

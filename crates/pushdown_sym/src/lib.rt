@@ -11,7 +11,7 @@ mod locals;
 mod makers;
 mod rounds;
 
-pub use cells::Cells;
+pub use cells::{CellKey, Cells};
 pub use equations::Equations;
 pub use laws::cells_tell;
 pub use rounds::Round;

@@ -1,5 +1,4 @@
 //! What a node gets from its parent.
-ghost use Rattle.std.specs.Prelude.{◌≡◌, List};
 ghost use Rattle.std.specs.List.{flat_map};
 ghost use Rattle.class_diagrams.specs.Arena.{IsIn, IsArena};
 ghost use Rattle.pushdown_sym.specs.Adding.{Adds, of_up};

@@ -1,8 +1,8 @@
 //! What a node gets from its own atoms.
-ghost use Rattle.std.specs.Prelude.{◌≡◌, ℕ, true, List};
+ghost use Rattle.std.specs.Prelude.{ℕ, true};
 ghost use Rattle.std.specs.List.{flat_map};
-ghost use Rattle.class_diagrams.specs.Trees.{Tree, leaf};
-ghost use Rattle.class_diagrams.specs.Arena.{tree_at, IsIn, IsArena};
+ghost use Rattle.class_diagrams.specs.Trees.{leaf};
+ghost use Rattle.class_diagrams.specs.Arena.{IsIn, IsArena};
 ghost use Rattle.diagram_ops.specs.Steps.{Calculates};
 ghost use Rattle.pushdown_sym.specs.CellMap.{place_in, trees_in};
 ghost use Rattle.pushdown_sym.specs.Terms.{conjunction, conjunctions};

@@ -1,5 +1,5 @@
 //! One selector of a sheet, and a script's list of selectors: how each is written, or why it isn't read.
-use sel_core::{SelFault, Selector, Skip, read_selector, read_strict_list, write_selector};
+use sel_text::{SelFault, Selector, Skip, read_selector, read_strict_list, write_selector};
 use std::alloc::{AllocError, Global};
 use tp_base::{AtomTable, NoMemory};
 

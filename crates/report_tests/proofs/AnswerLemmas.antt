@@ -2,7 +2,7 @@
 use Rattle.std.proofs.Common.{◌≡◌, ℕ, ◌<◌, Bool, true, false, if◌then◌else◌, nat_lt, List, [], ◌∷◌, length, map, sym, ◌∙◌, subst, arith}
 use Rattle.std.proofs.lemmas.List.{length-map}
 use Rattle.tp_base.specs.declared.places.Place.{Place}
-use Rattle.sel_core.specs.Selectors.{Selector}
+use Rattle.sel_text.specs.Selectors.{Selector}
 use Rattle.css_read.specs.Sheets.{judged, Item}
 use Rattle.usage_report.specs.declared.answers.Answer as code
 use Rattle.usage_report.specs.Views.{answer_of}

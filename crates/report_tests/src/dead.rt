@@ -1,5 +1,5 @@
 ghost use Rattle.std.specs.Prelude.{◌≡◌, length, All, IfOk};
-ghost use Rattle.jq_sem.specs.Views.{statements_of};
+ghost use Rattle.jq_stmts.specs.Views.{statements_of};
 ghost use Rattle.usage_report.specs.Views.{answer_of};
 ghost use Rattle.dead_script.specs.Probes.{all_probes};
 ghost use Rattle.dead_script.specs.Verdicts.{IsProbed, places_of};
@@ -8,7 +8,7 @@ use crate::answers::{Said, answers};
 use crate::checks::are_probed;
 use crate::reading::{places, script_of};
 use dead_script::{probe_guards, write_dead};
-use jq_sem::Stmt;
+use jq_stmts::Stmt;
 use std::alloc::Global;
 use std::test::Fail;
 use tp_base::{AtomTable, NoMemory};

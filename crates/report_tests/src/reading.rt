@@ -1,10 +1,10 @@
 //! Statements from their texts, and where they stand.
 ghost use Rattle.std.specs.Prelude.{◌≡◌, IfOk};
-ghost use Rattle.jq_sem.specs.Views.{statements_of};
+ghost use Rattle.jq_stmts.specs.Views.{statements_of};
 ghost use Rattle.dead_script.specs.Verdicts.{places_of};
 
 use jq_read::{ScriptFault, read_script};
-use jq_sem::Stmt;
+use jq_stmts::Stmt;
 use std::alloc::Global;
 use tp_base::{AtomTable, MOST_BYTES, NoMemory, Place};
 

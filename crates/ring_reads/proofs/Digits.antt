@@ -1,5 +1,5 @@
 -- The bytes of a number are digits, and what holds of each digit holds of each of them.
-use Rattle.std.proofs.Common.{◌≡◌, ℕ, zero, suc, ◌+◌, ◌-◌, ◌%◌, ◌≤◌, ◌<◌, ◌^◌, Bool, true, false, nat_lt, List, All, [], ◌∷◌, ◌++◌, length, drop, refl, sym, subst, arith, length-append}
+use Rattle.std.proofs.Common.{◌≡◌, ℕ, zero, suc, ◌+◌, ◌-◌, ◌%◌, ◌≤◌, ◌<◌, ◌^◌, ◌||◌, not, Bool, true, false, nat_lt, List, All, [], ◌∷◌, ◌++◌, length, drop, refl, sym, subst, arith, length-append}
 use Rattle.std.specs.List.{list_all, range_with_len, prefix_len, flat_map}
 use Rattle.std.specs.Fmt.{decimal}
 use Rattle.std.specs.Str.{IsAscii}
@@ -70,3 +70,9 @@ lines_ascii line each a (suc n) few =
 pub each_prefix : (q : ℕ → Bool) (xs : List ℕ) → Each q xs → prefix_len q xs ≡ length xs
 each_prefix q [] each = refl
 each_prefix q (x ∷ xs) each = rw (each.0, each_prefix q xs each.1) (omega arith)
+
+pub not_parts : (a b c : Bool) → not (a || b || c) ≡ true → (a ≡ false) × (b ≡ false) × (c ≡ false)
+not_parts true b c is = absurd cc
+not_parts false true c is = absurd cc
+not_parts false false true is = absurd cc
+not_parts false false false is = (refl, refl, refl)

@@ -7,19 +7,19 @@ use Rattle.std.proofs.lemmas.List.{take_all}
 use Rattle.tp_base.specs.Names.{Named, place_in, placed, with_name}
 use Rattle.tp_base.specs.declared.atoms.TheConstants.{MOST_ATOMS}
 use Rattle.tp_base.specs.declared.atoms.AtomKind.TheVariants as kind
-use Rattle.sel_core.specs.Bytes.{in_name, begins_name, name_len, behind_gap}
-use Rattle.sel_core.specs.Grammar.{Word, any_part, first_part, name_at}
-use Rattle.sel_core.specs.Lists.{behind_unit, from_comma, first_piece, more_pieces, pieces, read_pieces, read_strict_list}
-use Rattle.sel_core.specs.Readable.{IsName}
-use Rattle.sel_core.specs.Reading.{Ending, then_read, table_name, atom_of, atoms_of, compounds_of, selector_or, read_syntax, read_piece}
-use Rattle.sel_core.specs.Reading as one
-use Rattle.sel_core.specs.Syntax.{Syntax, part, whole_part, first_item, item_at, nothing, with_item, syntax_from, syntax_of}
-use Rattle.sel_core.specs.declared.selectors.Compound.{Compound}
-use Rattle.sel_core.proofs.NameLemmas.{reads_name, no_comment, not_byte, name_begins}
-use Rattle.sel_core.proofs.ByteRuns.{all_by, all_of_run}
+use Rattle.sel_text.specs.Bytes.{in_name, begins_name, name_len, behind_gap}
+use Rattle.sel_text.specs.Grammar.{Word, any_part, first_part, name_at}
+use Rattle.sel_text.specs.Lists.{behind_unit, from_comma, first_piece, more_pieces, pieces, read_pieces, read_strict_list}
+use Rattle.sel_text.specs.Readable.{IsName}
+use Rattle.sel_text.specs.Reading.{Ending, then_read, table_name, atom_of, atoms_of, compounds_of, selector_or, read_syntax, read_piece}
+use Rattle.sel_text.specs.Reading as one
+use Rattle.sel_text.specs.Syntax.{Syntax, part, whole_part, first_item, item_at, nothing, with_item, syntax_from, syntax_of}
+use Rattle.sel_text.specs.declared.selectors.Compound.{Compound}
+use Rattle.sel_text.proofs.NameLemmas.{reads_name, no_comment, not_byte, name_begins}
+use Rattle.sel_text.proofs.ByteRuns.{all_by, all_of_run}
 use Rattle.ring_reads.specs.Readings.{IsRead}
 use Rattle.ring_reads.specs.RingScripts.{ReadsClasses, ReadsRingRoots}
-use Rattle.ring_reads.proofs.Digits.{Each, each_of, each_digit, each_prefix}
+use Rattle.ring_reads.proofs.Digits.{Each, each_of, each_digit, each_prefix, not_parts}
 
 -- ---- a selector
 
@@ -39,17 +39,11 @@ atom_read names w room = go (place_in names (table_name w))
 abbrev pub is_quiet : ℕ → Bool
 is_quiet b = not (b == 44 || b == 91 || b == 47)
 
-quiet_parts : (a b c : Bool) → not (a || b || c) ≡ true → (a ≡ false) × (b ≡ false) × (c ≡ false)
-quiet_parts true b c is = absurd cc
-quiet_parts false true c is = absurd cc
-quiet_parts false false true is = absurd cc
-quiet_parts false false false is = (refl, refl, refl)
-
 no_comma : (bs : List ℕ) → Each is_quiet bs → from_comma 0 bs ≡ []
 unfolding from_comma behind_unit
 no_comma [] each = refl
 no_comma (b ∷ bs) each =
-    let parts = quiet_parts (b == 44) (b == 91) (b == 47) each.0 in
+    let parts = not_parts (b == 44) (b == 91) (b == 47) each.0 in
     let none : starts_with nat_eq (b ∷ bs) (codes "/*") ≡ false = no_comment b bs parts.2 in
     let zero_left : length bs - length bs ≡ 0 = omega arith in
     rw (parts.0, parts.1, none, zero_left) (no_comma bs each.1)

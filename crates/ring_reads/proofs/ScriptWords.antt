@@ -13,7 +13,7 @@ use Rattle.js_scan.specs.Marks.{mark_len}
 use Rattle.js_scan.proofs.TokensLemmas.{tokens_skip}
 use Rattle.jq_words.specs.Words.{Word, words_behind}
 use Rattle.ring_reads.specs.RingWords.{quoted_text, line_words}
-use Rattle.ring_reads.proofs.Digits.{Each, IsLast, drop_before}
+use Rattle.ring_reads.proofs.Digits.{Each, IsLast, drop_before, not_parts}
 
 -- ---- texts in quotes
 
@@ -26,12 +26,6 @@ unfolding text_from
 text_skip at zero bs = refl
 text_skip at (suc n) [] = refl
 text_skip at (suc n) (b ∷ bs) = text_skip at n bs
-
-not_parts : (a b c : Bool) → not (a || b || c) ≡ true → (a ≡ false) × (b ≡ false) × (c ≡ false)
-not_parts true b c is = absurd cc
-not_parts false true c is = absurd cc
-not_parts false false true is = absurd cc
-not_parts false false false is = (refl, refl, refl)
 
 each_drop : (q : ℕ → Bool) (n : ℕ) (xs : List ℕ) → Each q xs → Each q (drop n xs)
 each_drop q zero xs each = each

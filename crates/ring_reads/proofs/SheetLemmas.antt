@@ -9,18 +9,18 @@ use Rattle.text_bytes.specs.Blanks.{is_blank}
 use Rattle.tp_base.specs.Names.{Named, place_in, placed, with_name}
 use Rattle.tp_base.specs.declared.atoms.AtomKind.{AtomKind}
 use Rattle.tp_base.specs.declared.atoms.TheConstants.{MOST_ATOMS}
-use Rattle.sel_core.specs.declared.faults.Skip.TheVariants.{Long, Bad}
-use Rattle.sel_core.specs.declared.faults.SelFault.{SelFault}
-use Rattle.sel_core.specs.declared.faults.SelFault.TheVariants as sel
-use Rattle.sel_core.specs.declared.faults.TheConstants.{MOST_PARTS}
-use Rattle.sel_core.specs.declared.selectors.Join.{Join}
-use Rattle.sel_core.specs.declared.selectors.Join.TheVariants.{Inside, Child}
-use Rattle.sel_core.specs.declared.selectors.Compound.{Compound}
-use Rattle.sel_core.specs.Selectors.{Selector}
-use Rattle.sel_core.specs.Bytes.{behind_gap, name_len}
-use Rattle.sel_core.specs.Grammar.{Outcome, ◌>>=◌, is_empty, left_at, Word, Begun, whole, wanting, any_part, first_part, name_at, behind_child, behind_space, behind_near, join_at}
-use Rattle.sel_core.specs.Syntax.{Syntax, Item, part, joined, ended, whole_part, first_item, behind_join, later_item, item_at, finished_after, begun_after, with_item, then_syntax, syntax_from, syntax_of}
-use Rattle.sel_core.specs.Reading as one
+use Rattle.sel_text.specs.declared.faults.Skip.TheVariants.{Long, Bad}
+use Rattle.sel_text.specs.declared.faults.SelFault.{SelFault}
+use Rattle.sel_text.specs.declared.faults.SelFault.TheVariants as sel
+use Rattle.sel_text.specs.declared.faults.TheConstants.{MOST_PARTS}
+use Rattle.sel_text.specs.declared.selectors.Join.{Join}
+use Rattle.sel_text.specs.declared.selectors.Join.TheVariants.{Inside, Child}
+use Rattle.sel_text.specs.declared.selectors.Compound.{Compound}
+use Rattle.sel_text.specs.Selectors.{Selector}
+use Rattle.sel_text.specs.Bytes.{behind_gap, name_len}
+use Rattle.sel_text.specs.Grammar.{Outcome, ◌>>=◌, is_empty, left_at, Word, Begun, whole, wanting, any_part, first_part, name_at, behind_child, behind_space, behind_near, join_at}
+use Rattle.sel_text.specs.Syntax.{Syntax, Item, part, joined, ended, whole_part, first_item, behind_join, later_item, item_at, finished_after, begun_after, with_item, then_syntax, syntax_from, syntax_of}
+use Rattle.sel_text.specs.Reading as one
 use Rattle.css_read.specs.declared.faults.TheConstants.{MOST_SELECTORS}
 use Rattle.css_read.specs.declared.sheets.Range.{Range}
 use Rattle.css_read.specs.Order.{AreApart}

@@ -7,8 +7,8 @@ use Rattle.std.specs.Prelude.{◌≡◌, ℕ, ◌+◌, ◌≤◌, ◌<◌, List,
 use Rattle.tp_base.specs.Names.{Named}
 use Rattle.tp_base.specs.declared.atoms.TheConstants.{MOST_ATOMS}
 use Rattle.tree_sem.specs.Trees.{LabelTree, count_of}
-use Rattle.sel_core.specs.Lists.{read_strict_list}
-use Rattle.sel_core.specs.Readable.{IsName}
+use Rattle.sel_text.specs.Lists.{read_strict_list}
+use Rattle.sel_text.specs.Readable.{IsName}
 use Rattle.html_subset.specs.Reading.{read_forest}
 use Rattle.triple_gen.specs.declared.triple.TheConstants.{MOST_BOXES}
 use Rattle.ring_reads.specs.Readings.{IsRead}

@@ -7,10 +7,10 @@ use Rattle.tree_sem.specs.Cuts.{take_class}
 use Rattle.tree_sem.specs.Trees.{LabelTree, node_at, count_of}
 use Rattle.tree_sem.proofs.EditLemmas.{edit_at-none}
 use Rattle.tree_sem.proofs.LossLemmas.{cut_at-none}
-use Rattle.jq_sem.specs.Statements.{Statement}
+use Rattle.jq_stmts.specs.Statements.{Statement}
 use Rattle.jq_sem.specs.Events.{IsLoss, IsLegalEvent, after_event}
-use Rattle.rule_core.specs.declared.replays.ReplayFault.TheVariants.{IllegalStep}
-use Rattle.rule_core.specs.Replays.{IsStep}
+use Rattle.tree_sem.specs.declared.replay_fault.ReplayFault.TheVariants.{IllegalStep}
+use Rattle.tree_sem.specs.Replays.{IsStep}
 
 not_there : (o : Option LabelTree) → ¬ IsSome o → o ≡ None
 not_there None none = refl

@@ -1,28 +1,17 @@
 //! Steps of a script's statements, and events, taken one after another.
 ghost use Rattle.std.specs.Prelude.{◌≡◌, ◌⊎◌, ◌↔◌, ℕ, ◌<◌, ◌≤◌, [], length, take, IsTrue, OnOk, IfErr, IsErrOf};
+ghost use Rattle.tree_sem.specs.Replays.{step_of, IsReplay, IsStep};
 ghost use Rattle.tree_sem.specs.Series.{CanTake, IsIllegalAt, IsFullAt};
 ghost use Rattle.tree_sem.specs.Trees.{count_of};
 ghost use Rattle.jq_sem.specs.Events.{IsLegalEvent, after_event, AreLegalEvents, end_of_events};
 ghost use Rattle.jq_sem.specs.Reachability.{IsLegal, after_step, AreLegal, end_of};
-ghost use Rattle.jq_sem.specs.Views.{statements_of};
-ghost use Rattle.rule_core.specs.Replays.{step_of, IsReplay, IsStep};
+ghost use Rattle.jq_stmts.specs.Views.{statements_of};
 
-use jq_sem::{Stmt, act, selects};
+use jq_sem::{act, selects};
+use jq_stmts::Stmt;
 use std::alloc::Global;
-use thiserror::Error;
 use tp_base::{Atom, NoMemory, Path};
-use tree_sem::{Event, MOST_NODES, Step, Tree, TreeFault};
-
-/// Why a step or an event was not taken. The number is that of the step or event, counted from 0.
-#[derive(Clone, Copy, Debug, PartialEq, Eq, Error)]
-pub enum ReplayFault {
-    #[error("step {0} is not legal")]
-    IllegalStep(usize),
-    #[error("step {0} makes too many nodes")]
-    TooManyNodes(usize),
-    #[error("no memory at step {0}")]
-    Memory(usize),
-}
+use tree_sem::{Event, MOST_NODES, ReplayFault, Step, Tree, TreeFault};
 
 /// Takes the steps one after another. It stops at the first one that is not legal in the tree before it, or
 /// that would make too many nodes, and leaves the tree as it was before that step. Each step costs what

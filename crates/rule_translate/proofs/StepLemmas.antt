@@ -8,7 +8,8 @@ use Rattle.tree_sem.specs.Trees.{LabelTree, edit_at}
 use Rattle.tree_sem.specs.Paths.{parent_of}
 use Rattle.tree_sem.specs.Actions.{add_trees, act}
 use Rattle.tree_sem.proofs.PathLemmas.{parent_of-child, child_of_parent}
-use Rattle.jq_sem.specs.Statements.{Statement, Selected}
+use Rattle.jq_sem.specs.Statements.{Selected}
+use Rattle.jq_stmts.specs.Statements.{Statement}
 use Rattle.jq_sem.specs.Reachability as script
 use Rattle.jq_sem.proofs.StepLemmas as of_statements
 use Rattle.guard_sem.specs.Guards.{child}

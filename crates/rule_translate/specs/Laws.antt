@@ -6,7 +6,8 @@
 use Rattle.std.specs.Prelude.{◌≡◌, ◌↔◌, ℕ, List}
 use Rattle.tree_sem.specs.declared.actions.Step.{Step}
 use Rattle.tree_sem.specs.Trees.{LabelTree}
-use Rattle.jq_sem.specs.Statements.{Statement, Selected}
+use Rattle.jq_sem.specs.Statements.{Selected}
+use Rattle.jq_stmts.specs.Statements.{Statement}
 use Rattle.jq_sem.specs.Reachability as script
 use Rattle.guard_sem.specs.Holding.{Holds}
 use Rattle.guard_sem.specs.Rules.{RuleStep, end_of, AreLegal}

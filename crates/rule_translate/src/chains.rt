@@ -1,13 +1,14 @@
 //! The guard of a chain, under the handler that it stands in.
 ghost use Rattle.std.specs.Prelude.{◌≡◌, ◌||◌, true, [], IfOk, option_copied, map};
-ghost use Rattle.jq_sem.specs.Statements.{Root, this};
+ghost use Rattle.jq_stmts.specs.Statements.{Root, this};
 ghost use Rattle.jq_sem.specs.Standing.{after, last_first};
-ghost use Rattle.jq_sem.specs.Views.{call_of, root_of, chain_of};
+ghost use Rattle.jq_stmts.specs.Views.{call_of, root_of, chain_of};
 ghost use Rattle.rule_translate.specs.Translation as spec;
 
 use crate::sets::{both, nowhere, of_call, of_selectors};
 use guard_sem::{Guard, GuardNode};
-use jq_sem::{Call, Chain, Root, standing};
+use jq_sem::standing;
+use jq_stmts::{Call, Chain, Root};
 use std::alloc::Global;
 use tp_base::NoMemory;
 

@@ -1,8 +1,8 @@
 //! What a rule has in common with its statement.
-ghost use Rattle.jq_sem.specs.Views.{statement_of, statements_of};
+ghost use Rattle.jq_stmts.specs.Views.{statement_of, statements_of};
 ghost use Rattle.rule_translate.specs.Laws.{HoldsWhereSelected, AreAlike};
 
-use jq_sem::Stmt;
+use jq_stmts::Stmt;
 use tree_sem::Tree;
 
 /// The guard of a statement holds exactly where the statement selects, in every tree.

@@ -1,11 +1,11 @@
 //! The rule of a statement.
 ghost use Rattle.std.specs.Prelude.{◌≡◌, None, IfOk, map};
-ghost use Rattle.jq_sem.specs.Views.{chain_of, statement_of};
+ghost use Rattle.jq_stmts.specs.Views.{chain_of, statement_of};
 ghost use Rattle.rule_translate.specs.Translation as spec;
 
 use crate::chains::of_chain;
 use guard_sem::{Guard, GuardNode, Rule};
-use jq_sem::{Chain, Stmt};
+use jq_stmts::{Chain, Stmt};
 use std::alloc::Global;
 use tp_base::NoMemory;
 use tree_sem::Action;

@@ -5,12 +5,13 @@ use Rattle.std.proofs.Math.Seq.{take-append_seam}
 use Rattle.tp_base.proofs.Lists.{slice_get-append_left, slice_get-push}
 use Rattle.tree_sem.specs.Trees.{LabelTree, count_of}
 use Rattle.tree_sem.specs.declared.actions.Step.{Step}
-use Rattle.sel_core.specs.Selectors.{Selector, Matches}
+use Rattle.sel_core.specs.Selectors.{Matches}
+use Rattle.sel_text.specs.Selectors.{Selector}
 use Rattle.css_read.specs.Sheets as sheets
 use Rattle.css_read.specs.Views.{item_of}
 use Rattle.css_read.specs.declared.sheets.SheetItem.{SheetItem}
 use Rattle.jq_sem.specs.Reachability.{AreLegal, end_of}
-use Rattle.jq_sem.specs.Statements.{Statement}
+use Rattle.jq_stmts.specs.Statements.{Statement}
 use Rattle.jq_sem.specs.WholeRuns.{IsRunOf, runs_of}
 use Rattle.proof_check.specs.declared.unfolded.Unfolded.{Unfolded}
 use Rattle.usage_report.specs.Answers as spec_answers

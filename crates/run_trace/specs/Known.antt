@@ -7,12 +7,12 @@
 use Rattle.std.specs.Prelude.{◌≡◌, ℕ, suc, Bool, MatchBool, map, List, length, get_or, Option, Some, None}
 use Rattle.tree_sem.specs.Trees.{LabelTree}
 use Rattle.tree_sem.specs.declared.actions.Step.{Step}
-use Rattle.sel_core.specs.Selectors.{Selector}
+use Rattle.sel_text.specs.Selectors.{Selector}
 use Rattle.css_read.specs.Sheets as sheets
 use Rattle.css_read.specs.Views.{item_of}
-use Rattle.jq_sem.specs.Statements.{Statement}
-use Rattle.jq_sem.specs.Views.{statements_of}
-use Rattle.sel_core.specs.Views.{selector_of}
+use Rattle.jq_stmts.specs.Statements.{Statement}
+use Rattle.jq_stmts.specs.Views.{statements_of}
+use Rattle.sel_text.specs.Views.{selector_of}
 use Rattle.usage_report.specs.Answers.{Answer}
 use Rattle.usage_report.specs.declared.run_traces.RunTrace.{RunTrace}
 use Rattle.usage_report.specs.Views.{answer_of, trace_of}

@@ -3,7 +3,7 @@
 --     IsShownAt items answers n s steps   by the answer of the item n
 use Rattle.std.specs.Prelude.{◌≡◌, ℕ, zero, suc, List, [], ◌∷◌, Option, Some}
 use Rattle.tree_sem.specs.declared.actions.Step.{Step}
-use Rattle.sel_core.specs.Selectors.{Selector}
+use Rattle.sel_text.specs.Selectors.{Selector}
 use Rattle.css_read.specs.Sheets as sheets
 use Rattle.proof_check.specs.declared.unfolded.Unfolded.{Unfolded}
 use Rattle.usage_report.specs.Answers.{Answer}

@@ -2,15 +2,15 @@
 ghost use Rattle.std.specs.Prelude.{◌≡◌, ℕ, List, ◌++◌, IsTrue, IfSome};
 ghost use Rattle.css_read.specs.Views.{outcome_of};
 ghost use Rattle.jq_sem.specs.WholeRuns.{runs_of};
-ghost use Rattle.sel_core.specs.Views.{selector_of};
+ghost use Rattle.sel_text.specs.Views.{selector_of};
 ghost use Rattle.run_trace.specs.Known.{IsShownTo};
 ghost use Rattle.run_trace.specs.Shown.{IsShownIn};
 ghost use Rattle.run_trace.specs.Traces.{shown_in};
 ghost use Rattle.usage_report.specs.Views.{answer_of};
 
 use css_read::{Outcome, SheetItem};
-use jq_sem::Stmt;
-use sel_core::Selector;
+use jq_stmts::Stmt;
+use sel_text::Selector;
 use tree_sem::{Step, Tree};
 use usage_report::Answer;
 

@@ -1,6 +1,6 @@
 //! Traces that are found together: each run is done once for all lists that begin with the same runs up to it.
 ghost use Rattle.std.specs.Prelude.{◌≡◌, ◌⊎◌, ◌≤◌, ℕ, length, get_or, All, None, Some, MatchBool, IsTrue, IfOk, IfSome, OnOk};
-ghost use Rattle.jq_sem.specs.Views.{statements_of};
+ghost use Rattle.jq_stmts.specs.Views.{statements_of};
 ghost use Rattle.jq_sem.specs.WholeRuns.{runs_of};
 ghost use Rattle.run_trace.specs.Known.{IsTracedTask, AreKnownTo, IsBranch, IsLedBranch, IsStoppedBranch, IsShownBy, IsShownTo, IsTraceFor};
 ghost use Rattle.usage_report.specs.declared.run_traces.RunTrace as code_trace;

@@ -6,7 +6,7 @@ use Rattle.simple_core.specs.Systems.{IsSound}
 use Rattle.pushdown_sym.specs.CellMap.{Entries}
 use Rattle.pushdown_sym.specs.Adding.{AreIn}
 use Rattle.pushdown_sym.specs.Rounds.{given_atoms}
-use Rattle.saturation.specs.declared.histories.CellKey.{CellKey}
+use Rattle.pushdown_sym.specs.declared.cells.CellKey.{CellKey}
 use Rattle.saturation.specs.Histories.{Change}
 use Rattle.saturation.specs.HistoryMap.{history_in}
 use Rattle.saturation.specs.Saturation.{IsBuilt}

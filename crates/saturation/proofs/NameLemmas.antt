@@ -3,6 +3,7 @@ use Rattle.std.proofs.Common.{◌≡◌, ℕ, suc, ◌+◌, List, [], ◌∷◌,
 use Rattle.std.proofs.lemmas.Option.{slice_get-get_or}
 use Rattle.std.specs.List.{flat_map, range_with_len}
 use Rattle.std.proofs.lemmas.List.Concat.{flat_map-append}
+use Rattle.std.proofs.lemmas.List.{map-append}
 use Rattle.tp_base.specs.Classes.{with_class, union_of}
 use Rattle.tp_base.proofs.Lists.{take_next, range_more}
 use Rattle.simple_core.specs.Labels.{set_of}
@@ -38,10 +39,6 @@ given_is s kinds locals ups downs none a b c d kinds_are locals_are ups_are down
     (up_ends ∙ ap (λ (xs : List ℕ). union_of xs (map (λ (l : Link). l.to) s.up)) (gives ∙ ap (λ (xs : List ℕ). union_of xs (map (λ (r : Local). r.gives) s.local)) labels))
     ∙ all
 
-pub map_append : {X Y : Type 0} (g : X → Y) (xs ys : List X) → map g (xs ++ ys) ≡ map g xs ++ map g ys
-map_append g [] ys = refl
-map_append g (x ∷ xs) ys = ap (λ zs. g x ∷ zs) (map_append g xs ys)
-
 -- one cell more of a kind
 pub named_more : (old now new : List CellName) (kind : ℕ) (atoms : List ℕ) (i a : ℕ) → slice_get atoms i ≡ Some a → now ≡ old ++ named kind (take i atoms) → new ≡ now ++ (kind, a) ∷ []
     → new ≡ old ++ named kind (take (i + 1) atoms)
@@ -49,7 +46,7 @@ named_more old now new kind atoms i a at before more =
     more
     ∙ ap (λ (cs : List CellName). cs ++ (kind, a) ∷ []) before
     ∙ append_assoc old (named kind (take i atoms)) ((kind, a) ∷ [])
-    ∙ ap (λ (cs : List CellName). old ++ cs) (sym (ap (named kind) (take_next atoms i a at) ∙ map_append {X = ℕ} {Y = CellName} (λ b. (kind, b)) (take i atoms) (a ∷ [])))
+    ∙ ap (λ (cs : List CellName). old ++ cs) (sym (ap (named kind) (take_next atoms i a at) ∙ map-append {A = ℕ} {B = CellName} (λ b. (kind, b)) (take i atoms) (a ∷ [])))
 
 -- one kind more
 one_kind : (kinds more : List ℕ) (kind : ℕ) (atoms : List ℕ) → more ≡ kinds ++ kind ∷ [] → named_each more atoms ≡ named_each kinds atoms ++ named kind atoms

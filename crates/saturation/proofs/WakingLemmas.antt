@@ -1,7 +1,7 @@
 -- Which cells are among those that are calculated again.
 use Rattle.std.proofs.Common.{◌≡◌, ◌≢◌, ℕ, ◌+◌, ◌<◌, ◌≤◌, Bool, true, false, List, [], ◌∷◌, ◌++◌, take, length, ◌&&◌, slice_get, Some, append_assoc, append-nil, nat_eq, All, Contains, if◌then◌else◌, refl, sym, ap, subst, ◌∙◌, arith, inl, inr}
 use Rattle.std.proofs.lemmas.Bool.{cases_Bool, eqb-true, and_parts}
-use Rattle.std.proofs.lemmas.List.{take_all}
+use Rattle.std.proofs.lemmas.List.{take_all, map-append}
 use Rattle.std.specs.Cmp.{IsEquivalence}
 use Rattle.std.specs.List.Retain.{IsFiltered, DiffersFromLast}
 use Rattle.std.proofs.lemmas.Cmp.{nat_eq_equiv, on_equiv, and_equiv}
@@ -27,7 +27,6 @@ use Rattle.saturation.specs.Waking.{CellName, Fits, named, named_each, by_rules,
 use Rattle.saturation.proofs.GivenLemmas.{given_local, given_down}
 use Rattle.saturation.proofs.NoteLemmas.{last_cases}
 use Rattle.saturation.proofs.LoopLemmas.{all_one}
-use Rattle.saturation.proofs.NameLemmas.{map_append}
 
 -- ### lists of cells
 
@@ -195,7 +194,7 @@ with_atom_more old now new atom kinds i kind at before more =
     more
     ∙ ap (λ (cs : List CellName). cs ++ (kind, atom) ∷ []) before
     ∙ append_assoc old (with_atom atom (take i kinds)) ((kind, atom) ∷ [])
-    ∙ ap (λ (cs : List CellName). old ++ cs) (sym (ap (with_atom atom) (take_next kinds i kind at) ∙ map_append {X = ℕ} {Y = CellName} (λ k. (k, atom)) (take i kinds) (kind ∷ [])))
+    ∙ ap (λ (cs : List CellName). old ++ cs) (sym (ap (with_atom atom) (take_next kinds i kind at) ∙ map-append {A = ℕ} {B = CellName} (λ k. (k, atom)) (take i kinds) (kind ∷ [])))
 
 pub above_none : (now : CellTrees) (count : ℕ) (cells : List CellName) → AreAbove now count [] cells cells
 above_none now count cells = record {

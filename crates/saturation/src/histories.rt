@@ -6,15 +6,10 @@ ghost use Rattle.saturation.specs.HistoryMap.{history_in};
 
 use class_diagrams::{Diagrams, Ref};
 use multimap::Multimap;
+use pushdown_sym::CellKey;
 use std::alloc::Global;
 use std::marker::Model;
 use tp_base::{Atom, ClassSet, NoMemory};
-
-#[derive(Clone, Copy, Debug, PartialEq, Eq, Hash)]
-pub(crate) struct CellKey {
-    kind: u32,
-    atom: Atom,
-}
 
 /// The first change whose diagram holds under the label, by its round. As each holds where an earlier one does, half of
 /// them are left after each look.
@@ -53,7 +48,7 @@ pub(crate) struct Histories {
 impl Model for Histories {
     ghost use Rattle.std.specs.Prelude.{List, ℕ};
     ghost use Rattle.class_diagrams.specs.References.{Reference};
-    ghost use Rattle.saturation.specs.declared.histories.CellKey.{CellKey};
+    ghost use Rattle.pushdown_sym.specs.declared.cells.CellKey.{CellKey};
 
     ghost Value = { List (CellKey × List (ℕ × Reference)) };
 

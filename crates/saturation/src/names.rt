@@ -1,5 +1,5 @@
 //! The cells that rules can change.
-ghost use Rattle.std.specs.Prelude.{◌≡◌, ℕ, ◌≤◌, ◌++◌, IfOk, OnOk, map};
+ghost use Rattle.std.specs.Prelude.{◌≡◌, ◌≤◌, ◌++◌, IfOk, OnOk, map};
 ghost use Rattle.std.specs.List.{flat_map, range_with_len};
 ghost use Rattle.tp_base.specs.Classes.{union_of};
 ghost use Rattle.pushdown_sym.specs.Rounds.{given_atoms};

@@ -1,5 +1,5 @@
 //! Which cells read a cell.
-ghost use Rattle.std.specs.Prelude.{◌≡◌, [], map, Contains, IfOk, OnOk};
+ghost use Rattle.std.specs.Prelude.{◌≡◌, [], map, IfOk, OnOk};
 ghost use Rattle.tp_base.specs.Classes.{union_of};
 ghost use Rattle.simple_core.specs.declared.rules.Link.{Link};
 ghost use Rattle.simple_core.specs.declared.rules.Spawn.{Spawn};

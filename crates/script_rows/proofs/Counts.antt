@@ -2,9 +2,9 @@
 use Rattle.std.proofs.Common.{◌≡◌, ℕ, List, [], ◌∷◌, map, refl, arith}
 use Rattle.std.specs.List.{AllByRecursion}
 use Rattle.jq_parts.specs.declared.placing.Stated.{Stated}
-use Rattle.jq_parts.specs.MarkedCalls.{marked_chain_of}
+use Rattle.jq_chains.specs.MarkedCalls.{marked_chain_of, calls_in}
 use Rattle.jq_parts.specs.ScopeViews.{stated_in}
-use Rattle.jq_parts.specs.Stating.{calls_in, IsCounted}
+use Rattle.jq_parts.specs.Stating.{IsCounted}
 
 pub bare_counted : (text : List ℕ) (t : Stated) → t.handlers.items ≡ [] → t.chain.calls.items ≡ [] → IsCounted (stated_in text t)
 bare_counted text t alone no_calls =

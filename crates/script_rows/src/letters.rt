@@ -5,9 +5,10 @@ ghost use Rattle.jq_parts.specs.ScopeViews.{stated_in};
 ghost use Rattle.jq_parts.specs.Stating.{IsCounted};
 
 use crate::places::exact_places;
+use jq_chains::MarkedChain;
 use jq_cursor::{class_set, compounds, selectors};
-use jq_parts::{MarkedChain, Stated, placed};
-use jq_sem::Root;
+use jq_parts::{Stated, placed};
+use jq_stmts::Root;
 use jq_words::ScriptFault;
 use std::alloc::{AllocError, Global};
 use tp_base::{AtomTable, ClassSet, MOST_BYTES};

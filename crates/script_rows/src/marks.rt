@@ -1,6 +1,6 @@
 //! Statements of scripts that are read exactly: the place of each, and which of its calls are marked.
 use crate::places::push_place;
-use jq_sem::{ExactStmt, Sharp, SharpKind};
+use jq_stmts::{ExactStmt, Sharp, SharpKind};
 use std::alloc::{AllocError, Global};
 
 fn kind_of(kind: SharpKind) -> &'static str {

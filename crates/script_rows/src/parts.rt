@@ -3,13 +3,14 @@ ghost use Rattle.std.specs.Prelude.{length};
 ghost use Rattle.js_scan.specs.Tokens.{InOrder};
 
 use crate::words::{lettered, tokens_of};
+use jq_chains::{MarkedChain, SharedChain};
 use jq_cursor::{Cursor, Lists, Reader, spelled, text_argument};
 use jq_forms::is_chain;
 use jq_parts::{
-    Bound, Declaration, Declarations, Grown, MarkedChain, Scope, SharedChain, Value, is_bound,
-    markup_argument, parameters, root, target,
+    Bound, Declaration, Declarations, Grown, Scope, Value, is_bound, markup_argument, parameters,
+    root, target,
 };
-use jq_sem::Root;
+use jq_stmts::Root;
 use jq_words::{ScriptFault, Words, place};
 use js_scan::Token;
 use std::alloc::{AllocError, Global};

@@ -1,5 +1,5 @@
 //! The places of statements as a text.
-use jq_sem::{ExactStmt, Stmt};
+use jq_stmts::{ExactStmt, Stmt};
 use std::alloc::{AllocError, Global};
 use tp_base::Place;
 

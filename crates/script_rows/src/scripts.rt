@@ -2,7 +2,7 @@
 use crate::marks::marks;
 use crate::places::places;
 use jq_read::{ScriptFault, read_exact, read_script};
-use jq_sem::Stmt;
+use jq_stmts::Stmt;
 use std::alloc::{AllocError, Global};
 use tp_base::{AtomTable, MOST_BYTES};
 use tree_sem::Action;

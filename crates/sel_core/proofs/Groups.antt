@@ -4,13 +4,14 @@ use Rattle.tree_sem.specs.Paths.{parent_of, IsAncestor}
 use Rattle.tree_sem.specs.Trees.{LabelTree}
 use Rattle.tree_sem.specs.TreeNodes.{TreeNode, node_of, parent_node}
 use Rattle.tree_sem.specs.Nodes.{HasAtoms}
-use Rattle.sel_core.specs.declared.selectors.Compound.{Compound}
-use Rattle.sel_core.specs.declared.selectors.Join.{Join}
-use Rattle.sel_core.specs.declared.selectors.Join.TheVariants.{Inside, Child}
-use Rattle.sel_core.specs.Selectors.{Selector, Matches}
-use Rattle.sel_core.specs.Parts.{and_then, selector_from}
+use Rattle.sel_text.specs.declared.selectors.Compound.{Compound}
+use Rattle.sel_text.specs.declared.selectors.Join.{Join}
+use Rattle.sel_text.specs.declared.selectors.Join.TheVariants.{Inside, Child}
+use Rattle.sel_core.specs.Selectors.{Matches}
+use Rattle.sel_text.specs.Selectors.{Selector}
+use Rattle.sel_text.specs.Parts.{and_then, selector_from}
 use Rattle.sel_core.specs.Places.{IsUpTo, MatchesNode, IsLeft, Leaves}
-use Rattle.sel_core.proofs.PartLemmas.{selector_from-push, selector_from-subject}
+use Rattle.sel_text.proofs.PartLemmas.{selector_from-push, selector_from-subject}
 use Rattle.sel_core.proofs.UpwardLemmas as up
 
 -- the selector s matches `from` exactly where its front matches n, and each place of s gives one of the front at n or above

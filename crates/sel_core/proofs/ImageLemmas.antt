@@ -8,7 +8,8 @@ use Rattle.tree_sem.specs.Growth.{Grows}
 use Rattle.tree_sem.proofs.WithinLemmas.{image_fits}
 use Rattle.tree_sem.proofs.GrowthLemmas.{grows_image}
 use Rattle.tree_sem.proofs.NodeLemmas.{HasAtoms-node}
-use Rattle.sel_core.specs.Selectors.{Join, child, inside, Outer, Selector, IsAbove, Above, Matches}
+use Rattle.sel_core.specs.Selectors.{IsAbove, Above, Matches}
+use Rattle.sel_text.specs.Selectors.{Join, child, inside, Outer, Selector}
 
 pub HasAtoms-image : (t u : LabelTree) (v w : List ℕ) → IsImage t u v w → (wanted : List ℕ) → HasAtoms t v wanted → HasAtoms u w wanted
 HasAtoms-image t u v w image wanted fits =

@@ -8,10 +8,11 @@ use Rattle.tree_sem.specs.Paths.{parent_of, IsAncestor}
 use Rattle.tree_sem.specs.TreeNodes.{TreeNode, node_of, parent_node}
 use Rattle.tree_sem.proofs.PathLemmas.{take_take, parent_of-none, parent_of-take}
 use Rattle.tree_sem.specs.Nodes.{HasAtoms}
-use Rattle.sel_core.specs.declared.selectors.Compound.{Compound}
-use Rattle.sel_core.specs.declared.selectors.Join.TheVariants.{Inside, Child}
-use Rattle.sel_core.specs.Selectors.{Selector, Join, Outer, IsAbove, child, inside, Above, Matches}
-use Rattle.sel_core.specs.Parts.{and_then}
+use Rattle.sel_text.specs.declared.selectors.Compound.{Compound}
+use Rattle.sel_text.specs.declared.selectors.Join.TheVariants.{Inside, Child}
+use Rattle.sel_core.specs.Selectors.{IsAbove, Above, Matches}
+use Rattle.sel_text.specs.Selectors.{Selector, Join, Outer, child, inside}
+use Rattle.sel_text.specs.Parts.{and_then}
 use Rattle.sel_core.specs.Places.{IsUpTo}
 
 pub up_to_itself : (v : List ℕ) → IsUpTo v v

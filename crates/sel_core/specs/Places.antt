@@ -6,10 +6,11 @@
 use Rattle.std.specs.Prelude.{◌≡◌, ℕ, ◌≤◌, List, [], ◌∷◌, length, take}
 use Rattle.tree_sem.specs.Paths.{IsAncestor}
 use Rattle.tree_sem.specs.TreeNodes.{TreeNode}
-use Rattle.sel_core.specs.declared.selectors.Compound.{Compound}
-use Rattle.sel_core.specs.declared.selectors.Join.{Join}
-use Rattle.sel_core.specs.Selectors.{Selector, Matches}
-use Rattle.sel_core.specs.Parts.{selector_from}
+use Rattle.sel_text.specs.declared.selectors.Compound.{Compound}
+use Rattle.sel_text.specs.declared.selectors.Join.{Join}
+use Rattle.sel_core.specs.Selectors.{Matches}
+use Rattle.sel_text.specs.Selectors.{Selector}
+use Rattle.sel_text.specs.Parts.{selector_from}
 
 abbrev pub IsUpTo : List ℕ → List ℕ → Type 0
 IsUpTo u v = (len : ℕ) × (len ≤ length v) × (u ≡ take len v)

@@ -1,20 +1,10 @@
-//! Selectors: what they ask of a node, how they are read and written, and whether they match.
+//! Selectors: what they ask of a node, and whether they match.
 #![tactic(auto)]
 
-mod bytes;
-mod faults;
-mod grammar;
-mod lists;
 mod matching;
-mod reading;
-mod selectors;
-mod writing;
 
-pub use bytes::{behind_close, behind_gap, name_len};
-pub use faults::{MOST_PARTS, SelFault, Skip};
-pub use grammar::is_word;
-pub use lists::read_strict_list;
 pub use matching::{fits, matches};
-pub use reading::read_selector;
-pub use selectors::{Atoms, Compound, Compounds, Join, Joins, Selector};
-pub use writing::write_selector;
+pub use sel_text::{
+    Atoms, Compound, Compounds, Join, Joins, MOST_PARTS, SelFault, Selector, Skip, behind_close,
+    behind_gap, is_word, name_len, read_selector, read_strict_list, write_selector,
+};

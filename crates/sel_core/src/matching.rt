@@ -4,11 +4,11 @@ ghost use Rattle.std.specs.Prelude.{◌≡◌, ◌<◌, ◌+◌, ◌↔◌, leng
 ghost use Rattle.tp_base.specs.Classes.{all_among};
 ghost use Rattle.tree_sem.specs.Nodes.{HasAtoms};
 ghost use Rattle.sel_core.specs.Selectors.{Matches};
-ghost use Rattle.sel_core.specs.Parts.{selector_from};
+ghost use Rattle.sel_text.specs.Parts.{selector_from};
 ghost use Rattle.sel_core.specs.Places.{MatchesNode, IsLeft, Leaves};
-ghost use Rattle.sel_core.specs.Views.{selector_of};
+ghost use Rattle.sel_text.specs.Views.{selector_of};
 
-use crate::selectors::{Compound, Join, Selector};
+use sel_text::{Compound, Join, Selector};
 use tp_base::{Atom, ClassSet, Path};
 use tree_sem::{Node, Tree};
 

@@ -9,6 +9,7 @@ pub mod KnowledgeLemmas
 pub mod PageRest
 pub mod CellLemmas
 pub mod Steps
+pub mod PlaceLemmas
 pub mod ReachRounds
 mod GiverLemmas
 mod PartLemmas

@@ -23,6 +23,7 @@ impl Model for Givers {
 }
 
 impl Givers {
+    /// The givers of rules that look at one node. Linear in the rules.
     pub fn of_locals(alloc: Global, rules: &[Local]) -> Result<Self, NoMemory>
         ensures { IfOk result (AreGivers (λ r. r.gives) rules.now) }
     {
@@ -34,6 +35,7 @@ impl Givers {
         Ok(Givers { places })
     }
 
+    /// The givers of rules that look at a node and the one next to it. Linear in the rules.
     pub fn of_links(alloc: Global, links: &[Link]) -> Result<Self, NoMemory>
         ensures { IfOk result (AreGivers (λ l. l.to) links.now) }
     {

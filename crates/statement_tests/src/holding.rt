@@ -1,5 +1,5 @@
 use guard_sem::{Guard, GuardNode, Guards, holds, of_selector};
-use sel_core::{SelFault, Selector, read_strict_list};
+use sel_text::{SelFault, Selector, read_strict_list};
 use std::alloc::Global;
 use std::test::Fail;
 use test_building::path_of;

@@ -1,8 +1,9 @@
 ghost use Rattle.std.specs.Prelude.{◌↔◌, ◌<◌, All, IsTrue};
 
-use jq_sem::{Stmt, run_within};
+use jq_sem::run_within;
+use jq_stmts::Stmt;
 use run_trace::{MOST_RUN_NODES, RunFault, first_match, replay_runs};
-use sel_core::{SelFault, Selector, read_selector};
+use sel_text::{SelFault, Selector, read_selector};
 use std::alloc::Global;
 use std::test::Fail;
 use test_building::is_path;

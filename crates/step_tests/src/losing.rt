@@ -1,5 +1,5 @@
 use crate::losing::Happening::{Cut, Run, Take};
-use jq_sem::Stmt;
+use jq_stmts::Stmt;
 use rule_core::{ReplayFault, replay_events};
 use std::alloc::Global;
 use std::test::Fail;

@@ -1,4 +1,5 @@
-use jq_sem::{Stmt, act, run_whole, selects};
+use jq_sem::{act, run_whole, selects};
+use jq_stmts::Stmt;
 use rule_core::{ReplayFault, replay};
 use std::alloc::Global;
 use std::test::Fail;

@@ -1,5 +1,4 @@
-ghost use Rattle.std.specs.Prelude.{◌≡◌, [], None, Contains, IfOk, OnOk};
-ghost use Rattle.simple_core.specs.Systems.{IsSound};
+ghost use Rattle.std.specs.Prelude.{◌≡◌, [], None, Contains};
 
 use crate::answers::{END, ask, sound_of};
 use crate::pages::nodes_of;
@@ -11,25 +10,6 @@ use std::test::Fail;
 use test_building::{Script, path_of, set_of, tree_of};
 use tp_base::{Atom, ClassSet, NoMemory, Path};
 use tree_sem::{Tree, TreeFault};
-
-// A sound system, and a table for it.
-#[derive(Drop)]
-struct Asking {
-    system: System,
-    sums: PlainSummaries,
-}
-
-// The system of a row, and a table of so many pairs that knows none.
-fn asking_of(alloc: Global, script: Script, pairs: u32) -> Result<Asking, GainFault>
-    ensures sound { IfOk result (λ a. IsSound a.system) }
-    ensures system { IfOk result (λ a. a.sums.system ≡ a.system) }
-    ensures known { IfOk result (λ a. a.sums.known ≡ []) }
-    ensures unspent { IfOk result (λ a. a.sums.spent ≡ None) }
-{
-    let system = sound_of(alloc, script)?;
-    let sums = PlainSummaries::new(alloc, &system, pairs)?;
-    Ok(Asking { system, sums })
-}
 
 // The atoms of a label in order, each with its first round.
 type Firsts = &'static [(u32, u64)];
@@ -141,7 +121,8 @@ fn tells_row(
 }
 
 fn gains(alloc: Global, row: &Gain) -> Result<bool, GainFault> {
-    let Asking { system, mut sums } = asking_of(alloc, row.0, row.3)?;
+    let system = sound_of(alloc, row.0)?;
+    let mut sums = PlainSummaries::new(alloc, &system, row.3)?;
     tells_row(alloc, &system, &mut sums, row)
 }
 
@@ -192,7 +173,8 @@ fn stays_spent(
 
 // Whether a smaller table is too small.
 fn is_too_small(alloc: Global, row: &Gain) -> Result<bool, GainFault> {
-    let Asking { system, mut sums } = asking_of(alloc, row.0, row.3.saturating_sub(1))?;
+    let system = sound_of(alloc, row.0)?;
+    let mut sums = PlainSummaries::new(alloc, &system, row.3.saturating_sub(1))?;
     stays_spent(alloc, &system, &mut sums, row)
 }
 
@@ -240,7 +222,8 @@ fn answers_as_wanted(
 }
 
 fn boxes_answer_as_wanted(alloc: Global) -> Result<bool, GainFault> {
-    let Asking { system, mut sums } = asking_of(alloc, Script::Boxes, 5)?;
+    let system = sound_of(alloc, Script::Boxes)?;
+    let mut sums = PlainSummaries::new(alloc, &system, 5)?;
     answers_as_wanted(alloc, &system, &mut sums)
 }
 
@@ -257,7 +240,8 @@ fn closed_page(
     page: &Tree,
     pairs: u32,
 ) -> Result<Closed, GainFault> {
-    let Asking { system, mut sums } = asking_of(alloc, script, pairs)?;
+    let system = sound_of(alloc, script)?;
+    let mut sums = PlainSummaries::new(alloc, &system, pairs)?;
     close_page(alloc, page, &system, &mut sums)
 }
 

@@ -1,7 +1,7 @@
 //! Pages and statements from their texts.
 use html_subset::{PageFault, read_page};
 use jq_read::{ScriptFault, read_script};
-use jq_sem::{Call, Calls, Chains, Root, Selectors, Stmt};
+use jq_stmts::{Call, Calls, Chains, Root, Selectors, Stmt};
 use std::alloc::Global;
 use tp_base::{AtomTable, MOST_BYTES, NoMemory};
 use tree_sem::Tree;

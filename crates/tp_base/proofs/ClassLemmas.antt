@@ -1,5 +1,5 @@
 -- What the words on class sets say of their members, for callers.
-use Rattle.std.proofs.Common.{IsTrue, ◌≡◌, ℕ, suc, ◌<◌, ◌≤◌, true, eqb, List, [], ◌∷◌, length, All, Contains, ◌↔◌, refl, sym, ap, ◌∙◌, arith, inl, inr, ◌⊎◌, subst}
+use Rattle.std.proofs.Common.{IsTrue, ◌≡◌, ℕ, suc, ◌<◌, ◌≤◌, true, eqb, List, [], ◌∷◌, length, All, Contains, ◌↔◌, refl, sym, ap, ◌∙◌, arith, inl, inr, ◌⊎◌, subst, Bool}
 use Rattle.std.specs.List.Sorted.{IsStrictlyIncreasing}
 use Rattle.std.proofs.lemmas.Bool.{lt-ltb, le-ltb, eq-eqb, ne_eqb, eqb-true, cases_order, cases_Bool, both_ways}
 use Rattle.std.proofs.lemmas.List.Kept.{IsStrictlyIncreasing-filter}
@@ -224,3 +224,7 @@ Contains-cut_to xs ys x = (cut_to-cases xs ys x, λ both. cut_to-keeps xs ys x b
 -- and rises where the list does
 pub IsStrictlyIncreasing-cut_to : (xs ys : List ℕ) → IsStrictlyIncreasing ys → IsStrictlyIncreasing (cut_to xs ys)
 IsStrictlyIncreasing-cut_to xs ys up = IsStrictlyIncreasing-filter (λ y. has_class y xs) ys up
+
+-- a test of the second against the first says whether two sets are one, where the first is within the second
+pub one_set : (xs ys : List ℕ) (r : Bool) → IsStrictlyIncreasing xs → IsStrictlyIncreasing ys → All (Contains ys) xs → IsTrue r ↔ All (Contains xs) ys → IsTrue r → xs ≡ ys
+one_set xs ys r up_x up_y within back same = same_members xs ys up_x up_y within (back.0 same)

@@ -2,6 +2,7 @@ pub mod ClassLemmas
 pub mod Fronts
 pub mod Lists
 pub mod NamesLemmas
+pub mod Numbers
 pub mod Rising
 pub mod LossLemmas
 pub mod Truths

@@ -1,11 +1,12 @@
 -- Lists: what stands at which place, and what is in a list that was taken apart, mapped or filtered.
-use Rattle.std.proofs.Common.{◌≡◌, ◌≢◌, ◌⊎◌, ℕ, zero, suc, ◌+◌, ◌<◌, ◌≤◌, Bool, true, false, ◌||◌, List, [], ◌∷◌, ◌++◌, length, map, take, drop, Contains, Option, Some, None, IsSome, IsNone, IsSomeAnd, slice_get, refl, sym, ap, ◌∙◌, subst, inl, inr, arith, length-append}
+use Rattle.std.proofs.Common.{◌≡◌, ◌≢◌, ◌⊎◌, ℕ, zero, suc, ◌+◌, ◌<◌, ◌≤◌, Bool, true, false, ◌||◌, List, [], ◌∷◌, ◌++◌, length, map, take, drop, Contains, Option, Some, None, IsSome, IsNone, IsSomeAnd, slice_get, refl, sym, ap, ◌∙◌, subst, inl, inr, arith, length-append, reverse}
 use Rattle.std.specs.List.{flat_map, list_any, range_with_len}
 use Rattle.std.specs.Str.{bytes_eq}
 use Rattle.std.proofs.lemmas.Bool.{or_cases, or_left, or_right}
 use Rattle.std.proofs.lemmas.Slice.Eq.{bytes_eq-Decides}
 use Rattle.std.proofs.lemmas.List.Elements.{Contains-append_left, Contains-append_right, Contains-append_cases}
 use Rattle.std.proofs.lemmas.Option.{slice_get-get_or, slice_get_within, get_or_from_slice_get}
+use Rattle.std.proofs.lemmas.List.{reverse-append}
 use Rattle.tp_base.proofs.Rising.{Contains-here, Contains-behind, Contains-cons, Contains-none}
 
 -- ---- what stands at a place
@@ -152,3 +153,23 @@ bytes_eq-sym xs ys = by (bytes_eq xs ys) (bytes_eq ys xs) refl refl
     by false false e f = refl
     by true false e f = sym ((bytes_eq-Decides ys xs).1 (sym ((bytes_eq-Decides xs ys).0 e))) ∙ f
     by false true e f = sym e ∙ (bytes_eq-Decides xs ys).1 (sym ((bytes_eq-Decides ys xs).0 f))
+
+-- ---- a list, seen from its end
+
+pub pushed_last : {X : Type 0} (xs : List X) (x : X) → reverse (xs ++ x ∷ []) ≡ x ∷ reverse xs
+pushed_last xs x = reverse-append xs (x ∷ [])
+
+pub popped_last : {X : Type 0} (all xs : List X) (x : X) → all ≡ xs ++ x ∷ [] → reverse all ≡ x ∷ reverse xs
+popped_last all xs x is = rw is (pushed_last xs x)
+
+-- ---- a list taken apart at its front
+
+pub cons_cases : {X : Type 0} (y : X) (xs : List X) (x : X) → Contains (y ∷ xs) x → (y ≡ x) ⊎ Contains xs x
+cons_cases y xs x (zero, within, at) = inl at
+cons_cases y xs x (suc k, within, at) = inr (k, omega arith, at)
+
+pub first_there : {X : Type 0} (x : X) (xs : List X) → Contains (x ∷ xs) x
+first_there x xs = (0, omega arith, refl)
+
+pub next_there : {X : Type 0} (y : X) (xs : List X) (x : X) → Contains xs x → Contains (y ∷ xs) x
+next_there y xs x (k, within, at) = (suc k, omega arith, at)

@@ -5,6 +5,7 @@ use Rattle.tp_base.specs.Classes.{with_class}
 use Rattle.tp_base.proofs.Lists.{same_or_other}
 use Rattle.tree_sem.specs.Trees.{Row, no_nodes, node, LabelTree, leaf, tree_of, length_of, push_tree, edit_tree, node_at, label_at, children_at, edit_at, add_class, add_child}
 use Rattle.tree_sem.proofs.RowLemmas.{node_at-append, tree_of-past}
+use Rattle.tree_sem.specs.Actions.{add_classes}
 
 pub tree_of-edit_tree : (f : LabelTree → LabelTree) (r : Row) (k : ℕ) → tree_of (edit_tree f r k) k ≡ option_map f (tree_of r k)
 tree_of-edit_tree f no_nodes k = refl
@@ -240,3 +241,10 @@ IsSome-add_child p q l t s at is = elim (same_or_other q (p ++ length_of s.below
   | inl same ↦ inr same
   | inr other ↦ inl (seen_there (λ n. n.label) (node_at q (edit_at p (add_child l) t)) (node_at q t) (label_at-add_child_other p l t s at q other) is)
 ]
+
+pub children_at-add_classes : (p q classes : List ℕ) (t : LabelTree) → children_at q (edit_at p (add_classes classes) t) ≡ children_at q t
+children_at-add_classes p q [] t = ap (children_at q) (edit_at-same p (add_classes []) t (λ s at. refl))
+children_at-add_classes p q (c ∷ classes) t =
+    ap (children_at q) (sym (edit_at-edit_at p (add_classes classes) (add_class c) t))
+    ∙ children_at-add_classes p q classes (edit_at p (add_class c) t)
+    ∙ children_at-add_class p q c t

@@ -25,12 +25,14 @@ impl Model for Trees {
 }
 
 impl Trees {
+    /// These trees. Constant.
     pub fn new(items: Vec<Tree>) -> Self
         ensures { result ≡ items.items }
     {
         Trees { items }
     }
 
+    /// The trees. Constant.
     pub fn items(&self) -> &[Tree]
         ensures { result.now ≡ self.now }
     {

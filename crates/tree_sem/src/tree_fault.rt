@@ -7,6 +7,7 @@ use tp_base::OutOfMemory;
 /// How many nodes a tree can hold.
 pub const MOST_NODES: u32 = 16_777_216;
 
+/// Why a node isn't added.
 #[derive(Debug, PartialEq, Eq, Drop, Error)]
 pub enum TreeFault {
     #[error("no node is there")]

@@ -12,7 +12,7 @@ use Rattle.tree_sem.specs.declared.actions.Step.{Step}
 use Rattle.tree_sem.specs.Trees.{LabelTree}
 use Rattle.tree_sem.proofs.NodeLemmas.{Contains-map}
 use Rattle.jq_sem.specs.Reachability.{AreLegal, end_of}
-use Rattle.jq_sem.specs.Statements.{Statement}
+use Rattle.jq_stmts.specs.Statements.{Statement}
 use Rattle.css_read.specs.Sheets.{Outcome, judged, skipped as left_out, Item}
 use Rattle.guard_sem.specs.Guards.{Guard, always, same_guard}
 use Rattle.guard_sem.specs.OfSelectors.{of_selector}
@@ -34,8 +34,8 @@ use Rattle.proof_check.specs.Validity.{IsValid}
 use Rattle.proof_maker.specs.Needs.{IsCanonical, UsesMore}
 use Rattle.usage_report.specs.Answers.{Answer, used, maybe, used_unshown, unused, skipped, spent}
 use Rattle.limits.specs.declared.budgets.Limits.{Limits}
-use Rattle.judge.specs.declared.faults.JudgeFault.{JudgeFault}
-use Rattle.judge.specs.declared.faults.JudgeFault.TheVariants.{TooManyAtoms, TooManyVisible, Memory}
+use Rattle.guard_simplify.specs.declared.simplified.SimplifyFault.{SimplifyFault}
+use Rattle.guard_simplify.specs.declared.simplified.SimplifyFault.TheVariants.{TooManyAtoms, TooManyVisible, Memory}
 use Rattle.judge.specs.Answers.{judged_in, count_of, IsShown, IsUsed, IsAnswerFor, AreAnswersFor, IsAnswer, AreAnswers}
 use Rattle.judge.specs.Goals.{Goal, matching, holding, goal_guard, IsMet}
 use Rattle.judge.specs.Outcomes.{AreGiven, guards_in, system_in, count_atoms, IsFault, IsWithin, AreJudged}
@@ -152,7 +152,7 @@ module _ (extra gs : List Guard) (numbers : List ℕ) (asked : AreAsked extra gs
       subst (λ (s : System). length s.visible ≤ MOST_VISIBLE) system_of_asked visible,
     )
 
-    pub fault_as_asked : (e : JudgeFault) → IsFault ss items gs n e → IsFault ss items extra n e
+    pub fault_as_asked : (e : SimplifyFault) → IsFault ss items gs n e → IsFault ss items extra n e
     fault_as_asked TooManyAtoms is = subst (λ z. MOST_ATOMS < z) atoms_of_asked is
     fault_as_asked TooManyVisible (atoms, visible) = (
       subst (λ z. z ≤ MOST_ATOMS) atoms_of_asked atoms,

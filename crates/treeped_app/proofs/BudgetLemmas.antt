@@ -8,11 +8,11 @@ use Rattle.tp_base.proofs.Rising.{Contains-here, Contains-behind, Contains-cons,
 use Rattle.tp_base.proofs.Lists.{any_Contains, Contains-any}
 use Rattle.tree_sem.specs.Trees.{LabelTree}
 use Rattle.tree_sem.proofs.NodeLemmas.{Contains-map, map-Contains}
-use Rattle.sel_core.specs.Selectors.{Selector}
-use Rattle.sel_core.specs.declared.faults.Skip.{Skip}
+use Rattle.sel_text.specs.Selectors.{Selector}
+use Rattle.sel_text.specs.declared.faults.Skip.{Skip}
 use Rattle.css_read.specs.Sheets.{Outcome, judged, skipped as left_out, Item}
-use Rattle.jq_sem.specs.Sharp.{ExactStatement}
-use Rattle.jq_sem.specs.Statements.{Statement}
+use Rattle.jq_stmts.specs.Sharp.{ExactStatement}
+use Rattle.jq_stmts.specs.Statements.{Statement}
 use Rattle.guard_sem.specs.Guards.{Guard}
 use Rattle.usage_report.specs.Answers.{Answer, used, maybe, used_unshown, unused, skipped, spent}
 use Rattle.limits.specs.declared.budgets.Limits.{Limits}

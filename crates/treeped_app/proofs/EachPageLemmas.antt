@@ -5,12 +5,12 @@ use Rattle.css_prune.proofs.AlikeLemmas.{alike_length}
 use Rattle.tp_base.proofs.Rising.{Contains-cons, Contains-none, Contains-here, Contains-behind}
 use Rattle.tp_base.proofs.Lists.{element_at}
 use Rattle.tree_sem.specs.Trees.{LabelTree}
-use Rattle.sel_core.specs.Selectors.{Selector}
-use Rattle.sel_core.specs.declared.faults.Skip.{Skip}
+use Rattle.sel_text.specs.Selectors.{Selector}
+use Rattle.sel_text.specs.declared.faults.Skip.{Skip}
 use Rattle.css_read.specs.Sheets.{Outcome, judged, skipped as left_out, Item}
 use Rattle.jq_sem.specs.Events.{ReachesWithLosses}
-use Rattle.jq_sem.specs.Sharp.{ExactStatement}
-use Rattle.jq_sem.specs.Statements.{Statement}
+use Rattle.jq_stmts.specs.Sharp.{ExactStatement}
+use Rattle.jq_stmts.specs.Statements.{Statement}
 use Rattle.guard_sem.specs.Guards.{Guard}
 use Rattle.limits.specs.declared.budgets.Limits.{Limits}
 use Rattle.usage_report.specs.Answers.{Answer, used, maybe, used_unshown, unused, skipped, spent}

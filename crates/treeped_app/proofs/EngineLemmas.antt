@@ -6,8 +6,8 @@ use Rattle.tree_sem.specs.Trees.{LabelTree}
 use Rattle.tree_sem.specs.declared.actions.Step.{Step}
 use Rattle.css_read.specs.Sheets.{Outcome, judged, skipped as left_out, Item}
 use Rattle.jq_sem.specs.Reachability.{after_step, end_of}
-use Rattle.jq_sem.specs.Sharp.{ExactStatement, wides}
-use Rattle.jq_sem.specs.Statements.{Statement}
+use Rattle.jq_stmts.specs.Sharp.{ExactStatement, wides}
+use Rattle.jq_stmts.specs.Statements.{Statement}
 use Rattle.jq_exact.specs.Exact.{IsLegalExactly, AreLegalExactly}
 use Rattle.jq_exact.specs.Settling.{IsBrokenAt, IsReplayed, IsSettled, AreSettled}
 use Rattle.simple_core.specs.declared.system.System.{System}

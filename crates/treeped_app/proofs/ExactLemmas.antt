@@ -9,12 +9,12 @@ use Rattle.tp_base.proofs.Lists.{some_and}
 use Rattle.tp_base.specs.declared.places.Place.{Place}
 use Rattle.tree_sem.specs.Trees.{LabelTree}
 use Rattle.tree_sem.specs.declared.actions.Step.{Step}
-use Rattle.sel_core.specs.Selectors.{Selector}
+use Rattle.sel_text.specs.Selectors.{Selector}
 use Rattle.css_read.specs.Sheets.{Outcome, judged, skipped as left_out, Item}
 use Rattle.jq_sem.specs.Events.{ReachesWithLosses}
 use Rattle.jq_sem.specs.Reachability.{AreLegal}
-use Rattle.jq_sem.specs.Sharp.{ExactStatement, wides, is_sharp_statement}
-use Rattle.jq_sem.specs.Statements.{Statement}
+use Rattle.jq_stmts.specs.Sharp.{ExactStatement, wides, is_sharp_statement}
+use Rattle.jq_stmts.specs.Statements.{Statement}
 use Rattle.jq_exact.specs.Laws.{HasSharpStep}
 use Rattle.jq_exact.specs.Settling.{steps_of, IsReplayed, IsSettled, AreSettled, IsUnfolded, ShowsAll}
 use Rattle.jq_exact.proofs.SettlingLemmas.{used_is_exact}

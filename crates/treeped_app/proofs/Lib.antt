@@ -1,7 +1,5 @@
-pub mod StopLemmas
 pub mod RightLemmas
 pub mod ExactLemmas
-pub mod MarkLemmas
 pub mod RoomLemmas
 pub mod DeadLemmas
 pub mod BudgetLemmas

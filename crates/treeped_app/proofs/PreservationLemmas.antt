@@ -4,7 +4,7 @@ use Rattle.std.proofs.lemmas.List.{length-map}
 use Rattle.tp_base.specs.Names.{Named}
 use Rattle.tp_base.proofs.Rising.{Contains-none, Contains-here, Contains-behind}
 use Rattle.tree_sem.specs.Trees.{LabelTree}
-use Rattle.jq_sem.specs.Statements.{Statement}
+use Rattle.jq_stmts.specs.Statements.{Statement}
 use Rattle.css_read.specs.Pruned.{with_flags, pruned}
 use Rattle.css_read.specs.Reading.{read_sheet}
 use Rattle.css_read.specs.Sheets.{Item, Sheet}

@@ -2,11 +2,11 @@
 use Rattle.std.proofs.Common.{◌≡◌, ◌≢◌, ℕ, List, [], Option, Ok, Err, sym, ap, ◌∙◌}
 use Rattle.tp_base.specs.Names.{Named}
 use Rattle.js_scan.specs.declared.token.ScanFault.TheVariants as scan
-use Rattle.jq_sem.specs.declared.sharp.ExactStmt.{ExactStmt}
-use Rattle.jq_sem.specs.declared.sharp.Sharp.{Sharp}
-use Rattle.jq_sem.specs.Sharp.{ExactStatement, wides}
-use Rattle.jq_sem.specs.SharpViews.{exacts_of}
-use Rattle.jq_sem.specs.Views.{statements_of}
+use Rattle.jq_stmts.specs.declared.sharp.ExactStmt.{ExactStmt}
+use Rattle.jq_stmts.specs.declared.sharp.Sharp.{Sharp}
+use Rattle.jq_stmts.specs.Sharp.{ExactStatement, wides}
+use Rattle.jq_stmts.specs.SharpViews.{exacts_of}
+use Rattle.jq_stmts.specs.Views.{statements_of}
 use Rattle.jq_words.specs.declared.faults.ScriptFault.{ScriptFault}
 use Rattle.jq_words.specs.declared.faults.ScriptFault.TheVariants as script
 use Rattle.jq_words.specs.Words.{Outcome}
@@ -14,9 +14,9 @@ use Rattle.jq_read.specs.Script as of_file
 use Rattle.treeped_app.specs.Inputs.{IsOpened}
 use Rattle.run_ends.specs.Refusals.{script_stop}
 use Rattle.treeped_app.specs.Runs.{plainly, read_script_as}
-use Rattle.treeped_app.specs.Views.{marked, exact_in}
-use Rattle.treeped_app.specs.declared.marks.Script.{Script}
-use Rattle.treeped_app.proofs.MarkLemmas.{wides_marked}
+use Rattle.jq_exact.specs.Scripts.{marked, exact_in}
+use Rattle.jq_exact.specs.declared.marks.Script.{Script}
+use Rattle.jq_exact.proofs.MarkLemmas.{wides_marked}
 
 pub not_opened : {X : Type 0} (view : X → List ExactStatement) (names : List Named) (page : Option ℕ) (text : List ℕ) (read : Outcome (List ExactStatement × List Named)) (e : ScriptFault) →
     (e ≢ script.Memory → read ≡ Err e) → IsOpened view (read_script_as page text read) (Err (script_stop page text e)) names

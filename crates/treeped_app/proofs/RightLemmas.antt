@@ -8,7 +8,8 @@ use Rattle.tree_sem.specs.Trees.{LabelTree}
 use Rattle.tree_sem.specs.declared.actions.Step.{Step}
 use Rattle.css_read.specs.Sheets.{Outcome, judged, skipped as left_out, Item}
 use Rattle.jq_sem.specs.Reachability.{after_step, AreLegal}
-use Rattle.jq_sem.specs.Statements.{Statement, Selected}
+use Rattle.jq_sem.specs.Statements.{Selected}
+use Rattle.jq_stmts.specs.Statements.{Statement}
 use Rattle.jq_sem.proofs.EventLemmas.{losses_reach_is}
 use Rattle.guard_sem.specs.Guards.{Guard}
 use Rattle.usage_report.specs.Answers.{Answer, used, maybe, used_unshown, unused, skipped, spent}

@@ -6,7 +6,7 @@ use Rattle.tp_base.specs.declared.atoms.TheConstants.{MOST_ATOMS}
 use Rattle.tp_base.proofs.Rising.{Contains-cons, Contains-none}
 use Rattle.html_subset.specs.Reading.{read_page}
 use Rattle.css_read.specs.Reading.{read_sheet}
-use Rattle.jq_sem.specs.Sharp.{ExactStatement, exact_statement, wides}
+use Rattle.jq_stmts.specs.Sharp.{ExactStatement, exact_statement, wides}
 use Rattle.jq_words.specs.Words.{Outcome, ◌>>=◌}
 use Rattle.jq_read.specs.Script.{script_with, script}
 use Rattle.run_ends.specs.declared.stops.Stop.{Stop}

@@ -5,16 +5,16 @@ use Rattle.std.specs.Fmt.{decimal}
 use Rattle.std.proofs.Math.Nat.{mod-lt}
 use Rattle.tp_base.specs.Names.{Named}
 use Rattle.tp_base.specs.declared.atoms.TheConstants.{MOST_ATOMS}
-use Rattle.sel_core.specs.Selectors.{Selector}
+use Rattle.sel_text.specs.Selectors.{Selector}
 use Rattle.tree_sem.specs.Trees.{LabelTree}
-use Rattle.sel_core.specs.Lists.{read_strict_list}
-use Rattle.sel_core.specs.Bytes.{name_len, begins_name}
-use Rattle.sel_core.specs.Readable.{IsName}
+use Rattle.sel_text.specs.Lists.{read_strict_list}
+use Rattle.sel_text.specs.Bytes.{name_len, begins_name}
+use Rattle.sel_text.specs.Readable.{IsName}
 use Rattle.html_subset.specs.Reading.{read_forest}
 use Rattle.triple_gen.specs.declared.triple.TheConstants.{MOST_BOXES}
 use Rattle.triple_gen.specs.Ring.{script}
 use Rattle.js_scan.specs.declared.token.TokenKind.TheVariants.{Name, Text, Mark}
-use Rattle.jq_sem.specs.Sharp.{ExactChain, ExactStatement}
+use Rattle.jq_stmts.specs.Sharp.{ExactChain, ExactStatement}
 use Rattle.jq_words.specs.declared.faults.TheConstants.{MOST_OPEN, MOST_STATEMENTS, MOST_FOREST_NODES}
 use Rattle.jq_words.specs.Words.{Word, words, Outcome, is_mark, is_name, is_any_name, is_among, is_mark_among, is_name_among, fits, first_is, spelled, end}
 use Rattle.jq_words.specs.Functions.{declared_in}

@@ -7,11 +7,11 @@ use Rattle.tp_base.specs.declared.atoms.AtomKind.TheVariants as kind
 use Rattle.html_tokens.specs.Words.{words_from}
 use Rattle.tp_base.specs.declared.atoms.TheConstants.{MOST_ATOMS}
 use Rattle.tree_sem.specs.Trees.{LabelTree}
-use Rattle.sel_core.specs.Selectors.{Selector}
-use Rattle.sel_core.specs.Reading as sel
-use Rattle.sel_core.specs.Lists.{read_strict_list}
+use Rattle.sel_text.specs.Selectors.{Selector}
+use Rattle.sel_text.specs.Reading as sel
+use Rattle.sel_text.specs.Lists.{read_strict_list}
 use Rattle.js_scan.specs.declared.token.TokenKind.TheVariants.{Name, Text, Mark}
-use Rattle.jq_sem.specs.Sharp.{ExactChain, ExactStatement}
+use Rattle.jq_stmts.specs.Sharp.{ExactChain, ExactStatement}
 use Rattle.jq_words.specs.declared.faults.TheConstants.{MOST_OPEN, MOST_STATEMENTS, MOST_FOREST_NODES}
 use Rattle.jq_words.specs.Words.{Word, Outcome, ◌>>=◌, is_mark, is_any_name, is_among, is_name_among, is_text, letters_of, fits, first_is, place, want, want_open}
 use Rattle.jq_words.specs.Brackets.{argument_count, commas, left_open, argument_len, ends_argument, closes_outer, closed_by, opened_by, brackets_behind}

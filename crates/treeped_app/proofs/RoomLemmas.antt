@@ -6,8 +6,8 @@ use Rattle.tree_sem.specs.Trees.{LabelTree, count_of}
 use Rattle.tree_sem.specs.declared.actions.Action.{Action}
 use Rattle.tree_sem.specs.declared.actions.Action.TheVariants.{Classes, Inside, Beside}
 use Rattle.html_subset.specs.declared.faults.TheConstants.{MOST_PAGE_NODES}
-use Rattle.jq_sem.specs.Sharp.{ExactStatement, wide_of, wides}
-use Rattle.jq_sem.specs.Statements.{Statement}
+use Rattle.jq_stmts.specs.Sharp.{ExactStatement, wide_of, wides}
+use Rattle.jq_stmts.specs.Statements.{Statement}
 use Rattle.jq_exact.specs.Room.{added_by, HasRoom}
 use Rattle.jq_parts.specs.Markup.{nodes_in}
 use Rattle.jq_words.specs.declared.faults.TheConstants.{MOST_FOREST_NODES}

@@ -16,7 +16,7 @@ use Rattle.run_ends.specs.declared.status.Status.{Status}
 use Rattle.run_ends.specs.declared.stops.Stop.{Stop}
 use Rattle.run_ends.specs.declared.stops.Stop.TheVariants.{Words, TooLarge, ReadFault, Unread, Judging, WriteFault, NoMemory}
 use Rattle.run_ends.specs.Stops.{stop_of}
-use Rattle.treeped_app.specs.Summary.{summary}
+use Rattle.usage_report.specs.Summary.{summary}
 use Rattle.treeped_app.specs.Modes.{Texts, Said, text_on, text_of, of_last, site_by, best_in, verdicts_in, is_open, is_unused, status_by, status_on, status_of}
 use Rattle.treeped_app.specs.Tasks.{Names, Source, one, ring, Wanted, Visit, visits, only_visit, loads_of, all_loads, succeeded, failed, Task, task_by, command}
 use Rattle.run_ends.specs.Tells.{Put}

@@ -1,8 +1,8 @@
 -- What the answers come to that a mode asks for, and why there are none.
 use Rattle.std.proofs.Common.{◌≡◌, ℕ, ◌<◌, List, [], ◌∷◌, length, map, get_or, Option, All, Ok, Err, sym, ap, subst, ◌∙◌, inl, inr}
 use Rattle.std.proofs.lemmas.List.{length-map}
-use Rattle.jq_sem.specs.Sharp.{wides}
-use Rattle.jq_sem.specs.Statements.{Statement}
+use Rattle.jq_stmts.specs.Sharp.{wides}
+use Rattle.jq_stmts.specs.Statements.{Statement}
 use Rattle.jq_exact.specs.Settling.{AreSettled, IsUnfolded}
 use Rattle.guard_sem.specs.Guards.{Guard}
 use Rattle.simple_core.specs.declared.system.System.{System}
@@ -16,8 +16,8 @@ use Rattle.command_words.specs.declared.words.Mode.{Mode}
 use Rattle.command_words.specs.declared.words.Mode.TheVariants.{Report, Prune, Dead, Runs, Site, SitePrune}
 use Rattle.dead_script.specs.Asked.{by_number, InOrder, AreAsked}
 use Rattle.dead_script.specs.Probes.{all_probes}
-use Rattle.judge.specs.declared.faults.JudgeFault.{JudgeFault}
-use Rattle.judge.specs.declared.faults.JudgeFault.TheVariants.{TooManyAtoms, TooManyVisible, Memory}
+use Rattle.guard_simplify.specs.declared.simplified.SimplifyFault.{SimplifyFault}
+use Rattle.guard_simplify.specs.declared.simplified.SimplifyFault.TheVariants.{TooManyAtoms, TooManyVisible, Memory}
 use Rattle.judge.specs.Answers.{AreAnswersFor}
 use Rattle.judge.specs.Goals.{Goal, selecting}
 use Rattle.judge.specs.Outcomes as judge
@@ -204,12 +204,12 @@ given_with m i ss gs numbers given same asked =
 
 -- ---- no answers
 
-refused_by_fault : (m : Mode) (i : Inputs) (e : JudgeFault) → judge.IsFault i.stmts i.sheet.items (extra_in m i) (length i.names) e → IsUnanswered m i (judging_stop e)
+refused_by_fault : (m : Mode) (i : Inputs) (e : SimplifyFault) → judge.IsFault i.stmts i.sheet.items (extra_in m i) (length i.names) e → IsUnanswered m i (judging_stop e)
 refused_by_fault m i TooManyAtoms is = is
 refused_by_fault m i TooManyVisible is = is
 refused_by_fault m i Memory is = tt
 
-pub refused_by_system : (m : Mode) (i : Inputs) (ss : List Statement) (gs : List Guard) (numbers : List ℕ) (e : JudgeFault) → ss ≡ i.stmts → AreAsked (extra_in m i) gs numbers → judge.IsFault ss i.sheet.items gs (length i.names) e
+pub refused_by_system : (m : Mode) (i : Inputs) (ss : List Statement) (gs : List Guard) (numbers : List ℕ) (e : SimplifyFault) → ss ≡ i.stmts → AreAsked (extra_in m i) gs numbers → judge.IsFault ss i.sheet.items gs (length i.names) e
     → IsUnanswered m i (judging_stop e)
 refused_by_system m i ss gs numbers e same asked is =
     refused_by_fault m i e

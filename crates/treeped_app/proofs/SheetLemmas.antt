@@ -7,7 +7,7 @@ use Rattle.css_read.specs.Shapes.{AreAlikeSheets}
 use Rattle.css_read.specs.Sheets.{Sheet}
 use Rattle.css_read.proofs.ShapeLemmas.{one_shape}
 use Rattle.tree_sem.specs.Trees.{LabelTree}
-use Rattle.jq_sem.specs.Sharp.{ExactStatement, wides}
+use Rattle.jq_stmts.specs.Sharp.{ExactStatement, wides}
 use Rattle.html_subset.specs.Reading.{read_page}
 use Rattle.command_words.specs.declared.words.Mode.{Mode}
 use Rattle.run_ends.specs.Refusals.{page_stop, sheet_stop}

@@ -6,8 +6,8 @@ use Rattle.std.proofs.lemmas.Option.{unwrap_or-slice_get, slice_get-map}
 use Rattle.usage_report.specs.declared.answers.Answer as code
 use Rattle.usage_report.specs.Answers.{Answer, used, maybe, used_unshown, unused, skipped, spent}
 use Rattle.usage_report.specs.Views.{answer_of}
-use Rattle.jq_sem.specs.declared.stmts.Stmt.{Stmt}
-use Rattle.jq_sem.specs.Views.{chain_of, statements_of}
+use Rattle.jq_stmts.specs.declared.stmts.Stmt.{Stmt}
+use Rattle.jq_stmts.specs.Views.{chain_of, statements_of}
 use Rattle.dead_script.specs.Asked.{by_number}
 use Rattle.dead_script.specs.Verdicts as dead
 use Rattle.treeped_app.specs.declared.statuses.Question.{Question}

@@ -13,8 +13,8 @@ use Rattle.tp_io.specs.Sinks.{Adds, AddsPrefix, Rose}
 use Rattle.tp_base.specs.declared.places.TheConstants.{MOST_BYTES}
 use Rattle.limits.specs.declared.budgets.Limits.{Limits}
 use Rattle.command_words.specs.declared.words.Mode.{Mode}
-use Rattle.judge.specs.declared.faults.JudgeFault.{JudgeFault}
-use Rattle.judge.specs.declared.faults.JudgeFault.TheVariants as judge
+use Rattle.guard_simplify.specs.declared.simplified.SimplifyFault.{SimplifyFault}
+use Rattle.guard_simplify.specs.declared.simplified.SimplifyFault.TheVariants as judge
 use Rattle.judge.specs.Outcomes.{AreGiven}
 use Rattle.run_ends.specs.declared.refusals.JudgeRefusal.TheVariants as refused
 use Rattle.run_ends.specs.declared.refusals.Part.{Part}
@@ -104,7 +104,7 @@ abbrev pub AreInputs : modes.Inputs → Type 0
 AreInputs i = AreGiven i.stmts i.sheet.items [] (length i.names) i.tree
 
 -- why a run stops where there are no answers
-abbrev pub judging_stop : JudgeFault → Stop
+abbrev pub judging_stop : SimplifyFault → Stop
 judging_stop judge.TooManyAtoms = Judging refused.TooManyAtoms
 judging_stop judge.TooManyVisible = Judging refused.TooManyVisible
 judging_stop judge.Memory = NoMemory

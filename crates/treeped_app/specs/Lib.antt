@@ -7,7 +7,6 @@ pub mod Commands
 pub mod Laws
 pub mod Modes
 pub mod Runs
-pub mod Summary
 pub mod Tasks
 -- What the functions beneath come to, part by part, as they hand it on; and how definitions see what they hold.
 pub mod Inputs

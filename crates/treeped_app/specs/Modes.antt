@@ -14,8 +14,8 @@ use Rattle.tp_base.specs.declared.places.Place.{Place}
 use Rattle.tree_sem.specs.Trees.{LabelTree}
 use Rattle.css_read.specs.Pruned.{pruned}
 use Rattle.css_read.specs.Sheets.{Sheet}
-use Rattle.jq_sem.specs.Sharp.{ExactStatement}
-use Rattle.jq_sem.specs.Statements.{Statement}
+use Rattle.jq_stmts.specs.Sharp.{ExactStatement}
+use Rattle.jq_stmts.specs.Statements.{Statement}
 use Rattle.jq_exact.specs.Settling.{AreSettled}
 use Rattle.guard_sem.specs.Guards.{Guard}
 use Rattle.usage_report.specs.Answers.{Answer, maybe, used_unshown, unused, spent}
@@ -36,7 +36,7 @@ use Rattle.site_judge.specs.SiteReport.{site_report}
 use Rattle.run_ends.specs.declared.status.Status.{Status}
 use Rattle.run_ends.specs.declared.status.Status.TheVariants as status
 use Rattle.treeped_app.specs.Answers.{AreRight, AreRightFor, AreRightExactly, IsPastBudget}
-use Rattle.treeped_app.specs.Summary.{summary}
+use Rattle.usage_report.specs.Summary.{summary}
 use Rattle.treeped_app.specs.Tasks.{Source, ring, Task}
 
 -- the texts of a page's three files

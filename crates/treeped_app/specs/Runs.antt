@@ -18,12 +18,12 @@ use Rattle.run_ends.specs.declared.stops.Stop.TheVariants.{Words, TooLarge, Read
 use Rattle.html_subset.specs.Reading.{read_page}
 use Rattle.css_read.specs.Reading.{read_sheet}
 use Rattle.css_read.specs.Sheets.{Sheet}
-use Rattle.jq_sem.specs.Sharp.{ExactStatement, exact_statement, wides}
-use Rattle.jq_sem.specs.Statements.{Statement}
+use Rattle.jq_stmts.specs.Sharp.{ExactStatement, exact_statement, wides}
+use Rattle.jq_stmts.specs.Statements.{Statement}
 use Rattle.jq_words.specs.Words.{Outcome}
 use Rattle.jq_read.specs.Script.{exact_script, script}
-use Rattle.judge.specs.declared.faults.JudgeFault.{JudgeFault}
-use Rattle.judge.specs.declared.faults.JudgeFault.TheVariants as fault
+use Rattle.guard_simplify.specs.declared.simplified.SimplifyFault.{SimplifyFault}
+use Rattle.guard_simplify.specs.declared.simplified.SimplifyFault.TheVariants as fault
 use Rattle.judge.specs.Outcomes.{IsFault, IsWithin}
 use Rattle.command_words.specs.declared.words.Mode.{Mode}
 use Rattle.triple_gen.specs.Ring as rings
@@ -112,7 +112,7 @@ pub record AreTexts (told : Told) (v : Visit) (x : Texts) : Type 0 where
 
 -- ---- judging
 
-abbrev pub fault_of : JudgeRefusal → JudgeFault
+abbrev pub fault_of : JudgeRefusal → SimplifyFault
 fault_of refused.TooManyAtoms = fault.TooManyAtoms
 fault_of refused.TooManyVisible = fault.TooManyVisible
 

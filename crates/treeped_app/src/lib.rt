@@ -4,7 +4,6 @@
 mod best;
 mod laws;
 mod loading;
-mod marks;
 mod pages;
 mod pruning;
 mod reading;
@@ -12,7 +11,6 @@ mod runs;
 mod saying;
 mod sites;
 mod statuses;
-mod summaries;
 mod tasks;
 mod writing;
 

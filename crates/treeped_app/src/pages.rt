@@ -8,7 +8,7 @@ ghost use Rattle.treeped_app.specs.Inputs.{Written};
 ghost use Rattle.treeped_app.specs.Modes as modes;
 ghost use Rattle.run_ends.specs.Tells.{put_of};
 ghost use Rattle.treeped_app.specs.Runs.{Told, Ends, Fit, run_of};
-ghost use Rattle.treeped_app.specs.Summary.{summary};
+ghost use Rattle.usage_report.specs.Summary.{summary};
 ghost use Rattle.treeped_app.specs.Tasks as task;
 ghost use Rattle.treeped_app.specs.Views.{names_of, texts_of};
 
@@ -16,7 +16,6 @@ use crate::loading::{Wanted, load_three};
 use crate::reading::Texts;
 use crate::saying::say;
 use crate::statuses::status_of;
-use crate::summaries::write_summary;
 use crate::tasks::Names;
 use crate::writing::write_one;
 use command_words::Mode;
@@ -25,6 +24,7 @@ use run_ends::{Part, Status, Stop};
 use std::alloc::Global;
 use tp_io::{Files, Sink};
 use triple_gen::generate;
+use usage_report::write_summary;
 
 /// Loads, reads and judges a page with its sheet and its script, and writes what the mode says of it.
 pub(crate) fn run_page<F: Files, O: Sink>(

@@ -13,13 +13,13 @@ ghost use Rattle.treeped_app.specs.Inputs as spec;
 ghost use Rattle.treeped_app.specs.Inputs.{AreInputs, IsUnanswered, IsSaying};
 ghost use Rattle.treeped_app.specs.Modes.{AreJudgedOf, AreTracesIn, extra_in};
 ghost use Rattle.treeped_app.specs.Runs.{Fit};
-ghost use Rattle.treeped_app.specs.Views.{exact_in, inputs_of, texts_of};
+ghost use Rattle.treeped_app.specs.Views.{inputs_of, texts_of};
+ghost use Rattle.jq_exact.specs.Scripts.{exact_in};
 
-use crate::marks::{Script, any_marked, joined, parted};
 use crate::reading::{Inputs, Texts, read_all};
 use command_words::Mode;
 use dead_script::{Asked, ask};
-use jq_exact::settle;
+use jq_exact::{Script, any_marked, joined, parted, settle};
 use judge::{Both, JudgeFault, judge_more};
 use limits::Limits;
 use run_ends::{JudgeRefusal, Stop};

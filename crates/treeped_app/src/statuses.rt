@@ -1,7 +1,7 @@
 //! The status that answers give.
 ghost use Rattle.std.specs.Prelude.{◌≡◌, ◌+◌, ◌∷◌, [], drop, map, option_map, slice_get};
 ghost use Rattle.std.specs.List.{list_any};
-ghost use Rattle.jq_sem.specs.Views.{statements_of};
+ghost use Rattle.jq_stmts.specs.Views.{statements_of};
 ghost use Rattle.usage_report.specs.Answers.{spent};
 ghost use Rattle.usage_report.specs.Views.{answer_of};
 ghost use Rattle.dead_script.specs.Asked.{by_number};
@@ -12,7 +12,7 @@ ghost use Rattle.treeped_app.specs.Views.{said_of};
 
 use crate::saying::Said;
 use command_words::Mode;
-use jq_sem::Stmt;
+use jq_stmts::Stmt;
 use run_ends::Status;
 use usage_report::Answer;
 
@@ -24,7 +24,7 @@ pub(crate) enum Question {
 }
 
 /// The status of what a mode says of a page.
-#[tactic(auto, using(crate::proofs::StopLemmas::any_seen))]
+#[tactic(auto, using(usage_report::proofs::SeenLemmas::any_seen))]
 pub(crate) fn status_of(mode: Mode, said: &Said) -> Status
     ensures { (x : spec.Texts) → result ≡ spec.status_on mode (said_of x said.now) }
 {

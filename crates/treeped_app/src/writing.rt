@@ -3,7 +3,7 @@ ghost use Rattle.std.specs.Prelude.{◌≡◌, ◌≤◌, length, map, IfOk, OnO
 ghost use Rattle.tp_base.specs.declared.places.TheConstants.{MOST_BYTES};
 ghost use Rattle.tp_io.specs.Sinks.{Adds, AddsPrefix, Rose};
 ghost use Rattle.css_read.specs.Places.{ArePlaced};
-ghost use Rattle.jq_sem.specs.Views.{statements_of};
+ghost use Rattle.jq_stmts.specs.Views.{statements_of};
 ghost use Rattle.dead_script.specs.Asked.{InOrder};
 ghost use Rattle.treeped_app.specs.Modes as spec;
 ghost use Rattle.treeped_app.specs.Inputs.{IsWritable};
@@ -16,7 +16,7 @@ use crate::reading::Texts;
 use crate::saying::Said;
 use command_words::Mode;
 use dead_script::write_asked;
-use jq_sem::Stmt;
+use jq_stmts::Stmt;
 use std::alloc::Global;
 use tp_base::{NoMemory, Place};
 use tp_io::Sink;

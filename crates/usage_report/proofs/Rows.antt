@@ -6,10 +6,10 @@ use Rattle.tp_base.specs.Names.{Named}
 use Rattle.tp_base.specs.declared.atoms.AtomKind.TheVariants as kind
 use Rattle.tp_base.specs.declared.places.Place.{Place}
 use Rattle.tree_sem.specs.declared.actions.Step.{Step}
-use Rattle.sel_core.specs.Selectors.{simple, child}
-use Rattle.sel_core.specs.SelectorText.{selector_text}
-use Rattle.sel_core.specs.declared.faults.Skip.{Skip}
-use Rattle.sel_core.specs.declared.faults.Skip.TheVariants.{Sibling, Pseudo, Attribute, Escape, Long, Bad}
+use Rattle.sel_text.specs.Selectors.{simple, child}
+use Rattle.sel_text.specs.SelectorText.{selector_text}
+use Rattle.sel_text.specs.declared.faults.Skip.{Skip}
+use Rattle.sel_text.specs.declared.faults.Skip.TheVariants.{Sibling, Pseudo, Attribute, Escape, Long, Bad}
 use Rattle.proof_check.specs.declared.proofs.Proof.{Proof}
 use Rattle.css_read.specs.Sheets.{judged, skipped, Item}
 use Rattle.usage_report.specs.Answers as answers

@@ -1,6 +1,6 @@
 -- What is said of a selector.
 use Rattle.std.specs.Prelude.{ℕ, Option}
-use Rattle.sel_core.specs.declared.faults.Skip.{Skip}
+use Rattle.sel_text.specs.declared.faults.Skip.{Skip}
 use Rattle.proof_check.specs.declared.proofs.Proof.{Proof}
 use Rattle.proof_check.specs.declared.unfolded.Unfolded.{Unfolded}
 

@@ -6,9 +6,9 @@ use Rattle.tp_base.specs.Names.{Named}
 use Rattle.tp_base.specs.Places.{place_at}
 use Rattle.tp_base.specs.declared.places.Place.{Place}
 use Rattle.tree_sem.specs.declared.actions.Step.{Step}
-use Rattle.sel_core.specs.declared.faults.Skip.{Skip}
-use Rattle.sel_core.specs.declared.faults.Skip.TheVariants as cause
-use Rattle.sel_core.specs.SelectorText.{selector_text}
+use Rattle.sel_text.specs.declared.faults.Skip.{Skip}
+use Rattle.sel_text.specs.declared.faults.Skip.TheVariants as cause
+use Rattle.sel_text.specs.SelectorText.{selector_text}
 use Rattle.css_read.specs.Sheets as sheets
 use Rattle.proof_check.specs.declared.unfolded.Unfolded.{Unfolded}
 use Rattle.usage_report.specs.RunTraces.{RunTrace, listed, stopped}

@@ -1,6 +1,6 @@
 //! What is said of a selector.
 use proof_check::{Proof, Unfolded};
-use sel_core::Skip;
+use sel_text::Skip;
 
 /// What is said of one selector of a sheet.
 #[derive(Drop)]

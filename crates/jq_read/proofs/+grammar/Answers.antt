@@ -1,6 +1,6 @@
 use Rattle.std.proofs.Common.{◌-◌, refl, sym, ap, ◌∙◌, arith}
 use Rattle.std.proofs.lemmas.Result.{err_from_is_err_and}
-use Rattle.sel_core.proofs.Fronts.{front_of_front}
+use Rattle.sel_text.proofs.Fronts.{front_of_front}
 use Rattle.jq_words.proofs.Rests.{of_rest, is_rest, rest_behind, behind_rest, behind_behind}
 use Rattle.jq_parts.specs.Scopes.{places_of}
 use Rattle.jq_read.specs.States.{Context}

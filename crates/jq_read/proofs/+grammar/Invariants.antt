@@ -1,5 +1,5 @@
 use Rattle.std.proofs.Common.{◌≡◌, ◌+◌, ◌*◌, length}
-use Rattle.sel_core.specs.Results.{IsFront}
+use Rattle.sel_text.specs.Results.{IsFront}
 use Rattle.jq_words.specs.Results.{IsRest}
 use Rattle.jq_parts.specs.Calls.{elements_in}
 use Rattle.jq_read.specs.Chains.{several, calls}

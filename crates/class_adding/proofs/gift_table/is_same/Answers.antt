@@ -1,4 +1,4 @@
-use Rattle.class_adding.proofs.GiftLemmas.{one_set}
+use Rattle.tp_base.proofs.ClassLemmas.{one_set}
 use Rattle.class_adding.proofs.gift_table.is_same.Goals as goal
 
 pub returns : goal.returns

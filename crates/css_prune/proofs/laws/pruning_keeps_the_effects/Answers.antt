@@ -1,4 +1,4 @@
-use Rattle.jq_sem.specs.Views.{statements_of}
+use Rattle.jq_stmts.specs.Views.{statements_of}
 use Rattle.css_prune.proofs.EffectLemmas.{told, effects_kept}
 use Rattle.css_prune.proofs.laws.pruning_keeps_the_effects.Goals as goal
 

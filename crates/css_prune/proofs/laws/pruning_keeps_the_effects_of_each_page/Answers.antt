@@ -1,4 +1,4 @@
-use Rattle.jq_sem.specs.Views.{statements_of}
+use Rattle.jq_stmts.specs.Views.{statements_of}
 use Rattle.css_prune.proofs.AlikeLemmas.{read_again, page_effects_kept}
 use Rattle.css_prune.proofs.laws.pruning_keeps_the_effects_of_each_page.Goals as goal
 

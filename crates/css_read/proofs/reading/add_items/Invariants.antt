@@ -1,5 +1,5 @@
 use Rattle.std.proofs.Common.{◌≡◌, ◌≤◌, ◌<◌, length, map, slice_range}
-use Rattle.sel_core.specs.Results.{IsFront}
+use Rattle.sel_text.specs.Results.{IsFront}
 use Rattle.css_read.specs.declared.faults.TheConstants.{MOST_SELECTORS}
 use Rattle.css_read.specs.Pieces.{more_pieces, pieces}
 use Rattle.css_read.specs.Places.{ArePlaced}

@@ -1,5 +1,5 @@
 use Rattle.std.proofs.Common.{◌≡◌, ◌≤◌, ◌+◌, length, map}
-use Rattle.sel_core.specs.Results.{IsFront}
+use Rattle.sel_text.specs.Results.{IsFront}
 use Rattle.css_read.specs.declared.faults.TheConstants.{MOST_SELECTORS}
 use Rattle.css_read.specs.Drafts.{draft_of}
 use Rattle.css_read.specs.Rules.{rules_from, rules_of}

@@ -1,4 +1,4 @@
-use Rattle.jq_sem.specs.Views.{statement_of}
+use Rattle.jq_stmts.specs.Views.{statement_of}
 use Rattle.dead_script.proofs.AskedLemmas.{further_next}
 use Rattle.dead_script.proofs.asking.add_new.Goals as goal
 

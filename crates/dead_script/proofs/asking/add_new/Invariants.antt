@@ -1,6 +1,6 @@
 use Rattle.std.proofs.Common.{◌≡◌, ◌++◌, ◌-◌, length, map}
 use Rattle.std.specs.List.{range_with_len}
-use Rattle.jq_sem.specs.Views.{statement_of}
+use Rattle.jq_stmts.specs.Views.{statement_of}
 use Rattle.rule_translate.specs.Translation.{guard_of}
 use Rattle.dead_script.specs.Probes.{probe}
 use Rattle.dead_script.proofs.asking.add_new.Given as goal

@@ -1,5 +1,5 @@
 use Rattle.std.proofs.Common.{map, take}
-use Rattle.jq_sem.specs.Views.{chain_of, statements_of}
+use Rattle.jq_stmts.specs.Views.{chain_of, statements_of}
 use Rattle.dead_script.specs.Asked.{AreAsked}
 use Rattle.dead_script.specs.Probes.{probe_guards}
 use Rattle.dead_script.proofs.AskedLemmas.{AreKept}

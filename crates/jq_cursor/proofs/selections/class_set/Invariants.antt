@@ -1,5 +1,5 @@
 use Rattle.std.proofs.Common.{◌≡◌, [], length}
-use Rattle.sel_core.specs.Results.{IsFront}
+use Rattle.sel_text.specs.Results.{IsFront}
 use Rattle.jq_cursor.proofs.ClassSteps.{with_value}
 use Rattle.jq_cursor.proofs.selections.class_set.Given as goal
 

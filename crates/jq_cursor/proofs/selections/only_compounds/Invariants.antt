@@ -1,6 +1,6 @@
 use Rattle.std.proofs.Common.{◌≡◌, ◌++◌, map, length}
 use Rattle.std.specs.List.{list_all}
-use Rattle.sel_core.specs.Views.{selector_of}
+use Rattle.sel_text.specs.Views.{selector_of}
 use Rattle.jq_words.specs.Brackets.{is_empty}
 use Rattle.jq_cursor.proofs.selections.only_compounds.Given as goal
 

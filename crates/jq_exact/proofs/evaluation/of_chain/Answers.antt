@@ -1,5 +1,5 @@
-use Rattle.jq_sem.specs.Views.{chain_of, root_of}
-use Rattle.jq_sem.specs.SharpViews.{exact_chain}
+use Rattle.jq_stmts.specs.Views.{chain_of, root_of}
+use Rattle.jq_stmts.specs.SharpViews.{exact_chain}
 use Rattle.jq_sem.proofs.SetLemmas.{on_ok}
 use Rattle.jq_exact.specs.Standing.{after}
 use Rattle.jq_exact.specs.Together.{stood}

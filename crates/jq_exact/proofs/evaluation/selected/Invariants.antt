@@ -1,5 +1,5 @@
 use Rattle.std.proofs.Common.{◌↔◌, ℕ, List, drop}
-use Rattle.jq_sem.specs.SharpViews.{exact_of}
+use Rattle.jq_stmts.specs.SharpViews.{exact_of}
 use Rattle.jq_exact.specs.Exact.{SelectedExactly}
 use Rattle.jq_exact.proofs.TogetherLemmas.{IsLeft}
 use Rattle.jq_exact.proofs.evaluation.selected.Given as goal

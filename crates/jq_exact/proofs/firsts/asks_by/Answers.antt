@@ -1,5 +1,5 @@
 use Rattle.std.proofs.Common.{ap}
-use Rattle.jq_sem.specs.Views.{call_of}
+use Rattle.jq_stmts.specs.Views.{call_of}
 use Rattle.jq_exact.specs.Together.{is_first}
 use Rattle.jq_exact.proofs.firsts.asks_by.Goals as goal
 

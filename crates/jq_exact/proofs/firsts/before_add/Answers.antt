@@ -1,5 +1,5 @@
 use Rattle.std.proofs.Common.{map}
-use Rattle.sel_core.specs.Views.{selector_of}
+use Rattle.sel_text.specs.Views.{selector_of}
 use Rattle.jq_exact.proofs.FirstLemmas.{before_add}
 use Rattle.jq_exact.proofs.firsts.before_add.Goals as goal
 

@@ -1,5 +1,5 @@
-use Rattle.jq_sem.specs.Views.{call_of}
-use Rattle.jq_sem.specs.SharpViews.{with_kind}
+use Rattle.jq_stmts.specs.Views.{call_of}
+use Rattle.jq_stmts.specs.SharpViews.{with_kind}
 use Rattle.jq_exact.proofs.FirstLemmas.{before_back}
 use Rattle.jq_exact.proofs.firsts.before_back.Goals as goal
 

@@ -1,5 +1,5 @@
 use Rattle.std.proofs.Common.{IfOk, subst}
-use Rattle.jq_sem.specs.Sharp.{ExactCall}
+use Rattle.jq_stmts.specs.Sharp.{ExactCall}
 use Rattle.jq_exact.specs.Firsts.{AreBefore}
 use Rattle.jq_exact.proofs.BackLemmas.{add_kind, parted_back}
 use Rattle.jq_exact.proofs.firsts.before_call.Goals as goal

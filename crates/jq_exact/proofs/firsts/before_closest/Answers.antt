@@ -1,4 +1,4 @@
-use Rattle.jq_sem.specs.Views.{atoms_of}
+use Rattle.jq_stmts.specs.Views.{atoms_of}
 use Rattle.jq_sem.proofs.SetLemmas.{on_ok}
 use Rattle.jq_exact.proofs.BackLemmas.{before_closest}
 use Rattle.jq_exact.proofs.firsts.before_closest.Goals as goal

@@ -1,6 +1,6 @@
 use Rattle.std.proofs.Common.{◌≡◌, ◌∷◌, [], true, refl, sym, subst}
-use Rattle.jq_sem.specs.SharpViews.{with_kind}
-use Rattle.jq_sem.specs.Views.{call_of}
+use Rattle.jq_stmts.specs.SharpViews.{with_kind}
+use Rattle.jq_stmts.specs.Views.{call_of}
 use Rattle.jq_exact.specs.Firsts.{parted_or_first}
 use Rattle.jq_exact.proofs.BackLemmas.{leads_by}
 use Rattle.jq_exact.proofs.firsts.leads_back_by.Goals as goal

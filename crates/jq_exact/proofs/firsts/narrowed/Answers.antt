@@ -1,7 +1,7 @@
 use Rattle.node_marks.specs.Marks.{IsMarked}
 use Rattle.node_marks.specs.Ranks.{IsUnder}
 use Rattle.jq_sem.specs.Statements.{MayFit}
-use Rattle.jq_sem.specs.Views.{atoms_of}
+use Rattle.jq_stmts.specs.Views.{atoms_of}
 use Rattle.jq_exact.proofs.BackLemmas.{ok_ranked_same, both_same}
 use Rattle.jq_exact.proofs.firsts.narrowed.Goals as goal
 

@@ -2,7 +2,7 @@ use Rattle.tree_sem.specs.Nodes.{IsNode}
 use Rattle.node_marks.specs.Marks.{IsMarked}
 use Rattle.node_marks.specs.Ranks.{IsUnder, HasNearestIn}
 use Rattle.jq_sem.specs.Statements.{FitsOne}
-use Rattle.jq_sem.specs.Views.{atoms_of}
+use Rattle.jq_stmts.specs.Views.{atoms_of}
 use Rattle.jq_exact.proofs.BackLemmas.{ok_ranked_same, nearest_same}
 use Rattle.jq_exact.proofs.firsts.nearest.Goals as goal
 

@@ -1,5 +1,5 @@
 use Rattle.std.proofs.Common.{◌≡◌, true, subst}
-use Rattle.jq_sem.specs.Sharp.{ExactCall}
+use Rattle.jq_stmts.specs.Sharp.{ExactCall}
 use Rattle.jq_exact.specs.Firsts.{leads_back}
 use Rattle.jq_exact.proofs.BackLemmas.{around_back, near_back, plain_back}
 use Rattle.jq_exact.proofs.firsts.ranks_before.Goals as goal

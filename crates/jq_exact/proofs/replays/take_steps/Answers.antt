@@ -1,7 +1,7 @@
 use Rattle.std.proofs.Common.{◌≡◌, ◌<◌, length, Some, slice_get, refl, arith, add-one}
 use Rattle.std.proofs.lemmas.Option.{slice_get_read}
 use Rattle.tree_sem.proofs.SeriesLemmas.{taken_more}
-use Rattle.jq_sem.specs.SharpViews.{exacts_of}
+use Rattle.jq_stmts.specs.SharpViews.{exacts_of}
 use Rattle.jq_exact.specs.Exact.{IsLegalExactly, after_exact_step}
 use Rattle.jq_exact.proofs.replays.take_steps.Goals as goal
 

@@ -1,6 +1,6 @@
 use Rattle.std.proofs.Common.{◌≡◌, take}
 use Rattle.tree_sem.specs.Series.{CanTake, tree_before}
-use Rattle.jq_sem.specs.SharpViews.{exacts_of}
+use Rattle.jq_stmts.specs.SharpViews.{exacts_of}
 use Rattle.jq_exact.specs.Exact.{IsLegalExactly, after_exact_step}
 use Rattle.jq_exact.proofs.replays.take_steps.Given as goal
 

@@ -1,5 +1,5 @@
 use Rattle.std.proofs.Common.{true, sym}
-use Rattle.jq_sem.specs.SharpViews.{exacts_of}
+use Rattle.jq_stmts.specs.SharpViews.{exacts_of}
 use Rattle.jq_sem.proofs.SetLemmas.{on_ok}
 use Rattle.jq_exact.specs.Settling.{IsUnfolded, settled_by}
 use Rattle.usage_report.specs.Answers.{used}

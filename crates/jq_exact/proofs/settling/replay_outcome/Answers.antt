@@ -1,7 +1,7 @@
 use Rattle.std.proofs.Common.{Err, ap, subst}
 use Rattle.tree_sem.specs.Series.{IsIllegalAt, IsFullAt}
 use Rattle.tree_sem.specs.Trees.{LabelTree}
-use Rattle.jq_sem.specs.SharpViews.{exacts_of}
+use Rattle.jq_stmts.specs.SharpViews.{exacts_of}
 use Rattle.jq_exact.specs.Exact.{IsLegalExactly, after_exact_step}
 use Rattle.jq_exact.proofs.RoomLemmas.{never_full}
 use Rattle.jq_exact.proofs.SettlingLemmas.{broken_at}

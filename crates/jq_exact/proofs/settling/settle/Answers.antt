@@ -1,7 +1,7 @@
 use Rattle.std.proofs.Common.{arith}
 use Rattle.std.proofs.lemmas.Grind.{common_steps}
 use Rattle.std.specs.Vec.Iter.{into_iter_items}
-use Rattle.jq_sem.specs.SharpViews.{exacts_of}
+use Rattle.jq_stmts.specs.SharpViews.{exacts_of}
 use Rattle.jq_exact.proofs.SettlingLemmas.{none_settled, next_unfolded, one_settled, all_settled}
 use Rattle.jq_exact.proofs.settling.settle.Goals as goal
 

@@ -1,6 +1,6 @@
 use Rattle.std.proofs.Common.{length}
 use Rattle.std.specs.Vec.Iter.{into_iter_items}
-use Rattle.jq_sem.specs.SharpViews.{exacts_of}
+use Rattle.jq_stmts.specs.SharpViews.{exacts_of}
 use Rattle.jq_exact.proofs.SettlingLemmas.{IsSettling}
 use Rattle.jq_exact.proofs.settling.settle.Given as goal
 

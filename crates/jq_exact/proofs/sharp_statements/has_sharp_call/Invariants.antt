@@ -1,7 +1,7 @@
 use Rattle.std.proofs.Common.{◌≡◌, map, drop}
-use Rattle.jq_sem.specs.Sharp.{has_sharp}
-use Rattle.jq_sem.specs.SharpViews.{exact_calls}
-use Rattle.jq_sem.specs.Views.{call_of}
+use Rattle.jq_stmts.specs.Sharp.{has_sharp}
+use Rattle.jq_stmts.specs.SharpViews.{exact_calls}
+use Rattle.jq_stmts.specs.Views.{call_of}
 use Rattle.jq_exact.proofs.sharp_statements.has_sharp_call.Given as goal
 
 -- it is told by the calls that are left

@@ -1,7 +1,7 @@
 use Rattle.std.proofs.Common.{◌≡◌, map, drop}
-use Rattle.jq_sem.specs.Sharp.{have_sharp}
-use Rattle.jq_sem.specs.SharpViews.{exact_handlers}
-use Rattle.jq_sem.specs.Views.{chain_of}
+use Rattle.jq_stmts.specs.Sharp.{have_sharp}
+use Rattle.jq_stmts.specs.SharpViews.{exact_handlers}
+use Rattle.jq_stmts.specs.Views.{chain_of}
 use Rattle.jq_exact.proofs.sharp_statements.have_sharp_call.Given as goal
 
 -- it is told by the handlers that are left

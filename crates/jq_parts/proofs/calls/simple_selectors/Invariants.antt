@@ -1,7 +1,7 @@
 use Rattle.std.proofs.Common.{◌≡◌, map, take}
-use Rattle.sel_core.specs.Selectors.{simple}
-use Rattle.sel_core.specs.Views.{selector_of}
-use Rattle.jq_sem.specs.Views.{atoms_of}
+use Rattle.sel_text.specs.Selectors.{simple}
+use Rattle.sel_text.specs.Views.{selector_of}
+use Rattle.jq_stmts.specs.Views.{atoms_of}
 use Rattle.jq_parts.proofs.calls.simple_selectors.Given as goal
 
 abbrev pub invariant-loop-compound : goal.invariant-loop-compound

@@ -1,5 +1,5 @@
 use Rattle.tp_base.specs.Places.{place_at}
-use Rattle.jq_parts.proofs.MarkSteps.{told_at}
+use Rattle.jq_chains.proofs.MarkSteps.{told_at}
 use Rattle.jq_parts.proofs.placing.at_place.Goals as goal
 
 pub returns : goal.returns

@@ -1,6 +1,6 @@
 use Rattle.std.proofs.Common.{◌≡◌, ◌++◌, map, subst}
 use Rattle.std.specs.List.{AllByRecursion}
-use Rattle.jq_sem.specs.SharpViews.{exacts_of}
+use Rattle.jq_stmts.specs.SharpViews.{exacts_of}
 use Rattle.jq_parts.specs.ScopeViews.{stated_in}
 use Rattle.jq_parts.specs.Stating.{IsCounted}
 use Rattle.jq_parts.proofs.StatingSteps.{placed_more}

@@ -1,7 +1,7 @@
 use Rattle.std.proofs.Common.{◌≡◌, ◌++◌, map}
 use Rattle.std.specs.List.{AllByRecursion}
 use Rattle.tp_base.specs.Cursor.{IsAt}
-use Rattle.jq_sem.specs.SharpViews.{exacts_of}
+use Rattle.jq_stmts.specs.SharpViews.{exacts_of}
 use Rattle.jq_parts.specs.ScopeViews.{stated_in}
 use Rattle.jq_parts.specs.Stating.{IsCounted}
 use Rattle.jq_parts.proofs.placing.placed.Given as goal

@@ -1,6 +1,5 @@
 use Rattle.std.proofs.Common.{◌≡◌, map, min, take}
-use Rattle.jq_parts.specs.MarkedCalls.{marked_chain_of}
-use Rattle.jq_parts.specs.Stating.{calls_in}
+use Rattle.jq_chains.specs.MarkedCalls.{marked_chain_of, calls_in}
 use Rattle.jq_parts.proofs.stating.calls_in.Given as goal
 
 abbrev pub invariant-loop-chain : goal.invariant-loop-chain

@@ -1,5 +1,5 @@
 use Rattle.std.proofs.Common.{◌≡◌, map, take}
-use Rattle.jq_parts.specs.MarkedCalls.{marked_chain_of}
+use Rattle.jq_chains.specs.MarkedCalls.{marked_chain_of}
 use Rattle.jq_parts.specs.Stating as spec
 use Rattle.jq_parts.specs.ScopeViews.{handlers_of}
 use Rattle.jq_parts.proofs.stating.chains_of.Given as goal

@@ -1,7 +1,6 @@
-use Rattle.std.proofs.Common.{subst}
+use Rattle.std.proofs.Common.{subst, List}
 use Rattle.tree_sem.specs.Trees.{LabelTree, node_at, edit_at}
 use Rattle.tree_sem.specs.Actions.{add_trees}
-use Rattle.std.proofs.Common.{List}
 use Rattle.tp_base.proofs.Lists.{some_not_none}
 use Rattle.jq_sem.specs.Runs.{IsChange}
 use Rattle.jq_sem.proofs.RunLemmas.{edit_changed}

@@ -1,6 +1,6 @@
 use Rattle.std.proofs.Common.{◌+◌, [], take, arith}
 use Rattle.jq_sem.specs.Standing.{last_first}
-use Rattle.jq_sem.specs.Views.{call_of}
+use Rattle.jq_stmts.specs.Views.{call_of}
 use Rattle.jq_sem.proofs.StandingLemmas.{last_first-next, last_first-all}
 use Rattle.jq_sem.proofs.TogetherLemmas.{made_one_more, all_made}
 use Rattle.jq_sem.proofs.evaluation.of_calls.Goals as goal

@@ -1,4 +1,4 @@
-use Rattle.jq_sem.specs.Views.{chain_of}
+use Rattle.jq_stmts.specs.Views.{chain_of}
 use Rattle.jq_sem.proofs.TogetherLemmas.{none_in_chain, some_in_chain}
 use Rattle.jq_sem.proofs.evaluation.of_chain.Goals as goal
 

@@ -1,6 +1,6 @@
 use Rattle.std.proofs.Common.{◌↔◌, ℕ, List, length}
 use Rattle.jq_sem.specs.Statements.{Selected}
-use Rattle.jq_sem.specs.Views.{statement_of}
+use Rattle.jq_stmts.specs.Views.{statement_of}
 use Rattle.jq_sem.proofs.TogetherLemmas.{IsLeft}
 use Rattle.jq_sem.proofs.evaluation.selected.Given as goal
 

@@ -1,4 +1,4 @@
-use Rattle.sel_core.specs.Views.{selector_of}
+use Rattle.sel_text.specs.Views.{selector_of}
 use Rattle.jq_sem.proofs.KeptLemmas.{match_kept}
 use Rattle.jq_sem.proofs.laws.match_is_kept.Goals as goal
 

@@ -1,4 +1,4 @@
-use Rattle.jq_sem.specs.Views.{statements_of}
+use Rattle.jq_stmts.specs.Views.{statements_of}
 use Rattle.jq_sem.proofs.EventLemmas.{legal_as_events, end_of_steps, no_losses}
 use Rattle.jq_sem.proofs.laws.steps_are_events.Goals as goal
 

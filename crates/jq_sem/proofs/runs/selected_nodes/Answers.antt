@@ -2,7 +2,7 @@ use Rattle.std.proofs.Common.{◌↔◌, ℕ, List, subst}
 use Rattle.tree_sem.specs.Trees.{LabelTree}
 use Rattle.node_marks.specs.Marks.{IsMarked}
 use Rattle.jq_sem.specs.Statements.{Selected}
-use Rattle.jq_sem.specs.Views.{statement_of}
+use Rattle.jq_stmts.specs.Views.{statement_of}
 use Rattle.jq_sem.proofs.SetLemmas.{on_ok}
 use Rattle.jq_sem.proofs.runs.selected_nodes.Goals as goal
 

@@ -1,4 +1,4 @@
-use Rattle.jq_sem.specs.Views.{statement_of}
+use Rattle.jq_stmts.specs.Views.{statement_of}
 use Rattle.jq_sem.proofs.TogetherLemmas.{selected_at}
 use Rattle.jq_sem.proofs.SelectionLemmas.{Selected-node}
 use Rattle.jq_sem.proofs.selection.selects.Goals as goal

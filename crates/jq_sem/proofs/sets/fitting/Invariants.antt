@@ -1,7 +1,7 @@
 use Rattle.std.proofs.Common.{◌↔◌, ◌⊎◌, ℕ, List, length}
 use Rattle.node_marks.specs.Marks.{IsMarked}
 use Rattle.jq_sem.specs.Statements.{FitsOne}
-use Rattle.jq_sem.specs.Views.{atoms_of}
+use Rattle.jq_stmts.specs.Views.{atoms_of}
 use Rattle.jq_sem.proofs.sets.fitting.Given as goal
 
 -- what is marked, and what the compounds that are left fit

@@ -1,6 +1,6 @@
 use Rattle.std.proofs.Common.{◌↔◌, ◌⊎◌, ℕ, List, length, map}
 use Rattle.node_marks.specs.Marks.{IsMarked}
-use Rattle.sel_core.specs.Views.{selector_of}
+use Rattle.sel_text.specs.Views.{selector_of}
 use Rattle.jq_sem.specs.Statements.{MatchesOne}
 use Rattle.jq_sem.proofs.sets.matching.Given as goal
 

@@ -1,5 +1,5 @@
 use Rattle.std.proofs.Common.{rules, refl, sym, ◌∙◌, arith}
-use Rattle.sel_core.specs.Parts.{and_then, with_parts}
+use Rattle.sel_text.specs.Parts.{and_then, with_parts}
 use Rattle.jq_sem.proofs.SetLemmas.{joined_more, no_joins, all_joined}
 use Rattle.jq_sem.proofs.sets.with_joined.Goals as goal
 

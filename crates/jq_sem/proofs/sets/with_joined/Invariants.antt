@@ -1,7 +1,8 @@
 use Rattle.std.proofs.Common.{◌≡◌, ◌↔◌, ℕ, List, length}
 use Rattle.node_marks.specs.Marks.{IsMarked}
-use Rattle.sel_core.specs.Selectors.{Selector, Matches}
-use Rattle.sel_core.specs.Parts.{with_parts}
+use Rattle.sel_core.specs.Selectors.{Matches}
+use Rattle.sel_text.specs.Selectors.{Selector}
+use Rattle.sel_text.specs.Parts.{with_parts}
 use Rattle.jq_sem.proofs.sets.with_joined.Given as goal
 
 -- what is marked is what a selector matches, which the compounds that are left make that of all

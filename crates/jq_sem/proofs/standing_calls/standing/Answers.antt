@@ -1,6 +1,6 @@
 use Rattle.std.proofs.Common.{◌∙◌, ap, ◌∷◌, map}
 use Rattle.jq_sem.specs.Standing.{after}
-use Rattle.jq_sem.specs.Views.{call_of}
+use Rattle.jq_stmts.specs.Views.{call_of}
 use Rattle.jq_sem.proofs.BackLemmas.{stands_from_first}
 use Rattle.jq_sem.proofs.StandingLemmas.{step_push, step_pop}
 use Rattle.jq_sem.proofs.standing_calls.standing.Goals as goal

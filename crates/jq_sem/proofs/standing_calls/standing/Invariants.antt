@@ -1,6 +1,6 @@
 use Rattle.std.proofs.Common.{◌≡◌, [], length, map}
 use Rattle.jq_sem.specs.Statements as script
-use Rattle.jq_sem.specs.Views.{call_of}
+use Rattle.jq_stmts.specs.Views.{call_of}
 use Rattle.jq_sem.specs.Standing.{after, last_first}
 use Rattle.jq_sem.proofs.standing_calls.standing.Given as goal
 

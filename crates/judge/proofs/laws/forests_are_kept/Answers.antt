@@ -1,5 +1,5 @@
 use Rattle.std.proofs.Common.{length}
-use Rattle.jq_sem.specs.Views.{statements_of}
+use Rattle.jq_stmts.specs.Views.{statements_of}
 use Rattle.judge.proofs.PlacedForests.{keeps_forests}
 use Rattle.judge.proofs.laws.forests_are_kept.Goals as goal
 

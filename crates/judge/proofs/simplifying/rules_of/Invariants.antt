@@ -1,5 +1,5 @@
 use Rattle.std.proofs.Common.{◌≡◌, take}
-use Rattle.jq_sem.specs.Views.{statements_of}
+use Rattle.jq_stmts.specs.Views.{statements_of}
 use Rattle.rule_translate.specs.Translation as translated
 use Rattle.judge.proofs.simplifying.rules_of.Given as goal
 

@@ -1,6 +1,6 @@
 use Rattle.std.proofs.Common.{map, length}
-use Rattle.jq_sem.specs.Views.{call_of}
-use Rattle.jq_sem.specs.Tables.{AreCallsOver}
+use Rattle.jq_stmts.specs.Views.{call_of}
+use Rattle.jq_stmts.specs.Tables.{AreCallsOver}
 use Rattle.judge_tests.proofs.checks.are_calls.Given as goal
 
 abbrev pub invariant-calls : goal.invariant-calls

@@ -1,6 +1,6 @@
 use Rattle.std.proofs.Common.{map, length}
-use Rattle.jq_sem.specs.Views.{chain_of}
-use Rattle.jq_sem.specs.Tables.{AreChainsOver}
+use Rattle.jq_stmts.specs.Views.{chain_of}
+use Rattle.jq_stmts.specs.Tables.{AreChainsOver}
 use Rattle.judge_tests.proofs.checks.are_chains.Given as goal
 
 abbrev pub invariant-chains : goal.invariant-chains

@@ -1,6 +1,6 @@
 use Rattle.std.proofs.Common.{length}
-use Rattle.jq_sem.specs.Views.{atoms_of}
-use Rattle.jq_sem.specs.Tables.{AreCompoundsOver}
+use Rattle.jq_stmts.specs.Views.{atoms_of}
+use Rattle.jq_stmts.specs.Tables.{AreCompoundsOver}
 use Rattle.judge_tests.proofs.checks.are_compounds.Given as goal
 
 abbrev pub invariant-compounds : goal.invariant-compounds

@@ -1,7 +1,7 @@
 use Rattle.std.proofs.Common.{map, length}
 use Rattle.css_read.specs.Views.{item_of}
 use Rattle.judge.specs.Answers.{judged_in}
-use Rattle.jq_sem.specs.Tables.{AreSelectorsOver}
+use Rattle.jq_stmts.specs.Tables.{AreSelectorsOver}
 use Rattle.judge_tests.proofs.checks.are_judged.Given as goal
 
 abbrev pub invariant-items : goal.invariant-items

@@ -1,6 +1,6 @@
 use Rattle.std.proofs.Common.{map, length}
-use Rattle.sel_core.specs.Views.{selector_of}
-use Rattle.jq_sem.specs.Tables.{AreSelectorsOver}
+use Rattle.sel_text.specs.Views.{selector_of}
+use Rattle.jq_stmts.specs.Tables.{AreSelectorsOver}
 use Rattle.judge_tests.proofs.checks.are_selectors.Given as goal
 
 abbrev pub invariant-selectors : goal.invariant-selectors

@@ -1,6 +1,6 @@
 use Rattle.std.proofs.Common.{length}
-use Rattle.jq_sem.specs.Views.{statements_of}
-use Rattle.jq_sem.specs.Tables.{AreStatementsOver}
+use Rattle.jq_stmts.specs.Views.{statements_of}
+use Rattle.jq_stmts.specs.Tables.{AreStatementsOver}
 use Rattle.judge_tests.proofs.checks.are_statements.Given as goal
 
 abbrev pub invariant-statements : goal.invariant-statements

@@ -1,5 +1,5 @@
 use Rattle.std.proofs.Common.{length}
-use Rattle.jq_sem.specs.Tables.{AreTreesOver}
+use Rattle.jq_stmts.specs.Tables.{AreTreesOver}
 use Rattle.judge_tests.proofs.checks.are_trees.Given as goal
 
 abbrev pub invariant-trees : goal.invariant-trees

@@ -1,5 +1,5 @@
 use Rattle.std.proofs.Common.{◌-◌, length, take}
-use Rattle.jq_sem.specs.Tables.{AreAtoms}
+use Rattle.jq_stmts.specs.Tables.{AreAtoms}
 use Rattle.judge_tests.proofs.checks.is_set.Given as goal
 
 abbrev pub invariant-atoms : goal.invariant-atoms

@@ -1,4 +1,4 @@
-use Rattle.proof_maker.proofs.MemoLemmas.{one_set}
+use Rattle.tp_base.proofs.ClassLemmas.{one_set}
 use Rattle.proof_maker.proofs.place_memo.is_same.Goals as goal
 
 pub returns : goal.returns

@@ -1,5 +1,5 @@
 use Rattle.std.proofs.Common.{◌≡◌, take}
-use Rattle.jq_sem.specs.Views.{statements_of}
+use Rattle.jq_stmts.specs.Views.{statements_of}
 use Rattle.dead_script.specs.Verdicts.{places_of}
 use Rattle.report_tests.proofs.reading.places.Given as goal
 

@@ -1,5 +1,5 @@
 use Rattle.std.proofs.Common.{◌≡◌, length, map}
-use Rattle.jq_sem.specs.Views.{call_of}
+use Rattle.jq_stmts.specs.Views.{call_of}
 use Rattle.rule_translate.specs.Translation as spec
 use Rattle.rule_translate.proofs.chains.has_add.Given as goal
 

@@ -1,5 +1,5 @@
 use Rattle.std.proofs.Common.{◌∙◌, ap, sym}
-use Rattle.jq_sem.specs.Views.{call_of}
+use Rattle.jq_stmts.specs.Views.{call_of}
 use Rattle.jq_sem.proofs.StandingLemmas.{last_first-next}
 use Rattle.rule_translate.specs.Translation as spec
 use Rattle.rule_translate.proofs.chains.of_calls.Goals as goal

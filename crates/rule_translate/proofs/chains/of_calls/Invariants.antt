@@ -1,5 +1,5 @@
 use Rattle.std.proofs.Common.{◌≡◌, [], take, Option}
-use Rattle.jq_sem.specs.Statements.{Root}
+use Rattle.jq_stmts.specs.Statements.{Root}
 use Rattle.jq_sem.specs.Standing.{last_first}
 use Rattle.guard_sem.specs.Guards.{Guard}
 use Rattle.rule_translate.specs.Translation as spec

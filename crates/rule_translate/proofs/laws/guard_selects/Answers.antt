@@ -1,4 +1,4 @@
-use Rattle.jq_sem.specs.Views.{statement_of}
+use Rattle.jq_stmts.specs.Views.{statement_of}
 use Rattle.rule_translate.proofs.TranslationLemmas.{guard_selects_is}
 use Rattle.rule_translate.proofs.laws.guard_selects.Goals as goal
 

@@ -1,5 +1,5 @@
 use Rattle.std.proofs.Common.{◌≡◌, length, map, None}
-use Rattle.jq_sem.specs.Views.{chain_of}
+use Rattle.jq_stmts.specs.Views.{chain_of}
 use Rattle.rule_translate.specs.Translation as spec
 use Rattle.rule_translate.proofs.translation.of_chains.Given as goal
 

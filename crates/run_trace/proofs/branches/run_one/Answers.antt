@@ -1,5 +1,5 @@
 use Rattle.std.proofs.Common.{ℕ, List, Result, Err, sym, ap, ◌∙◌, subst}
-use Rattle.jq_sem.specs.Views.{statements_of}
+use Rattle.jq_stmts.specs.Views.{statements_of}
 use Rattle.run_trace.specs.declared.replays.RunFault.{RunFault}
 use Rattle.run_trace.specs.declared.traces.TheConstants.{MOST_RUN_NODES}
 use Rattle.run_trace.specs.Known.{IsDone, IsStopped}

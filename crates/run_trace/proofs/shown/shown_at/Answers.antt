@@ -1,6 +1,6 @@
 use Rattle.std.proofs.Common.{length, sym}
 use Rattle.std.proofs.lemmas.Bool.{ltb-true}
-use Rattle.sel_core.specs.Views.{selector_of}
+use Rattle.sel_text.specs.Views.{selector_of}
 use Rattle.run_trace.proofs.KnownLemmas.{if_some, shown_there}
 use Rattle.run_trace.proofs.shown.shown_at.Goals as goal
 

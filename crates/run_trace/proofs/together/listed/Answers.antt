@@ -1,7 +1,7 @@
 use Rattle.std.proofs.Common.{map, List, ℕ, sym, subst}
 use Rattle.css_read.specs.Views.{item_of}
-use Rattle.jq_sem.specs.Views.{statements_of}
-use Rattle.sel_core.specs.Views.{selector_of}
+use Rattle.jq_stmts.specs.Views.{statements_of}
+use Rattle.sel_text.specs.Views.{selector_of}
 use Rattle.usage_report.specs.Views.{answer_of}
 use Rattle.run_trace.specs.declared.traces.TheConstants.{MOST_RUN_NODES}
 use Rattle.run_trace.specs.FirstMatches.{IsFirstMatch}

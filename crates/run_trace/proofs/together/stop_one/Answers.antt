@@ -1,7 +1,7 @@
 use Rattle.std.proofs.Common.{length, map, refl}
 use Rattle.css_read.specs.Views.{item_of}
-use Rattle.jq_sem.specs.Views.{statements_of}
-use Rattle.sel_core.specs.Views.{selector_of}
+use Rattle.jq_stmts.specs.Views.{statements_of}
+use Rattle.sel_text.specs.Views.{selector_of}
 use Rattle.usage_report.specs.Views.{answer_of}
 use Rattle.usage_report.specs.declared.run_traces.RunTrace.TheVariants.{Stopped}
 use Rattle.run_trace.proofs.KnownLemmas.{noted, stops}

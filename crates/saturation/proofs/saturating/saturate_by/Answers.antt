@@ -7,7 +7,7 @@ use Rattle.saturation.specs.Histories.{Change}
 use Rattle.saturation.specs.HistoryMap.{history_in}
 use Rattle.saturation.specs.Tables.{AreReadsOf}
 use Rattle.saturation.specs.Waking.{named_each}
-use Rattle.saturation.specs.declared.histories.CellKey.{CellKey}
+use Rattle.pushdown_sym.specs.declared.cells.CellKey.{CellKey}
 use Rattle.saturation.proofs.StartLemmas.{first_done}
 use Rattle.saturation.proofs.saturating.saturate_by.Goals as goal
 

@@ -1,7 +1,7 @@
 use Rattle.std.proofs.Common.{◌≡◌, ◌<◌, ◌+◌, ◌↔◌, length}
 use Rattle.sel_core.specs.Selectors.{Matches}
 use Rattle.sel_core.specs.Places.{IsLeft}
-use Rattle.sel_core.specs.Views.{selector_of}
+use Rattle.sel_text.specs.Views.{selector_of}
 use Rattle.sel_core.proofs.matching.matches.Given as goal
 
 abbrev pub invariant-groups : goal.invariant-groups

@@ -1,5 +1,5 @@
 use Rattle.std.proofs.Common.{◌≡◌, ◌<◌, Some, sym, subst}
-use Rattle.sel_core.specs.Parts.{selector_from}
+use Rattle.sel_text.specs.Parts.{selector_from}
 use Rattle.sel_core.proofs.Groups.{IsTried, left_over, parent_leaves_less, tried_first, tried_more}
 use Rattle.sel_core.proofs.matching.nearest.Goals as goal
 

@@ -1,4 +1,4 @@
-use Rattle.sel_core.specs.Parts.{selector_from}
+use Rattle.sel_text.specs.Parts.{selector_from}
 use Rattle.sel_core.proofs.Groups.{IsTried, left_over}
 use Rattle.sel_core.proofs.matching.nearest.Given as goal
 

@@ -1,5 +1,5 @@
 use Rattle.std.proofs.Common.{◌≡◌, ◌≤◌, ◌+◌, length}
-use Rattle.sel_core.specs.Parts.{selector_from}
+use Rattle.sel_text.specs.Parts.{selector_from}
 use Rattle.sel_core.proofs.Groups.{IsReached}
 use Rattle.sel_core.proofs.matching.placed.Given as goal
 

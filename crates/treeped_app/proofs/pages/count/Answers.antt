@@ -1,6 +1,6 @@
 use Rattle.std.proofs.Common.{Err, refl, ap}
 use Rattle.std.proofs.lemmas.Result.{err_from_is_err_and}
-use Rattle.treeped_app.specs.Summary.{summary}
+use Rattle.usage_report.specs.Summary.{summary}
 use Rattle.treeped_app.specs.Views.{said_of, texts_of}
 use Rattle.treeped_app.proofs.WritingLemmas.{cut_short}
 use Rattle.treeped_app.proofs.pages.count.Goals as goal

@@ -1,8 +1,8 @@
 use Rattle.std.proofs.Common.{List, length, sym, subst}
-use Rattle.jq_sem.specs.Statements.{Statement}
-use Rattle.jq_sem.specs.Tables.{AreStatementsOver}
+use Rattle.jq_stmts.specs.Statements.{Statement}
+use Rattle.jq_stmts.specs.Tables.{AreStatementsOver}
 use Rattle.jq_read.specs.Limits.{AreWithin}
-use Rattle.treeped_app.proofs.MarkLemmas.{wides_marked}
+use Rattle.jq_exact.proofs.MarkLemmas.{wides_marked}
 use Rattle.treeped_app.proofs.ReadingLemmas.{opened_exactly, judged_again}
 use Rattle.treeped_app.proofs.reading.open_exact.Goals as goal
 

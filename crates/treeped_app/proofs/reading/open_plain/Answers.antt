@@ -1,4 +1,4 @@
-use Rattle.treeped_app.proofs.MarkLemmas.{wides_marked}
+use Rattle.jq_exact.proofs.MarkLemmas.{wides_marked}
 use Rattle.treeped_app.proofs.ReadingLemmas.{opened_plainly, not_plainly}
 use Rattle.treeped_app.proofs.reading.open_plain.Goals as goal
 

@@ -1,5 +1,5 @@
 use Rattle.std.proofs.Common.{List, sym, subst}
-use Rattle.jq_sem.specs.Statements.{Statement}
+use Rattle.jq_stmts.specs.Statements.{Statement}
 use Rattle.jq_read.specs.Limits.{AreWithin}
 use Rattle.treeped_app.proofs.GivenLemmas.{all_given}
 use Rattle.treeped_app.proofs.RoomLemmas.{has_room}

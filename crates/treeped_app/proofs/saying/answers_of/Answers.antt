@@ -1,5 +1,5 @@
 use Rattle.std.proofs.Common.{map, ap}
-use Rattle.jq_sem.specs.Views.{statements_of}
+use Rattle.jq_stmts.specs.Views.{statements_of}
 use Rattle.usage_report.specs.Views.{answer_of}
 use Rattle.treeped_app.specs.Views.{inputs_of}
 use Rattle.treeped_app.proofs.SayingLemmas.{answers_are, answers_in_order, system_as, given_with, refused_by_system}

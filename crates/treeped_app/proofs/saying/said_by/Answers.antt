@@ -1,7 +1,7 @@
 use Rattle.std.proofs.Common.{sym, ap, ◌∙◌}
-use Rattle.jq_sem.specs.Sharp.{wides}
+use Rattle.jq_stmts.specs.Sharp.{wides}
 use Rattle.treeped_app.specs.Views.{inputs_of}
-use Rattle.treeped_app.proofs.MarkLemmas.{wides_marked}
+use Rattle.jq_exact.proofs.MarkLemmas.{wides_marked}
 use Rattle.treeped_app.proofs.saying.said_by.Goals as goal
 
 pub returns-clause-inputs : goal.returns-clause-inputs

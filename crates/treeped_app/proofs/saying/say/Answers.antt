@@ -5,7 +5,7 @@ use Rattle.usage_report.specs.Views.{answer_of}
 use Rattle.dead_script.specs.Asked.{by_number}
 use Rattle.treeped_app.specs.Views.{inputs_of, texts_of}
 use Rattle.treeped_app.proofs.SayingLemmas.{tracked_of, not_read, not_answered, said_right, unfolded_of}
-use Rattle.treeped_app.proofs.MarkLemmas.{wides_marked}
+use Rattle.jq_exact.proofs.MarkLemmas.{wides_marked}
 use Rattle.treeped_app.proofs.saying.say.Goals as goal
 
 pub returns-in_err-inputs-clause-said : goal.returns-in_err-inputs-clause-said

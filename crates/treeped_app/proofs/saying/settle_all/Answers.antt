@@ -1,9 +1,9 @@
 use Rattle.std.proofs.Common.{map, sym, ap, ◌∙◌}
 use Rattle.std.specs.List.{list_any}
 use Rattle.usage_report.specs.Views.{answer_of}
-use Rattle.treeped_app.specs.Views.{exact_in, has_marks}
+use Rattle.jq_exact.specs.Scripts.{exact_in, has_marks}
 use Rattle.treeped_app.proofs.ExactLemmas.{all_kept}
-use Rattle.treeped_app.proofs.MarkLemmas.{none_marked}
+use Rattle.jq_exact.proofs.MarkLemmas.{none_marked}
 use Rattle.treeped_app.proofs.saying.settle_all.Goals as goal
 
 pub returns-then-not-any_marked-clause-settled : goal.returns-then-not-any_marked-clause-settled

@@ -4,7 +4,7 @@ use Rattle.usage_report.specs.Views.{answer_of}
 use Rattle.dead_script.specs.Verdicts as dead
 use Rattle.treeped_app.specs.Modes as spec
 use Rattle.treeped_app.specs.Views.{said_of}
-use Rattle.treeped_app.proofs.StopLemmas.{any_seen}
+use Rattle.usage_report.proofs.SeenLemmas.{any_seen}
 use Rattle.treeped_app.proofs.statuses.status_of.Goals as goal
 use Rattle.treeped_app.proofs.statuses.status_of.Goals.{then-any_open, else-any_open, then-any_unused, else-any_unused}
 

@@ -1,5 +1,5 @@
 use Rattle.std.proofs.Common.{◌≡◌, map, take}
-use Rattle.jq_sem.specs.Views.{statements_of}
+use Rattle.jq_stmts.specs.Views.{statements_of}
 use Rattle.treeped_app.proofs.writing.places_of.Given as goal
 
 abbrev pub invariant-statements : goal.invariant-statements

@@ -1,7 +1,7 @@
 use Rattle.std.proofs.Common.{map, length, subst, ap, refl, ◌∙◌}
 use Rattle.std.proofs.lemmas.List.{length-map}
 use Rattle.css_read.specs.Views.{item_of}
-use Rattle.jq_sem.specs.Views.{statements_of}
+use Rattle.jq_stmts.specs.Views.{statements_of}
 use Rattle.usage_report.specs.Views.{answer_of}
 use Rattle.command_words.specs.declared.words.Mode.{Mode}
 use Rattle.dead_script.specs.Verdicts.{dead_text}

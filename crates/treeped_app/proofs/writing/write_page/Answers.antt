@@ -1,5 +1,5 @@
 use Rattle.std.proofs.Common.{map, ap, ◌∙◌}
-use Rattle.jq_sem.specs.Views.{statements_of}
+use Rattle.jq_stmts.specs.Views.{statements_of}
 use Rattle.treeped_app.proofs.writing.write_page.Goals as goal
 
 pub write_report-requires-clause-reportable : goal.write_report-requires-clause-reportable

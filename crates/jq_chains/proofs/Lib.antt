@@ -1,0 +1,2 @@
+pub mod MarkSteps
+mod SharedCallSteps

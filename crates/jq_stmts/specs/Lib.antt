@@ -1,0 +1,6 @@
+-- What public contracts cite.
+pub mod Sharp
+pub mod SharpViews
+pub mod Statements
+pub mod Tables
+pub mod Views

@@ -1,6 +1,0 @@
-use Rattle.std.proofs.Common.{◌≡◌, ◌++◌}
-use Rattle.sel_core.proofs.WriteLemmas.{front_text}
-use Rattle.sel_core.proofs.writing.write_parts.Given as goal
-
-abbrev pub invariant-parts : goal.invariant-parts
-invariant-parts l = l.text.items ≡ l.fn.text.items ++ front_text l.atoms l.parts l.joins l.i

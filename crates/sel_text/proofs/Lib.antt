@@ -1,0 +1,20 @@
+pub mod PartLemmas
+pub mod WriteLemmas
+pub mod Gaps
+pub mod WordLemmas
+pub mod Fronts
+pub mod Steps
+pub mod SameReading
+pub mod Runs
+pub mod Endings
+pub mod ByteRuns
+pub mod Commas
+pub mod AttributeText
+pub mod AskedLemmas
+pub mod ListSteps
+pub mod NameLemmas
+pub mod ReadBack
+pub mod Lowered
+pub mod Sound
+pub mod PlainText
+mod Rows

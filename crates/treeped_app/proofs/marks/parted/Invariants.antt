@@ -1,5 +1,0 @@
-use Rattle.treeped_app.proofs.MarkLemmas.{AreParted}
-use Rattle.treeped_app.proofs.marks.parted.Given as goal
-
-abbrev pub invariant-loop-statement : goal.invariant-loop-statement
-invariant-loop-statement l = AreParted l.stmts.items l.sharp.items l.statement-iterator.rest.items l.fn.exact.items
