@@ -1,6 +1,6 @@
 -- Answers one after another.
 use Rattle.std.proofs.Common.{◌≡◌, ℕ, ◌≤◌, length, Result, Ok, Err, IsErrAnd, refl, sym, ap, subst, ◌∙◌, arith}
-use Rattle.class_diagrams.specs.declared.refs.Place.{Place}
+use Rattle.class_diagrams.specs.declared.refs.Target.{Target}
 use Rattle.class_diagrams.specs.declared.faults.DiagramFault.{DiagramFault}
 use Rattle.class_diagrams.specs.declared.faults.DiagramFault.TheVariants.{Full, Memory}
 use Rattle.class_diagrams.specs.Trees.{Tree, with_branches, join}
@@ -32,7 +32,7 @@ gives_low_failed a b n low high e arena gives =
       arena = gives.arena;
     }
 
-pub gives_high_failed : (a b c : Arena) (n : ℕ) (low high : Tree) (f : Place) (e : DiagramFault) → IsArena a
+pub gives_high_failed : (a b c : Arena) (n : ℕ) (low high : Tree) (f : Target) (e : DiagramFault) → IsArena a
     → Gives a b low (Ok f) → Gives b c high (Err e) → Gives a c (join n low high) (Err e)
 gives_high_failed a b c n low high f e arena first second =
     let there : b.branches ≡ with_branches a.branches low = first.answer.2 in
@@ -48,12 +48,12 @@ gives_high_failed a b c n low high f e arena first second =
       arena = second.arena;
     }
 
-join_answer : (a c d : Arena) (t : Tree) (r : Result Place DiagramFault) → with_branches c.branches t ≡ with_branches a.branches t → c.limit ≡ a.limit → IsAnswer c d t r → IsAnswer a d t r
+join_answer : (a c d : Arena) (t : Tree) (r : Result Target DiagramFault) → with_branches c.branches t ≡ with_branches a.branches t → c.limit ≡ a.limit → IsAnswer c d t r → IsAnswer a d t r
 join_answer a c d t (Ok f) same limits answer = (answer.0, answer.1, answer.2 ∙ same)
 join_answer a c d t (Err Full) same limits answer = rw (← same, ← limits) answer
 join_answer a c d t (Err Memory) same limits answer = tt
 
-pub gives_both : (a b c d : Arena) (n : ℕ) (low high : Tree) (f g : Place) (r : Result Place DiagramFault) → IsArena a
+pub gives_both : (a b c d : Arena) (n : ℕ) (low high : Tree) (f g : Target) (r : Result Target DiagramFault) → IsArena a
     → Gives a b low (Ok f) → Gives b c high (Ok g) → Gives c d (join n low high) r → Gives a d (join n low high) r
 gives_both a b c d n low high f g r arena first second third =
     let there : c.branches ≡ with_branches (with_branches a.branches low) high = second.answer.2 ∙ ap (λ ts. with_branches ts high) first.answer.2 in
@@ -68,6 +68,6 @@ gives_both a b c d n low high f g r arena first second third =
     }
 
 -- the same fault behind a `?`
-pub gives_same_error : (a b : Arena) (t : Tree) (r : Result Place DiagramFault) (e : DiagramFault) → IsErrAnd r (λ x. x ≡ e) → Gives a b t (Err e) → Gives a b t r
+pub gives_same_error : (a b : Arena) (t : Tree) (r : Result Target DiagramFault) (e : DiagramFault) → IsErrAnd r (λ x. x ≡ e) → Gives a b t (Err e) → Gives a b t r
 gives_same_error a b t (Ok p) e is gives = absurd is
 gives_same_error a b t (Err x) e is gives = subst (λ y. Gives a b t (Err y)) (sym is) gives

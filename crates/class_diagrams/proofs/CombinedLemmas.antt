@@ -2,7 +2,7 @@
 use Rattle.std.proofs.Common.{◌≡◌, ℕ, ◌+◌, ◌<◌, Bool, true, false, ◌&&◌, ◌||◌, List, Result, Ok, Err, IfOk, refl, sym, ap, subst, ◌∙◌}
 use Rattle.tp_base.specs.Classes.{has_class}
 use Rattle.tp_base.proofs.Truths.{cond_itself}
-use Rattle.class_diagrams.specs.declared.refs.Place.{Place}
+use Rattle.class_diagrams.specs.declared.refs.Target.{Target}
 use Rattle.class_diagrams.specs.declared.memo.Operation.{Operation}
 use Rattle.class_diagrams.specs.declared.memo.Operation.TheVariants.{And, Or}
 use Rattle.class_diagrams.specs.declared.table.Pair.TheVariants.{WithLeaf, Branches}
@@ -42,15 +42,15 @@ tree_of-itself : (o : Operation) (t : Tree) → IsOrdered t → tree_of o t t �
 tree_of-itself o t ok = same_where_agree (tree_of o t t) t (IsOrdered-tree_of o t t ok ok) ok (λ set rises. eval-tree_of-itself o t set)
 
 -- the tree of an operation on two references
-abbrev pub tree_by : Operation → List Tree → Place → Place → Tree
+abbrev pub tree_by : Operation → List Tree → Target → Target → Tree
 tree_by o ts f g = tree_of o (tree_at ts f) (tree_at ts g)
 
-tree_by-further : (o : Operation) (ts us : List Tree) (f g : Place) → StartsWith ts us → IsIn ts f → IsIn ts g → tree_by o us f g ≡ tree_by o ts f g
+tree_by-further : (o : Operation) (ts us : List Tree) (f g : Target) → StartsWith ts us → IsIn ts f → IsIn ts g → tree_by o us f g ≡ tree_by o ts f g
 tree_by-further o ts us f g first f_in g_in = rw (tree_at-further ts us f first f_in, tree_at-further ts us g first g_in) refl
 
-module _ (o : Operation) (a : Arena) (f g : Place) (arena : IsArena a) where
+module _ (o : Operation) (a : Arena) (f g : Target) (arena : IsArena a) where
   -- with a leaf
-  pub gives_leaf : (value : Bool) (other r : Place) → IsPair a.branches f g (WithLeaf value other)
+  pub gives_leaf : (value : Bool) (other r : Target) → IsPair a.branches f g (WithLeaf value other)
       → ((ts : List Tree) → IsIn ts other → IsIn ts r × (tree_at ts r ≡ leaf_rule_of o value (tree_at ts other)))
       → Gives a a (tree_by o a.branches f g) (Ok r)
   gives_leaf value other r pair by_rule =
@@ -67,10 +67,10 @@ module _ (o : Operation) (a : Arena) (f g : Place) (arena : IsArena a) where
       subst (λ t. Gives a a t (Ok f)) same (gives_held a f arena f_in)
 
   -- remembered
-  pub gives_known : (r : Place) → IsRight a (record { operation = o; first = f; second = g }, r) → Gives a a (tree_by o a.branches f g) (Ok r)
+  pub gives_known : (r : Target) → IsRight a (record { operation = o; first = f; second = g }, r) → Gives a a (tree_by o a.branches f g) (Ok r)
   gives_known r right = subst (λ t. Gives a a t (Ok r)) right.tree (gives_held a r arena right.result)
 
-  module _ (atom : ℕ) (low high : Place × Place) (pair : IsPair a.branches f g (Branches atom low high)) where
+  module _ (atom : ℕ) (low high : Target × Target) (pair : IsPair a.branches f g (Branches atom low high)) where
     parts_joined : tree_by o a.branches f g ≡ join atom (tree_by o a.branches low.0 low.1) (tree_by o a.branches high.0 high.1)
     parts_joined =
         tree_of-combine o (tree_at a.branches f) (tree_at a.branches g)
@@ -82,7 +82,7 @@ module _ (o : Operation) (a : Arena) (f g : Place) (arena : IsArena a) where
         subst (λ t. Gives a b t (Err e)) (sym parts_joined)
         (gives_low_failed a b atom (tree_by o a.branches low.0 low.1) (tree_by o a.branches high.0 high.1) e arena gives)
 
-    module _ (b : Arena) (r : Place) (first : Gives a b (tree_by o a.branches low.0 low.1) (Ok r)) where
+    module _ (b : Arena) (r : Target) (first : Gives a b (tree_by o a.branches low.0 low.1) (Ok r)) where
       pub high_in : IsIn b.branches high.0 × IsIn b.branches high.1
       high_in = (IsIn-further a.branches b.branches high.0 first.stays pair.1.0, IsIn-further a.branches b.branches high.1 first.stays pair.1.1)
 
@@ -98,7 +98,7 @@ module _ (o : Operation) (a : Arena) (f g : Place) (arena : IsArena a) where
           (gives_high_failed a b c atom (tree_by o a.branches low.0 low.1) (tree_by o a.branches high.0 high.1) r e arena first
           (subst (λ t. Gives b c t (Err e)) same_high gives))
 
-      module _ (c : Arena) (s : Place) (second : Gives b c (tree_by o b.branches high.0 high.1) (Ok s)) where
+      module _ (c : Arena) (s : Target) (second : Gives b c (tree_by o b.branches high.0 high.1) (Ok s)) where
         pub low_in : IsIn c.branches r
         low_in = IsIn-further b.branches c.branches r second.stays first.answer.0
 
@@ -111,7 +111,7 @@ module _ (o : Operation) (a : Arena) (f g : Place) (arena : IsArena a) where
         joined : join atom (tree_at c.branches r) (tree_at c.branches s) ≡ tree_by o a.branches f g
         joined = (λ i. join atom (low_tree i) (high_tree i)) ∙ sym parts_joined
 
-        both_give : (d : Arena) (answer : Result Place DiagramFault) → Gives c d (join atom (tree_at c.branches r) (tree_at c.branches s)) answer
+        both_give : (d : Arena) (answer : Result Target DiagramFault) → Gives c d (join atom (tree_at c.branches r) (tree_at c.branches s)) answer
             → Gives a d (tree_by o a.branches f g) answer
         both_give d answer gives =
             subst (λ t. Gives a d t answer) (sym parts_joined)
@@ -133,19 +133,19 @@ module _ (o : Operation) (a : Arena) (f g : Place) (arena : IsArena a) where
         pub whole_joined : IsIn a.branches f → IsIn a.branches g → tree_by o c.branches f g ≡ join atom (tree_at c.branches r) (tree_at c.branches s)
         whole_joined f_in g_in = same_whole f_in g_in ∙ sym joined
 
-        pub both_give_whole : (d : Arena) (answer : Result Place DiagramFault) → IsIn a.branches f → IsIn a.branches g → Gives c d (tree_by o c.branches f g) answer
+        pub both_give_whole : (d : Arena) (answer : Result Target DiagramFault) → IsIn a.branches f → IsIn a.branches g → Gives c d (tree_by o c.branches f g) answer
             → Gives a d (tree_by o a.branches f g) answer
         both_give_whole d answer f_in g_in gives = both_give d answer (subst (λ t. Gives c d t answer) (whole_joined f_in g_in) gives)
 
 -- ### an operation from its two parts
 
-module _ (o : Operation) (a : Arena) (f g low high : Place) (atom : ℕ) (arena : IsArena a) (f_in : IsIn a.branches f) (g_in : IsIn a.branches g)
+module _ (o : Operation) (a : Arena) (f g low high : Target) (atom : ℕ) (arena : IsArena a) (f_in : IsIn a.branches f) (g_in : IsIn a.branches g)
     (parts : tree_by o a.branches f g ≡ join atom (tree_at a.branches low) (tree_at a.branches high)) where
   pub parts_ordered : IsOrdered (join atom (tree_at a.branches low) (tree_at a.branches high))
   parts_ordered = subst IsOrdered parts (IsOrdered-tree_of o (tree_at a.branches f) (tree_at a.branches g)
       (IsOrdered-tree_at a.branches f arena.ordered f_in) (IsOrdered-tree_at a.branches g arena.ordered g_in))
 
-  pub parts_right : (b : Arena) (r : Place) → Gives a b (join atom (tree_at a.branches low) (tree_at a.branches high)) (Ok r)
+  pub parts_right : (b : Arena) (r : Target) → Gives a b (join atom (tree_at a.branches low) (tree_at a.branches high)) (Ok r)
       → IsRight b (record { operation = o; first = f; second = g }, r)
   parts_right b r gives = record {
     first = IsIn-further a.branches b.branches f gives.stays f_in;
@@ -163,22 +163,22 @@ or_true o v t is at = rw (is, at) refl
 
 -- ### what an answer means
 
-pub means_both : (r : Result Place DiagramFault) (ts : List Tree) (t u : Tree) → IfOk r (λ f. tree_at ts f ≡ tand t u)
+pub means_both : (r : Result Target DiagramFault) (ts : List Tree) (t u : Tree) → IfOk r (λ f. tree_at ts f ≡ tand t u)
     → IfOk r (λ f. (set : List ℕ) → eval (tree_at ts f) set ≡ (eval t set && eval u set))
 means_both (Ok f) ts t u is = λ set. ap (λ v. eval v set) is ∙ eval-tand t u set
 means_both (Err e) ts t u is = tt
 
-pub means_either : (r : Result Place DiagramFault) (ts : List Tree) (t u : Tree) → IfOk r (λ f. tree_at ts f ≡ tor t u)
+pub means_either : (r : Result Target DiagramFault) (ts : List Tree) (t u : Tree) → IfOk r (λ f. tree_at ts f ≡ tor t u)
     → IfOk r (λ f. (set : List ℕ) → eval (tree_at ts f) set ≡ (eval t set || eval u set))
 means_either (Ok f) ts t u is = λ set. ap (λ v. eval v set) is ∙ eval-tor t u set
 means_either (Err e) ts t u is = tt
 
-pub means_atom : (r : Result Place DiagramFault) (ts : List Tree) (a : ℕ) → IfOk r (λ f. tree_at ts f ≡ variable a)
+pub means_atom : (r : Result Target DiagramFault) (ts : List Tree) (a : ℕ) → IfOk r (λ f. tree_at ts f ≡ variable a)
     → IfOk r (λ f. (set : List ℕ) → eval (tree_at ts f) set ≡ has_class a set)
 means_atom (Ok f) ts a is = λ set. ap (λ v. eval v set) is ∙ cond_itself (has_class a set)
 means_atom (Err e) ts a is = tt
 
 -- the tree of an answer
-pub answer_tree : (old new : Arena) (t : Tree) (r : Result Place DiagramFault) → Gives old new t r → IfOk r (λ f. tree_at new.branches f ≡ t)
+pub answer_tree : (old new : Arena) (t : Tree) (r : Result Target DiagramFault) → Gives old new t r → IfOk r (λ f. tree_at new.branches f ≡ t)
 answer_tree old new t (Ok f) gives = gives.answer.1
 answer_tree old new t (Err e) gives = tt

@@ -7,7 +7,7 @@ use Rattle.lru.proofs.CallerLemmas.{Contains-lookup, Contains-put_entries}
 use Rattle.class_diagrams.specs.declared.memo.Operation.{Operation}
 use Rattle.class_diagrams.specs.declared.memo.Operation.TheVariants.{And, Or}
 use Rattle.class_diagrams.specs.declared.memo.Task.{Task}
-use Rattle.class_diagrams.specs.declared.refs.Place.{Place}
+use Rattle.class_diagrams.specs.declared.refs.Target.{Target}
 use Rattle.class_diagrams.specs.contracts.memo.TaskPartialEq as its
 use Rattle.class_diagrams.specs.contracts.memo.OperationPartialEq as kinds
 use Rattle.class_diagrams.proofs.TableLemmas.{ref_eq, ref_eq-true}
@@ -32,7 +32,7 @@ task_eq-true s t h =
     λ i. record { operation = operations i; first = firsts i; second = seconds i }
 
 -- a look-up finds what is remembered
-pub recalled : (entries : List (Task × Place)) (task : Task) (o : Option Place) → o ≡ lookup (task_eq task) entries → IfSome o (λ f. Contains entries (task, f))
+pub recalled : (entries : List (Task × Target)) (task : Task) (o : Option Target) → o ≡ lookup (task_eq task) entries → IfSome o (λ f. Contains entries (task, f))
 recalled entries task None h = tt
 recalled entries task (Some f) h =
     let found = Contains-lookup (task_eq task) entries f (sym h) in
@@ -40,11 +40,11 @@ recalled entries task (Some f) h =
     subst (λ t. Contains entries (t, f)) same found.1
 
 -- what is remembered after a result was to be
-pub noted : {E : Type 0} (r : Result (Option Place) E) (old new : LruCache Task Place) (task : Task) (f : Place)
+pub noted : {E : Type 0} (r : Result (Option Target) E) (old new : LruCache Task Target) (task : Task) (f : Target)
     → OnOk r (new ≡ lru_cache (put_entries task_eq old task f) old.cap) → OnErr r (new ≡ old)
-    → (entry : Task × Place) → Contains new.entries entry → Contains old.entries entry ⊎ (entry ≡ (task, f))
+    → (entry : Task × Target) → Contains new.entries entry → Contains old.entries entry ⊎ (entry ≡ (task, f))
 noted (Ok was) old new task f ok err entry there =
-    elim (Contains-put_entries task_eq old task f entry (subst (λ (c : LruCache Task Place). Contains c.entries entry) ok there)) [
+    elim (Contains-put_entries task_eq old task f entry (subst (λ (c : LruCache Task Target). Contains c.entries entry) ok there)) [
       | inl before ↦ inl before
       | inr put ↦ elim put.1 [
         | inl new_key ↦ inr (λ i. (new_key i, put.0 i))
@@ -53,4 +53,4 @@ noted (Ok was) old new task f ok err entry there =
             inr (λ i. (key i, put.0 i))
       ]
     ]
-noted (Err e) old new task f ok err entry there = inl (subst (λ (c : LruCache Task Place). Contains c.entries entry) err there)
+noted (Err e) old new task f ok err entry there = inl (subst (λ (c : LruCache Task Target). Contains c.entries entry) err there)

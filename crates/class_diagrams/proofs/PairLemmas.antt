@@ -3,8 +3,8 @@ use Rattle.std.proofs.Common.{◌≡◌, ℕ, ◌<◌, Bool, false, List, length
 use Rattle.std.proofs.lemmas.Option.{slice_get_within, slice_get_read}
 use Rattle.class_diagrams.specs.declared.table.BranchNode.{BranchNode}
 use Rattle.class_diagrams.specs.declared.table.Pair.TheVariants.{WithLeaf, Branches}
-use Rattle.class_diagrams.specs.declared.refs.Place.{Place}
-use Rattle.class_diagrams.specs.declared.refs.Place.TheVariants.{Leaf, Branch}
+use Rattle.class_diagrams.specs.declared.refs.Target.{Target}
+use Rattle.class_diagrams.specs.declared.refs.Target.TheVariants.{Leaf, Branch}
 use Rattle.class_diagrams.specs.Trees.{Tree, leaf, branch, combine}
 use Rattle.class_diagrams.specs.Arena.{tree_at, IsIn, AreSame}
 use Rattle.class_diagrams.specs.Table.{trees_of, IsTable}
@@ -20,7 +20,7 @@ stored_node bs xs k b same within at =
     slice_get_read bs (length bs) k b refl (omega arith) (at ∙ ap (λ ys. get_or ys k b) same)
 
 -- what is known of a branch and of what goes with it
-record IsBranch (ts : List Tree) (p : Place) (b : BranchNode) : Type 0 where
+record IsBranch (ts : List Tree) (p : Target) (b : BranchNode) : Type 0 where
   within : IsIn ts p
   low : IsIn ts b.low
   high : IsIn ts b.high
@@ -33,7 +33,7 @@ is_branch bs limit k b table at =
     let count = length-trees_of bs in
     record { within = omega arith; low = parts.0; high = parts.1; tree = tree_decoded bs limit k b (leaf false) table at }
 
-module _ (ts : List Tree) (p q : Place) (b c : BranchNode) (first : IsBranch ts p b) (second : IsBranch ts q c) where
+module _ (ts : List Tree) (p q : Target) (b c : BranchNode) (first : IsBranch ts p b) (second : IsBranch ts q c) where
   less : b.atom < c.atom → IsPair ts p q (Branches b.atom (b.low, q) (b.high, q))
   less order = (
     (first.low, second.within, rw first.tree (omega arith)),
@@ -71,7 +71,7 @@ module _ (leaf_rule : Bool → Tree → Tree) (v : Bool) where
   on_leaf ts k same within (leaf w) at = absurd (branch_is_no_leaf ts k same within (rw at tt))
   on_leaf ts k same within (branch a l h) at = refl
 
-pub pair-leaf : (ts : List Tree) (p q : Place) (k : ℕ) (v : Bool) → AreSame ts → Branch k ≡ p → Leaf v ≡ q → IsIn ts p → IsPair ts p q (WithLeaf v p)
+pub pair-leaf : (ts : List Tree) (p q : Target) (k : ℕ) (v : Bool) → AreSame ts → Branch k ≡ p → Leaf v ≡ q → IsIn ts p → IsPair ts p q (WithLeaf v p)
 pair-leaf ts p q k v same at other within =
     let here : k < length ts = subst (IsIn ts) (sym at) within in
     subst (λ x. IsPair ts x q (WithLeaf v x)) at (subst (λ y. IsPair ts (Branch k) y (WithLeaf v (Branch k))) other

@@ -11,8 +11,8 @@ use Rattle.std.proofs.Math.Seq.{get_or-append_seam}
 use Rattle.indexmap.specs.IndexSet.{insert_key}
 use Rattle.class_diagrams.specs.declared.table.BranchNode.{BranchNode}
 use Rattle.limits.specs.declared.budgets.TheConstants.{MOST_BRANCHES}
-use Rattle.class_diagrams.specs.declared.refs.Place.{Place}
-use Rattle.class_diagrams.specs.declared.refs.Place.TheVariants.{Leaf, Branch}
+use Rattle.class_diagrams.specs.declared.refs.Target.{Target}
+use Rattle.class_diagrams.specs.declared.refs.Target.TheVariants.{Leaf, Branch}
 use Rattle.class_diagrams.specs.contracts.table.BranchNodePartialEq as its
 use Rattle.class_diagrams.specs.contracts.refs.RefPartialEq as refs
 use Rattle.class_diagrams.specs.Trees.{Tree, leaf, branch, same_tree, has_tree, with_tree, with_branches, IsOrdered}
@@ -27,10 +27,10 @@ use Rattle.class_diagrams.proofs.BranchLemmas.{StartsWith-with_tree, StartsWith-
 
 -- ### the derived `==`
 
-abbrev pub ref_eq : Place → Place → Bool
+abbrev pub ref_eq : Target → Target → Bool
 ref_eq = refs.TheImpl.eq-value.it
 
-number_of-same : (p q : Place) → number_of p ≡ number_of q → p ≡ q
+number_of-same : (p q : Target) → number_of p ≡ number_of q → p ≡ q
 number_of-same (Leaf true) (Leaf true) h = refl
 number_of-same (Leaf true) (Leaf false) h = absurd (omega arith)
 number_of-same (Leaf false) (Leaf true) h = absurd (omega arith)
@@ -41,10 +41,10 @@ number_of-same (Branch k) (Leaf true) h = absurd (omega arith)
 number_of-same (Branch k) (Leaf false) h = absurd (omega arith)
 number_of-same (Branch j) (Branch k) h = ap (λ n. Branch n) (omega arith)
 
-pub ref_eq-true : (p q : Place) → ref_eq p q ≡ true → p ≡ q
+pub ref_eq-true : (p q : Target) → ref_eq p q ≡ true → p ≡ q
 ref_eq-true p q h = let same : eqb (number_of p) (number_of q) ≡ true = h in number_of-same p q (eqb-true (number_of p) (number_of q) same)
 
-pub ref_eq-refl : (p : Place) → ref_eq p p ≡ true
+pub ref_eq-refl : (p : Target) → ref_eq p p ≡ true
 ref_eq-refl p = let same : eqb (number_of p) (number_of p) ≡ true = eq-eqb (number_of p) (number_of p) refl in same
 
 abbrev pub node_eq : BranchNode → BranchNode → Bool
@@ -86,7 +86,7 @@ length-trees_behind before (b ∷ bs) =
 pub length-trees_of : (bs : List BranchNode) → length (trees_of bs) ≡ length bs
 length-trees_of bs = let all = length-trees_behind [] bs in omega arith
 
-IsIn-before : (ts : List Tree) (n : ℕ) (p : Place) → n ≤ length ts → IsBefore n p → IsIn ts p
+IsIn-before : (ts : List Tree) (n : ℕ) (p : Target) → n ≤ length ts → IsBefore n p → IsIn ts p
 IsIn-before ts n (Leaf v) few before = tt
 IsIn-before ts n (Branch k) few before = omega arith
 
@@ -130,11 +130,11 @@ parts_within bs limit k b table at =
     let count = length-trees_of bs in
     (IsIn-before (trees_of bs) k b.low (omega arith) parts.0, IsIn-before (trees_of bs) k b.high (omega arith) parts.1)
 
-pub branch_there : (bs : List BranchNode) (limit : ℕ) (p : Place) (k : ℕ) (b : BranchNode) → IsTable bs limit → Branch k ≡ p → Some b ≡ slice_get bs k
+pub branch_there : (bs : List BranchNode) (limit : ℕ) (p : Target) (k : ℕ) (b : BranchNode) → IsTable bs limit → Branch k ≡ p → Some b ≡ slice_get bs k
     → tree_at (trees_of bs) p ≡ tree_by (trees_of bs) b
 branch_there bs limit p k b table at there = subst (λ q. tree_at (trees_of bs) q ≡ tree_by (trees_of bs) b) at (tree_decoded bs limit k b (leaf false) table (sym there))
 
-pub number_within : (bs : List BranchNode) (p : Place) (k : ℕ) → Branch k ≡ p → IsIn (trees_of bs) p → k < length bs
+pub number_within : (bs : List BranchNode) (p : Target) (k : ℕ) → Branch k ≡ p → IsIn (trees_of bs) p → k < length bs
 number_within bs p k at within =
     let here : k < length (trees_of bs) = subst (λ q. IsIn (trees_of bs) q) (sym at) within in
     let count = length-trees_of bs in
@@ -171,9 +171,9 @@ absent_node bs limit b table low high found =
 
 -- ### a branch more
 
-place_cases : (ts : List Tree) (t : Tree) (p : Place) → IsIn (ts ++ t ∷ []) p → IsIn ts p ⊎ (p ≡ Branch (length ts))
-place_cases ts t (Leaf v) within = inl tt
-place_cases ts t (Branch k) within = elim (cases_lt k (length ts)) [
+target_cases : (ts : List Tree) (t : Tree) (p : Target) → IsIn (ts ++ t ∷ []) p → IsIn ts p ⊎ (p ≡ Branch (length ts))
+target_cases ts t (Leaf v) within = inl tt
+target_cases ts t (Branch k) within = elim (cases_lt k (length ts)) [
   | inl before ↦ inl before
   | inr past ↦ inr (ap (λ n. Branch n) (omega (arith, length-append ts (t ∷ []))))
 ]
@@ -181,7 +181,7 @@ place_cases ts t (Branch k) within = elim (cases_lt k (length ts)) [
 tree_at-last : (ts : List Tree) (t : Tree) → tree_at (ts ++ t ∷ []) (Branch (length ts)) ≡ t
 tree_at-last ts t = get_or-append_seam ts t [] (leaf false)
 
-not_last : (ts : List Tree) (a : ℕ) (l h : Tree) (p : Place) → has_tree (branch a l h) ts ≡ false → IsIn ts p
+not_last : (ts : List Tree) (a : ℕ) (l h : Tree) (p : Target) → has_tree (branch a l h) ts ≡ false → IsIn ts p
     → tree_at (ts ++ branch a l h ∷ []) p ≡ tree_at (ts ++ branch a l h ∷ []) (Branch (length ts)) → ⊥
 not_last ts a l h p new within at =
     let tree : tree_at ts p ≡ branch a l h =
@@ -190,19 +190,19 @@ not_last ts a l h p new within at =
 
 -- the tree that is new goes last
 AreSame-push : (ts : List Tree) (a : ℕ) (l h : Tree) → AreSame ts → has_tree (branch a l h) ts ≡ false → AreSame (ts ++ branch a l h ∷ [])
-AreSame-push ts a l h same new p q p_in q_in at = elim (place_cases ts (branch a l h) p p_in) [
-  | inl p_old ↦ elim (place_cases ts (branch a l h) q q_in) [
+AreSame-push ts a l h same new p q p_in q_in at = elim (target_cases ts (branch a l h) p p_in) [
+  | inl p_old ↦ elim (target_cases ts (branch a l h) q q_in) [
     | inl q_old ↦ same p q p_old q_old
         (sym (tree_at-further ts (ts ++ branch a l h ∷ []) p (branch a l h ∷ [], refl) p_old) ∙ at ∙ tree_at-further ts (ts ++ branch a l h ∷ []) q (branch a l h ∷ [], refl) q_old)
     | inr q_last ↦ absurd (not_last ts a l h p new p_old (at ∙ ap (tree_at (ts ++ branch a l h ∷ [])) q_last))
   ]
-  | inr p_last ↦ elim (place_cases ts (branch a l h) q q_in) [
+  | inr p_last ↦ elim (target_cases ts (branch a l h) q q_in) [
     | inl q_old ↦ absurd (not_last ts a l h q new q_old (sym at ∙ ap (tree_at (ts ++ branch a l h ∷ [])) p_last))
     | inr q_last ↦ p_last ∙ sym q_last
   ]
 ]
 
-before_of_in : (ts : List Tree) (n : ℕ) (p : Place) → length ts ≡ n → IsIn ts p → IsBefore n p
+before_of_in : (ts : List Tree) (n : ℕ) (p : Target) → length ts ≡ n → IsIn ts p → IsBefore n p
 before_of_in ts n (Leaf v) count within = tt
 before_of_in ts n (Branch k) count within = omega arith
 

@@ -1,7 +1,7 @@
 -- Arenas of diagrams, and the trees that references stand for.
 use Rattle.std.specs.Prelude.{◌≡◌, ℕ, ◌<◌, ◌≤◌, true, false, List, ◌++◌, length, slice_index_or, All}
-use Rattle.class_diagrams.specs.declared.refs.Place.{Place}
-use Rattle.class_diagrams.specs.declared.refs.Place.TheVariants.{Leaf, Branch}
+use Rattle.class_diagrams.specs.declared.refs.Target.{Target}
+use Rattle.class_diagrams.specs.declared.refs.Target.TheVariants.{Leaf, Branch}
 use Rattle.limits.specs.declared.budgets.TheConstants.{MOST_BRANCHES}
 use Rattle.class_diagrams.specs.Trees.{Tree, leaf, branch, IsOrdered, has_tree}
 
@@ -19,18 +19,18 @@ abbrev pub IsClosed : List Tree → Type 0
 IsClosed ts = (atom : ℕ) (low high : Tree) → has_tree (branch atom low high) ts ≡ true → Holds ts low × Holds ts high
 
 -- the tree of a reference: a leaf, or the branch of this number
-abbrev pub tree_at : List Tree → Place → Tree
+abbrev pub tree_at : List Tree → Target → Tree
 tree_at branches (Leaf value) = leaf value
 tree_at branches (Branch k) = slice_index_or branches k (leaf false)
 
 -- a leaf is of every arena, a number of those that hold as many branches
-abbrev pub IsIn : List Tree → Place → Type 0
+abbrev pub IsIn : List Tree → Target → Type 0
 IsIn branches (Leaf value) = Unit {0}
 IsIn branches (Branch k) = k < length branches
 
 -- equal trees have equal references
 abbrev pub AreSame : List Tree → Type 0
-AreSame branches = (p q : Place) → IsIn branches p → IsIn branches q → tree_at branches p ≡ tree_at branches q → p ≡ q
+AreSame branches = (p q : Target) → IsIn branches p → IsIn branches q → tree_at branches p ≡ tree_at branches q → p ≡ q
 
 -- an arena of diagrams: the branches that it holds, each as its tree, and how many it may hold
 pub record Arena : Type 0 where

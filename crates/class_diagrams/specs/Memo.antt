@@ -1,6 +1,6 @@
 -- Results that are remembered.
 use Rattle.std.specs.Prelude.{◌≡◌, Bool, List, Contains}
-use Rattle.class_diagrams.specs.declared.refs.Place.{Place}
+use Rattle.class_diagrams.specs.declared.refs.Target.{Target}
 use Rattle.class_diagrams.specs.declared.memo.Operation.{Operation}
 use Rattle.class_diagrams.specs.declared.memo.Operation.TheVariants.{And, Or}
 use Rattle.class_diagrams.specs.declared.memo.Task.{Task}
@@ -18,17 +18,17 @@ leaf_rule_of And = and_leaf
 leaf_rule_of Or = or_leaf
 
 -- a result is of the arena, and is that of its operation
-pub record IsRight (a : Arena) (entry : Task × Place) : Type 0 where
+pub record IsRight (a : Arena) (entry : Task × Target) : Type 0 where
   pub first : IsIn a.branches entry.0.first
   pub second : IsIn a.branches entry.0.second
   pub result : IsIn a.branches entry.1
   pub tree : tree_at a.branches entry.1 ≡ tree_of entry.0.operation (tree_at a.branches entry.0.first) (tree_at a.branches entry.0.second)
 
 -- each remembered result is right
-abbrev pub AreRight : Arena → List (Task × Place) → Type 0
-AreRight a entries = (entry : Task × Place) → Contains entries entry → IsRight a entry
+abbrev pub AreRight : Arena → List (Task × Target) → Type 0
+AreRight a entries = (entry : Task × Target) → Contains entries entry → IsRight a entry
 
 -- what is true of each arena with what it remembers
-pub record IsRemembering (a : Arena) (entries : List (Task × Place)) : Type 0 where
+pub record IsRemembering (a : Arena) (entries : List (Task × Target)) : Type 0 where
   pub arena : IsArena a
   pub right : AreRight a entries

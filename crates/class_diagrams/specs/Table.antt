@@ -1,8 +1,8 @@
 -- The stored branches, and the trees that they stand for.
 use Rattle.std.specs.Prelude.{◌≡◌, ℕ, ◌<◌, List, [], ◌∷◌, ◌++◌, slice_get, Some}
 use Rattle.class_diagrams.specs.declared.table.BranchNode.{BranchNode}
-use Rattle.class_diagrams.specs.declared.refs.Place.{Place}
-use Rattle.class_diagrams.specs.declared.refs.Place.TheVariants.{Leaf, Branch}
+use Rattle.class_diagrams.specs.declared.refs.Target.{Target}
+use Rattle.class_diagrams.specs.declared.refs.Target.TheVariants.{Leaf, Branch}
 use Rattle.class_diagrams.specs.Trees.{Tree, branch}
 use Rattle.class_diagrams.specs.Arena.{tree_at, Arena, IsArena}
 
@@ -19,7 +19,7 @@ abbrev pub trees_of : List BranchNode → List Tree
 trees_of nodes = trees_behind [] nodes
 
 -- a leaf, or a branch of smaller number
-abbrev pub IsBefore : ℕ → Place → Type 0
+abbrev pub IsBefore : ℕ → Target → Type 0
 IsBefore n (Leaf value) = Unit {0}
 IsBefore n (Branch k) = k < n
 

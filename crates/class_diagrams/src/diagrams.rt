@@ -1,7 +1,7 @@
 //! Diagrams in one arena, and the operations on them.
 ghost use Rattle.std.specs.Prelude.{◌≡◌, ◌<◌, ◌≤◌, ◌↔◌, ◌&&◌, ◌||◌, ℕ, List, [], length, Ok, IsTrue, IsNone, IsOk, IsErrOf, IfSome, IfOk, OnOk, OnErr};
 ghost use Rattle.tp_base.specs.Classes.{has_class};
-ghost use Rattle.class_diagrams.specs.declared.refs.Place.{Place};
+ghost use Rattle.class_diagrams.specs.declared.refs.Target.{Target};
 ghost use Rattle.class_diagrams.specs.Trees.{Tree, leaf, branch, join, eval, variable, AgreeOnAllSets, IsLeaf};
 ghost use Rattle.class_diagrams.specs.Arena.{tree_at, IsIn, IsArena, StartsWith};
 ghost use Rattle.class_diagrams.specs.Answers.{Gives, and_of, or_of, held_with};
@@ -125,7 +125,7 @@ impl Diagrams {
         ensures fits { IsOk result → length (held_with self.old (variable atom)) ≤ self.old.limit }
         ensures stays { StartsWith self.old.branches self.new.branches }
         ensures only { StartsWith self.new.branches (held_with self.old (variable atom)) }
-        ensures references { (p : Place) → IsIn self.old.branches p
+        ensures references { (p : Target) → IsIn self.old.branches p
             → IsIn self.new.branches p × (tree_at self.new.branches p ≡ tree_at self.old.branches p) }
         ensures limit { self.new.limit ≡ self.old.limit }
         ensures arena { IsArena self.new }
@@ -147,7 +147,7 @@ impl Diagrams {
         ensures fits { IsOk result → length (held_with self.old (and_of self.old f g)) ≤ self.old.limit }
         ensures stays { StartsWith self.old.branches self.new.branches }
         ensures only { StartsWith self.new.branches (held_with self.old (and_of self.old f g)) }
-        ensures references { (p : Place) → IsIn self.old.branches p
+        ensures references { (p : Target) → IsIn self.old.branches p
             → IsIn self.new.branches p × (tree_at self.new.branches p ≡ tree_at self.old.branches p) }
         ensures limit { self.new.limit ≡ self.old.limit }
         ensures arena { IsArena self.new }
@@ -169,7 +169,7 @@ impl Diagrams {
         ensures fits { IsOk result → length (held_with self.old (or_of self.old f g)) ≤ self.old.limit }
         ensures stays { StartsWith self.old.branches self.new.branches }
         ensures only { StartsWith self.new.branches (held_with self.old (or_of self.old f g)) }
-        ensures references { (p : Place) → IsIn self.old.branches p
+        ensures references { (p : Target) → IsIn self.old.branches p
             → IsIn self.new.branches p × (tree_at self.new.branches p ≡ tree_at self.old.branches p) }
         ensures limit { self.new.limit ≡ self.old.limit }
         ensures arena { IsArena self.new }

@@ -1,7 +1,7 @@
 //! Results of operations that are remembered, in bounded memory.
 ghost use Rattle.std.specs.Prelude.{◌≡◌, [], Contains, IfSome, IfOk, ◌⊎◌};
 ghost use Rattle.class_diagrams.specs.declared.memo.Task.{Task};
-ghost use Rattle.class_diagrams.specs.declared.refs.Place.{Place};
+ghost use Rattle.class_diagrams.specs.declared.refs.Target.{Target};
 
 use crate::refs::Ref;
 use lru::LruCache;
@@ -34,9 +34,9 @@ pub(crate) struct Memo {
 impl Model for Memo {
     ghost use Rattle.std.specs.Prelude.{List};
     ghost use Rattle.class_diagrams.specs.declared.memo.Task.{Task};
-    ghost use Rattle.class_diagrams.specs.declared.refs.Place.{Place};
+    ghost use Rattle.class_diagrams.specs.declared.refs.Target.{Target};
 
-    ghost Value = { List (Task × Place) };
+    ghost Value = { List (Task × Target) };
 
     ghost view = { λ m. m.results.entries };
 }
@@ -53,13 +53,13 @@ impl Memo {
 
     pub(crate) fn recall(&mut self, task: &Task) -> Option<Ref>
         ensures known { IfSome result (λ f. Contains self.old (task.now, f)) }
-        ensures old { (entry : Task × Place) → Contains self.new entry → Contains self.old entry }
+        ensures old { (entry : Task × Target) → Contains self.new entry → Contains self.old entry }
     {
         self.results.get(task).copied()
     }
 
     pub(crate) fn note(&mut self, task: Task, result_of: Ref)
-        ensures { (entry : Task × Place) → Contains self.new entry → Contains self.old entry ⊎ (entry ≡ (task, result_of)) }
+        ensures { (entry : Task × Target) → Contains self.new entry → Contains self.old entry ⊎ (entry ≡ (task, result_of)) }
     {
         let _ = self.results.put(task, result_of);
     }

@@ -10,46 +10,46 @@ pub struct Ref(u32);
 
 /// What a reference stands for. The leaves are the first two references, so that one fits a `u32`.
 #[derive(Clone, Copy, Debug, PartialEq, Eq)]
-pub(crate) enum Place {
+pub(crate) enum Target {
     Leaf(bool),
     Branch(u32),
 }
 
 impl Model for Ref {
-    ghost use Rattle.class_diagrams.specs.declared.refs.Place.{Place};
+    ghost use Rattle.class_diagrams.specs.declared.refs.Target.{Target};
 
-    ghost Value = { Place };
+    ghost Value = { Target };
 
-    ghost use Rattle.class_diagrams.specs.Numbers.{place_of, number_of, number_of-place_of};
+    ghost use Rattle.class_diagrams.specs.Numbers.{target_of, number_of, number_of-target_of};
 
-    ghost view = { λ r. place_of r.0 };
+    ghost view = { λ r. target_of r.0 };
 
     ghost inverse = { λ p. record { 0 = number_of p } };
 
-    ghost inverse_ok = { λ a h. λ i. record { 0 = number_of-place_of a.0 i } };
+    ghost inverse_ok = { λ a h. λ i. record { 0 = number_of-target_of a.0 i } };
 }
 
 impl Ref {
     pub(crate) fn leaf(value: bool) -> Ref
-        ensures { result ≡ Place.Leaf value }
+        ensures { result ≡ Target.Leaf value }
     {
         if value { Ref(1) } else { Ref(0) }
     }
 
     pub(crate) fn branch(number: u32) -> Ref
         requires { number ≤ MOST_BRANCHES }
-        ensures { result ≡ Place.Branch number }
+        ensures { result ≡ Target.Branch number }
     {
         Ref(number + 2)
     }
 
-    pub(crate) fn place(self) -> Place
+    pub(crate) fn target(self) -> Target
         ensures { result ≡ self }
     {
         match self.0 {
-            0 => Place::Leaf(false),
-            1 => Place::Leaf(true),
-            number => Place::Branch(number - 2),
+            0 => Target::Leaf(false),
+            1 => Target::Leaf(true),
+            number => Target::Branch(number - 2),
         }
     }
 

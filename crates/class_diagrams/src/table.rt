@@ -7,7 +7,7 @@ ghost use Rattle.class_diagrams.specs.Answers.{Gives};
 ghost use Rattle.class_diagrams.specs.Pairs.{IsPair};
 
 use crate::faults::DiagramFault;
-use crate::refs::{Place, Ref};
+use crate::refs::{Ref, Target};
 use indexmap::IndexSet;
 use limits::MOST_BRANCHES;
 use std::alloc::Global;
@@ -85,9 +85,9 @@ impl BranchTable {
         ensures high { IfSome result (λ b. IsIn self.now.branches b.2) }
         ensures tree { IfSome result (λ b. tree_at self.now.branches f ≡ branch b.0 (tree_at self.now.branches b.1) (tree_at self.now.branches b.2)) }
     {
-        match f.place() {
-            Place::Leaf(_) => None,
-            Place::Branch(number) => {
+        match f.target() {
+            Target::Leaf(_) => None,
+            Target::Branch(number) => {
                 let node = self.nodes.get_index(number as usize)?;
                 Some((node.atom, node.low, node.high))
             }
@@ -111,16 +111,16 @@ impl BranchTable {
         requires arena { IsArena self.now }
         ensures { IsPair self.now.branches f g result }
     {
-        match (f.place(), g.place()) {
-            (Place::Leaf(value), _) => Pair::WithLeaf { value, other: g },
-            (Place::Branch(_), Place::Leaf(value)) => Pair::WithLeaf { value, other: f },
-            (Place::Branch(first), Place::Branch(second)) => self.split(f, g, first, second),
+        match (f.target(), g.target()) {
+            (Target::Leaf(value), _) => Pair::WithLeaf { value, other: g },
+            (Target::Branch(_), Target::Leaf(value)) => Pair::WithLeaf { value, other: f },
+            (Target::Branch(first), Target::Branch(second)) => self.split(f, g, first, second),
         }
     }
 
     fn split(&self, f: Ref, g: Ref, first: u32, second: u32) -> Pair
-        requires is_first { f ≡ Place.Branch first }
-        requires is_second { g ≡ Place.Branch second }
+        requires is_first { f ≡ Target.Branch first }
+        requires is_second { g ≡ Target.Branch second }
         requires first { first < length self.now.branches }
         requires second { second < length self.now.branches }
         ensures { IsPair self.now.branches f g result }

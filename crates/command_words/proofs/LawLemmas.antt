@@ -100,6 +100,18 @@ short ws o is =
     let named : are_named m ps ≡ true = (and_parts (is_good ps gen) (are_named m ps) (and_parts (are_good ps) (is_good ps gen && are_named m ps) from.is_well).1).1 in
     subst (λ (z : Order). length z.names ≤ 2 * MOST_PAGES + 1) from.same (short_there m (value_in gen ps) (length (names_in ps)) named)
 
+named_there : (m : Mode) (o : Option Text) (n : ℕ) → is_named m (is_some o) n ≡ true → is_named m (is_some (option_map number o)) n ≡ true
+named_there m None n e = e
+named_there m (Some v) n e = e
+
+pub named : (ws : List Text) (o : Order) → order_of ws ≡ Some o → is_named o.mode (is_some o.size) (length o.names) ≡ true
+named ws o is =
+    let from = from_parts ws o is in
+    let ps = from.parts in
+    let m = from.mode in
+    let well : are_named m ps ≡ true = (and_parts (is_good ps gen) (are_named m ps) (and_parts (are_good ps) (is_good ps gen && are_named m ps) from.is_well).1).1 in
+    subst (λ (z : Order). is_named z.mode (is_some z.size) (length z.names) ≡ true) from.same (named_there m (value_in gen ps) (length (names_in ps)) well)
+
 -- a value that is well, or a default that is, is in its range
 in_its_range : (low high default : ℕ) (o : Option Text) → low ≤ default → default ≤ high → option_map_or (is_between low high) o true ≡ true
     → (low ≤ option_map_or number o default) × (option_map_or number o default ≤ high)

@@ -1,5 +1,5 @@
 //! What a command line orders.
-ghost use Rattle.std.specs.Prelude.{◌≡◌, ◌↔◌, ◌≤◌, ◌+◌, ◌*◌, List, [], length, IsSome, IfSome, None, Some, map, IfOk, IsErrOf, string_bytes};
+ghost use Rattle.std.specs.Prelude.{◌≡◌, ◌↔◌, ◌≤◌, ◌+◌, ◌*◌, List, [], true, length, is_some, IsSome, IfSome, None, Some, map, IfOk, IsErrOf, string_bytes};
 ghost use Rattle.triple_gen.specs.declared.triple.TheConstants.{MOST_BOXES};
 ghost use Rattle.limits.specs.Budgets.{IsInRange};
 ghost use Rattle.limits.specs.declared.pages.TheConstants.{MOST_PAGES};
@@ -174,6 +174,7 @@ pub fn read_words(alloc: Global, words: &[String]) -> Result<Order, WordsFault>
     ensures order { IfOk result (λ o. spec.order_of (map string_bytes words.now) ≡ Some o) }
     ensures words { IsErrOf result WordsFault.Words → spec.order_of (map string_bytes words.now) ≡ None }
     ensures one { IfOk result (λ o. IsSome o.size ↔ (o.names ≡ [])) }
+    ensures named { IfOk result (λ o. spec.is_named o.mode (is_some o.size) (length o.names) ≡ true) }
     ensures few { IfOk result (λ o. IfSome o.size (λ n. n ≤ MOST_BOXES)) }
     ensures short { IfOk result (λ o. length o.names ≤ 2 * MOST_PAGES + 1) }
     ensures in_range { IfOk result (λ o. IsInRange o.limits) }

@@ -46,7 +46,6 @@ pub mod ShiftLemmas
 pub mod SkipPlaces
 pub mod Solids
 pub mod SpanLemmas
-pub mod Stacks
 pub mod StayLemmas
 pub mod TameLemmas
 pub mod ThinLemmas

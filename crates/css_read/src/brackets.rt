@@ -35,7 +35,7 @@ fn closed(byte: u8) -> Option<Bracket>
 }
 
 /// Keeps the open brackets, the innermost last, after a byte.
-#[tactic(auto, unfolding(crate::specs::Units::after_byte), using(crate::proofs::Stacks::pushed, crate::proofs::Stacks::popped))]
+#[tactic(auto, unfolding(crate::specs::Units::after_byte), using(tp_base::proofs::Lists::pushed_last, tp_base::proofs::Lists::popped_last))]
 pub(crate) fn track(brackets: &mut Vec<Bracket>, byte: u8) -> Result<(), AllocError>
     ensures { OnOk result (reverse brackets.new.items ≡ spec.after_byte byte (reverse brackets.old.items)) }
 {

@@ -13,7 +13,8 @@ use Rattle.simple_core.specs.Labels.{set_of}
 use Rattle.guard_sem.specs.Guards.{Guard, always, atom, all, any, parent, ancestor, child, descendant, somewhere, Guards, no_guards, guard, parts}
 use Rattle.guard_sem.specs.Holding.{Holds, HoldAll, HoldsOne}
 use Rattle.guard_sem.proofs.SelectorLemmas.{HasAtoms-more}
-use Rattle.guard_simplify.proofs.Steps.{IsLater, later_itself, later_both, Got, got_already, then_got, got_by_local, got_by_up, got_by_down}
+use Rattle.simple_core.specs.Reached.{IsLater, Got}
+use Rattle.simple_core.proofs.Steps.{later_itself, later_both, got_already, then_got, got_by_local, got_by_up, got_by_down}
 use Rattle.tree_sem.specs.Nodes.{IsNode, HasAtom, HasAtoms}
 use Rattle.tree_sem.proofs.NodeLemmas.{HasAtom-node, IsNode-front, HasAtoms-none}
 use Rattle.tree_sem.proofs.GrowthLemmas.{IsNode-grows, HasAtom-grows}

@@ -24,7 +24,8 @@ use Rattle.guard_simplify.specs.Auxiliaries.{tops_of, formulas, by_rule, seen}
 use Rattle.guard_simplify.specs.Simplified.{atom_for, atom_of, classes_of, formula_locals, formula_downs, action_locals, seen_local, seen_down, system}
 use Rattle.guard_simplify.specs.Law.{Follows}
 use Rattle.guard_simplify.proofs.NumberLemmas.{different-Contains}
-use Rattle.guard_simplify.proofs.Steps.{IsLater, later_itself, later_both, got_by_local}
+use Rattle.simple_core.specs.Reached.{IsLater}
+use Rattle.simple_core.proofs.Steps.{later_itself, later_both, got_by_local}
 use Rattle.guard_simplify.proofs.Adding.{Served, add, one_need, down_along}
 use Rattle.guard_simplify.proofs.Following.{GivesEach, Spawned, ActionServed, RuleServed, follow}
 use Rattle.guard_simplify.proofs.FormulaLemmas.{inside_listed, inner_listed, served}

@@ -22,7 +22,8 @@ use Rattle.guard_sem.specs.declared.rules.Rule.{Rule}
 use Rattle.guard_sem.specs.Rules.{RuleStep, taken, IsLegal, after_step, end_of, AreLegal}
 use Rattle.guard_sem.proofs.HoldingLemmas.{Holds-node, holds_image}
 use Rattle.guard_sem.proofs.SelectorLemmas.{HasAtoms-more}
-use Rattle.guard_simplify.proofs.Steps.{IsLater, later_itself, later_both, got_by_local, later_by_spawn}
+use Rattle.simple_core.specs.Reached.{IsLater}
+use Rattle.simple_core.proofs.Steps.{later_itself, later_both, got_by_local, later_by_spawn}
 use Rattle.guard_simplify.proofs.Adding.{Served, add, one_need}
 use Rattle.guard_simplify.proofs.PushedTrees.{pushed_cases}
 use Rattle.tree_sem.specs.Nodes.{HasAtom, HasAtoms}

@@ -1,4 +1,3 @@
-pub mod Steps
 pub mod Adding
 pub mod PushedTrees
 pub mod Following

@@ -222,7 +222,7 @@ module _ (n : ℕ) (old mid new : List Key) where
         (enter (with_all fs (formulas_in gs)) (any gs) inner.0 inner.2 (λ c e. cc) refl inner.1)
 
 -- formulas that are there already
-with_all-there : (fs xs : List Guard) → ((x : Guard) → Contains xs x → Contains fs x) → with_all fs xs ≡ fs
+pub with_all-there : (fs xs : List Guard) → ((x : Guard) → Contains xs x → Contains fs x) → with_all fs xs ≡ fs
 with_all-there fs [] there = refl
 with_all-there fs (x ∷ xs) there =
     ap (λ z. with_all z xs) (rw (Contains-among same_guard same_guard-sound same_guard-itself x fs (there x (Contains-here x x xs refl))) refl) ∙ with_all-there fs xs (λ y is. there y (Contains-behind y x xs is))

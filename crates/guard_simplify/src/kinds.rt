@@ -7,7 +7,7 @@ ghost use Rattle.guard_simplify.specs.Simplified.{is_beside};
 ghost use Rattle.guard_simplify.specs.ForestRules.{child_count, above_among, made_label, made_kind, rule_kinds, AreFew, nodes_in, owners_in};
 ghost use Rattle.guard_simplify.specs.declared.simplified.TheConstants.{MOST_RULES};
 
-use crate::forest_nodes::{node_of, rule_forest};
+use crate::forest_nodes::{RuleForest, node_of, rule_forest};
 use crate::node_numbers::NodeNumbers;
 use guard_sem::Rule;
 use simple_core::Kind;
@@ -110,21 +110,20 @@ fn is_beside(action: &Action) -> bool
     }
 }
 
-// The kinds of the nodes at the paths, in the forest of the rule of this number, behind those that are there.
+// The kinds of the nodes of the forest of the rule of this number, behind those that are there.
 fn add_kinds(
     alloc: Global,
     rule: u32,
-    tree: &Tree,
+    forest: &RuleForest,
     beside: bool,
-    paths: &[Path],
     numbers: &NodeNumbers,
     kinds: &mut Vec<Kind>,
 ) -> Result<(), NoMemory>
     requires { AreFew numbers.now }
-    ensures { OnOk result (kinds.new.items ≡ kinds.old.items ++ map (made_kind (nodes_in numbers.now) (owners_in numbers.now) numbers.now.first_owner rule tree.now beside) paths.now) }
+    ensures { OnOk result (kinds.new.items ≡ kinds.old.items ++ map (made_kind (nodes_in numbers.now) (owners_in numbers.now) numbers.now.first_owner rule forest.now.tree beside) forest.now.paths.items) }
 {
-    'paths: for at in paths {
-        kinds.push(kind_of(alloc, rule, tree, beside, at, numbers)?)?;
+    'paths: for at in &forest.paths {
+        kinds.push(kind_of(alloc, rule, &forest.tree, beside, at, numbers)?)?;
     }
     Ok(())
 }
@@ -147,15 +146,7 @@ pub(crate) fn all_kinds(
     'rules: while let Some((rule, later)) = rest.split_first() {
         let forest = rule_forest(alloc, rule)?;
         let beside = is_beside(&rule.action);
-        add_kinds(
-            alloc,
-            number,
-            &forest.tree,
-            beside,
-            &forest.paths,
-            numbers,
-            &mut kinds,
-        )?;
+        add_kinds(alloc, number, &forest, beside, numbers, &mut kinds)?;
         number += 1;
         rest = later;
     }

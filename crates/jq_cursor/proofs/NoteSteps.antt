@@ -14,12 +14,13 @@ use Rattle.jq_words.specs.Words.{Word, is_mark, is_mark_kind}
 use Rattle.jq_words.specs.Brackets.{is_empty, is_innermost, opened_by, closed_by, closes_outer, brackets_behind, ends_argument}
 use Rattle.jq_words.specs.Results.{IsRest}
 use Rattle.jq_words.proofs.Rests.{itself, of_rest, behind_first}
-use Rattle.jq_cursor.specs.declared.argument_lists.ArgumentList.{ArgumentList}
+use Rattle.jq_cursor.specs.declared.argument_lists.Arguments.{Arguments}
 use Rattle.jq_cursor.specs.declared.open_lists.Open.{Open}
 use Rattle.jq_cursor.specs.declared.open_lists.Pending.{Pending}
 use Rattle.jq_cursor.specs.Lists.{Extent, extent}
 use Rattle.jq_cursor.specs.Spans.{span, span_at, and_comma, extent_from, CanCount}
-use Rattle.jq_cursor.specs.Notes.{Ascends, extent_in, IsNote, above, GoesOn, Holds, Ends, AllEnd}
+use Rattle.jq_cursor.specs.Notes.{Ascends, IsNote, above, GoesOn, Holds, Ends, AllEnd}
+use Rattle.jq_cursor.specs.ListViews.{extent_of}
 use Rattle.jq_cursor.specs.Commas.{pending_in, with_comma}
 use Rattle.jq_cursor.proofs.SpanSteps.{more_one, ends_one, over, from_span}
 use Rattle.jq_cursor.proofs.OrderSteps.{same_rest}
@@ -302,39 +303,42 @@ none_left (o ∷ os) rest none is = let never : ⊥ = omega (arith, none) in abs
 
 -- ---- what is noted
 
-abbrev pub Known : List Word → List (ℕ × ArgumentList) → Type 0
-Known all es = (at : ℕ) (list : ArgumentList) → lookup (nat_eq at) es ≡ Some list → IsNote all at list
+abbrev Noted : Type 0
+Noted = Arguments (List Word)
 
-pub none_noted : (all : List Word) (es : List (ℕ × ArgumentList)) → es ≡ [] → (at : ℕ) (list : ArgumentList) → lookup (nat_eq at) es ≡ Some list → IsNote all at list
+abbrev pub Known : List Word → List (ℕ × Noted) → Type 0
+Known all es = (at : ℕ) (list : Noted) → lookup (nat_eq at) es ≡ Some list → IsNote all at list
+
+pub none_noted : (all : List Word) (es : List (ℕ × Noted)) → es ≡ [] → (at : ℕ) (list : Noted) → lookup (nat_eq at) es ≡ Some list → IsNote all at list
 none_noted all es none at list found = let never : None ≡ Some list = sym (ap (lookup (nat_eq at)) none) ∙ found in cc
 
-pub same_noted : (all : List Word) (old new : List (ℕ × ArgumentList)) → Known all old → new ≡ old → (at : ℕ) (list : ArgumentList) → lookup (nat_eq at) new ≡ Some list → IsNote all at list
+pub same_noted : (all : List Word) (old new : List (ℕ × Noted)) → Known all old → new ≡ old → (at : ℕ) (list : Noted) → lookup (nat_eq at) new ≡ Some list → IsNote all at list
 same_noted all old new known same at list found = known at list (sym (ap (lookup (nat_eq at)) same) ∙ found)
 
-pub noted : (all ws : List Word) (w : Word) (es : List (ℕ × ArgumentList)) (list : ArgumentList) → Known all es
-    → IsRest all ws → ws ≡ w ∷ drop 1 ws → lookup (nat_eq w.at) es ≡ Some list → extent (drop 1 ws) ≡ extent_in list
+pub noted : (all ws : List Word) (w : Word) (es : List (ℕ × Noted)) (list : Noted) → Known all es
+    → IsRest all ws → ws ≡ w ∷ drop 1 ws → lookup (nat_eq w.at) es ≡ Some list → extent (drop 1 ws) ≡ extent_of list
 noted all ws w es list known part here found = known w.at list found ws w part here refl
 
-pub found : (all ws : List Word) (w : Word) (es : List (ℕ × ArgumentList)) (r : Option (Bor ArgumentList)) → Known all es → IsRest all ws → ws ≡ w ∷ drop 1 ws
-    → option_copied r ≡ lookup (nat_eq w.at) es → IfSome r (λ l. extent_in l.now ≡ extent (drop 1 ws))
+pub found : (all ws : List Word) (w : Word) (es : List (ℕ × Noted)) (r : Option (Bor Noted)) → Known all es → IsRest all ws → ws ≡ w ∷ drop 1 ws
+    → option_copied r ≡ lookup (nat_eq w.at) es → IfSome r (λ l. extent_of l.now ≡ extent (drop 1 ws))
 found all ws w es None known part here is = tt
 found all ws w es (Some l) known part here is = sym (noted all ws w es l.now known part here (sym is))
 
-is_noted : (all : List Word) (p : Pending) (v : Word) (list : ArgumentList) (whole : Bool) (behind : List Word) → Ascends all → Ends all (Some p) whole behind → p.list ≡ v ∷ drop 1 p.list
-    → ((left : List Bracket) → is_empty left ≡ whole → extent_in list ≡ extent_from (drop 1 p.list) (span_at p.commas left behind)) → IsNote all v.at list
+is_noted : (all : List Word) (p : Pending) (v : Word) (list : Noted) (whole : Bool) (behind : List Word) → Ascends all → Ends all (Some p) whole behind → p.list ≡ v ∷ drop 1 p.list
+    → ((left : List Bracket) → is_empty left ≡ whole → extent_of list ≡ extent_from (drop 1 p.list) (span_at p.commas left behind)) → IsNote all v.at list
 is_noted all p v list whole behind sorted ends here given ws w part there same =
     ap (λ xs. extent (drop 1 xs)) (same_rest all ws p.list w v sorted part ends.0 there here same)
     ∙ from_span (drop 1 p.list) (span_at p.commas ends.2 behind) ends.4 ∙ sym (given ends.2 ends.3)
 
-one_or : (b : Bool) (all : List Word) (at : ℕ) (mine list : ArgumentList) (other : Option ArgumentList) → (b ≡ true → IsNote all at mine) → (other ≡ Some list → IsNote all at list)
+one_or : (b : Bool) (all : List Word) (at : ℕ) (mine list : Noted) (other : Option Noted) → (b ≡ true → IsNote all at mine) → (other ≡ Some list → IsNote all at list)
     → cond b (Some mine) other ≡ Some list → IsNote all at list
 one_or true all at mine list other here there found = let same : mine ≡ list = cc in rw (sym same) (here refl)
 one_or false all at mine list other here there found = there found
 
-pub one_noted : (all : List Word) (old new : List (ℕ × ArgumentList)) (p : Pending) (v : Word) (note : ArgumentList) (whole : Bool) (behind : List Word) → Ascends all → Known all old
+pub one_noted : (all : List Word) (old new : List (ℕ × Noted)) (p : Pending) (v : Word) (note : Noted) (whole : Bool) (behind : List Word) → Ascends all → Known all old
     → Ends all (Some p) whole behind → p.list ≡ v ∷ drop 1 p.list
-    → ((left : List Bracket) → is_empty left ≡ whole → extent_in note ≡ extent_from (drop 1 p.list) (span_at p.commas left behind))
-    → ((at : ℕ) → lookup (nat_eq at) new ≡ cond (nat_eq v.at at) (Some note) (lookup (nat_eq at) old)) → (at : ℕ) (list : ArgumentList) → lookup (nat_eq at) new ≡ Some list → IsNote all at list
+    → ((left : List Bracket) → is_empty left ≡ whole → extent_of note ≡ extent_from (drop 1 p.list) (span_at p.commas left behind))
+    → ((at : ℕ) → lookup (nat_eq at) new ≡ cond (nat_eq v.at at) (Some note) (lookup (nat_eq at) old)) → (at : ℕ) (list : Noted) → lookup (nat_eq at) new ≡ Some list → IsNote all at list
 one_noted all old new p v note whole behind sorted known ends here given updates at list found =
     one_or (nat_eq v.at at) all at note list (lookup (nat_eq at) old) (λ same. rw (sym (eqb-true v.at at same)) (is_noted all p v note whole behind sorted ends here given)) (known at list)
     (sym (updates at) ∙ found)

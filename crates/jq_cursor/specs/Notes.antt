@@ -7,11 +7,12 @@ use Rattle.jq_words.specs.declared.brackets.Bracket.{Bracket}
 use Rattle.jq_words.specs.Words.{Word}
 use Rattle.jq_words.specs.Brackets.{is_empty}
 use Rattle.jq_words.specs.Results.{IsRest}
-use Rattle.jq_cursor.specs.declared.argument_lists.ArgumentList.{ArgumentList}
+use Rattle.jq_cursor.specs.declared.argument_lists.Arguments.{Arguments}
 use Rattle.jq_cursor.specs.declared.open_lists.Open.{Open}
 use Rattle.jq_cursor.specs.declared.open_lists.Pending.{Pending}
 use Rattle.jq_cursor.specs.Commas.{pending_in}
-use Rattle.jq_cursor.specs.Lists.{Extent, extent}
+use Rattle.jq_cursor.specs.ListViews.{extent_of}
+use Rattle.jq_cursor.specs.Lists.{extent}
 use Rattle.jq_cursor.specs.Spans.{span, span_at, CanCount}
 
 -- all of these stand behind an offset
@@ -23,13 +24,9 @@ abbrev pub Ascends : List Word → Type 0
 Ascends [] = ⊤
 Ascends (w ∷ ws) = AllBehind w.at ws × Ascends ws
 
--- what a list of arguments is to the definitions
-abbrev pub extent_in : ArgumentList → Extent
-extent_in l = record { count = l.count; whole = l.whole; behind = l.behind }
-
 -- the arguments behind the word at an offset are these
-abbrev pub IsNote : List Word → ℕ → ArgumentList → Type 0
-IsNote all at l = (ws : List Word) (w : Word) → IsRest all ws → ws ≡ w ∷ drop 1 ws → w.at ≡ at → extent (drop 1 ws) ≡ extent_in l
+abbrev pub IsNote : List Word → ℕ → Arguments (List Word) → Type 0
+IsNote all at l = (ws : List Word) (w : Word) → IsRest all ws → ws ≡ w ∷ drop 1 ws → w.at ≡ at → extent (drop 1 ws) ≡ extent_of l
 
 -- the brackets that were opened behind one, which are those of these entries, from the innermost outward
 abbrev pub above : List Open → List Bracket

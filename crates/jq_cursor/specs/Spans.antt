@@ -1,7 +1,7 @@
 -- Arguments, read from any place in them.
 --     span          what is left of them
 --     extent_from   what they are as a whole
-use Rattle.std.specs.Prelude.{ℕ, ◌+◌, ◌<◌, ◌&&◌, Bool, true, false, if◌then◌else◌, List, [], ◌∷◌, length, codes}
+use Rattle.std.specs.Prelude.{ℕ, ◌+◌, ◌-◌, ◌^◌, ◌<◌, ◌&&◌, Bool, true, false, if◌then◌else◌, List, [], ◌∷◌, length, codes}
 use Rattle.jq_words.specs.declared.brackets.Bracket.{Bracket}
 use Rattle.jq_words.specs.Words.{Word, is_mark}
 use Rattle.jq_words.specs.Brackets.{is_empty, brackets_behind, ends_argument}
@@ -35,4 +35,4 @@ extent_from ws s = record { count = if is_bare ws then 0 else 1 + s.commas; whol
 
 -- So many commas, with as many more as there are words, and one argument more than commas, can be counted.
 abbrev pub CanCount : ℕ → List Word → Type 0
-CanCount n ws = n + length ws < 18446744073709551615
+CanCount n ws = n + length ws < 2 ^ 64 - 1

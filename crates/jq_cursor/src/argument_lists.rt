@@ -5,18 +5,21 @@ ghost use Rattle.jq_words.specs.declared.brackets.Bracket.{Bracket};
 ghost use Rattle.jq_words.specs.declared.faults.ScriptFault.TheVariants.{Memory};
 ghost use Rattle.jq_cursor.specs.Lists as spec;
 ghost use Rattle.jq_cursor.specs.Spans as spans;
-ghost use Rattle.jq_cursor.specs.Notes.{extent_in};
+ghost use Rattle.jq_cursor.specs.ListViews.{extent_of};
 
 use jq_words::{OpenBrackets, ScriptFault, Word, Words, closed_by};
 use std::alloc::Global;
 
 /// How many arguments there are, whether all brackets that they open are closed in them, and the words behind them.
 #[derive(Drop)]
-pub(crate) struct ArgumentList<'a> {
-    pub(crate) count: usize,
-    pub(crate) whole: bool,
-    pub(crate) behind: Words<'a>,
+pub struct Arguments<P> {
+    pub count: usize,
+    pub whole: bool,
+    pub behind: P,
 }
+
+/// Arguments, with the words behind them.
+pub(crate) type ArgumentList<'a> = Arguments<Words<'a>>;
 
 // Whether arguments end before a word.
 #[tactic(auto, unfolding(jq_words::specs::Brackets::ends_argument))]
@@ -28,7 +31,7 @@ fn ends_list(open_brackets: &OpenBrackets, word: &Word<'_>) -> bool
 
 // One comma more, where a word is one outside brackets.
 fn and_comma(open_brackets: &OpenBrackets, word: &Word<'_>, commas: usize) -> usize
-    requires { commas < 18446744073709551615 }
+    requires { commas < usize.MAX }
     ensures { result ≡ spans.and_comma open_brackets.now word.now commas }
 {
     if open_brackets.is_empty() && word.is_mark(b",") {
@@ -55,11 +58,11 @@ pub(crate) fn ended<'a>(
     whole: bool,
     behind: &Words<'a>,
 ) -> ArgumentList<'a>
-    requires { commas < 18446744073709551615 }
-    ensures { (left : List Bracket) → brackets.is_empty left ≡ whole → extent_in result ≡ spans.extent_from inside.now (spans.span_at commas left behind.now) }
+    requires { commas < usize.MAX }
+    ensures { (left : List Bracket) → brackets.is_empty left ≡ whole → extent_of result ≡ spans.extent_from inside.now (spans.span_at commas left behind.now) }
 {
     let count = if is_bare(inside) { 0 } else { commas + 1 };
-    ArgumentList {
+    Arguments {
         count,
         whole,
         behind: behind.again(),
@@ -73,7 +76,7 @@ pub(crate) fn read_list<'a>(
     words: &Words<'a>,
 ) -> Result<ArgumentList<'a>, ScriptFault>
     requires { spans.CanCount 0 words.now }
-    ensures gives { IfOk result (λ l. extent_in l ≡ spec.extent words.now) }
+    ensures gives { IfOk result (λ l. extent_of l ≡ spec.extent words.now) }
     ensures only_memory { IfErr result (λ e. e ≡ Memory) }
 {
     let mut open_brackets = OpenBrackets::none(alloc);

@@ -7,10 +7,9 @@ ghost use Rattle.jq_words.specs.CallViews.{row_from};
 ghost use Rattle.jq_words.specs.Results.{Finds, Leaves, IsRest, IsBehind};
 ghost use Rattle.jq_words.specs.declared.faults.ScriptFault.TheVariants.{Memory};
 ghost use Rattle.jq_cursor.specs.Lists as spec;
-ghost use Rattle.jq_cursor.specs.Notes.{extent_in};
 ghost use Rattle.jq_cursor.specs.ListViews.{extent_of};
 
-use crate::argument_lists::{ArgumentList, read_list};
+use crate::argument_lists::{ArgumentList, Arguments, read_list};
 use crate::lists::Lists;
 use jq_words::{Row, Rules, ScriptFault, Words, begins, end, free, want, want_name, want_open};
 use std::alloc::Global;
@@ -35,13 +34,8 @@ impl<'l, 'a> Model for Cursor<'l, 'a> {
     ghost invariant = { λ c. IsRest c.lists.now c.words };
 }
 
-/// How many arguments a call has, whether all brackets that they open are closed in them, and the words behind them.
-#[derive(Drop)]
-pub struct Enclosed<'l, 'a> {
-    pub count: usize,
-    pub whole: bool,
-    pub behind: Cursor<'l, 'a>,
-}
+/// The arguments of a call, with the place behind them.
+pub type Enclosed<'l, 'a> = Arguments<Cursor<'l, 'a>>;
 
 impl<'l, 'a> Cursor<'l, 'a> {
     /// The file's first word. Constant.
@@ -174,10 +168,10 @@ impl<'l, 'a> Cursor<'l, 'a> {
     // A list of arguments behind the first word, with its place.
     #[tactic(auto, using(crate::proofs::NoteSteps::behind_part))]
     fn with_place(&self, list: &ArgumentList<'a>) -> Enclosed<'l, 'a>
-        requires { extent_in list.now ≡ spec.extent (drop 1 self.now) }
-        ensures { extent_of result ≡ extent_in list.now }
+        requires { extent_of list.now ≡ spec.extent (drop 1 self.now) }
+        ensures { extent_of result ≡ extent_of list.now }
     {
-        Enclosed {
+        Arguments {
             count: list.count,
             whole: list.whole,
             behind: Cursor {

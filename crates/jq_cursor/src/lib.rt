@@ -11,6 +11,7 @@ mod readers;
 mod selections;
 mod text_arguments;
 
+pub use argument_lists::Arguments;
 pub use cursors::{Cursor, Enclosed, counts};
 pub use keywords::{JQUERY, PAGES, begins_jquery, is_jquery_call, spelled};
 pub use last_places::LastPlaces;

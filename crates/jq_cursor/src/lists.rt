@@ -7,7 +7,8 @@ ghost use Rattle.jq_words.specs.Brackets as brackets;
 ghost use Rattle.jq_words.specs.Results.{IsRest};
 ghost use Rattle.jq_words.specs.declared.faults.ScriptFault.TheVariants.{Memory};
 ghost use Rattle.jq_cursor.specs.Lists.{extent};
-ghost use Rattle.jq_cursor.specs.Notes.{extent_in, Holds, Ends, AllEnd};
+ghost use Rattle.jq_cursor.specs.ListViews.{extent_of};
+ghost use Rattle.jq_cursor.specs.Notes.{Holds, Ends, AllEnd};
 ghost use Rattle.jq_cursor.specs.Commas.{pending_in};
 
 use crate::argument_lists::{ArgumentList, ended};
@@ -29,14 +30,14 @@ impl<'a> Model for Lists<'a> {
     ghost use Rattle.std.specs.Prelude.{List, ◌≡◌, ℕ, Some, nat_eq};
     ghost use Rattle.std.specs.Map.{lookup};
     ghost use Rattle.jq_words.specs.Words.{Word};
-    ghost use Rattle.jq_cursor.specs.declared.argument_lists.ArgumentList.{ArgumentList};
+    ghost use Rattle.jq_cursor.specs.declared.argument_lists.Arguments.{Arguments};
     ghost use Rattle.jq_cursor.specs.Notes.{Ascends, IsNote};
 
     ghost Value = { List Word };
 
     ghost view = { λ l. l.all };
 
-    ghost invariant = { λ l. Ascends l.all × ((at : ℕ) (list : ArgumentList) → lookup (nat_eq at) l.notes.entries ≡ Some list → IsNote l.all at list) };
+    ghost invariant = { λ l. Ascends l.all × ((at : ℕ) (list : Arguments (List Word)) → lookup (nat_eq at) l.notes.entries ≡ Some list → IsNote l.all at list) };
 }
 
 impl<'a> Lists<'a> {
@@ -66,8 +67,8 @@ impl<'a> Lists<'a> {
     #[tactic(auto, using(crate::proofs::NoteSteps::noted))]
     pub(crate) fn get(&self, words: &Words<'_>) -> Option<&ArgumentList<'a>>
         requires { IsRest self.now words.now }
-        ensures few { length words.now ≤ 18446744073709551615 }
-        ensures noted { IfSome result (λ l. extent_in l.now ≡ extent (drop 1 words.now)) }
+        ensures few { length words.now ≤ usize.MAX }
+        ensures noted { IfSome result (λ l. extent_of l.now ≡ extent (drop 1 words.now)) }
     {
         let word = words.first()?;
         self.notes.get(&word.at())

@@ -20,7 +20,7 @@ pub(crate) struct Open<'a> {
 
 /// One comma more.
 pub(crate) fn and_comma(list: Option<Box<Pending<'_>>>) -> Option<Box<Pending<'_>>>
-    requires { IfSome (pending_in list) (λ p. p.commas < 18446744073709551615) }
+    requires { IfSome (pending_in list) (λ p. p.commas < usize.MAX) }
     ensures { pending_in result ≡ with_comma (pending_in list.entry) }
 {
     let Some(mut pending) = list else {

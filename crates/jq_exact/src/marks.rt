@@ -59,7 +59,7 @@ fn next_marks(alloc: Global, marks: &mut IntoIter<Sharps>) -> Sharps
     }
 }
 
-/// Whether a statement has a mark.
+/// Whether a statement has a mark. Linear in the statements.
 pub fn any_marked(sharp: &[Sharps]) -> bool
     ensures { result ≡ list_any has_marks sharp.now }
 {

@@ -8,7 +8,7 @@ ghost use Rattle.jq_parts.specs.Scopes as spec;
 use crate::scopes::{Handler, Scope};
 use jq_words::ScriptFault;
 
-/// In a function, which may be a handler. Constant on average.
+/// In a function, which may be a handler. Constant on average. After a refusal the scope is as it was.
 #[tactic(auto, using(crate::proofs::HandlerSteps::pushed))]
 pub fn enter(handler: Option<Handler>, scope: &mut Scope<'_>) -> Result<(), ScriptFault>
     ensures handlers { OnOk result (handlers_of scope.new.handlers.items ≡ spec.with_handler (option_map handler_of handler) (handlers_of scope.old.handlers.items)) }

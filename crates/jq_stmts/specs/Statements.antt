@@ -33,7 +33,8 @@ pub record Statement : Type 0 where
   pub action : Action
   pub place : Place
 
--- The same from the first call on: a `back` takes the last call that stands back, and where none does, nothing is left of the root.
+-- What stands of a chain: the set to begin with, and the calls, the last one first, after those that stand already. A `back` takes
+-- the last call that stands, and where none does, nothing is left of the root.
 abbrev pub standing : Root → List Call → List Call → Root × List Call
 standing root calls [] = (root, calls)
 standing root [] (back ∷ others) = standing (matched []) [] others

@@ -6,5 +6,4 @@ pub mod ListTables
 pub mod NameSteps
 pub mod Orders
 pub mod Rests
-pub mod Stacks
 pub mod TextSteps

@@ -102,7 +102,7 @@ impl OpenBrackets {
     }
 
     /// The brackets that are open behind a word.
-    #[tactic(auto, unfolding(crate::specs::Brackets::brackets_behind), using(crate::proofs::Stacks::pushed_last, crate::proofs::Stacks::popped_last))]
+    #[tactic(auto, unfolding(crate::specs::Brackets::brackets_behind), using(tp_base::proofs::Lists::pushed_last, tp_base::proofs::Lists::popped_last))]
     pub fn pass(&mut self, word: &Word<'_>) -> Result<(), ScriptFault>
         ensures passed { OnOk result (self.new ≡ spec.brackets_behind self.old word.now) }
         ensures only_memory { IfErr result (λ e. e ≡ Memory) }

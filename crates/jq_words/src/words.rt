@@ -242,7 +242,7 @@ impl<'a> Words<'a> {
     pub fn first(&self) -> Option<Word<'a>>
         ensures some { IfSome result (λ w. self.now ≡ w ∷ drop 1 self.now) }
         ensures none { IfNone result (self.now ≡ []) }
-        ensures few { length self.now ≤ 18446744073709551615 }
+        ensures few { length self.now ≤ usize.MAX }
     {
         match self.tokens.split_first() {
             None => None,

@@ -12,9 +12,9 @@ use Rattle.limits.specs.declared.budgets.TheConstants.{MOST_BRANCHES}
 use Rattle.simple_core.specs.declared.system.System.{System}
 use Rattle.simple_core.specs.Systems.{IsSound}
 use Rattle.simple_core.specs.Pairs.{Pair, Asked}
+use Rattle.simple_core.specs.Givers.{AreAllGivers}
 use Rattle.closed_page.specs.ClosedPages.{IsClosedPage}
 use Rattle.proof_maker.specs.Forests.{KeepsForests}
-use Rattle.proof_maker.specs.Rules.{AreRulesOf}
 use Rattle.proof_core.specs.declared.unfolded.TheConstants.{MOST_LISTED}
 use Rattle.judge.specs.declared.grounds.Question.{Question}
 use Rattle.judge.specs.declared.grounds.Ground.{Ground}
@@ -40,7 +40,7 @@ pub record IsReady (system : System) (known : Pair → Type 0) (ground : Ground)
   pub made : system ≡ ground.system.now
   pub asked : (q : Pair) → Asked ground.system.now ground.page.now q → known q
   pub sound : IsSound ground.system.now
-  pub rules : AreRulesOf ground.system.now ground.rules.now
+  pub rules : AreAllGivers ground.system.now ground.rules.now
   pub closed : IsClosedPage ground.system.now ground.page.now ground.closed.now
   pub forests : KeepsForests ground.system.now ground.page.now
   pub list : ground.limits.now.list ≤ MOST_LISTED

@@ -3,7 +3,7 @@ ghost use Rattle.std.specs.Prelude.{◌≡◌, IfOk};
 ghost use Rattle.usage_report.specs.Answers.{used, maybe};
 ghost use Rattle.usage_report.specs.Views.{answer_of};
 
-use proof_check::{Entries, Entry, PageItem, PageItems, Proof, ProofItems, Steps, Unfolded};
+use proof_core::{Entries, Entry, PageItem, PageItems, Proof, ProofItems, Steps, Unfolded};
 use std::alloc::Global;
 use tp_base::NoMemory;
 use tree_sem::Step;

@@ -1,6 +1,6 @@
 //! Answers as text.
 use judge::JudgeFault;
-use proof_check::Unfolded;
+use proof_core::Unfolded;
 use std::alloc::{AllocError, Global};
 use std::test::Fail;
 use tp_base::Path;

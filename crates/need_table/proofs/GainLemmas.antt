@@ -1,5 +1,6 @@
 -- What an entry asks and gets in a round, by what is new in it.
 use Rattle.std.proofs.Common.{◌≡◌, ◌↔◌, ◌⊎◌, ℕ, zero, suc, ◌<◌, ◌≤◌, List, [], ◌∷◌, map, length, not, get_or, Option, Some, None, slice_get, option_map, unwrap_or, IsSomeAnd, All, Contains, refl, sym, ap, ◌∙◌, inl, inr, arith, subst}
+use Rattle.std.specs.Global.{Vec}
 use Rattle.std.specs.List.{filter, flat_map}
 use Rattle.std.specs.List.Sorted.{IsStrictlyIncreasing}
 use Rattle.std.proofs.lemmas.Bool.{both_ways, cases_Bool, cases_lt}
@@ -22,7 +23,7 @@ use Rattle.simple_core.proofs.RestLemmas.{first_is, first_one}
 use Rattle.rule_index.specs.Asking.{IsMore, AreMet, AsksAnew}
 use Rattle.need_table.specs.declared.entries.First.{First}
 use Rattle.need_table.specs.declared.entries.Entry.{Entry}
-use Rattle.need_table.specs.Tables.{pair_of, atoms_within, fresh_of, labels, AreInOrder, IsHeard, IsAskedAt, IsTable}
+use Rattle.need_table.specs.Tables.{pair_of, atoms_within, fresh_of, labels, replaced, AreInOrder, IsHeard, IsAskedAt, IsTable}
 use Rattle.need_table.specs.Agendas.{IsKnown, AreKnown}
 use Rattle.need_table.specs.Turns.{given_at, given_above, IsAsked, IsGained}
 use Rattle.need_table.proofs.OrderLemmas.{atoms_within-is, is-atoms_within}
@@ -170,12 +171,11 @@ module _ (s : System) (pairs : ℕ) (entries : List Entry) (i k : ℕ) (x : Entr
         let fresh_e : fresh ≡ set_of (atoms_within k k e.firsts.items) = is_fresh ∙ ap (λ (z : Entry). set_of (atoms_within k k z.firsts.items)) here in
         subst (λ (z : List ℕ). Contains z a ↔ IsFirst (labels s (pair_of e)) a (Some k)) (sym fresh_e) (fresh_is s e k (up_known s e k (table.up_to e (Contains-at entries i e at)) rounds_e) a)
 
-    pub same_at : 0 < k → ((a : ℕ) → Contains fresh a → AsksAnew s a → ⊥) → (children : List ℕ) → children ≡ x.children.items
-        → IsSomeAnd (slice_get entries i) (λ e. IsAsked s entries (pair_of e) k e.label fresh k children)
-    same_at some quiet children same =
+    pub same_at : 0 < k → ((a : ℕ) → Contains fresh a → AsksAnew s a → ⊥) → IsSomeAnd (slice_get entries i) (λ e. IsAsked s entries (pair_of e) k e.label fresh k e.children.items)
+    same_at some quiet =
         let e = read_at in
-        subst (λ o. IsSomeAnd o (λ e. IsAsked s entries (pair_of e) k e.label fresh k children)) (sym e.1)
-        (asked_same s pairs entries e.0 k e.0.label fresh children table (Contains-at entries i e.0 e.1) e.3 some e.4 (new_at e.0 e.1 e.2 e.3) quiet (same ∙ ap (λ (z : Entry). z.children.items) e.2))
+        subst (λ o. IsSomeAnd o (λ e. IsAsked s entries (pair_of e) k e.label fresh k e.children.items)) (sym e.1)
+        (asked_same s pairs entries e.0 k e.0.label fresh e.0.children.items table (Contains-at entries i e.0 e.1) e.3 some e.4 (new_at e.0 e.1 e.2 e.3) quiet refl)
 
     pub anew_at : (new : List Entry) (own children : List ℕ) → own ≡ x.label → ((r : Pair) → Asks s own r → IsHeard new children r) → ((j : ℕ) → Contains children j → IsAskedAt s new own j)
         → IsSomeAnd (slice_get entries i) (λ e. IsAsked s new (pair_of e) k e.label fresh 0 children)
@@ -333,21 +333,21 @@ fresh_same own given next round up_given up_next right whole =
     ])))
 
 -- what is gathered, one after another, for the entry at a place
-module _ (s : System) (entries : List Entry) (i k : ℕ) (x : Entry) (fresh : List ℕ) (from : ℕ) (children : List ℕ) (read : x ≡ get_or entries i x)
-    (asked : IsSomeAnd (slice_get entries i) (λ e. IsAsked s entries (pair_of e) k e.label fresh from children)) where
+module _ (s : System) (entries : List Entry) (i k : ℕ) (x : Entry) (fresh : List ℕ) (from : ℕ) (anew : Option (Vec ℕ)) (read : x ≡ get_or entries i x)
+    (asked : IsSomeAnd (slice_get entries i) (λ e. IsAsked s entries (pair_of e) k e.label fresh from (replaced anew e.children.items))) where
   pub met_at : AreMet s.local x.label fresh
   met_at =
-      let e = some_at (λ (e : Entry). IsAsked s entries (pair_of e) k e.label fresh from children) (slice_get entries i) asked in
+      let e = some_at (λ (e : Entry). IsAsked s entries (pair_of e) k e.label fresh from (replaced anew e.children.items)) (slice_get entries i) asked in
       let here : x ≡ e.0 = read ∙ get_or_from_slice_get entries i e.0 x e.1 in
       subst (λ (z : Entry). AreMet s.local z.label fresh) (sym here) (subst (λ (z : List ℕ). AreMet s.local z fresh) (sym e.2.label) (met s (pair_of e.0) k fresh e.2.new))
 
-  pub gained_at : (shown : List Entry) (places n0 n1 n2 n3 : List ℕ) → AreKnown s k entries → shown ≡ entries → places ≡ children → n0 ≡ [] → IsMore x.label (given_by_rules s.local x.label) n0 n1
+  pub gained_at : (shown : List Entry) (places n0 n1 n2 n3 : List ℕ) → AreKnown s k entries → shown ≡ entries → places ≡ replaced anew x.children.items → n0 ≡ [] → IsMore x.label (given_by_rules s.local x.label) n0 n1
       → n2 ≡ union_of n1 (given_above s k x.parent) → n3 ≡ union_of n2 (flat_map (given_at s shown from k) places) → IsSomeAnd (slice_get entries i) (λ e. IsGained s (pair_of e) k e.label n3)
   gained_at shown places n0 n1 n2 n3 known same_entries same_places none first second third =
-      let e = some_at (λ (e : Entry). IsAsked s entries (pair_of e) k e.label fresh from children) (slice_get entries i) asked in
+      let e = some_at (λ (e : Entry). IsAsked s entries (pair_of e) k e.label fresh from (replaced anew e.children.items)) (slice_get entries i) asked in
       let here : x ≡ e.0 = read ∙ get_or_from_slice_get entries i e.0 x e.1 in
       subst (λ o. IsSomeAnd o (λ e. IsGained s (pair_of e) k e.label n3)) (sym e.1)
-      (gains s entries (pair_of e.0) k e.0.label fresh from children e.2 known n1 n2 n3
+      (gains s entries (pair_of e.0) k e.0.label fresh from (replaced anew e.0.children.items) e.2 known n1 n2 n3
       (subst (λ (z : Entry). IsMore z.label (given_by_rules s.local z.label) [] n1) here (subst (λ (z : List ℕ). IsMore x.label (given_by_rules s.local x.label) z n1) none first))
       (second ∙ ap (λ (z : Entry). union_of n1 (given_above s k z.parent)) here)
-      (third ∙ ap (λ (z : List Entry). union_of n2 (flat_map (given_at s z from k) places)) same_entries ∙ ap (λ (z : List ℕ). union_of n2 (flat_map (given_at s entries from k) z)) same_places))
+      (third ∙ ap (λ (z : List Entry). union_of n2 (flat_map (given_at s z from k) places)) same_entries ∙ ap (λ (z : List ℕ). union_of n2 (flat_map (given_at s entries from k) z)) (same_places ∙ ap (λ (z : Entry). replaced anew z.children.items) here)))

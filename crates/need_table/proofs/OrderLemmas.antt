@@ -1,10 +1,11 @@
 -- Firsts in the order of their rounds, and what is found among them.
 use Rattle.std.proofs.Common.{◌≡◌, ◌↔◌, ◌⊎◌, ◌&&◌, ℕ, zero, suc, ◌+◌, ◌-◌, ◌<◌, ◌≤◌, true, false, nat_le, nat_lt, List, [], ◌∷◌, ◌++◌, map, length, take, drop, get_or, Bool, Some, None, slice_get, Contains, refl, sym, ap, ◌∙◌, inl, inr, arith, subst}
 use Rattle.std.specs.List.{filter}
-use Rattle.std.specs.List.Sorted.{IsPartitionedBy, IsPartitionPoint}
+use Rattle.std.specs.List.Sorted.{IsStrictlyIncreasing, IsPartitionedBy, IsPartitionPoint}
 use Rattle.std.proofs.lemmas.Bool.{and_from, cases_lt, le-leb, leb-true, lt-ltb, ltb-true, ltb-false}
 use Rattle.std.proofs.lemmas.Option.{slice_get_within, slice_get-get_or, get_or_from_slice_get}
-use Rattle.tp_base.proofs.ClassLemmas.{same_members}
+use Rattle.tp_base.specs.Classes.{union_of}
+use Rattle.tp_base.proofs.ClassLemmas.{same_members, Contains-union_of, IsStrictlyIncreasing-union_of}
 use Rattle.tp_base.proofs.Lists.{Contains-at, at_Contains, past_end, slice_get-take}
 use Rattle.tree_sem.proofs.NodeLemmas.{Contains-map, map-Contains}
 use Rattle.simple_core.specs.Labels.{set_of}
@@ -83,6 +84,10 @@ place_found firsts round place within point = record {
   before = λ i f less at. ltb-true f.round round (ap (λ (z : First). nat_lt z.round round) (sym (get_or_from_slice_get firsts i f f at)) ∙ point.0 i f (omega arith) less);
   from = λ i f le at. ltb-false f.round round (ap (λ (z : First). nat_lt z.round round) (sym (get_or_from_slice_get firsts i f f at)) ∙ point.1 i f le (slice_get_within firsts i f at));
 }
+
+pub order_drop : (firsts : List First) (n : ℕ) → AreInOrder firsts → AreInOrder (drop n firsts)
+order_drop firsts n order i j f g le at_i at_j =
+    order (n + i) (n + j) f g (omega arith) (sym (drop_at firsts n i (n + i) refl) ∙ at_i) (sym (drop_at firsts n j (n + j) refl) ∙ at_j)
 
 -- the first that is found comes soonest
 pub soonest : (firsts : List First) (from place : ℕ) (first : First) → AreInOrder firsts → IsPlaceFrom firsts from place → slice_get firsts place ≡ Some first
@@ -163,3 +168,13 @@ part_atoms firsts part from to is =
     (among_all (set_of all) (set_of some) (λ a there.
     let f = atoms_within-is from to firsts a (set_of-is all a there) in
     is-set_of some a (subst (λ z. Contains some z) f.4 (Contains-map (λ (f : First). f.atom) part f.0 ((is f.0).1 (f.1, f.2, f.3))))))
+
+-- ---- atoms that a label gets
+
+pub union_set : (start atoms : List ℕ) → IsStrictlyIncreasing start → union_of start atoms ≡ union_of start (set_of atoms)
+union_set start atoms up =
+    let one = union_of start atoms in
+    let two = union_of start (set_of atoms) in
+    same_members one two (IsStrictlyIncreasing-union_of start atoms up) (IsStrictlyIncreasing-union_of start (set_of atoms) up)
+    (among_all one two (λ a there. (Contains-union_of start (set_of atoms) a).1 (elim ((Contains-union_of start atoms a).0 there) [ inl old ↦ inl old | inr new ↦ inr (is-set_of atoms a new) ])))
+    (among_all two one (λ a there. (Contains-union_of start atoms a).1 (elim ((Contains-union_of start (set_of atoms) a).0 there) [ inl old ↦ inl old | inr new ↦ inr (set_of-is atoms a new) ])))

@@ -7,6 +7,7 @@ use Rattle.std.proofs.lemmas.List.Quantifiers.{position-Some}
 use Rattle.std.proofs.lemmas.Option.{slice_get_within}
 use Rattle.tp_base.proofs.Rising.{Contains-here, Contains-behind, Contains-cons, Contains-none}
 use Rattle.tp_base.proofs.Lists.{Contains-at, element_at}
+use Rattle.std.specs.Global.{Vec}
 use Rattle.simple_core.specs.Pairs.{Pair}
 use Rattle.need_table.specs.declared.entries.First.{First}
 use Rattle.need_table.specs.declared.entries.Entry.{Entry}
@@ -295,8 +296,8 @@ found_none qs q None found none = (λ _. none refl, λ _. refl)
 found_none qs q (Some i) found none = (λ is there. cc, λ absent. absurd (absent (Contains-at qs i q found)))
 
 -- the pairs of entries that were noted, or couldn't be
-pub pairs_noted : (old new : List Entry) (i k : ℕ) (firsts : List First) (children : List ℕ) → i < length old → IsNoted old new i k firsts children → map pair_of new ≡ map pair_of old
-pairs_noted old new i k firsts children within noted =
+pub pairs_noted : (old new : List Entry) (i k : ℕ) (firsts : List First) (anew : Option (Vec ℕ)) → i < length old → IsNoted old new i k firsts anew → map pair_of new ≡ map pair_of old
+pairs_noted old new i k firsts anew within noted =
     let e = element_at old i within in
     elim (noted e.0 e.1) [
       | inl (e', is, rounds, pair, next, firsts, children, label) ↦ ap (map pair_of) is ∙ set-alike pair_of old i e.0 e' e.1 pair
@@ -321,9 +322,9 @@ pairs_rested (e ∷ entries) = ap (λ z. pair_of e ∷ z) (pairs_rested entries)
 pub at_same : (p : Places) (qs rs : List Pair) → rs ≡ qs → AreAt p qs → AreAt p rs
 at_same p qs rs same at = subst (λ (z : List Pair). AreAt p z) (sym same) at
 
-pub pairs_either : {T E : Type 0} (r : Result T E) (old new : List Entry) (i k : ℕ) (firsts : List First) (children : List ℕ) → i < length old → OnOk r (IsNoted old new i k firsts children) → OnErr r (IsUntouched old new i) → map pair_of new ≡ map pair_of old
-pairs_either (Ok x) old new i k firsts children within ok err = pairs_noted old new i k firsts children within ok
-pairs_either (Err e) old new i k firsts children within ok err = pairs_untouched old new i within err
+pub pairs_either : {T E : Type 0} (r : Result T E) (old new : List Entry) (i k : ℕ) (firsts : List First) (anew : Option (Vec ℕ)) → i < length old → OnOk r (IsNoted old new i k firsts anew) → OnErr r (IsUntouched old new i) → map pair_of new ≡ map pair_of old
+pairs_either (Ok x) old new i k firsts anew within ok err = pairs_noted old new i k firsts anew within ok
+pairs_either (Err e) old new i k firsts anew within ok err = pairs_untouched old new i within err
 
 -- more steps, and the same ends
 pub at_later : (old new : Places) → ((n : ℕ) (xs : List ℕ) (m : ℕ) → walk old.steps.keys n xs ≡ Some m → walk new.steps.keys n xs ≡ Some m) → new.ends.keys ≡ old.ends.keys → (qs : List Pair) → AreAt old qs → AreAt new qs

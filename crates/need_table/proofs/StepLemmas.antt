@@ -1,6 +1,7 @@
 -- An entry's round, with the agenda.
-use Rattle.std.proofs.Common.{◌≡◌, ℕ, suc, ◌+◌, ◌-◌, ◌≤◌, List, get_or, Some, None, slice_get, IsSomeAnd, Contains, sym, ap, ◌∙◌, inl, inr, arith, subst}
+use Rattle.std.proofs.Common.{◌≡◌, ℕ, suc, ◌+◌, ◌-◌, ◌≤◌, List, get_or, Option, Some, None, slice_get, IsSomeAnd, Contains, sym, ap, ◌∙◌, inl, inr, arith, subst}
 use Rattle.std.proofs.lemmas.Option.{get_or_from_slice_get}
+use Rattle.std.specs.Global.{Vec}
 use Rattle.simple_core.specs.declared.system.System.{System}
 use Rattle.simple_core.specs.Pairs.{Pair, Asks}
 use Rattle.simple_core.proofs.RoundLemmas.{grown-rises}
@@ -9,7 +10,7 @@ use Rattle.need_table.specs.declared.entries.Entry.{Entry}
 use Rattle.need_table.specs.declared.agenda.Agenda.{Agenda}
 use Rattle.need_table.specs.Rows.{row_in, IsRicher, IsDue}
 use Rattle.need_table.specs.Agendas.{IsGoing}
-use Rattle.need_table.specs.Tables.{pair_of, labels, fresh_of, AreOrdered, IsDone, IsHeard, IsAskedAt, IsTable, IsMore, IsNoted, IsUntouched}
+use Rattle.need_table.specs.Tables.{pair_of, labels, fresh_of, replaced, AreOrdered, IsDone, IsHeard, IsAskedAt, IsTable, IsMore, IsNoted, IsUntouched}
 use Rattle.need_table.specs.Turns.{IsAsked, IsGained}
 use Rattle.need_table.proofs.FillLemmas.{fresh_of-is, set-here, IsStep, noted_step, untouched_more}
 use Rattle.need_table.proofs.ChildLemmas.{some_at, and_at, within_of, heard_there}
@@ -32,28 +33,30 @@ news_are s q k own given firsts is_own gained fresh =
     ∙ ap (λ n. fresh_of own n (labels s q (suc k))) round ∙ ap (λ (z : List ℕ). fresh_of z (suc k) (labels s q (suc k))) is_own
 
 -- a round is worked out
-module _ (s : System) (pairs : ℕ) (old new : List Entry) (i k : ℕ) (x : Entry) (fresh : List ℕ) (from : ℕ) (children given : List ℕ) (firsts : List First) (table : IsTable s pairs old)
-    (rounds : IsSomeAnd (slice_get old i) (λ e. e.rounds ≡ Some k)) (asked : IsSomeAnd (slice_get old i) (λ e. IsAsked s old (pair_of e) k e.label fresh from children))
+module _ (s : System) (pairs : ℕ) (old new : List Entry) (i k : ℕ) (x : Entry) (fresh : List ℕ) (from : ℕ) (anew : Option (Vec ℕ)) (given : List ℕ) (firsts : List First) (table : IsTable s pairs old)
+    (rounds : IsSomeAnd (slice_get old i) (λ e. e.rounds ≡ Some k)) (asked : IsSomeAnd (slice_get old i) (λ e. IsAsked s old (pair_of e) k e.label fresh from (replaced anew e.children.items)))
     (gained : IsSomeAnd (slice_get old i) (λ e. IsGained s (pair_of e) k e.label given)) (read : x ≡ get_or old i x) (is : firsts ≡ fresh_of x.label (k + 1) given) where
-  pub round_done : IsNoted old new i k firsts children → IsStep s pairs old new × IsSomeAnd (slice_get new i) (λ x. IsDone x.rounds (suc k))
+  pub round_done : IsNoted old new i k firsts anew → IsStep s pairs old new × IsSomeAnd (slice_get new i) (λ x. IsDone x.rounds (suc k))
   round_done noted =
       let e = some_at (λ (e : Entry). e.rounds ≡ Some k) (slice_get old i) rounds in
-      let a : IsAsked s old (pair_of e.0) k e.0.label fresh from children = and_at (λ (e : Entry). IsAsked s old (pair_of e) k e.label fresh from children) (slice_get old i) e.0 e.1 asked in
+      let children = replaced anew e.0.children.items in
+      let a : IsAsked s old (pair_of e.0) k e.0.label fresh from children = and_at (λ (e : Entry). IsAsked s old (pair_of e) k e.label fresh from (replaced anew e.children.items)) (slice_get old i) e.0 e.1 asked in
       let g : IsGained s (pair_of e.0) k e.0.label given = and_at (λ (e : Entry). IsGained s (pair_of e) k e.label given) (slice_get old i) e.0 e.1 gained in
       let here : x ≡ e.0 = read ∙ get_or_from_slice_get old i e.0 x e.1 in
       let heard : (r : Pair) → Asks s (labels s (pair_of e.0) k) r → IsHeard old children r = λ r asks. a.heard r (subst (λ (z : List ℕ). Asks s z r) (sym a.label) asks) in
       noted_step s pairs old new i k firsts children e.0 table e.1 (news_are s (pair_of e.0) k e.0.label given firsts a.label g (is ∙ ap (λ (z : Entry). fresh_of z.label (k + 1) given) here)) (λ r asks. heard_there old children r (heard r asks)) heard
       (λ j child. subst (λ (z : List ℕ). IsAskedAt s old z j) a.label (a.only j child)) (subst (λ o. IsDone o k) (sym e.2) (omega arith)) (noted e.0 e.1)
 
-  pub stepped : (g g' : Agenda) (mid : List (List ℕ)) → IsGoing s pairs old g → IsNoted old new i k firsts children
+  pub stepped : (g g' : Agenda) (mid : List (List ℕ)) → IsGoing s pairs old g → IsNoted old new i k firsts anew
       → g'.first ≡ g.first → g'.askers ≡ mid → IsRicher g.due g'.due → IsRicher g.askers mid → ((f : First) → Contains firsts f → Contains (row_in g'.due (k + 1)) i)
       → ((f : First) → Contains firsts f → (a : ℕ) → Contains (row_in mid (i - g.first)) a → Contains (row_in g'.due (k + 1)) a)
-      → ((j : ℕ) → Contains children j → g.first ≤ j → Contains (row_in mid (j - g.first)) i)
+      → ((e : Entry) (j : ℕ) → slice_get old i ≡ Some e → Contains (replaced anew e.children.items) j → g.first ≤ j → Contains (row_in mid (j - g.first)) i)
       → ((e : Entry) (j : ℕ) (c : Entry) (f : First) → slice_get new i ≡ Some e → Contains e.children.items j → slice_get new j ≡ Some c → Contains c.firsts.items f → k + 1 ≤ f.round → IsDue g'.due i (k + 1) f.round)
       → IsGoing s pairs new g'
   stepped g g' mid go noted first kept more richer told woken listened due =
       let e = some_at (λ (e : Entry). e.rounds ≡ Some k) (slice_get old i) rounds in
-      let a : IsAsked s old (pair_of e.0) k e.0.label fresh from children = and_at (λ (e : Entry). IsAsked s old (pair_of e) k e.label fresh from children) (slice_get old i) e.0 e.1 asked in
+      let children = replaced anew e.0.children.items in
+      let a : IsAsked s old (pair_of e.0) k e.0.label fresh from children = and_at (λ (e : Entry). IsAsked s old (pair_of e) k e.label fresh from (replaced anew e.children.items)) (slice_get old i) e.0 e.1 asked in
       let one = (round_done noted).0 in
       let round : k + 1 ≡ suc k = omega arith in
       elim (noted e.0 e.1) [
@@ -68,7 +71,7 @@ module _ (s : System) (pairs : ℕ) (old new : List Entry) (i k : ℕ) (x : Entr
             (λ f in_firsts a asks. subst (λ z. Contains (row_in g'.due z) a) round (woken f in_firsts a
             (subst (λ z. Contains (row_in mid (i - z)) a) first (subst (λ (z : List (List ℕ)). Contains (row_in z (i - g'.first)) a) kept asks))))
             (λ j child le. subst (λ (z : List (List ℕ)). Contains (row_in z (j - g'.first)) i) (sym kept) (subst (λ z. Contains (row_in mid (j - z)) i) (sym first)
-            (listened j (subst (λ (z : List ℕ). Contains z j) children' child) (omega (arith, first)))))
+            (listened e.0 j e.1 (subst (λ (z : List ℕ). Contains z j) children' child) (omega (arith, first)))))
             (λ j child. within_of (λ (c : Entry). Asks s e.0.label (pair_of c)) old j (a.only j (subst (λ (z : List ℕ). Contains z j) children' child)))
             (subst (λ (z : List Entry). IsTable s pairs z) is' one.table)
             (λ j c f child at_j in_c le. subst (λ z. IsDue g'.due i z f.round) round (due e' j c f there child (ap (λ z. slice_get z j) is' ∙ at_j) in_c (omega arith))))

@@ -1,6 +1,7 @@
 -- The table of pairs, while it is filled.
 use Rattle.std.specs.Prelude.{◌≡◌, ◌≢◌, ◌⊎◌, ◌&&◌, ◌++◌, set, ◌≤◌, ◌<◌, ℕ, suc, List, [], ◌∷◌, map, length, not, nat_le, Option, Some, None, Contains, IsSomeAnd, slice_get, ◌==◌, if◌then◌else◌}
 use Rattle.std.specs.List.{filter}
+use Rattle.std.specs.Global.{Vec}
 use Rattle.tp_base.specs.Classes.{has_class, union_of}
 use Rattle.simple_core.specs.declared.system.System.{System}
 use Rattle.simple_core.specs.Systems.{IsSound}
@@ -87,8 +88,13 @@ abbrev pub NotedAt : List Entry → List Entry → ℕ → ℕ → List First �
 NotedAt old new i k firsts children e = ((e' : Entry) × (new ≡ set old i e') × (e.rounds ≡ Some k) × (pair_of e' ≡ pair_of e) × (e'.rounds ≡ Some (suc k)) × (e'.firsts.items ≡ e.firsts.items ++ firsts)
     × (e'.children.items ≡ children) × (e'.label ≡ union_of e.label (set_of (map (λ f. f.atom) firsts)))) ⊎ ((new ≡ old) × (e.rounds ≢ Some k))
 
-abbrev pub IsNoted : List Entry → List Entry → ℕ → ℕ → List First → List ℕ → Type 0
-IsNoted old new i k firsts children = (e : Entry) → slice_get old i ≡ Some e → NotedAt old new i k firsts children e
+-- places anew, or the old ones
+abbrev pub replaced : Option (Vec ℕ) → List ℕ → List ℕ
+replaced None old = old
+replaced (Some v) old = v.items
+
+abbrev pub IsNoted : List Entry → List Entry → ℕ → ℕ → List First → Option (Vec ℕ) → Type 0
+IsNoted old new i k firsts anew = (e : Entry) → slice_get old i ≡ Some e → NotedAt old new i k firsts (replaced anew e.children.items) e
 
 -- the entry, worked out up to the round k
 abbrev pub raised : ℕ → Entry → Entry

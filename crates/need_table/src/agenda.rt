@@ -2,7 +2,7 @@
 ghost use Rattle.std.specs.Prelude.{◌≡◌, ◌≤◌, ◌<◌, ◌-◌, ◌+◌, ◌^◌, ℕ, [], Contains, length, Some, slice_get, IfSome, IsSomeAnd, OnOk};
 ghost use Rattle.need_table.specs.declared.entries.First.{First};
 ghost use Rattle.need_table.specs.declared.entries.Entry.{Entry};
-ghost use Rattle.need_table.specs.Tables.{AreInOrder, AreOrdered};
+ghost use Rattle.need_table.specs.Tables.{replaced, AreInOrder, AreOrdered};
 ghost use Rattle.need_table.specs.Rows.{row_in, IsRicher, AreSameBelow, IsDue};
 
 use crate::entries::{Entry, First, place_from};
@@ -61,8 +61,27 @@ pub(crate) fn wake(due: &mut Rows, places: &[usize], k: usize) -> Result<(), NoM
     Ok(())
 }
 
-/// Notes that the entry at i asks those at the places `new`, where it asked those of `old` before. Linear in these.
-pub(crate) fn listen(
+/// Notes that the entry at i asks those at the places `anew`, where it asked those of `old` before. Where there are none, it asks
+/// these still.
+pub(crate) fn listen_anew(
+    askers: &mut Rows,
+    first: usize,
+    i: usize,
+    old: &[usize],
+    anew: &Option<Vec<usize>>,
+) -> Result<(), NoMemory>
+    requires { (j : ℕ) → Contains old.now j → first ≤ j → Contains (row_in askers.old (j - first)) i }
+    ensures heard { OnOk result ((j : ℕ) → Contains (replaced anew.now old.now) j → first ≤ j → Contains (row_in askers.new (j - first)) i) }
+    ensures more { OnOk result (IsRicher askers.old askers.new) }
+{
+    match anew {
+        Some(new) => listen(askers, first, i, old, new),
+        None => Ok(()),
+    }
+}
+
+// The same for places that are there. Linear in these.
+fn listen(
     askers: &mut Rows,
     first: usize,
     i: usize,

@@ -1,5 +1,6 @@
 //! One pair of the table, and its label in each round so far.
-ghost use Rattle.std.specs.Prelude.{◌≡◌, ◌↔◌, ◌≤◌, ◌<◌, ◌+◌, ◌^◌, map, take, drop, length, Some, Contains, IfOk, IsTrue};
+ghost use Rattle.std.specs.Prelude.{◌≡◌, ◌↔◌, ◌≤◌, ◌<◌, ◌+◌, ◌^◌, map, take, drop, length, Some, Contains, IfOk, OnOk, IsTrue};
+ghost use Rattle.tp_base.specs.Classes.{union_of};
 ghost use Rattle.simple_core.specs.Labels.{set_of};
 ghost use Rattle.need_table.specs.declared.entries.First.{First};
 ghost use Rattle.need_table.specs.Tables.{atoms_within, fresh_of, AreInOrder, IsPlaceFrom};
@@ -7,6 +8,9 @@ ghost use Rattle.need_table.specs.Tables.{atoms_within, fresh_of, AreInOrder, Is
 use gathered::Gathered;
 use std::alloc::Global;
 use tp_base::{Atom, ClassSet, NoMemory};
+
+// So many atoms are put into a label one by one, and so many of the last firsts are looked at before the others.
+const A_FEW: usize = 8;
 
 /// An atom, and the first round in which the label has it.
 #[derive(Clone, Copy, Debug, PartialEq, Eq)]
@@ -28,12 +32,26 @@ pub(crate) struct Entry {
     pub(crate) rounds: Option<u64>,
 }
 
-/// How many of the firsts come before this round. Logarithmic in all.
-pub(crate) fn place_from(firsts: &[First], round: u64) -> usize
+// How many of the firsts come before this round. Logarithmic in all.
+fn search(firsts: &[First], round: u64) -> usize
     requires { AreInOrder firsts.now }
     ensures { IsPlaceFrom firsts.now round result }
 {
     firsts.partition_point(|first| first.round < round)
+}
+
+/// How many of the firsts come before this round. Constant where all but a few of them do, and else logarithmic in all.
+pub(crate) fn place_from(firsts: &[First], round: u64) -> usize
+    requires { AreInOrder firsts.now }
+    ensures { IsPlaceFrom firsts.now round result }
+{
+    let seam = firsts.len().saturating_sub(A_FEW);
+    if let Some(first) = firsts.get(seam)
+        && first.round < round
+    {
+        return seam + search(behind(firsts, seam), round);
+    }
+    search(firsts, round)
 }
 
 // The firsts from this place on.
@@ -74,6 +92,33 @@ pub(crate) fn atoms_of(alloc: Global, firsts: &[First]) -> Result<ClassSet, NoMe
     }
     let label = label.into_set()?;
     Ok(label)
+}
+
+// Adds the atoms to a label one by one.
+fn add_each(label: &mut ClassSet, firsts: &[First]) -> Result<(), NoMemory>
+    ensures { OnOk result (label.new ≡ union_of label.old (map (λ f. f.atom) firsts.now)) }
+{
+    let mut rest = firsts;
+    'firsts: while let Some((first, others)) = rest.split_first() {
+        label.add(first.atom)?;
+        rest = others;
+    }
+    Ok(())
+}
+
+/// Adds the atoms to a label: a few by a search for each, and many by a copy of the label.
+#[tactic(auto, using(crate::proofs::OrderLemmas::union_set))]
+pub(crate) fn grow(label: &mut ClassSet, firsts: &[First]) -> Result<(), NoMemory>
+    ensures { OnOk result (label.new ≡ union_of label.old (set_of (map (λ f. f.atom) firsts.now))) }
+{
+    let alloc = label.allocator();
+    if firsts.len() <= A_FEW {
+        add_each(label, firsts)?;
+        return Ok(());
+    }
+    let atoms = atoms_of(alloc, firsts)?;
+    label.union(&atoms)?;
+    Ok(())
 }
 
 /// The atoms whose first round is one of these. The others cost a search.

@@ -4,7 +4,7 @@ ghost use Rattle.simple_core.specs.Systems.{kind_label};
 ghost use Rattle.simple_core.specs.Labels.{set_of, visible_in};
 ghost use Rattle.simple_core.specs.Pairs.{Pair, Asks, Needed, HasMore};
 ghost use Rattle.rule_index.specs.Asking.{AreKinds, AsksAnew};
-ghost use Rattle.need_table.specs.Tables.{pair_of, fresh_of, IsHeard, IsAskedAt, IsTable, IsMore, AreNeeded};
+ghost use Rattle.need_table.specs.Tables.{pair_of, fresh_of, replaced, IsHeard, IsAskedAt, IsTable, IsMore, AreNeeded};
 ghost use Rattle.need_table.specs.Agendas.{IsAppended};
 ghost use Rattle.need_table.specs.Turns.{IsAsked};
 
@@ -140,22 +140,23 @@ fn asks_other(system: &IndexedSystem, fresh: &ClassSet, k: u64) -> bool
     k == 0 || system.is_asking(fresh)
 }
 
-// The same places.
-fn copied(alloc: Global, places: &[usize]) -> Result<Vec<usize>, NoMemory>
-    ensures { IfOk result (λ v. v.items ≡ places.now) }
-{
-    let mut copy = Vec::new(alloc);
-    copy.extend_from_slice(places)?;
-    Ok(copy)
-}
-
-/// What an entry asks in its last round: what of its label is new in this round, and where what it asks stands. Of that, the atoms
-/// count whose first round is one from `from` on.
+/// What an entry asks in its last round: what of its label is new in this round, and where what it asks stands, if that was looked
+/// for anew. Of what it asks, the atoms count whose first round is one from `from` on.
 #[derive(Drop)]
 pub(crate) struct Asked {
     pub(crate) fresh: ClassSet,
     pub(crate) from: u64,
-    pub(crate) children: Vec<usize>,
+    pub(crate) anew: Option<Vec<usize>>,
+}
+
+/// The places anew, or the old ones where there are none.
+pub(crate) fn asked_places<'a>(anew: &'a Option<Vec<usize>>, old: &'a [usize]) -> &'a [usize]
+    ensures { result.now ≡ replaced anew.now old.now }
+{
+    match anew {
+        Some(places) => places,
+        None => old,
+    }
 }
 
 /// What the entry asks in the round k, its last one. Pairs that are new are added. Where what is new of the label asks nothing else
@@ -174,18 +175,17 @@ pub(crate) fn asked_by(
     ensures table { OnOk result (IsTable system.now pairs table.new) }
     ensures more { IsMore table.old table.new }
     ensures appended { OnOk result (IsAppended table.old table.new) }
-    ensures asked { IfOk result (λ a. IsSomeAnd (slice_get table.old i) (λ e. IsAsked system.now table.new (pair_of e) k e.label a.fresh a.from a.children.items)) }
+    ensures asked { IfOk result (λ a. IsSomeAnd (slice_get table.old i) (λ e. IsAsked system.now table.new (pair_of e) k e.label a.fresh a.from (replaced a.anew e.children.items))) }
     ensures needed { OnOk result ((qs : List Pair) → AreNeeded system.now qs table.old → AreNeeded system.now qs table.new) }
     ensures spent { result ≡ Err GainFault.Spent → (qs : List Pair) → AreNeeded system.now qs table.old → HasMore (Needed system.now (Contains qs)) pairs }
 {
     let entry = table.entry(i);
     let fresh = label_within(alloc, &entry.firsts, k, k)?;
     if !asks_other(system, &fresh, k) {
-        let children = copied(alloc, &entry.children)?;
         return Ok(Asked {
             fresh,
             from: k,
-            children,
+            anew: None,
         });
     }
     let own = entry.label.copy()?;
@@ -193,6 +193,6 @@ pub(crate) fn asked_by(
     Ok(Asked {
         fresh,
         from: 0,
-        children,
+        anew: Some(children),
     })
 }

@@ -3,14 +3,14 @@ ghost use Rattle.std.specs.Prelude.{◌≡◌, ◌+◌, ◌<◌, ◌^◌, ℕ, s
 ghost use Rattle.std.specs.List.{flat_map};
 ghost use Rattle.std.specs.List.Sorted.{IsStrictlyIncreasing};
 ghost use Rattle.tp_base.specs.Classes.{union_of};
-ghost use Rattle.need_table.specs.Tables.{pair_of, IsDone, IsMore, AreOrdered};
+ghost use Rattle.need_table.specs.Tables.{pair_of, replaced, IsDone, IsMore, AreOrdered};
 ghost use Rattle.need_table.specs.Rows.{IsEmptyBelow, AreSameBelow};
 ghost use Rattle.need_table.specs.Agendas.{AreKnown, IsGoing};
 ghost use Rattle.need_table.specs.Turns.{given_at, given_above, IsAsked, IsGained};
 
-use crate::agenda::{Agenda, listen, tell};
+use crate::agenda::{Agenda, listen_anew, tell};
 use crate::entries::{Entry, fresh, label_within};
-use crate::filling::Asked;
+use crate::filling::{Asked, asked_places};
 use crate::pair_table::Table;
 use gathered::Gathered;
 use rule_index::IndexedSystem;
@@ -91,20 +91,21 @@ fn gained(
     requires round { k + 1 < 2 ^ 64 }
     requires order { AreOrdered table.now }
     requires known { AreKnown system.now k table.now }
-    requires asked { IsSomeAnd (slice_get table.now i) (λ e. IsAsked system.now table.now (pair_of e) k e.label asked.now.fresh asked.now.from asked.now.children.items) }
+    requires asked { IsSomeAnd (slice_get table.now i) (λ e. IsAsked system.now table.now (pair_of e) k e.label asked.now.fresh asked.now.from (replaced asked.now.anew e.children.items)) }
     ensures { IfOk result (λ n. IsSomeAnd (slice_get table.now i) (λ e. IsGained system.now (pair_of e) k e.label n)) }
 {
     let mut next = Gathered::new(alloc);
     let entry = table.entry(i);
     system.add_local(&entry.label, &asked.fresh, &mut next)?;
     add_above(system, &entry.parent, k, &mut next)?;
+    let children = asked_places(&asked.anew, &entry.children);
     add_children(
         alloc,
         system,
         table.entries(),
         asked.from,
         k,
-        &asked.children,
+        children,
         &mut next,
     )?;
     let next = next.into_set()?;
@@ -125,7 +126,7 @@ pub(crate) fn step(
     requires going { (pairs : ℕ) × IsGoing system.now pairs table.old agenda.old }
     requires early { IsEmptyBelow k agenda.old.due }
     requires rounds { IsSomeAnd (slice_get table.old i) (λ e. e.rounds ≡ Some k) }
-    requires asked { IsSomeAnd (slice_get table.old i) (λ e. IsAsked system.now table.old (pair_of e) k e.label asked.fresh asked.from asked.children.items) }
+    requires asked { IsSomeAnd (slice_get table.old i) (λ e. IsAsked system.now table.old (pair_of e) k e.label asked.fresh asked.from (replaced asked.anew e.children.items)) }
     ensures going { OnOk result ((pairs : ℕ) → IsGoing system.now pairs table.old agenda.old → IsGoing system.now pairs table.new agenda.new) }
     ensures more { IsMore table.old table.new }
     ensures same { OnOk result (map pair_of table.new ≡ map pair_of table.old) }
@@ -135,14 +136,14 @@ pub(crate) fn step(
     let given = gained(alloc, system, table, i, k, &asked)?;
     let new = fresh(alloc, &table.entry(i).label, &given, k + 1)?;
     let first = agenda.first;
-    listen(
+    listen_anew(
         &mut agenda.askers,
         first,
         i,
         &table.entry(i).children,
-        &asked.children,
+        &asked.anew,
     )?;
-    table.note(i, k, &new, asked.children)?;
+    table.note(i, k, &new, asked.anew)?;
     tell(table.entries(), agenda, i, k, &new)?;
     Ok(())
 }

@@ -1,9 +1,9 @@
 //! The entries of the table.
 ghost use Rattle.std.specs.Prelude.{◌≡◌, ◌↔◌, ◌+◌, ◌≤◌, ◌<◌, ◌^◌, ◌∷◌, ◌++◌, [], ℕ, None, Some, map, take, set, length, slice_get, get_or, Contains, IsNone, IfSome, IsSomeAnd, OnOk, OnErr};
 ghost use Rattle.need_table.specs.declared.entries.Entry.{Entry};
-ghost use Rattle.need_table.specs.Tables.{pair_of, rested, raised, IsNoted, IsUntouched};
+ghost use Rattle.need_table.specs.Tables.{pair_of, rested, raised, replaced, IsNoted, IsUntouched};
 
-use crate::entries::{Entry, First, atoms_of, is_at};
+use crate::entries::{Entry, First, grow, is_at};
 use crate::places::Places;
 use std::alloc::Global;
 use std::marker::Model;
@@ -90,20 +90,20 @@ impl Table {
         }
     }
 
-    /// Notes what is new in the round after k at an entry, and where what it asks stands, unless that was done.
+    /// Notes what is new in the round after k at an entry, and where what it asks stands, if it asks anew, unless that was done.
     pub(crate) fn note(
         &mut self,
         i: usize,
         k: u64,
         new: &[First],
-        children: Vec<usize>,
+        anew: Option<Vec<usize>>,
     ) -> Result<(), NoMemory>
         requires place { i < length self.old }
         requires round { k + 1 < 2 ^ 64 }
-        ensures ok { OnOk result (IsNoted self.old self.new i k new.now children.items) }
+        ensures ok { OnOk result (IsNoted self.old self.new i k new.now anew) }
         ensures err { OnErr result (IsUntouched self.old self.new i) }
     {
-        note(&mut self.entries, i, k, new, children)
+        note(&mut self.entries, i, k, new, anew)
     }
 
     /// Notes that nothing is new at an entry up to the round k.
@@ -132,26 +132,33 @@ impl Table {
     }
 }
 
+// Puts the places there, if there are some anew.
+fn replace(places: &mut Vec<usize>, anew: Option<Vec<usize>>)
+    ensures { places.new.items ≡ replaced anew places.old.items }
+{
+    if let Some(anew) = anew {
+        *places = anew;
+    }
+}
+
 // Notes what is new in the round after k, unless that was done.
 fn note(
     entries: &mut Vec<Entry>,
     i: usize,
     k: u64,
     new: &[First],
-    children: Vec<usize>,
+    anew: Option<Vec<usize>>,
 ) -> Result<(), NoMemory>
     requires place { i < length entries.old.items }
     requires round { k + 1 < 2 ^ 64 }
-    ensures ok { OnOk result (IsNoted entries.old.items entries.new.items i k new.now children.items) }
+    ensures ok { OnOk result (IsNoted entries.old.items entries.new.items i k new.now anew) }
     ensures err { OnErr result (IsUntouched entries.old.items entries.new.items i) }
 {
-    let alloc = *entries.allocator();
     if is_at(&entries[i], k) {
         let entry = &mut entries[i];
-        let atoms = atoms_of(alloc, new)?;
-        entry.label.union(&atoms)?;
+        grow(&mut entry.label, new)?;
         entry.firsts.extend_from_slice(new)?;
-        entry.children = children;
+        replace(&mut entry.children, anew);
         entry.rounds = Some(k + 1);
     }
     Ok(())

@@ -20,11 +20,12 @@ struct Question {
     parent: ClassSet,
 }
 
-/// A table of pairs, at most so many. It answers what it knows, and works out what it doesn't. A new pair has a turn, and then one in each round after one in which its
-/// label, or one that it asks or asked, got an atom. A turn costs a look at what is new of the label and at the rules that need
-/// that, and at the pairs that it asks and what is new of these; where it brings an atom, a copy of the label and a look at each
-/// pair that asks it, too. Where what is new of the label makes it ask something else, all of it and all atoms of what it asks then
-/// are looked at. Where it asks new pairs, it waits for them and is made again, which costs a step for each round so far besides.
+/// A table of pairs, at most so many. It answers what it knows, and works out what it doesn't. A new pair has a turn, and then
+/// one in each round after one in which its label, or one that it asks or asked, got an atom. A turn costs a look at what is new
+/// of the label and at the rules that need that, and at the pairs that it asks and what is new of these; where it brings atoms, a
+/// search of the label for each of them, or a copy of the label where they are many, and a look at each pair that asks it, too.
+/// Where what is new of the label makes it ask something else, all of it and all atoms of what it asks then are looked at. Where
+/// it asks new pairs, it waits for them and is made again, which costs a step for each round so far besides.
 #[derive(Drop)]
 pub struct PlainSummaries<'a> {
     system: IndexedSystem<'a>,

@@ -93,6 +93,9 @@ KnowsBelow table n entries = (e : ℕ) (entry : Entry) → e < n → slice_get e
 abbrev pub KeepsBut : ℕ → Firsts → Firsts → Type 0
 KeepsBut n old new = (m a : ℕ) → (n == m) ≡ false → first_in new m a ≡ first_in old m a
 
+-- near a node of the entry's kind below a parent that has what the entry asks for
+abbrev pub near_in_kind : System → Entry → Near → Near
+near_in_kind system entry near = record near { label = kind_label system entry.kind; above = λ a. has_class a entry.parent }
+
 abbrev pub near_in_entry : System → Firsts → ℕ → Entry → Near
-near_in_entry system known n entry =
-    record (alone known known n (Some entry.kind) n) { label = kind_label system entry.kind; above = λ a. has_class a entry.parent }
+near_in_entry system known n entry = near_in_kind system entry (alone known known n (Some entry.kind) n)

@@ -31,7 +31,7 @@ pub fn items_steps(items: &[ProofItem], entries: &Entries, system: &System) -> u
     sum
 }
 
-// the steps of one item, by the numbers that the entries keep
+// The steps of one item, by the numbers that the entries keep.
 fn reason_steps(reason: &Reason, entries: &Entries, system: &System) -> u64
     ensures { result ≡ min (reason_count system.now (kept_steps entries.now) reason.now) MOST_STEPS }
 {

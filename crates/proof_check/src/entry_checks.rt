@@ -3,7 +3,7 @@ ghost use Rattle.std.specs.Prelude.{◌≡◌, ℕ, ◌==◌, ◌&&◌, [], List
 ghost use Rattle.tp_base.specs.Classes.{has_class};
 ghost use Rattle.simple_core.specs.Systems.{kind_label};
 ghost use Rattle.proof_check.specs.Checks.{is_down, are_sound, entries_hold};
-ghost use Rattle.proof_check.specs.Firsts.{first_in, KnowsOf, KnowsBelow, KeepsBut, near_in_entry, sound_by};
+ghost use Rattle.proof_check.specs.Firsts.{first_in, KnowsOf, KnowsBelow, KeepsBut, alone_at, near_in_kind, sound_by};
 ghost use Rattle.proof_check.specs.Kept.{kept_steps};
 ghost use Rattle.proof_check.specs.Unfolding.{items_count};
 ghost use Rattle.proof_check.specs.Validity.{MOST_STEPS, in_entry};
@@ -67,7 +67,16 @@ fn items_hold(
     ensures others { OnOk result (KeepsBut n known.old known.new) }
 {
     for item in entry.items.items() {
-        if !item_holds(item, entry, n, entries, system, known) {
+        let stand = Stand {
+            system,
+            entries,
+            inside: known,
+            known,
+            node: n,
+            kind: Some(entry.kind),
+            lower: n,
+        };
+        if !item_holds(item, entry, &stand) {
             return Ok(false);
         }
         known.add(n, item.atom, is_down(&item.reason))?;
@@ -75,33 +84,15 @@ fn items_hold(
     Ok(true)
 }
 
-fn item_holds(
-    item: &ProofItem,
-    entry: &Entry,
-    n: u64,
-    entries: &Entries,
-    system: &System,
-    known: &Firsts,
-) -> bool
-    ensures { result ≡ sound_by system.now entries.now (near_in_entry system.now known.now n entry.now) item.now.atom item.now.reason }
+fn item_holds(item: &ProofItem, entry: &Entry, stand: &Stand<'_>) -> bool
+    ensures { result ≡ sound_by stand.now.system.now stand.now.entries.now (near_in_kind stand.now.system.now entry.now (alone_at stand.now)) item.now.atom item.now.reason }
 {
     match item.reason {
-        Reason::Start => is_labelled(system, entry.kind, item.atom),
-        Reason::Local(l) => local_known(system, l, item.atom, known, n),
-        Reason::Up(l) => link_holds(system.up.items(), l, item.atom, &entry.parent),
+        Reason::Start => is_labelled(stand.system, entry.kind, item.atom),
+        Reason::Local(l) => local_known(stand.system, l, item.atom, stand.known, stand.node),
+        Reason::Up(l) => link_holds(stand.system.up.items(), l, item.atom, &entry.parent),
         Reason::Down(_, Below::Real(_)) => false,
-        Reason::Down(l, Below::Grown(c, e)) => {
-            let stand = Stand {
-                system,
-                entries,
-                inside: known,
-                known,
-                node: n,
-                kind: Some(entry.kind),
-                lower: n,
-            };
-            grown_known(&stand, l, item.atom, c, e)
-        }
+        Reason::Down(l, Below::Grown(c, e)) => grown_known(stand, l, item.atom, c, e),
     }
 }
 

@@ -12,7 +12,7 @@ use crate::entry_checks::is_down;
 use crate::firsts::Firsts;
 use crate::nodes::{Nodes, steps_of};
 use crate::premises::{Stand, grown_known, local_known};
-use crate::proofs::{Below, Entries, PageItem, ProofItem, Reason};
+use crate::proofs::{Below, Entries, PageItem, Reason};
 use simple_core::System;
 use tp_base::{Atom, NoMemory, Path};
 use tree_sem::Tree;
@@ -64,9 +64,7 @@ pub fn item_placed(
         return Ok(false);
     };
     let node = node as u64;
-    if !is_there(ground.page, &item.at)
-        || !item_known(&item.item, &item.at, path, node, ground, known)?
-    {
+    if !is_there(ground.page, &item.at) || !item_known(item, path, node, ground, known)? {
         return Ok(false);
     }
     known.add(node, item.item.atom, is_down(&item.item.reason))?;
@@ -79,27 +77,27 @@ fn is_there(page: &Tree, at: &Path) -> bool
     page.children(at).is_some()
 }
 
-/// Whether the premises of the item are known.
+/// Whether the premises of the item are known, where its path has these steps and its node this number.
 pub fn item_known(
-    item: &ProofItem,
-    at: &Path,
+    item: &PageItem,
     path: Vec<u32>,
     node: u64,
     ground: &Ground<'_>,
     known: &Firsts,
 ) -> Result<bool, NoMemory>
-    requires { path.items ≡ at.now }
+    requires { path.items ≡ item.now.at }
     ensures { IfOk result (λ b. b ≡ sound_by ground.now.system.now ground.now.entries.now
-        (near_at_page ground.now.page.now ground.now.nodes.now ground.now.inside.now known.now (length ground.now.entries.now) at.now node) item.now.atom item.now.reason) }
+        (near_at_page ground.now.page.now ground.now.nodes.now ground.now.inside.now known.now (length ground.now.entries.now) item.now.at node) item.now.item.atom item.now.item.reason) }
 {
-    match item.reason {
-        Reason::Start => Ok(is_labelled(ground.page, at, item.atom)),
-        Reason::Local(l) => Ok(local_known(ground.system, l, item.atom, known, node)),
-        Reason::Up(l) => Ok(up_known(ground, known, l, item.atom, &path)),
+    let atom = item.item.atom;
+    match item.item.reason {
+        Reason::Start => Ok(is_labelled(ground.page, &item.at, atom)),
+        Reason::Local(l) => Ok(local_known(ground.system, l, atom, known, node)),
+        Reason::Up(l) => Ok(up_known(ground, known, l, atom, &path)),
         Reason::Down(l, Below::Real(k)) => {
             let mut child = path;
             child.push(k)?;
-            Ok(down_known(ground, known, l, item.atom, &child))
+            Ok(down_known(ground, known, l, atom, &child))
         }
         Reason::Down(l, Below::Grown(c, e)) => {
             let stand = Stand {
@@ -111,7 +109,7 @@ pub fn item_known(
                 kind: None,
                 lower: ground.entries.items().len() as u64,
             };
-            Ok(grown_known(&stand, l, item.atom, c, e))
+            Ok(grown_known(&stand, l, atom, c, e))
         }
     }
 }

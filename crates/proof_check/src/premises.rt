@@ -20,6 +20,13 @@ pub struct Stand<'a> {
     pub lower: u64,
 }
 
+// A spawn rule, and the kind of the node that it adds.
+#[derive(Clone, Copy)]
+struct Spawned<'a> {
+    spawn: &'a Spawn,
+    kind: &'a Kind,
+}
+
 /// Whether all atoms of the set are known of the node.
 pub fn all_first(known: &Firsts, node: u64, atoms: &ClassSet) -> bool
     ensures { result ≡ all_known (first_in known.now node) atoms.now }
@@ -68,7 +75,7 @@ fn kind_known(stand: &Stand<'_>, from: Atom, spawn: &Spawn, entry: u32) -> bool
         return false;
     };
     match stand.entries.items().get(entry as usize) {
-        Some(named) => below_known(stand, from, spawn, kind, entry, named),
+        Some(named) => below_known(stand, from, &Spawned { spawn, kind }, entry, named),
         None => false,
     }
 }
@@ -76,23 +83,22 @@ fn kind_known(stand: &Stand<'_>, from: Atom, spawn: &Spawn, entry: u32) -> bool
 fn below_known(
     stand: &Stand<'_>,
     from: Atom,
-    spawn: &Spawn,
-    kind: &Kind,
+    spawned: &Spawned<'_>,
     entry: u32,
     named: &Entry,
 ) -> bool
-    ensures { result ≡ below_by (alone_at stand.now) from spawn.now kind.now entry named.now }
+    ensures { result ≡ below_by (alone_at stand.now) from spawned.now.spawn.now spawned.now.kind.now entry named.now }
 {
     u64::from(entry) < stand.lower
-        && named.kind == spawn.kind
+        && named.kind == spawned.spawn.kind
         && stand.inside.get(u64::from(entry), from).is_some()
         && all_first(stand.known, stand.node, &named.parent)
-        && stand.known.get(stand.node, spawn.needs).is_some()
-        && is_inside(kind.above, stand.kind)
-        && is_named(stand, spawn.needs, kind)
+        && stand.known.get(stand.node, spawned.spawn.needs).is_some()
+        && is_inside(spawned.kind.above, stand.kind)
+        && is_named(stand, spawned.spawn.needs, spawned.kind)
 }
 
-// an inner kind stands below a node of the kind above it
+// An inner kind stands below a node of the kind above it.
 fn is_inside(above: Option<u32>, kind: Option<u32>) -> bool
     ensures { result ≡ is_inside above kind }
 {
@@ -103,7 +109,7 @@ fn is_inside(above: Option<u32>, kind: Option<u32>) -> bool
     }
 }
 
-// for a top kind that comes beside a child, the child is named
+// For a top kind that comes beside a child, the child is named.
 fn is_named(stand: &Stand<'_>, needs: Atom, kind: &Kind) -> bool
     ensures { result ≡ named_by (alone_at stand.now) needs kind.now }
 {

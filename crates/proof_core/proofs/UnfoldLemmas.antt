@@ -30,16 +30,18 @@ use Rattle.proof_check.proofs.ItemLemmas.{items_at-append}
 use Rattle.proof_core.proofs.TrackLemmas.{now, Counted, IsGood, IsLater, IsBrought, IsTracked, AreTracked, IsReached, later_itself, later_twice, are_tracked_later, reached_later, tracked_push, tracked_find, end_by-append, act_later, forest_done, forest_good, forest_later, forest_keeps, forest_brought}
 
 module _ (r : Reading) (page : LabelTree) (reading : IsReading r page) where
-  -- what the unfolding of an item is, and of an entry's items
-  pub record IsUnfolded (done : Progress) (v : List ℕ) (i : ProofItem) (end : Progress × Passed) : Type 0 where
-    pub good : IsGood r page end.0
-    pub later : IsLater r page done end.0
-    pub tracked : IsTracked r page end.0 v i end.1
+  -- an unfolding, and what of it is tracked
+  pub record Unfolds (done end : Progress) (Tracked : Type 0) : Type 0 where
+    pub good : IsGood r page end
+    pub later : IsLater r page done end
+    pub tracked : Tracked
 
-  pub record AreUnfolded (done : Progress) (v : List ℕ) (items : List ProofItem) (end : Progress × List Passed) : Type 0 where
-    pub good : IsGood r page end.0
-    pub later : IsLater r page done end.0
-    pub tracked : AreTracked r page end.0 v items end.1
+  -- that of an item, and of an entry's items
+  abbrev pub IsUnfolded : Progress → List ℕ → ProofItem → Progress × Passed → Type 0
+  IsUnfolded done v i end = Unfolds done end.0 (IsTracked r page end.0 v i end.1)
+
+  abbrev pub AreUnfolded : Progress → List ℕ → List ProofItem → Progress × List Passed → Type 0
+  AreUnfolded done v items end = Unfolds done end.0 (AreTracked r page end.0 v items end.1)
 
   tracked_has : (done : Progress) (v : List ℕ) (items : List ProofItem) (passed : List Passed) → AreTracked r page done v items passed → (a : ℕ) → Contains (atoms_of items) a → r.Means (now r page done) v a
   tracked_has done v items passed t a is = let f = tracked_find r page reading done v items passed a t is in subst (λ z. r.Means (now r page done) v z) f.4 f.5.means
@@ -262,10 +264,8 @@ module _ (r : Reading) (page : LabelTree) (reading : IsReading r page) where
           rw at made
 
       -- the page's items, with what was passed at each node
-      pub record IsPageUnfolded (done : Progress) (items : List PageItem) (end : Progress × (List ℕ → List Passed)) : Type 0 where
-        pub good : IsGood r page end.0
-        pub later : IsLater r page done end.0
-        pub tracked : (v : List ℕ) → AreTracked r page end.0 v (items_at v items) (end.1 v)
+      abbrev pub IsPageUnfolded : Progress → List PageItem → Progress × (List ℕ → List Passed) → Type 0
+      IsPageUnfolded done items end = Unfolds done end.0 ((v : List ℕ) → AreTracked r page end.0 v (items_at v items) (end.1 v))
 
       on_page : (v : List ℕ) (a : ℕ) → Contains (unwrap_or (label_at v page) []) a → HasAtom page v a
       on_page v a is = elim (label_at v page) as (λ o. Contains (unwrap_or o []) a → IsSomeAnd o (λ label. Contains label a)) [ None ↦ λ (i, within, at). absurd (omega arith) | Some l ↦ λ h. h ] is

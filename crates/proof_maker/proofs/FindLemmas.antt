@@ -90,31 +90,31 @@ module _ (world : World) (known : Pair → Type 0) (ready : IsReady world known)
   abbrev all_ways : List Choice
   all_ways = ways world.system.now (setting_of world.system.now world.page.now place) (path_of place) a
 
-  no_local : (rules : List ℕ) → rules ≡ places_in world.locals.now a → None ≡ find (λ l. passes (by_local l)) rules → None ≡ find passes (map by_local locals)
-  no_local rules are none = ap (option_map by_local) (none ∙ ap (find (λ l. passes (by_local l))) (are ∙ ready.locals a)) ∙ sym (find_map passes by_local locals)
+  no_local : (rules : List ℕ) → rules ≡ places_in world.rules.now.locals a → None ≡ find (λ l. passes (by_local l)) rules → None ≡ find passes (map by_local locals)
+  no_local rules are none = ap (option_map by_local) (none ∙ ap (find (λ l. passes (by_local l))) (are ∙ ready.rules.locals a)) ∙ sym (find_map passes by_local locals)
 
-  no_up : (links : List ℕ) → links ≡ places_in world.ups.now a → None ≡ find (λ l. passes (by_up l)) links → None ≡ find passes (map by_up ups)
-  no_up links are none = ap (option_map by_up) (none ∙ ap (find (λ l. passes (by_up l))) (are ∙ ready.ups a)) ∙ sym (find_map passes by_up ups)
+  no_up : (links : List ℕ) → links ≡ places_in world.rules.now.ups a → None ≡ find (λ l. passes (by_up l)) links → None ≡ find passes (map by_up ups)
+  no_up links are none = ap (option_map by_up) (none ∙ ap (find (λ l. passes (by_up l))) (are ∙ ready.rules.ups a)) ∙ sym (find_map passes by_up ups)
 
-  pub local_found : (rules : List ℕ) (l : ℕ) → rules ≡ places_in world.locals.now a → Some l ≡ find (λ l. passes (by_local l)) rules → Some (by_local l) ≡ find passes all_ways
+  pub local_found : (rules : List ℕ) (l : ℕ) → rules ≡ places_in world.rules.now.locals a → Some l ≡ find (λ l. passes (by_local l)) rules → Some (by_local l) ≡ find passes all_ways
   local_found rules l are at =
       find_first passes (map by_local locals ++ map by_up ups) (flat_map downward downs) (by_local l)
       (find_first passes (map by_local locals) (map by_up ups) (by_local l)
-      (ap (option_map by_local) (at ∙ ap (find (λ l. passes (by_local l))) (are ∙ ready.locals a)) ∙ sym (find_map passes by_local locals)))
+      (ap (option_map by_local) (at ∙ ap (find (λ l. passes (by_local l))) (are ∙ ready.rules.locals a)) ∙ sym (find_map passes by_local locals)))
 
-  pub up_found : (rules links : List ℕ) (l : ℕ) → rules ≡ places_in world.locals.now a → links ≡ places_in world.ups.now a → None ≡ find (λ l. passes (by_local l)) rules
+  pub up_found : (rules links : List ℕ) (l : ℕ) → rules ≡ places_in world.rules.now.locals a → links ≡ places_in world.rules.now.ups a → None ≡ find (λ l. passes (by_local l)) rules
       → Some l ≡ find (λ l. passes (by_up l)) links → Some (by_up l) ≡ find passes all_ways
   up_found rules links l are are' none at =
       find_first passes (map by_local locals ++ map by_up ups) (flat_map downward downs) (by_up l)
-      (ap (option_map by_up) (at ∙ ap (find (λ l. passes (by_up l))) (are' ∙ ready.ups a)) ∙ sym (find_map passes by_up ups)
+      (ap (option_map by_up) (at ∙ ap (find (λ l. passes (by_up l))) (are' ∙ ready.rules.ups a)) ∙ sym (find_map passes by_up ups)
       ∙ sym (find_last passes (map by_local locals) (map by_up ups) (no_local rules are none)))
 
-  pub down_left : (rules links rest : List ℕ) (o : Option Choice) → rules ≡ places_in world.locals.now a → links ≡ places_in world.ups.now a → rest ≡ places_in world.downs.now a
+  pub down_left : (rules links rest : List ℕ) (o : Option Choice) → rules ≡ places_in world.rules.now.locals a → links ≡ places_in world.rules.now.ups a → rest ≡ places_in world.rules.now.downs a
       → None ≡ find (λ l. passes (by_local l)) rules → None ≡ find (λ l. passes (by_up l)) links → o ≡ find passes (flat_map downward rest) → o ≡ find passes all_ways
   down_left rules links rest o are are' are'' none none' is =
       let ls = map by_local locals in
       let us = map by_up ups in
-      is ∙ ap (λ (ns : List ℕ). find passes (flat_map downward ns)) (are'' ∙ ready.downs a)
+      is ∙ ap (λ (ns : List ℕ). find passes (flat_map downward ns)) (are'' ∙ ready.rules.downs a)
       ∙ sym (find_last passes (ls ++ us) (flat_map downward downs) (no_up links are' none' ∙ sym (find_last passes ls us (no_local rules are none))))
 
 -- ### the ways by one link

@@ -2,7 +2,6 @@
 pub mod Forests
 pub mod Needs
 pub mod PlaceMemos
-pub mod Rules
 -- Invariants, and the states of the code.
 pub mod Arrivals
 pub mod Entries

@@ -8,8 +8,6 @@ use Rattle.std.specs.Prelude.{ℕ, Bool, ◌&&◌, Some, None, List, [], ◌∷�
 use Rattle.tp_base.specs.Classes.{has_class}
 use Rattle.tree_sem.specs.Trees.{LabelTree, node_at}
 use Rattle.tree_sem.specs.Paths.{parent_of}
-use Rattle.simple_core.specs.declared.rules.Link.{Link}
-use Rattle.simple_core.specs.declared.rules.Local as rule
 use Rattle.simple_core.specs.declared.system.System.{System}
 use Rattle.simple_core.specs.Pairs.{Pair, Asked}
 use Rattle.simple_core.specs.Labels.{visible_in}
@@ -22,7 +20,7 @@ use Rattle.proof_maker.specs.declared.worlds.Place.TheVariants.{Node, Added}
 use Rattle.proof_maker.specs.declared.worlds.World.{World}
 use Rattle.proof_needs.specs.Choices.{Setting, on_page, on_added, spawn_needs, spawn_kind, stands}
 use Rattle.proof_needs.specs.Choices.{Choice as Reason}
-use Rattle.simple_core.specs.Givers.{AreGivers}
+use Rattle.simple_core.specs.Givers.{AreAllGivers}
 use Rattle.proof_maker.specs.Arrivals.{AreArrivals}
 
 abbrev pub setting_of : System → LabelTree → Place → Setting
@@ -62,9 +60,7 @@ IsAsking s known (Added j parent arrivals) = KeepsAsking s known
 pub record IsReady (world : World) (known : Pair → Type 0) : Type 0 where
   pub closed : IsClosedPage world.system.now world.page.now world.closed.now
   pub asked : (q : Pair) → Asked world.system.now world.page.now q → known q
-  pub locals : AreGivers (λ (r : rule.Local). r.gives) world.system.now.local world.locals.now
-  pub ups : AreGivers (λ (r : Link). r.to) world.system.now.up world.ups.now
-  pub downs : AreGivers (λ (r : Link). r.to) world.system.now.down world.downs.now
+  pub rules : AreAllGivers world.system.now world.rules.now
 
 -- whether all premises of the reason stand at the place in a round
 abbrev pub stands_at : World → Place → ℕ → Reason → Bool

@@ -99,14 +99,14 @@ fn may_come_from_below<S: Summaries>(
     requires ready { IsReady world.now (S.known sums.now) }
     requires place { IsPlace world.now.page.now (S.known sums.now) place.now }
 {
-    if world.downs.of(atom).is_empty() {
+    if world.rules.downs.of(atom).is_empty() {
         return Ok(false);
     }
-    let rule = local_way(world, sums, place, world.locals.of(atom), before);
+    let rule = local_way(world, sums, place, world.rules.locals.of(atom), before);
     if rule.is_some() {
         return Ok(false);
     }
-    let link = up_way(world, place, world.ups.of(atom), before)?;
+    let link = up_way(world, place, world.rules.ups.of(atom), before)?;
     Ok(link.is_none())
 }
 
@@ -127,13 +127,13 @@ fn way<S: Summaries>(
     ensures choice { IfOk result (λ w. option_map found_reason w
         ≡ find (stands_at world.now place.now round) (ways world.now.system.now (setting_of world.now.system.now world.now.page.now place.now) (path_of place.now) atom)) }
 {
-    if let Some(rule) = local_way(world, sums, place, world.locals.of(atom), round) {
+    if let Some(rule) = local_way(world, sums, place, world.rules.locals.of(atom), round) {
         return Ok(Some(alone(alloc, Choice::Local(rule as u64))));
     }
-    if let Some(link) = up_way(world, place, world.ups.of(atom), round)? {
+    if let Some(link) = up_way(world, place, world.rules.ups.of(atom), round)? {
         return Ok(Some(alone(alloc, Choice::Up(link as u64))));
     }
-    down_way(alloc, world, sums, place, world.downs.of(atom), round)
+    down_way(alloc, world, sums, place, world.rules.downs.of(atom), round)
 }
 
 fn local_way<S: Summaries>(

@@ -9,10 +9,9 @@ mod laws;
 mod looking;
 mod making;
 mod place_memo;
-mod rules;
 mod worlds;
 
 pub use laws::{canonical_is_one, canonical_is_valid, canonical_length};
 pub use making::{ProofGround, ProveFault, prove, prove_next};
 pub use place_memo::PlaceMemo;
-pub use rules::Rules;
+pub use simple_core::AllGivers as Rules;

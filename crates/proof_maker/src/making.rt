@@ -3,23 +3,22 @@ ghost use Rattle.std.specs.Prelude.{◌≡◌, ◌≤◌, [], length, IfOk, IsEr
 ghost use Rattle.tree_sem.specs.Nodes.{HasAtom};
 ghost use Rattle.simple_core.specs.Systems.{IsSound};
 ghost use Rattle.simple_core.specs.Pairs.{Pair, Asked};
+ghost use Rattle.simple_core.specs.Givers.{AreAllGivers};
 ghost use Rattle.closed_page.specs.ClosedPages.{IsClosedPage};
 ghost use Rattle.proof_check.specs.Validity.{IsValid};
 ghost use Rattle.proof_maker.specs.Forests.{KeepsForests};
 ghost use Rattle.proof_maker.specs.Needs.{IsCanonical, UsesMore};
 ghost use Rattle.proof_maker.specs.PlaceMemos.{IsPlaceMemo};
-ghost use Rattle.proof_maker.specs.Rules.{AreRulesOf};
 ghost use Rattle.proof_maker.specs.Making.{IsMakeable, IsProofOf};
 
 use crate::entries::{entries_of, page_items};
 use crate::looking::needs_of;
 use crate::place_memo::PlaceMemo;
-use crate::rules::Rules;
 use crate::worlds::World;
 use closed_page::Closed;
 use proof_check::Proof;
 use proof_needs::{Needs, numbers_of, orders_of};
-use simple_core::{Summaries, System};
+use simple_core::{AllGivers, Summaries, System};
 use std::alloc::Global;
 use thiserror::Error;
 use tp_base::{Atom, NoMemory};
@@ -49,7 +48,7 @@ impl From<NoMemory> for ProveFault {
 pub struct ProofGround<'a> {
     pub page: &'a Tree,
     pub system: &'a System,
-    pub rules: &'a Rules,
+    pub rules: &'a AllGivers,
     pub closed: &'a Closed,
 }
 
@@ -77,7 +76,7 @@ pub fn prove<S: Summaries>(
     ensures within { IfOk result (λ p. length p.entries ≤ limit) }
     ensures unshown { IsErrOf result ProveFault.Unshown → UsesMore system.now page.now target limit }
 {
-    let rules = Rules::of(alloc, system)?;
+    let rules = AllGivers::of(alloc, system)?;
     let ground = ProofGround {
         page,
         system,
@@ -99,7 +98,7 @@ pub fn prove_next<S: Summaries>(
     limit: u32,
 ) -> Result<Proof, ProveFault>
     requires sound { IsSound ground.now.system.now }
-    requires rules { AreRulesOf ground.now.system.now ground.now.rules.now }
+    requires rules { AreAllGivers ground.now.system.now ground.now.rules.now }
     requires closed { IsClosedPage ground.now.system.now ground.now.page.now ground.now.closed.now }
     requires made { S.system sums.now ≡ ground.now.system.now }
     requires known { (q : Pair) → Asked ground.now.system.now ground.now.page.now q → S.known sums.now q }
@@ -116,9 +115,7 @@ pub fn prove_next<S: Summaries>(
         page: ground.page,
         system: ground.system,
         closed: ground.closed,
-        locals: &ground.rules.locals,
-        ups: &ground.rules.ups,
-        downs: &ground.rules.downs,
+        rules: ground.rules,
     };
     match needs_of(alloc, &world, sums, target, limit, memo)? {
         Some(needs) => Ok(proof_of(alloc, &needs, ground.system)?),

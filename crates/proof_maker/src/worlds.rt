@@ -11,7 +11,7 @@ ghost use Rattle.proof_maker.specs.Worlds.{setting_of, path_of, labels_of, IsPla
 
 use crate::arrivals::Arrivals;
 use closed_page::Closed;
-use simple_core::{Givers, Summaries, System};
+use simple_core::{AllGivers, Summaries, System};
 use std::alloc::Global;
 use tp_base::{Atom, ClassSet, NoMemory, Path};
 use tree_sem::Tree;
@@ -22,9 +22,7 @@ pub(crate) struct World<'a> {
     pub(crate) page: &'a Tree,
     pub(crate) system: &'a System,
     pub(crate) closed: &'a Closed,
-    pub(crate) locals: &'a Givers,
-    pub(crate) ups: &'a Givers,
-    pub(crate) downs: &'a Givers,
+    pub(crate) rules: &'a AllGivers,
 }
 
 /// A node of the page, or an added node of a kind below a parent with this visible label, with what comes to it where that was asked.

@@ -236,26 +236,32 @@ fn follow_spawn(
     ensures target { needs.new.target ≡ needs.old.target }
 {
     match triple {
-        Some(n) => want_added(&mut needs.ties, &mut needs.wants, n, spot, from, spawner),
+        Some(n) => {
+            let spawner = Want {
+                spot,
+                atom: spawner,
+            };
+            want_added(&mut needs.ties, &mut needs.wants, n, from, spawner)
+        }
         None => Ok(()),
     }
 }
 
+// The atom is needed at the added node, which comes below a spot by the atom that spawns it there.
 fn want_added(
     ties: &mut Vec<Tie>,
     wants: &mut IndexSet<Want>,
     n: usize,
-    spot: Spot,
     from: Atom,
-    spawner: Atom,
+    spawner: Want,
 ) -> Result<(), NoMemory>
     requires { n < length ties.old.items }
-    ensures { OnOk result ((tie : Tie) → slice_get ties.old.items n ≡ Some tie → IsUsed n from spawner spot tie ties.old.items ties.new.items wants.old.keys wants.new.keys) }
+    ensures { OnOk result ((tie : Tie) → slice_get ties.old.items n ≡ Some tie → IsUsed n from spawner.atom spawner.spot tie ties.old.items ties.new.items wants.old.keys wants.new.keys) }
 {
     let tie = &mut ties[n];
-    tie.users.push(spot)?;
-    want(wants, spot, spawner)?;
+    tie.users.push(spawner.spot)?;
+    want(wants, spawner.spot, spawner.atom)?;
     want(wants, Spot::Added(n), from)?;
-    want_each(wants, spot, &tie.above)?;
+    want_each(wants, spawner.spot, &tie.above)?;
     Ok(())
 }

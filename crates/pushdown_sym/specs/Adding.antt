@@ -10,18 +10,12 @@ use Rattle.simple_core.specs.declared.rules.Local.{Local}
 use Rattle.simple_core.specs.declared.rules.Link.{Link}
 use Rattle.simple_core.specs.declared.rules.Spawn.{Spawn}
 use Rattle.simple_core.specs.declared.system.System.{System}
-use Rattle.simple_core.specs.Givers.{AreGivers}
 use Rattle.pushdown_sym.specs.CellMap.{Entries, place_in, trees_in}
 use Rattle.pushdown_sym.specs.Terms.{CellTrees, Term, local_term, up_term, down_term, disjunction, disjunctions, next_tree, partial_results}
 
 -- each cell is of the arena
 abbrev pub AreIn : List Tree → Entries → Type 0
 AreIn branches cells = (j a : ℕ) → IsIn branches (place_in cells j a)
-
--- where the rules of a system are that give each atom
-abbrev pub AreAllGivers : System → List (ℕ × List ℕ) → List (ℕ × List ℕ) → List (ℕ × List ℕ) → Type 0
-AreAllGivers s locals ups downs =
-    AreGivers (λ (r : Local). r.gives) s.local locals × AreGivers (λ (l : Link). l.to) s.up ups × AreGivers (λ (l : Link). l.to) s.down downs
 
 -- the cell behind these in an arena, and all that is calculated for it
 abbrev pub next_in : System → Arena → Entries → ℕ → ℕ → Tree

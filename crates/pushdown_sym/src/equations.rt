@@ -18,7 +18,7 @@ use crate::links::add_ups;
 use crate::locals::add_locals;
 use crate::makers::Makers;
 use class_diagrams::{DiagramFault, Diagrams, Ref};
-use simple_core::{Givers, System};
+use simple_core::{AllGivers, System};
 use std::alloc::Global;
 use std::marker::Model;
 use tp_base::{Atom, NoMemory};
@@ -27,22 +27,20 @@ use tp_base::{Atom, NoMemory};
 #[derive(Drop)]
 pub struct Equations {
     system: System,
-    locals: Givers,
-    ups: Givers,
-    downs: Givers,
+    givers: AllGivers,
     makers: Makers,
 }
 
 impl Model for Equations {
     ghost use Rattle.simple_core.specs.declared.system.System.{System};
-    ghost use Rattle.pushdown_sym.specs.Adding.{AreAllGivers};
+    ghost use Rattle.simple_core.specs.Givers.{AreAllGivers};
     ghost use Rattle.pushdown_sym.specs.Givers.{AreMakers};
 
     ghost Value = { System };
 
     ghost view = { λ e. e.system };
 
-    ghost invariant = { λ e. AreAllGivers e.system e.locals e.ups e.downs × AreMakers e.system.child e.makers };
+    ghost invariant = { λ e. AreAllGivers e.system e.givers × AreMakers e.system.child e.makers };
 }
 
 impl Equations {
@@ -52,9 +50,7 @@ impl Equations {
     {
         Ok(Equations {
             system: system.copy(alloc)?,
-            locals: Givers::of_locals(alloc, system.local.items())?,
-            ups: Givers::of_links(alloc, system.up.items())?,
-            downs: Givers::of_links(alloc, system.down.items())?,
+            givers: AllGivers::of(alloc, system)?,
             makers: Makers::of_spawns(alloc, system.child.items())?,
         })
     }
@@ -117,7 +113,7 @@ impl Equations {
     ) -> Result<Children, NoMemory>
         ensures { IfOk result (λ c. c ≡ different (standing_of self.now now.now atom)) }
     {
-        let places = self.downs.of(atom);
+        let places = self.givers.downs.of(atom);
         Children::of(
             alloc,
             now,
@@ -142,8 +138,8 @@ impl Equations {
         requires children { children.now ≡ different (standing_of self.now now.now cell.1) }
         ensures { Calculates d.old d.new (results_in self.now d.old now.now cell.0 cell.1) (next_in self.now d.old now.now cell.0 cell.1) result }
     {
-        let locals = self.locals.of(cell.1);
-        let ups = self.ups.of(cell.1);
+        let locals = self.givers.locals.of(cell.1);
+        let ups = self.givers.ups.of(cell.1);
         next_of(alloc, &self.system, (locals, ups), children, d, now, cell)
     }
 }

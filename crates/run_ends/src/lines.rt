@@ -1,12 +1,12 @@
 //! The line that a run says where it ends without its report.
 ghost use Rattle.std.specs.Prelude.{◌≡◌, ◌++◌, codes, IfOk, OnOk};
-ghost use Rattle.std.specs.Fmt.{decimal};
 ghost use Rattle.run_ends.specs.Stops as spec;
 
 use crate::refusals::{Fault, JudgeRefusal, Part, Refusal};
 use crate::stops::Stop;
 use std::alloc::Global;
 use tp_base::NoMemory;
+use usage_report::Piece;
 
 impl Stop {
     /// What is said on standard error.
@@ -41,30 +41,20 @@ impl Stop {
 }
 
 // `treeped: page: too deep at 1:2556`, say.
-#[tactic(auto, using(std::proofs::Common::append_assoc))]
+#[tactic(auto, unfolding(usage_report::specs::Report::place_text), using(std::proofs::Common::append_assoc))]
 fn refusal_line(alloc: Global, refusal: &Refusal) -> Result<Vec<u8>, NoMemory>
     ensures { IfOk result (λ line. line.items ≡ spec.refusal_line refusal.now) }
 {
-    let mut line = Vec::new(alloc);
-    line.extend_from_slice(b"treeped: ")?;
-    put_part(&mut line, refusal.part)?;
-    line.extend_from_slice(b": ")?;
-    line.extend_from_slice(fault_text(&refusal.fault))?;
-    line.extend_from_slice(name_in(&refusal.fault))?;
-    line.extend_from_slice(b" at ")?;
-    put_number(&mut line, refusal.place.line)?;
-    line.extend_from_slice(b":")?;
-    put_number(&mut line, refusal.place.column)?;
-    line.extend_from_slice(b"\n")?;
-    Ok(line)
-}
-
-fn put_number(line: &mut Vec<u8>, number: u32) -> Result<(), NoMemory>
-    ensures { OnOk result (line.new.items ≡ line.old.items ++ decimal number) }
-{
-    let digits = number.to_string(*line.allocator())?;
-    line.extend_from_slice(digits.as_bytes())?;
-    Ok(())
+    let mut piece = Piece::new(alloc);
+    piece.put(b"treeped: ")?;
+    put_part(&mut piece, refusal.part)?;
+    piece.put(b": ")?;
+    piece.put(fault_text(&refusal.fault))?;
+    piece.put(name_in(&refusal.fault))?;
+    piece.put(b" at ")?;
+    piece.place(refusal.place)?;
+    piece.put(b"\n")?;
+    Ok(piece.bytes)
 }
 
 // `treeped: page 2: too large`, say.
@@ -72,23 +62,23 @@ fn put_number(line: &mut Vec<u8>, number: u32) -> Result<(), NoMemory>
 fn part_line(alloc: Global, part: Part, what: &[u8]) -> Result<Vec<u8>, NoMemory>
     ensures { IfOk result (λ line. line.items ≡ codes "treeped: " ++ spec.part_text part ++ what.now) }
 {
-    let mut line = Vec::new(alloc);
-    line.extend_from_slice(b"treeped: ")?;
-    put_part(&mut line, part)?;
-    line.extend_from_slice(what)?;
-    Ok(line)
+    let mut piece = Piece::new(alloc);
+    piece.put(b"treeped: ")?;
+    put_part(&mut piece, part)?;
+    piece.put(what)?;
+    Ok(piece.bytes)
 }
 
 #[tactic(auto, using(std::proofs::Common::append_assoc))]
-fn put_part(line: &mut Vec<u8>, part: Part) -> Result<(), NoMemory>
-    ensures { OnOk result (line.new.items ≡ line.old.items ++ spec.part_text part) }
+fn put_part(piece: &mut Piece, part: Part) -> Result<(), NoMemory>
+    ensures { OnOk result (piece.new.bytes.items ≡ piece.old.bytes.items ++ spec.part_text part) }
 {
-    line.extend_from_slice(part_name(part))?;
+    piece.put(part_name(part))?;
     match number_in(part) {
         None => Ok(()),
         Some(number) => {
-            line.extend_from_slice(b" ")?;
-            put_number(line, number)
+            piece.put(b" ")?;
+            piece.number(u64::from(number))
         }
     }
 }

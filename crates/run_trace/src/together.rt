@@ -194,18 +194,20 @@ fn end_lists(
 {
     let nodes = NumberedTree::new(alloc, &branch.tree)?;
     'lists: for place in branch.from..behind {
-        end_one(alloc, task, order, branch, &nodes, place, known)?;
+        if let Some(item) = order.get(place) {
+            end_one(alloc, task, branch, &nodes, *item, known)?;
+        }
     }
     Ok(())
 }
 
+// Finds the trace of an item whose runs are those of the branch.
 fn end_one(
     alloc: Global,
     task: &Task,
-    order: &[usize],
     branch: &Branch,
     nodes: &NumberedTree,
-    place: usize,
+    item: usize,
     known: &mut Vec<Option<RunTrace>>,
 ) -> Result<(), NoMemory>
     requires tracked { IsTracedTask task.now }
@@ -214,10 +216,6 @@ fn end_one(
     requires known { AreKnownTo task.now known.old.items }
     ensures known { OnOk result (AreKnownTo task.now known.new.items) }
 {
-    let Some(item) = order.get(place) else {
-        return Ok(());
-    };
-    let item = *item;
     let Some(shown) = shown_at(task, item) else {
         return Ok(());
     };

@@ -1,6 +1,10 @@
 -- The rules that give each atom, by their places in a list of rules.
 use Rattle.std.specs.Prelude.{◌≡◌, ℕ, suc, Bool, ◌==◌, if◌then◌else◌, List, [], ◌∷◌}
 use Rattle.multimap.specs.Values.{values_at}
+use Rattle.simple_core.specs.declared.rules.Local.{Local}
+use Rattle.simple_core.specs.declared.rules.Link.{Link}
+use Rattle.simple_core.specs.declared.system.System.{System}
+use Rattle.simple_core.specs.declared.givers.AllGivers.{AllGivers}
 
 -- the places of what passes the test, in a list whose first place is k
 abbrev pub places_from : {X : Type 0} → (X → Bool) → ℕ → List X → List ℕ
@@ -14,3 +18,9 @@ places_in = values_at (λ a key. a == key)
 -- for each atom, the places of the rules that give it
 abbrev pub AreGivers : {X : Type 0} → (X → ℕ) → List X → List (ℕ × List ℕ) → Type 0
 AreGivers gives rules entries = (a : ℕ) → places_in entries a ≡ places_from (λ r. gives r == a) 0 rules
+
+-- and of a system's rules: of the local ones, of the links from a parent, and of those from a child
+pub record AreAllGivers (s : System) (givers : AllGivers) : Type 0 where
+  pub locals : AreGivers (λ (r : Local). r.gives) s.local givers.locals
+  pub ups : AreGivers (λ (l : Link). l.to) s.up givers.ups
+  pub downs : AreGivers (λ (l : Link). l.to) s.down givers.downs

@@ -1,8 +1,9 @@
 //! The rules that give each atom.
 ghost use Rattle.std.specs.Prelude.{◌≡◌, IfOk};
-ghost use Rattle.simple_core.specs.Givers.{places_in, AreGivers};
+ghost use Rattle.simple_core.specs.Givers.{places_in, AreGivers, AreAllGivers};
 
 use crate::rules::{Link, Local};
+use crate::system::System;
 use multimap::Multimap;
 use std::alloc::Global;
 use std::marker::Model;
@@ -52,5 +53,25 @@ impl Givers {
         ensures { result.now ≡ places_in self.now atom }
     {
         self.places.of(atom)
+    }
+}
+
+/// The givers of a system's rules that look at one node, of its links from a parent, and of its links from a child.
+#[derive(Drop)]
+pub struct AllGivers {
+    pub locals: Givers,
+    pub ups: Givers,
+    pub downs: Givers,
+}
+
+impl AllGivers {
+    /// Linear in the rules, on average.
+    pub fn of(alloc: Global, system: &System) -> Result<Self, NoMemory>
+        ensures { IfOk result (AreAllGivers system.now) }
+    {
+        let locals = Givers::of_locals(alloc, system.local.items())?;
+        let ups = Givers::of_links(alloc, system.up.items())?;
+        let downs = Givers::of_links(alloc, system.down.items())?;
+        Ok(AllGivers { locals, ups, downs })
     }
 }

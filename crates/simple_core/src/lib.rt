@@ -9,7 +9,7 @@ mod rules;
 mod summaries;
 mod system;
 
-pub use givers::Givers;
+pub use givers::{AllGivers, Givers};
 pub use growth::{brings_closed, keeps_growth, keeps_out};
 pub use rounds::{add_by_links, add_by_rules};
 pub use rules::{Kind, Link, Local, Spawn};

@@ -28,7 +28,7 @@ impl<T: Drop> Items<T> {
         Items { items }
     }
 
-    /// The items, lent.
+    /// The items, lent. Constant.
     pub fn items(&self) -> &[T]
         ensures { result.now ≡ self.now }
     {
@@ -42,12 +42,12 @@ impl<T: Drop> Items<T> {
         self.items
     }
 
-    /// The allocator that their memory comes from.
+    /// The allocator that their memory comes from. Constant.
     pub fn allocator(&self) -> Global {
         *self.items.allocator()
     }
 
-    /// Adds an item at the end.
+    /// Adds an item at the end. Constant on average.
     pub fn push(&mut self, item: T) -> Result<(), NoMemory>
         ensures ok { OnOk result (self.new ≡ self.old ++ item ∷ []) }
         ensures err { OnErr result (self.new ≡ self.old) }
@@ -81,7 +81,7 @@ impl<T: Drop> Shared<T> {
         })
     }
 
-    /// The items, lent.
+    /// The items, lent. Constant.
     pub fn items(&self) -> &[T]
         ensures { result.now ≡ self.now }
     {

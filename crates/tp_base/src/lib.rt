@@ -1,4 +1,5 @@
-//! The words in which trees are described: atoms and the table of their names, class sets, paths, places in a text.
+//! The words in which trees are described: atoms and the table of their names, class sets, paths, places in a text; and the
+//! lists within types that a contract looks into.
 #![tactic(auto)]
 
 mod atom_table;

@@ -101,8 +101,12 @@ abbrev pub lines : List ℕ → List Named → List Place → List sheets.Item �
 lines text names places (i ∷ items) (a ∷ answers) (trace ∷ traces) = item_text text names places i a trace ++ lines text names places items answers traces
 lines text names places _ _ _ = []
 
+-- what a report begins with: the command, and the version of the report's text
+abbrev pub version : List ℕ
+version = codes "treeped 2"
+
 abbrev pub first_line : List ℕ
-first_line = codes "treeped 2\n"
+first_line = version ++ codes "\n"
 
 -- a report on a sheet of this text with these traces
 abbrev pub report_with : List ℕ → List Named → List Place → sheets.Sheet → List Answer → List (Option RunTrace) → List ℕ

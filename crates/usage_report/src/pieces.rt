@@ -7,6 +7,9 @@ ghost use Rattle.usage_report.specs.Report as spec;
 use std::alloc::Global;
 use tp_base::{NoMemory, Path, Place};
 
+/// What a report begins with: the command, and the version of the report's text.
+pub const VERSION: &[u8] = b"treeped 2";
+
 /// Bytes of a report, one line after another. What is put stands behind what is there; after a refusal some of it may.
 #[derive(Drop)]
 pub struct Piece {

@@ -11,7 +11,8 @@ ghost use Rattle.usage_report.specs.Views.{answer_of, trace_of};
 
 use crate::answers::Answer;
 use crate::faults::ReportFault;
-use crate::pieces::Piece;
+use crate::lines::Sources;
+use crate::pieces::{Piece, VERSION};
 use crate::run_traces::RunTrace;
 use css_read::{Sheet, SheetItem};
 use std::alloc::Global;
@@ -67,17 +68,24 @@ pub fn write_traces<O: Sink>(
     ensures write { result ≡ Err ReportFault.Write → Rose (O.faults out.old) (O.faults out.new) }
     ensures never_falls { O.faults out.old ≤ O.faults out.new }
 {
-    put_all(out, b"treeped 2\n")?;
-    write_items(
-        alloc,
-        sheet.items.items(),
+    let first = first_piece(alloc)?;
+    put_all(out, &first.bytes)?;
+    let sources = Sources {
         text,
         atoms,
         places,
-        answers,
-        traces,
-        out,
-    )
+    };
+    write_items(alloc, sheet.items.items(), &sources, answers, traces, out)
+}
+
+// The first line.
+fn first_piece(alloc: Global) -> Result<Piece, NoMemory>
+    ensures { IfOk result (λ p. p.bytes.items ≡ spec.first_line) }
+{
+    let mut piece = Piece::new(alloc);
+    piece.put(VERSION)?;
+    piece.put(b"\n")?;
+    Ok(piece)
 }
 
 // No trace for each of the items.
@@ -96,20 +104,18 @@ fn no_traces(alloc: Global, items: &[SheetItem]) -> Result<Vec<Option<RunTrace>>
 fn write_items<O: Sink>(
     alloc: Global,
     items: &[SheetItem],
-    text: &[u8],
-    atoms: &AtomTable,
-    places: &[Place],
+    sources: &Sources<'_>,
     answers: &[Answer],
     traces: &[Option<RunTrace>],
     out: &mut O,
 ) -> Result<(), ReportFault>
-    requires in_limit { length text.now ≤ MOST_BYTES }
-    requires reportable { AreReportable places.now (map item_of items.now) (map answer_of answers.now) }
-    requires traceable { AreTraceable places.now (map item_of items.now) (map (option_map trace_of) traces.now) }
+    requires in_limit { length sources.now.text.now ≤ MOST_BYTES }
+    requires reportable { AreReportable sources.now.places.now (map item_of items.now) (map answer_of answers.now) }
+    requires traceable { AreTraceable sources.now.places.now (map item_of items.now) (map (option_map trace_of) traces.now) }
     ensures ok { OnOk result (Adds (O.written out.old) (O.written out.new)
-        (spec.lines text.now atoms.now places.now (map item_of items.now) (map answer_of answers.now) (map (option_map trace_of) traces.now))) }
+        (spec.lines sources.now.text.now sources.now.atoms.now sources.now.places.now (map item_of items.now) (map answer_of answers.now) (map (option_map trace_of) traces.now))) }
     ensures err { OnErr result (AddsPrefix (O.written out.old) (O.written out.new)
-        (spec.lines text.now atoms.now places.now (map item_of items.now) (map answer_of answers.now) (map (option_map trace_of) traces.now))) }
+        (spec.lines sources.now.text.now sources.now.atoms.now sources.now.places.now (map item_of items.now) (map answer_of answers.now) (map (option_map trace_of) traces.now))) }
     ensures write { result ≡ Err ReportFault.Write → Rose (O.faults out.old) (O.faults out.new) }
     ensures never_falls { O.faults out.old ≤ O.faults out.new }
 {
@@ -118,9 +124,7 @@ fn write_items<O: Sink>(
         let piece = item_piece(
             alloc,
             &mut cursor,
-            text,
-            atoms,
-            places,
+            sources,
             &items[i],
             &answers[i],
             &traces[i],
@@ -131,25 +135,25 @@ fn write_items<O: Sink>(
 }
 
 // The lines of one item.
+#[tactic(auto, using(crate::proofs::PieceLemmas::reportable_parts))]
 fn item_piece(
     alloc: Global,
     cursor: &mut Cursor,
-    text: &[u8],
-    atoms: &AtomTable,
-    places: &[Place],
+    sources: &Sources<'_>,
     item: &SheetItem,
     answer: &Answer,
     trace: &Option<RunTrace>,
 ) -> Result<Piece, NoMemory>
-    requires here { IsAt text.now cursor.old }
-    requires in_limit { length text.now ≤ MOST_BYTES }
-    requires reportable { IsReportable places.now (item_of item.now).outcome (answer_of answer.now) }
-    requires traceable { IsTraceable places.now (option_map trace_of trace.now) }
-    ensures lines { IfOk result (λ p. p.bytes.items ≡ spec.item_text text.now atoms.now places.now (item_of item.now) (answer_of answer.now) (option_map trace_of trace.now)) }
-    ensures here { IsAt text.now cursor.new }
+    requires here { IsAt sources.now.text.now cursor.old }
+    requires in_limit { length sources.now.text.now ≤ MOST_BYTES }
+    requires reportable { IsReportable sources.now.places.now (item_of item.now).outcome (answer_of answer.now) }
+    requires traceable { IsTraceable sources.now.places.now (option_map trace_of trace.now) }
+    ensures lines { IfOk result (λ p. p.bytes.items ≡ spec.item_text sources.now.text.now sources.now.atoms.now sources.now.places.now (item_of item.now) (answer_of answer.now) (option_map trace_of trace.now)) }
+    ensures here { IsAt sources.now.text.now cursor.new }
 {
     let mut piece = Piece::new(alloc);
-    piece.place(cursor.place_at(text, item.from))?;
-    piece.answer(cursor, text, atoms, places, &item.outcome, answer, trace)?;
+    piece.place(cursor.place_at(sources.text, item.from))?;
+    piece.head(cursor, sources, &item.outcome, answer)?;
+    piece.trace(sources.places, answer, trace)?;
     Ok(piece)
 }

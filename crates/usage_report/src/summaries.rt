@@ -7,6 +7,7 @@ ghost use Rattle.usage_report.specs.Summary as spec;
 
 use crate::answers::Answer;
 use crate::faults::ReportFault;
+use crate::pieces::Piece;
 use std::alloc::Global;
 use tp_base::NoMemory;
 use tp_io::{Sink, put_all};
@@ -71,53 +72,46 @@ fn all_steps(answers: &[Answer]) -> u64
     sum
 }
 
-// Puts words and a number behind a line.
-fn put_number(line: &mut Vec<u8>, words: &[u8], number: u64) -> Result<(), NoMemory>
-    ensures { OnOk result (line.new.items ≡ line.old.items ++ words.now ++ decimal number) }
-{
-    line.extend_from_slice(words)?;
-    let digits = number.to_string(*line.allocator())?;
-    line.extend_from_slice(digits.as_bytes())?;
-    Ok(())
-}
-
 // Puts words behind a line, and how many answers are of a form.
 fn put_count(
-    line: &mut Vec<u8>,
+    piece: &mut Piece,
     words: &[u8],
     form: Form,
     answers: &[Answer],
 ) -> Result<(), NoMemory>
-    ensures { OnOk result (line.new.items ≡ line.old.items ++ words.now ++ decimal (spec.count_of form (map answer_of answers.now))) }
+    ensures { OnOk result (piece.new.bytes.items ≡ piece.old.bytes.items ++ words.now ++ decimal (spec.count_of form (map answer_of answers.now))) }
 {
-    put_number(line, words, count_of(form, answers) as u64)
+    piece.put(words)?;
+    piece.number(count_of(form, answers) as u64)
 }
 
 // How many answers are of each form.
 #[tactic(auto, unfolding(crate::specs::Summary::with_counts))]
-fn put_counts(line: &mut Vec<u8>, answers: &[Answer]) -> Result<(), NoMemory>
-    ensures { OnOk result (line.new.items ≡ spec.with_counts line.old.items (map answer_of answers.now)) }
+fn put_counts(piece: &mut Piece, answers: &[Answer]) -> Result<(), NoMemory>
+    ensures { OnOk result (piece.new.bytes.items ≡ spec.with_counts piece.old.bytes.items (map answer_of answers.now)) }
 {
-    put_count(line, b", used ", Form::Used, answers)?;
-    put_count(line, b", used-unshown ", Form::UsedUnshown, answers)?;
-    put_count(line, b", unused ", Form::Unused, answers)?;
-    put_count(line, b", skipped ", Form::Skipped, answers)?;
-    put_count(line, b", spent ", Form::Spent, answers)?;
-    Ok(())
+    put_count(piece, b", used ", Form::Used, answers)?;
+    put_count(piece, b", used-unshown ", Form::UsedUnshown, answers)?;
+    put_count(piece, b", unused ", Form::Unused, answers)?;
+    put_count(piece, b", skipped ", Form::Skipped, answers)?;
+    put_count(piece, b", spent ", Form::Spent, answers)
 }
 
 // `gen 20: selectors 80, used 60, used-unshown 0, unused 20, skipped 0, spent 0, steps 840`, say.
 #[tactic(auto, unfolding(crate::specs::Summary::summary))]
-fn summary(alloc: Global, n: u32, answers: &[Answer]) -> Result<Vec<u8>, NoMemory>
-    ensures { IfOk result (λ line. line.items ≡ spec.summary n (map answer_of answers.now)) }
+fn summary(alloc: Global, n: u32, answers: &[Answer]) -> Result<Piece, NoMemory>
+    ensures { IfOk result (λ p. p.bytes.items ≡ spec.summary n (map answer_of answers.now)) }
 {
-    let mut line = Vec::new(alloc);
-    put_number(&mut line, b"gen ", u64::from(n))?;
-    put_number(&mut line, b": selectors ", answers.len() as u64)?;
-    put_counts(&mut line, answers)?;
-    put_number(&mut line, b", steps ", all_steps(answers))?;
-    line.extend_from_slice(b"\n")?;
-    Ok(line)
+    let mut piece = Piece::new(alloc);
+    piece.put(b"gen ")?;
+    piece.number(u64::from(n))?;
+    piece.put(b": selectors ")?;
+    piece.number(answers.len() as u64)?;
+    put_counts(&mut piece, answers)?;
+    piece.put(b", steps ")?;
+    piece.number(all_steps(answers))?;
+    piece.put(b"\n")?;
+    Ok(piece)
 }
 
 /// Writes the line on a ring of n boxes, in one piece. Linear in the answers.
@@ -131,7 +125,7 @@ pub fn write_summary<O: Sink>(
     ensures err { OnErr result (AddsPrefix (O.written out.old) (O.written out.new) (spec.summary n (map answer_of answers.now))) }
     ensures write { result ≡ Err ReportFault.Write → Rose (O.faults out.old) (O.faults out.new) }
 {
-    let line = summary(alloc, n, answers)?;
-    put_all(out, &line)?;
+    let piece = summary(alloc, n, answers)?;
+    put_all(out, &piece.bytes)?;
     Ok(())
 }

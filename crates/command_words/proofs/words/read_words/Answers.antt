@@ -5,7 +5,7 @@ use Rattle.clap.specs.Simple.{app_of}
 use Rattle.clap.specs.Values.{kind_of}
 use Rattle.clap.specs.declared.error.kind.ErrorKind.TheVariants.{OutOfMemory}
 use Rattle.command_words.proofs.WordLemmas.{are_taken, are_refused, all_spelt}
-use Rattle.command_words.proofs.LawLemmas.{one, few, short, in_range}
+use Rattle.command_words.proofs.LawLemmas.{one, named, few, short, in_range}
 use Rattle.command_words.proofs.words.read_words.Goals as goal
 
 pub returns-in-Ok-clause-order : goal.returns-in-Ok-clause-order
@@ -15,6 +15,9 @@ returns-in-Ok-clause-order c =
 
 pub returns-in-Ok-clause-one : goal.returns-in-Ok-clause-one
 returns-in-Ok-clause-one c = IfOk-weaker c.ordered.result _ _ (λ o h. one (map string_bytes c.args.words.now) o h) (returns-in-Ok-clause-order c)
+
+pub returns-in-Ok-clause-named : goal.returns-in-Ok-clause-named
+returns-in-Ok-clause-named c = IfOk-weaker c.ordered.result _ _ (λ o h. named (map string_bytes c.args.words.now) o h) (returns-in-Ok-clause-order c)
 
 pub returns-in-Ok-clause-few : goal.returns-in-Ok-clause-few
 returns-in-Ok-clause-few c = IfOk-weaker c.ordered.result _ _ (λ o h. few (map string_bytes c.args.words.now) o h) (returns-in-Ok-clause-order c)

@@ -1,10 +1,7 @@
-use Rattle.std.proofs.Common.{nat_lt, rules, of_calls}
-use Rattle.std.proofs.lemmas.Fn.{always_returns_same}
-use Rattle.need_table.specs.declared.entries.First.{First}
-use Rattle.need_table.proofs.OrderLemmas.{parted, place_found}
+use Rattle.std.proofs.Common.{sym, subst}
+use Rattle.need_table.specs.Tables.{AreInOrder}
+use Rattle.need_table.proofs.OrderLemmas.{order_drop}
 use Rattle.need_table.proofs.entries.place_from.Goals as goal
 
-pub returns : goal.returns
-returns c =
-    place_found c.args.firsts.now c.args.round c.partition_point.result c.partition_point.ensures.bound
-    (c.partition_point.ensures.partitioned (λ (f : First). nat_lt f.round c.args.round) (always_returns_same _ _ _ (λ a r f k. search (rules, of_calls))) (parted c.args.firsts.now c.args.round c.requires))
+pub search-requires : goal.search-requires
+search-requires c = subst AreInOrder (sym c.behind.ensures) (order_drop c.args.firsts.now c.saturating_sub-seam.result c.requires)

@@ -1,7 +1,7 @@
-use Rattle.std.proofs.Common.{sym, ◌∙◌, subst, arith}
+use Rattle.std.proofs.Common.{ℕ, List, ap, sym, ◌∙◌, subst, arith}
 use Rattle.std.specs.List.Sorted.{IsStrictlyIncreasing}
 use Rattle.tp_base.proofs.ClassLemmas.{IsStrictlyIncreasing-union_of}
-use Rattle.need_table.specs.Tables.{pair_of}
+use Rattle.need_table.specs.Tables.{pair_of, replaced}
 use Rattle.need_table.specs.Turns.{given_above, IsAsked}
 use Rattle.need_table.proofs.ChildLemmas.{within_of}
 use Rattle.need_table.proofs.GainLemmas.{met_at, gained_at}
@@ -10,12 +10,12 @@ use Rattle.need_table.proofs.gaining.gained.Goals as goal
 pub add_local-requires : goal.add_local-requires
 add_local-requires c =
     let asked = c.args.asked.now in
-    met_at c.args.system.now c.args.table.now c.args.i c.args.k c.entry-entry.result.now asked.fresh asked.from asked.children.items c.entry-entry.ensures c.requires.asked
+    met_at c.args.system.now c.args.table.now c.args.i c.args.k c.entry-entry.result.now asked.fresh asked.from asked.anew c.entry-entry.ensures c.requires.asked
 
 pub entry-entry-requires : goal.entry-entry-requires
 entry-entry-requires c =
     let asked = c.args.asked.now in
-    within_of (λ e. IsAsked c.args.system.now c.args.table.now (pair_of e) c.args.k e.label asked.fresh asked.from asked.children.items) c.args.table.now c.args.i c.requires.asked
+    within_of (λ e. IsAsked c.args.system.now c.args.table.now (pair_of e) c.args.k e.label asked.fresh asked.from (replaced asked.anew e.children.items)) c.args.table.now c.args.i c.requires.asked
 
 pub add_above-requires : goal.add_above-requires
 add_above-requires c = c.in_ok-add_local.ensures.rises (subst IsStrictlyIncreasing (sym c.new-next.ensures) (λ k within. absurd (omega arith)))
@@ -29,6 +29,6 @@ add_children-requires-clause-rises c =
 pub returns : goal.returns
 returns c =
     let asked = c.args.asked.now in
-    gained_at c.args.system.now c.args.table.now c.args.i c.args.k c.entry-entry.result.now asked.fresh asked.from asked.children.items c.entry-entry.ensures c.requires.asked c.entries.result.now c.deref.result.now
-    c.new-next.result c.add_local.new.next c.add_above.new.next c.in_ok-next.next c.requires.known c.entries.ensures c.deref.ensures.value c.new-next.ensures
+    gained_at c.args.system.now c.args.table.now c.args.i c.args.k c.entry-entry.result.now asked.fresh asked.from asked.anew c.entry-entry.ensures c.requires.asked c.entries.result.now c.asked_places-children.result.now
+    c.new-next.result c.add_local.new.next c.add_above.new.next c.in_ok-next.next c.requires.known c.entries.ensures (c.asked_places-children.ensures ∙ ap (λ (z : List ℕ). replaced asked.anew z) c.deref.ensures.value) c.new-next.ensures
     c.in_ok-add_local.ensures c.in_ok-add_above.ensures (c.in_ok-next.ensures ∙ c.in_ok-add_children.ensures)
