@@ -1,9 +1,11 @@
 -- What a round found at the nodes that were due.
 --     IsLook .. nodes l      the look l says what is new at its node, and when it wakes
+--     IsAlike u v w          the nodes at v and w have one label, next to the same labels, so that both gain the same
+--     IsTakenOver .. looks number l   l is one of the looks, moved to a node that is like its own
 --     AreSeen .. latest nodes   each node was looked at or need not be, and wakes in no round after `latest`
 --     AreFound .. due r      the round r found what is new at each node that was due
 --     RestUndue .. due wakes nodes   a node that isn't due need not be looked at
-use Rattle.std.specs.Prelude.{◌≡◌, ◌⊎◌, ◌≤◌, ◌<◌, ℕ, List, [], Option, length, get_or, Contains, IsFalse, IfSome}
+use Rattle.std.specs.Prelude.{◌≡◌, ◌⊎◌, ◌≤◌, ◌<◌, ℕ, List, [], Option, length, get_or, All, Contains, IsTrue, IsFalse, IfSome}
 use Rattle.tree_sem.specs.Trees.{LabelTree}
 use Rattle.simple_core.specs.declared.system.System.{System}
 use Rattle.simple_core.specs.Pairs.{Pair}
@@ -11,7 +13,8 @@ use Rattle.rule_index.specs.Asking.{AreUnseen}
 use Rattle.closed_page.specs.declared.gains.Gain.{Gain}
 use Rattle.class_adding.specs.declared.looking.Look.{Look}
 use Rattle.class_adding.specs.declared.rounds.Round.{Round}
-use Rattle.class_adding.specs.Filling.{IsLooked, IsNews, AreRight, AreNew, wake_at}
+use Rattle.closed_page.specs.Gains.{label_in}
+use Rattle.class_adding.specs.Filling.{above_in, real_in, IsLooked, IsNews, AreRight, AreNew, wake_at}
 use Rattle.class_adding.specs.Work.{IsSeen}
 
 pub record IsLook (s : System) (u : LabelTree) (k : ℕ) (known : Pair → Type 0) (gains : List Gain) (nodes : List (List ℕ)) (l : Look) : Type 0 where
@@ -21,6 +24,18 @@ pub record IsLook (s : System) (u : LabelTree) (k : ℕ) (known : Pair → Type 
   pub same : IsFalse l.grew → l.news ≡ []
   pub above : IsFalse l.seen_above → AreUnseen s.down l.news
   pub below : IsFalse l.seen_below → AreUnseen s.up l.news
+  pub other : IsTrue l.grew → All (Contains (label_in u (get_or nodes l.number []))) l.news → ⊥
+
+pub record IsAlike (u : LabelTree) (v w : List ℕ) : Type 0 where
+  pub own : label_in u v ≡ label_in u w
+  pub above : above_in u v ≡ above_in u w
+  pub below : real_in u v ≡ real_in u w
+
+pub record IsTakenOver (u : LabelTree) (nodes : List (List ℕ)) (looks : List Look) (number : ℕ) (l : Look) : Type 0 where
+  pub before : Look
+  pub there : Contains looks before
+  pub alike : IsAlike u (get_or nodes before.number []) (get_or nodes number [])
+  pub moved : l ≡ record before { number = number }
 
 abbrev pub AreLooks : System → LabelTree → ℕ → (Pair → Type 0) → List Gain → List (List ℕ) → List Look → Type 0
 AreLooks s u k known gains nodes looks = (l : Look) → Contains looks l → IsLook s u k known gains nodes l

@@ -89,15 +89,19 @@ fn is_of(row: &Row, kind: u32, seen: &ClassSet) -> bool
     row.kind == kind && is_same(&row.seen, seen)
 }
 
-// Whether two sets have the same atoms.
-fn is_same(first: &ClassSet, second: &ClassSet) -> bool
+/// Whether two sets have the same atoms. Constant where their lengths tell.
+pub(crate) fn is_same(first: &ClassSet, second: &ClassSet) -> bool
     ensures { IsTrue result → first.now ≡ second.now }
 {
     if first.len() != second.len() {
         return false;
     }
-    if !first.within(second) {
-        return false;
+    let mut i = 0;
+    'atoms: while i < first.len() {
+        if first.at(i) != second.at(i) {
+            return false;
+        }
+        i += 1;
     }
-    second.within(first)
+    true
 }

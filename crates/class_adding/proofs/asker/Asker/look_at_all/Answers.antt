@@ -1,4 +1,4 @@
-use Rattle.std.proofs.Common.{◌⊎◌, [], get_or, Contains, refl, sym, ◌∙◌, subst}
+use Rattle.std.proofs.Common.{◌⊎◌, List, [], get_or, Contains, refl, sym, ◌∙◌, subst}
 use Rattle.std.proofs.lemmas.List.Elements.{Contains-get_or}
 use Rattle.simple_core.specs.declared.system.System.{System}
 use Rattle.rule_index.proofs.IndexLemmas.{first_rest}
@@ -6,7 +6,8 @@ use Rattle.closed_page.specs.declared.gains.Gain.{Gain}
 use Rattle.closed_page.specs.Gains.{label_in}
 use Rattle.class_adding.specs.Filling.{AsksIn, IsGain, wake_at}
 use Rattle.class_adding.specs.Fresh.{IsSettled, IsResting}
-use Rattle.class_adding.specs.Looks.{IsLook}
+use Rattle.class_adding.specs.declared.looking.Look.{Look}
+use Rattle.class_adding.specs.Looks.{IsLook, AreLooks}
 use Rattle.class_adding.proofs.WentLemmas.{went_start, ok_spent}
 use Rattle.class_adding.proofs.RoundLemmas.{looking_start, looking_first, looking_next, looking_all, resting_more, went_look}
 use Rattle.class_adding.proofs.asker.Asker.look_at_all.Goals as goal
@@ -51,6 +52,15 @@ look_once-requires-clause-resting g c =
     let less = looking_first s u c.args.k nodes (g.S.Summaries.known c.nodes.self.sums.now) c.nodes.gains.items c.nodes.looks.items c.args.work.now.due.items c.nodes.rest.now number c.in-Some.others.now split c.nodes.invariant.looking in
     subst (λ (z : System). IsResting z c.args.k (g.S.Summaries.known c.nodes.self.sums.now) (label_in u (get_or nodes number [])) (get_or c.args.work.now.fresh.items number []) (wake_at c.args.work.now.wakes.items number)) (sym c.nodes.invariant.went.same_system)
     (resting_more s u c.args.k (g.S.Summaries.known c.args.self.now.sums.now) (g.S.Summaries.known c.nodes.self.sums.now) nodes c.args.work.now.fresh.items c.args.work.now.wakes.items number _ c.requires.resting less refl c.nodes.invariant.went.kept)
+
+pub look_once-requires-clause-looks : goal.look_once-requires-clause-looks
+look_once-requires-clause-looks g c =
+    let u = c.args.labels.now.labels in
+    let nodes = c.args.labels.now.nodes in
+    let known = g.S.Summaries.known c.nodes.self.sums.now in
+    let gains = c.nodes.gains.items in
+    subst (λ (z : List Look). AreLooks c.nodes.self.system.now u c.args.k known gains nodes z) (sym c.deref.ensures.value)
+    (subst (λ (z : System). AreLooks z u c.args.k known gains nodes c.nodes.looks.items) (sym c.nodes.invariant.went.same_system) c.nodes.invariant.looking.looks_are)
 
 pub look_once-requires-clause-ready : goal.look_once-requires-clause-ready
 look_once-requires-clause-ready g c = c.nodes.invariant.went.ready
