@@ -2,6 +2,7 @@ pub mod ChainSteps
 pub mod DeclarationSteps
 pub mod SequenceSteps
 pub mod SeveralSteps
+pub mod GoingOn
 pub mod ReadingLaws
 pub mod LimitLaws
 pub mod HandlerLaws

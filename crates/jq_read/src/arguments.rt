@@ -10,7 +10,7 @@ ghost use Rattle.jq_words.specs.declared.faults.ScriptFault.TheVariants.{Memory}
 ghost use Rattle.jq_parts.specs.ScopeViews.{effect_of};
 ghost use Rattle.jq_read.specs.CallArguments as spec;
 ghost use Rattle.jq_parts.specs.Calls.{elements_in, and_call};
-ghost use Rattle.jq_read.specs.Readers.{context_of, state_of};
+ghost use Rattle.jq_read.specs.Readers.{context_of, state_of, GoesOn};
 ghost use Rattle.jq_parts.specs.Views.{value_of};
 ghost use Rattle.jq_read.specs.Views.{done_of};
 
@@ -61,9 +61,7 @@ pub(crate) fn move_arguments(
     reached: Value,
 ) -> Result<Done, ScriptFault>
     ensures gives { Turns done_of (state_of reading.new) reading.new.words result (spec.move_arguments (context_of reading.old) (form_of form) none (value_of reached) (state_of reading.old) reading.old.words) }
-    ensures rest { OnOk result (IsRest reading.old.words reading.new.words) }
-    ensures kept { OnOk result (context_of reading.new ≡ context_of reading.old) }
-    ensures front { IsFront reading.old.grown.atoms reading.new.grown.atoms }
+    ensures goes_on { GoesOn IsRest reading.old reading.new result }
 {
     let reader = reading.reader;
     let found = compounds_argument(reader, none, &mut reading.grown.atoms, &mut reading.words)?;
@@ -96,9 +94,7 @@ pub(crate) fn unite_arguments(
     reached: Value,
 ) -> Result<Done, ScriptFault>
     ensures gives { Turns done_of (state_of reading.new) reading.new.words result (spec.unite_arguments (context_of reading.old) (value_of reached) (state_of reading.old) reading.old.words) }
-    ensures rest { OnOk result (IsRest reading.old.words reading.new.words) }
-    ensures kept { OnOk result (context_of reading.new ≡ context_of reading.old) }
-    ensures front { IsFront reading.old.grown.atoms reading.new.grown.atoms }
+    ensures goes_on { GoesOn IsRest reading.old reading.new result }
 {
     let reader = reading.reader;
     let at = place(reader.text.len(), reading.words.words());
@@ -132,9 +128,7 @@ pub(crate) fn class_arguments(
     reached: Value,
 ) -> Result<Done, ScriptFault>
     ensures gives { Turns done_of (state_of reading.new) reading.new.words result (spec.class_arguments (context_of reading.old) room (value_of reached) (state_of reading.old) reading.old.words) }
-    ensures rest { OnOk result (IsRest reading.old.words reading.new.words) }
-    ensures kept { OnOk result (context_of reading.new ≡ context_of reading.old) }
-    ensures front { IsFront reading.old.grown.atoms reading.new.grown.atoms }
+    ensures goes_on { GoesOn IsRest reading.old reading.new result }
 {
     let reader = reading.reader;
     let at = place(reader.text.len(), reading.words.words());
@@ -160,9 +154,7 @@ fn value_argument(
     at: usize,
 ) -> Result<Done, ScriptFault>
     ensures gives { Turns done_of (state_of reading.new) reading.new.words result (spec.value_argument (context_of reading.old) (value_of reached) (state_of reading.old) name.now at reading.old.words) }
-    ensures rest { OnOk result (IsRest reading.old.words reading.new.words) }
-    ensures kept { OnOk result (context_of reading.new ≡ context_of reading.old) }
-    ensures front { IsFront reading.old.grown.atoms reading.new.grown.atoms }
+    ensures goes_on { GoesOn IsRest reading.old reading.new result }
 {
     let reader = reading.reader;
     if !is_attribute(name) {
@@ -192,9 +184,7 @@ pub(crate) fn attribute_arguments(
     reached: Value,
 ) -> Result<Done, ScriptFault>
     ensures gives { Turns done_of (state_of reading.new) reading.new.words result (spec.attribute_arguments (context_of reading.old) (value_of reached) (state_of reading.old) reading.old.words) }
-    ensures rest { OnOk result (IsRest reading.old.words reading.new.words) }
-    ensures kept { OnOk result (context_of reading.new ≡ context_of reading.old) }
-    ensures front { IsFront reading.old.grown.atoms reading.new.grown.atoms }
+    ensures goes_on { GoesOn IsRest reading.old reading.new result }
 {
     let reader = reading.reader;
     let at = place(reader.text.len(), reading.words.words());
@@ -225,9 +215,7 @@ pub(crate) fn grow_arguments(
     reached: Value,
 ) -> Result<Done, ScriptFault>
     ensures gives { Turns done_of (state_of reading.new) reading.new.words result (spec.grow_arguments (context_of reading.old) room beside (value_of reached) (state_of reading.old) reading.old.words) }
-    ensures rest { OnOk result (IsRest reading.old.words reading.new.words) }
-    ensures kept { OnOk result (context_of reading.new ≡ context_of reading.old) }
-    ensures front { IsFront reading.old.grown.atoms reading.new.grown.atoms }
+    ensures goes_on { GoesOn IsRest reading.old reading.new result }
 {
     let reader = reading.reader;
     let given = some_argument(reader.alloc, reader.text.len(), &mut reading.words)?;
@@ -254,9 +242,7 @@ pub(crate) fn place_arguments(
     reached: Value,
 ) -> Result<Done, ScriptFault>
     ensures gives { Turns done_of (state_of reading.new) reading.new.words result (spec.place_arguments (context_of reading.old) room (value_of reached) (state_of reading.old) reading.old.words) }
-    ensures rest { OnOk result (IsRest reading.old.words reading.new.words) }
-    ensures kept { OnOk result (context_of reading.new ≡ context_of reading.old) }
-    ensures front { IsFront reading.old.grown.atoms reading.new.grown.atoms }
+    ensures goes_on { GoesOn IsRest reading.old reading.new result }
 {
     let reader = reading.reader;
     let given = some_argument(reader.alloc, reader.text.len(), &mut reading.words)?;

@@ -1,12 +1,11 @@
 //! Functions, where they stand and where they are handed over.
-ghost use Rattle.std.specs.Prelude.{◌≡◌, false, option_map, None, OnOk, IfOk, IfErr};
-ghost use Rattle.sel_text.specs.Results.{IsFront};
+ghost use Rattle.std.specs.Prelude.{◌≡◌, false, option_map, None, IfOk, IfErr};
 ghost use Rattle.jq_words.specs.Results.{Leaves, IsBehind};
 ghost use Rattle.jq_words.specs.declared.faults.ScriptFault.TheVariants.{Memory};
 ghost use Rattle.jq_parts.specs.ScopeViews.{handler_of};
 ghost use Rattle.jq_read.specs.Functions as functions;
 ghost use Rattle.jq_read.specs.Statements as spec;
-ghost use Rattle.jq_read.specs.Readers.{context_of, state_of};
+ghost use Rattle.jq_read.specs.Readers.{context_of, state_of, GoesOn};
 ghost use Rattle.jq_parts.specs.Views.{value_of};
 ghost use Rattle.jq_parts.specs.Calls.{elements_in};
 
@@ -25,9 +24,7 @@ pub(crate) fn function_body(
     room: usize,
 ) -> Result<(), ScriptFault>
     ensures gives { Leaves (state_of reading.new, reading.new.words) result (functions.function_body (spec.block room 0) room (functions.in_handler (context_of reading.old) (option_map handler_of handler)) (state_of reading.old) reading.old.words) }
-    ensures rest { OnOk result (IsBehind reading.old.words reading.new.words) }
-    ensures kept { OnOk result (context_of reading.new ≡ context_of reading.old) }
-    ensures front { IsFront reading.old.grown.atoms reading.new.grown.atoms }
+    ensures goes_on { GoesOn IsBehind reading.old reading.new result }
 {
     let size = reading.reader.text.len();
     let seen = count_seen(&reading.scope);
@@ -54,9 +51,7 @@ pub(crate) fn function(
     room: usize,
 ) -> Result<(), ScriptFault>
     ensures gives { Leaves (state_of reading.new, reading.new.words) result (functions.function (spec.block room 0) room (functions.in_handler (context_of reading.old) (option_map handler_of handler)) (state_of reading.old) reading.old.words) }
-    ensures rest { OnOk result (IsBehind reading.old.words reading.new.words) }
-    ensures kept { OnOk result (context_of reading.new ≡ context_of reading.old) }
-    ensures front { IsFront reading.old.grown.atoms reading.new.grown.atoms }
+    ensures goes_on { GoesOn IsBehind reading.old reading.new result }
 {
     want_function(reading.reader.text.len(), &mut reading.words)?;
     pass_name(&mut reading.words);
@@ -69,9 +64,7 @@ pub(crate) fn function(
 #[tactic(auto, unfolding(crate::specs::Statements::named_function), using(sel_text::proofs::Fronts::front_itself, jq_words::proofs::Rests::behind_behind))]
 pub(crate) fn named_function(reading: &mut Reading<'_, '_>, room: usize) -> Result<(), ScriptFault>
     ensures gives { Leaves (state_of reading.new, reading.new.words) result (spec.named_function (spec.block room) room (context_of reading.old) (state_of reading.old) reading.old.words) }
-    ensures rest { OnOk result (IsBehind reading.old.words reading.new.words) }
-    ensures kept { OnOk result (context_of reading.new ≡ context_of reading.old) }
-    ensures front { IsFront reading.old.grown.atoms reading.new.grown.atoms }
+    ensures goes_on { GoesOn IsBehind reading.old reading.new result }
 {
     let size = reading.reader.text.len();
     reading.words.want_name(size)?;
@@ -100,9 +93,7 @@ pub(crate) fn handed(
     room: usize,
 ) -> Result<(), ScriptFault>
     ensures gives { Leaves (state_of reading.new, reading.new.words) result (functions.handed lists (spec.block room 0) room (context_of reading.old) (elements_in (value_of reached.now)) (state_of reading.old) reading.old.words) }
-    ensures rest { OnOk result (IsBehind reading.old.words reading.new.words) }
-    ensures kept { OnOk result (context_of reading.new ≡ context_of reading.old) }
-    ensures front { IsFront reading.old.grown.atoms reading.new.grown.atoms }
+    ensures goes_on { GoesOn IsBehind reading.old reading.new result }
 {
     let reader = reading.reader;
     if begins_name(reading.words.words(), b"function") {
@@ -126,9 +117,7 @@ pub(crate) fn handed(
 #[tactic(auto, unfolding(crate::specs::Statements::bracketed), using(sel_text::proofs::Fronts::front_itself, crate::proofs::SequenceSteps::deeper))]
 pub(crate) fn bracketed(reading: &mut Reading<'_, '_>, room: usize) -> Result<(), ScriptFault>
     ensures gives { Leaves (state_of reading.new, reading.new.words) result (spec.bracketed (spec.block room) room (context_of reading.old) (state_of reading.old) reading.old.words) }
-    ensures rest { OnOk result (IsBehind reading.old.words reading.new.words) }
-    ensures kept { OnOk result (context_of reading.new ≡ context_of reading.old) }
-    ensures front { IsFront reading.old.grown.atoms reading.new.grown.atoms }
+    ensures goes_on { GoesOn IsBehind reading.old reading.new result }
 {
     let size = reading.reader.text.len();
     reading.words.want_open(size, room, b"(")?;
@@ -142,9 +131,7 @@ pub(crate) fn bracketed(reading: &mut Reading<'_, '_>, room: usize) -> Result<()
 #[tactic(auto, unfolding(crate::specs::Statements::start), using(sel_text::proofs::Fronts::front_itself, jq_words::proofs::Rests::behind_rest))]
 pub(crate) fn start(reading: &mut Reading<'_, '_>, room: usize) -> Result<(), ScriptFault>
     ensures gives { Leaves (state_of reading.new, reading.new.words) result (spec.start (spec.block room) room (context_of reading.old) (state_of reading.old) reading.old.words) }
-    ensures rest { OnOk result (IsBehind reading.old.words reading.new.words) }
-    ensures kept { OnOk result (context_of reading.new ≡ context_of reading.old) }
-    ensures front { IsFront reading.old.grown.atoms reading.new.grown.atoms }
+    ensures goes_on { GoesOn IsBehind reading.old reading.new result }
 {
     let size = reading.reader.text.len();
     bracketed(reading, room)?;
@@ -157,9 +144,7 @@ pub(crate) fn start(reading: &mut Reading<'_, '_>, room: usize) -> Result<(), Sc
 #[tactic(auto, unfolding(crate::specs::Statements::once), using(sel_text::proofs::Fronts::front_itself))]
 pub(crate) fn once(reading: &mut Reading<'_, '_>, room: usize) -> Result<(), ScriptFault>
     ensures gives { Leaves (state_of reading.new, reading.new.words) result (spec.once (spec.block room) room (context_of reading.old) (state_of reading.old) reading.old.words) }
-    ensures rest { OnOk result (IsBehind reading.old.words reading.new.words) }
-    ensures kept { OnOk result (context_of reading.new ≡ context_of reading.old) }
-    ensures front { IsFront reading.old.grown.atoms reading.new.grown.atoms }
+    ensures goes_on { GoesOn IsBehind reading.old reading.new result }
 {
     let reader = reading.reader;
     let has_this = reading.scope.has_this;
@@ -174,9 +159,7 @@ pub(crate) fn once(reading: &mut Reading<'_, '_>, room: usize) -> Result<(), Scr
 #[tactic(auto, unfolding(crate::specs::Statements::timer), using(sel_text::proofs::Fronts::front_itself, crate::proofs::SequenceSteps::deeper))]
 pub(crate) fn timer(reading: &mut Reading<'_, '_>, room: usize) -> Result<(), ScriptFault>
     ensures gives { Leaves (state_of reading.new, reading.new.words) result (spec.timer (spec.block room) room (context_of reading.old) (state_of reading.old) reading.old.words) }
-    ensures rest { OnOk result (IsBehind reading.old.words reading.new.words) }
-    ensures kept { OnOk result (context_of reading.new ≡ context_of reading.old) }
-    ensures front { IsFront reading.old.grown.atoms reading.new.grown.atoms }
+    ensures goes_on { GoesOn IsBehind reading.old reading.new result }
 {
     let reader = reading.reader;
     let has_this = reading.scope.has_this;

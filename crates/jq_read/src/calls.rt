@@ -5,7 +5,7 @@ ghost use Rattle.jq_words.specs.Results.{Leaves, Turns, IsRest, IsBehind};
 ghost use Rattle.jq_parts.specs.Views.{value_of};
 ghost use Rattle.jq_parts.specs.ScopeViews.{effect_of};
 ghost use Rattle.jq_read.specs.Chains as spec;
-ghost use Rattle.jq_read.specs.Readers.{context_of, state_of};
+ghost use Rattle.jq_read.specs.Readers.{context_of, state_of, GoesOn};
 
 use crate::readings::Reading;
 use jq_chains::SharedChain;
@@ -44,9 +44,7 @@ fn listened(
     narrowed: bool,
 ) -> Result<Value, ScriptFault>
     ensures gives { Turns value_of (state_of reading.new) reading.new.words result (spec.listened (length reading.old.reader.text.now) (value_of reached.now) narrowed (state_of reading.old) reading.old.words) }
-    ensures rest { OnOk result (IsRest reading.old.words reading.new.words) }
-    ensures kept { OnOk result (context_of reading.new ≡ context_of reading.old) }
-    ensures front { IsFront reading.old.grown.atoms reading.new.grown.atoms }
+    ensures goes_on { GoesOn IsRest reading.old reading.new result }
 {
     if !narrowed {
         let copy = reached.copy()?;
@@ -69,9 +67,7 @@ pub(crate) fn listening(
     narrowed: bool,
 ) -> Result<Value, ScriptFault>
     ensures gives { Turns value_of (state_of reading.new) reading.new.words result (spec.listening (length reading.old.reader.text.now) (value_of reached.now) narrowed (state_of reading.old) reading.old.words) }
-    ensures rest { OnOk result (IsBehind reading.old.words reading.new.words) }
-    ensures kept { OnOk result (context_of reading.new ≡ context_of reading.old) }
-    ensures front { IsFront reading.old.grown.atoms reading.new.grown.atoms }
+    ensures goes_on { GoesOn IsBehind reading.old reading.new result }
 {
     let reader = reading.reader;
     text_argument(reader.alloc, reader.text.len(), &mut reading.words)?;

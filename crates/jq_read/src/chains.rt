@@ -1,13 +1,12 @@
 //! Chains of calls.
-ghost use Rattle.std.specs.Prelude.{◌≡◌, ◌==◌, ◌&&◌, true, false, OnOk};
+ghost use Rattle.std.specs.Prelude.{◌≡◌, ◌==◌, ◌&&◌, true, false};
 ghost use Rattle.jq_words.specs.CallViews.{row_from};
-ghost use Rattle.sel_text.specs.Results.{IsFront};
 ghost use Rattle.jq_words.specs.Results.{Leaves, Turns, IsRest, IsBehind};
 ghost use Rattle.jq_parts.specs.Views.{value_of};
 ghost use Rattle.jq_parts.specs.Calls.{elements_in};
 ghost use Rattle.jq_read.specs.Chains as spec;
 ghost use Rattle.jq_read.specs.Statements as statements;
-ghost use Rattle.jq_read.specs.Readers.{context_of, state_of};
+ghost use Rattle.jq_read.specs.Readers.{context_of, state_of, GoesOn};
 ghost use Rattle.jq_read.specs.Views.{done_of};
 
 use crate::arguments::{
@@ -47,9 +46,7 @@ pub(crate) fn several(
     room: usize,
 ) -> Result<(), ScriptFault>
     ensures gives { Leaves (state_of reading.new, reading.new.words) result (spec.several lists (statements.block room 0) room (context_of reading.old) (elements_in (value_of reached.now)) count (state_of reading.old) reading.old.words) }
-    ensures rest { OnOk result (IsRest reading.old.words reading.new.words) }
-    ensures kept { OnOk result (context_of reading.new ≡ context_of reading.old) }
-    ensures front { IsFront reading.old.grown.atoms reading.new.grown.atoms }
+    ensures goes_on { GoesOn IsRest reading.old reading.new result }
 {
     let size = reading.reader.text.len();
     let mut left = count;
@@ -71,9 +68,7 @@ pub(crate) fn listen_arguments(
     room: usize,
 ) -> Result<(), ScriptFault>
     ensures gives { Leaves (state_of reading.new, reading.new.words) result (spec.listen_arguments (statements.block room 0) room (context_of reading.old) (value_of reached.now) narrowed (state_of reading.old) reading.old.words) }
-    ensures rest { OnOk result (IsBehind reading.old.words reading.new.words) }
-    ensures kept { OnOk result (context_of reading.new ≡ context_of reading.old) }
-    ensures front { IsFront reading.old.grown.atoms reading.new.grown.atoms }
+    ensures goes_on { GoesOn IsBehind reading.old reading.new result }
 {
     let elements = listening(reading, reached, narrowed)?;
     handed(reading, false, &elements, room)?;
@@ -91,9 +86,7 @@ pub(crate) fn call_arguments(
     room: usize,
 ) -> Result<Done, ScriptFault>
     ensures gives { Turns done_of (state_of reading.new) reading.new.words result (spec.arguments_of (statements.block room 0) room (context_of reading.old) (value_of reached) (row_from row.entry) count (state_of reading.old) reading.old.words) }
-    ensures rest { OnOk result (IsRest reading.old.words reading.new.words) }
-    ensures kept { OnOk result (context_of reading.new ≡ context_of reading.old) }
-    ensures front { IsFront reading.old.grown.atoms reading.new.grown.atoms }
+    ensures goes_on { GoesOn IsRest reading.old reading.new result }
 {
     match row.form {
         Form::Find
@@ -146,9 +139,7 @@ pub(crate) fn call(
     room: usize,
 ) -> Result<Value, ScriptFault>
     ensures gives { Turns value_of (state_of reading.new) reading.new.words result (spec.call (statements.block room 1) room (context_of reading.old) (value_of reached) (state_of reading.old) reading.old.words) }
-    ensures rest { OnOk result (IsBehind reading.old.words reading.new.words) }
-    ensures kept { OnOk result (context_of reading.new ≡ context_of reading.old) }
-    ensures front { IsFront reading.old.grown.atoms reading.new.grown.atoms }
+    ensures goes_on { GoesOn IsBehind reading.old reading.new result }
 {
     let reader = reading.reader;
     let (row, at) = dot_name(reader, &reached, &mut reading.words)?;
@@ -169,9 +160,7 @@ pub(crate) fn calls(
     room: usize,
 ) -> Result<Value, ScriptFault>
     ensures gives { Turns value_of (state_of reading.new) reading.new.words result (spec.calls (statements.block room 1) room (context_of reading.old) (value_of reached) (state_of reading.old) 0 reading.old.words) }
-    ensures rest { OnOk result (IsRest reading.old.words reading.new.words) }
-    ensures kept { OnOk result (context_of reading.new ≡ context_of reading.old) }
-    ensures front { IsFront reading.old.grown.atoms reading.new.grown.atoms }
+    ensures goes_on { GoesOn IsRest reading.old reading.new result }
 {
     let reader = reading.reader;
     let mut so_far = reached;
@@ -187,9 +176,7 @@ pub(crate) fn calls(
 #[tactic(auto, unfolding(crate::specs::Chains::chain), using(sel_text::proofs::Fronts::front_itself, sel_text::proofs::Fronts::front_of_front, jq_words::proofs::Rests::behind_rest))]
 pub(crate) fn chain(reading: &mut Reading<'_, '_>, room: usize) -> Result<Value, ScriptFault>
     ensures gives { Turns value_of (state_of reading.new) reading.new.words result (spec.chain (statements.block room 1) room (context_of reading.old) (state_of reading.old) reading.old.words) }
-    ensures rest { OnOk result (IsBehind reading.old.words reading.new.words) }
-    ensures kept { OnOk result (context_of reading.new ≡ context_of reading.old) }
-    ensures front { IsFront reading.old.grown.atoms reading.new.grown.atoms }
+    ensures goes_on { GoesOn IsBehind reading.old reading.new result }
 {
     let value = root(
         reading.reader,

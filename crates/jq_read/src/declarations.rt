@@ -8,7 +8,7 @@ ghost use Rattle.jq_parts.specs.ScopeViews.{handlers_of};
 ghost use Rattle.jq_parts.specs.Bindings.{under_bound};
 ghost use Rattle.jq_parts.specs.Views.{value_of, bound_value, bound_under};
 ghost use Rattle.jq_read.specs.Statements as spec;
-ghost use Rattle.jq_read.specs.Readers.{context_of, state_of};
+ghost use Rattle.jq_read.specs.Readers.{context_of, state_of, GoesOn};
 
 use crate::bodies::function;
 use crate::bound_names::is_chain_here;
@@ -95,9 +95,7 @@ fn declare<'a>(
 #[tactic(auto, unfolding(crate::specs::Statements::value_behind, crate::specs::Statements::declared_value), using(sel_text::proofs::Fronts::front_itself, jq_words::proofs::Rests::itself, jq_words::proofs::Rests::passed_behind))]
 fn value_behind(reading: &mut Reading<'_, '_>, room: usize) -> Result<Option<Value>, ScriptFault>
     ensures gives { Turns (option_map value_of) (state_of reading.new) reading.new.words result (spec.value_behind (spec.block room) room (context_of reading.old) (state_of reading.old) reading.old.words) }
-    ensures rest { OnOk result (IsRest reading.old.words reading.new.words) }
-    ensures kept { OnOk result (context_of reading.new ≡ context_of reading.old) }
-    ensures front { IsFront reading.old.grown.atoms reading.new.grown.atoms }
+    ensures goes_on { GoesOn IsRest reading.old reading.new result }
 {
     let reader = reading.reader;
     if !begins(reading.words.words(), b"=") {
@@ -127,9 +125,7 @@ fn value_behind(reading: &mut Reading<'_, '_>, room: usize) -> Result<Option<Val
 #[tactic(auto, unfolding(crate::specs::Statements::one), using(sel_text::proofs::Fronts::front_itself, sel_text::proofs::Fronts::front_of_front, jq_words::proofs::Rests::behind_rest))]
 fn one(reading: &mut Reading<'_, '_>, room: usize) -> Result<(), ScriptFault>
     ensures gives { Leaves (state_of reading.new, reading.new.words) result (spec.one (spec.block room) room (context_of reading.old) (state_of reading.old) reading.old.words) }
-    ensures rest { OnOk result (IsBehind reading.old.words reading.new.words) }
-    ensures kept { OnOk result (context_of reading.new ≡ context_of reading.old) }
-    ensures front { IsFront reading.old.grown.atoms reading.new.grown.atoms }
+    ensures goes_on { GoesOn IsBehind reading.old reading.new result }
 {
     let size = reading.reader.text.len();
     let name = reading.words.want_name(size)?;
@@ -143,9 +139,7 @@ fn one(reading: &mut Reading<'_, '_>, room: usize) -> Result<(), ScriptFault>
 #[tactic(auto, using(sel_text::proofs::Fronts::front_itself, sel_text::proofs::Fronts::front_of_front, crate::proofs::DeclarationSteps::goes_on, crate::proofs::DeclarationSteps::fails, crate::proofs::DeclarationSteps::ends, jq_words::proofs::Rests::itself, jq_words::proofs::Rests::is_rest, jq_words::proofs::Rests::of_rest))]
 fn more_ones(reading: &mut Reading<'_, '_>, room: usize) -> Result<(), ScriptFault>
     ensures gives { Leaves (state_of reading.new, reading.new.words) result (spec.more_ones (spec.block room) room (context_of reading.old) (state_of reading.old) 0 reading.old.words) }
-    ensures rest { OnOk result (IsRest reading.old.words reading.new.words) }
-    ensures kept { OnOk result (context_of reading.new ≡ context_of reading.old) }
-    ensures front { IsFront reading.old.grown.atoms reading.new.grown.atoms }
+    ensures goes_on { GoesOn IsRest reading.old reading.new result }
 {
     'ones: while begins(reading.words.words(), b",") {
         reading.words.pass();
@@ -159,9 +153,7 @@ fn more_ones(reading: &mut Reading<'_, '_>, room: usize) -> Result<(), ScriptFau
 #[tactic(auto, unfolding(crate::specs::Statements::declaration), using(sel_text::proofs::Fronts::front_itself, sel_text::proofs::Fronts::front_of_front))]
 pub(crate) fn declaration(reading: &mut Reading<'_, '_>, room: usize) -> Result<(), ScriptFault>
     ensures gives { Leaves (state_of reading.new, reading.new.words) result (spec.declaration (spec.block room) room (context_of reading.old) (state_of reading.old) reading.old.words) }
-    ensures rest { OnOk result (IsBehind reading.old.words reading.new.words) }
-    ensures kept { OnOk result (context_of reading.new ≡ context_of reading.old) }
-    ensures front { IsFront reading.old.grown.atoms reading.new.grown.atoms }
+    ensures goes_on { GoesOn IsBehind reading.old reading.new result }
 {
     let size = reading.reader.text.len();
     one(reading, room)?;

@@ -1,11 +1,10 @@
 //! Statements, one after another, and in blocks.
-ghost use Rattle.std.specs.Prelude.{◌≡◌, ◌<◌, true, false, [], length, OnOk};
-ghost use Rattle.sel_text.specs.Results.{IsFront};
+ghost use Rattle.std.specs.Prelude.{◌≡◌, ◌<◌, true, false, [], length};
 ghost use Rattle.jq_words.specs.Results.{Leaves, Turns, IsRest, IsBehind};
 ghost use Rattle.jq_read.specs.Sequences as turns;
 ghost use Rattle.jq_read.specs.Statements as spec;
 ghost use Rattle.jq_read.specs.States.{size};
-ghost use Rattle.jq_read.specs.Readers.{context_of, state_of};
+ghost use Rattle.jq_read.specs.Readers.{context_of, state_of, GoesOn};
 
 use crate::bound_names::form_here;
 use crate::readings::Reading;
@@ -86,9 +85,7 @@ fn turn(
 ) -> Result<Between, ScriptFault>
     requires counted { between.ifs < u64.MAX }
     ensures gives { Turns (λ b. b) (state_of reading.new) reading.new.words result (turns.turn (spec.block room) room (context_of reading.old) between (state_of reading.old) reading.old.words) }
-    ensures rest { OnOk result (IsBehind reading.old.words reading.new.words) }
-    ensures kept { OnOk result (context_of reading.new ≡ context_of reading.old) }
-    ensures front { IsFront reading.old.grown.atoms reading.new.grown.atoms }
+    ensures goes_on { GoesOn IsBehind reading.old reading.new result }
 {
     let form = form_here(reading);
     statement(reading, form, room)?;
@@ -107,9 +104,7 @@ pub(crate) fn sequence(
     room: usize,
 ) -> Result<(), ScriptFault>
     ensures gives { Leaves (state_of reading.new, reading.new.words) result (spec.sequence in_block (spec.block room) room (context_of reading.old) (state_of reading.old) 0 reading.old.words) }
-    ensures rest { OnOk result (IsRest reading.old.words reading.new.words) }
-    ensures kept { OnOk result (context_of reading.new ≡ context_of reading.old) }
-    ensures front { IsFront reading.old.grown.atoms reading.new.grown.atoms }
+    ensures goes_on { GoesOn IsRest reading.old reading.new result }
 {
     let reader = reading.reader;
     let mut between = Between {
@@ -130,9 +125,7 @@ pub(crate) fn sequence(
 #[tactic(auto, using(sel_text::proofs::Fronts::front_itself, crate::proofs::SequenceSteps::block_refused, crate::proofs::SequenceSteps::block_fails, crate::proofs::SequenceSteps::block_reads, jq_words::proofs::Rests::behind_first, jq_words::proofs::Rests::behind_rest))]
 pub(crate) fn block(reading: &mut Reading<'_, '_>, room: usize) -> Result<(), ScriptFault>
     ensures gives { Leaves (state_of reading.new, reading.new.words) result (spec.block room 0 (context_of reading.old) (state_of reading.old) reading.old.words) }
-    ensures rest { OnOk result (IsBehind reading.old.words reading.new.words) }
-    ensures kept { OnOk result (context_of reading.new ≡ context_of reading.old) }
-    ensures front { IsFront reading.old.grown.atoms reading.new.grown.atoms }
+    ensures goes_on { GoesOn IsBehind reading.old reading.new result }
 {
     let size = reading.reader.text.len();
     reading.words.want_open(size, room, b"{")?;

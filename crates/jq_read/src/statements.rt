@@ -1,11 +1,10 @@
 //! Statements, by their forms.
-ghost use Rattle.std.specs.Prelude.{◌≡◌, ◌≢◌, length, drop, OnOk};
+ghost use Rattle.std.specs.Prelude.{◌≡◌, ◌≢◌, length, drop};
 ghost use Rattle.jq_words.specs.Words.{place, spelled};
-ghost use Rattle.sel_text.specs.Results.{IsFront};
 ghost use Rattle.jq_words.specs.Results.{Leaves, IsBehind};
 ghost use Rattle.jq_words.specs.declared.faults.ScriptFault.TheVariants.{Memory, UnknownCall};
 ghost use Rattle.jq_read.specs.Statements as spec;
-ghost use Rattle.jq_read.specs.Readers.{context_of, state_of};
+ghost use Rattle.jq_read.specs.Readers.{context_of, state_of, GoesOn};
 
 use crate::bodies::{named_function, once, start, timer};
 use crate::bound_names::is_bound_here;
@@ -35,9 +34,7 @@ fn foreign(reading: &Reading<'_, '_>) -> ScriptFault
 #[tactic(auto, unfolding(crate::specs::Statements::chain_statement), using(sel_text::proofs::Fronts::front_itself, jq_words::proofs::Rests::behind_rest))]
 fn chain_statement(reading: &mut Reading<'_, '_>, room: usize) -> Result<(), ScriptFault>
     ensures gives { Leaves (state_of reading.new, reading.new.words) result (spec.chain_statement (spec.block room) room (context_of reading.old) (state_of reading.old) reading.old.words) }
-    ensures rest { OnOk result (IsBehind reading.old.words reading.new.words) }
-    ensures kept { OnOk result (context_of reading.new ≡ context_of reading.old) }
-    ensures front { IsFront reading.old.grown.atoms reading.new.grown.atoms }
+    ensures goes_on { GoesOn IsBehind reading.old reading.new result }
 {
     let size = reading.reader.text.len();
     chain(reading, room)?;
@@ -54,9 +51,7 @@ pub(crate) fn statement(
     room: usize,
 ) -> Result<(), ScriptFault>
     ensures gives { Leaves (state_of reading.new, reading.new.words) result (spec.statement_as form (spec.block room) room (context_of reading.old) (state_of reading.old) reading.old.words) }
-    ensures rest { OnOk result (IsBehind reading.old.words reading.new.words) }
-    ensures kept { OnOk result (context_of reading.new ≡ context_of reading.old) }
-    ensures front { IsFront reading.old.grown.atoms reading.new.grown.atoms }
+    ensures goes_on { GoesOn IsBehind reading.old reading.new result }
 {
     let reader = reading.reader;
     match form {

@@ -1,10 +1,9 @@
-use Rattle.std.proofs.Common.{◌≡◌, ◌+◌, ◌*◌, length}
-use Rattle.sel_text.specs.Results.{IsFront}
+use Rattle.std.proofs.Common.{◌≡◌, ◌+◌, ◌*◌, length, Ok}
 use Rattle.jq_words.specs.Results.{IsRest}
 use Rattle.jq_parts.specs.Calls.{elements_in}
 use Rattle.jq_read.specs.Chains.{several, calls}
 use Rattle.jq_read.specs.Statements.{more_ones, sequence, block}
-use Rattle.jq_read.specs.Readers.{context_of, state_of}
+use Rattle.jq_read.specs.Readers.{context_of, state_of, GoesOn}
 use Rattle.jq_parts.specs.Views.{value_of}
 use Rattle.jq_read.proofs.SequenceSteps.{AreCounted, ReadsOn}
 use Rattle.jq_read.proofs.+grammar.Given as goal
@@ -80,9 +79,7 @@ decreases-sequences::sequence l = 32 * l.room + 10
 
 abbrev pub invariant-sequences::sequence-statements : goal.invariant-sequences::sequence-statements
 invariant-sequences::sequence-statements l = record {
-  rest : IsRest l.fn.reading.words l.reading.words;
-  kept : context_of l.reading ≡ context_of l.fn.reading;
-  front : IsFront l.fn.reading.grown.atoms l.reading.grown.atoms;
+  goes_on : GoesOn IsRest l.fn.reading l.reading (Ok (tt {0}));
   counted : AreCounted l.between l.reading.words;
   reads : ReadsOn l.in_block (block l.room) l.room (context_of l.fn.reading) l.between (state_of l.reading) l.reading.words
       (sequence l.in_block (block l.room) l.room (context_of l.fn.reading) (state_of l.fn.reading) 0 l.fn.reading.words);
@@ -93,9 +90,7 @@ decreases-sequences::sequence-statements l = length l.reading.words
 
 abbrev pub invariant-chains::several-arguments : goal.invariant-chains::several-arguments
 invariant-chains::several-arguments l = record {
-  rest : IsRest l.fn.reading.words l.reading.words;
-  kept : context_of l.reading ≡ context_of l.fn.reading;
-  front : IsFront l.fn.reading.grown.atoms l.reading.grown.atoms;
+  goes_on : GoesOn IsRest l.fn.reading l.reading (Ok (tt {0}));
   reads : several l.lists (block l.room 0) l.room (context_of l.fn.reading) (elements_in (value_of l.reached)) l.left (state_of l.reading) l.reading.words
       ≡ several l.lists (block l.room 0) l.room (context_of l.fn.reading) (elements_in (value_of l.reached)) l.count (state_of l.fn.reading) l.fn.reading.words;
 }
@@ -105,9 +100,7 @@ decreases-chains::several-arguments l = l.left
 
 abbrev pub invariant-chains::calls-calls : goal.invariant-chains::calls-calls
 invariant-chains::calls-calls l = record {
-  rest : IsRest l.fn.reading.words l.reading.words;
-  kept : context_of l.reading ≡ context_of l.fn.reading;
-  front : IsFront l.fn.reading.grown.atoms l.reading.grown.atoms;
+  goes_on : GoesOn IsRest l.fn.reading l.reading (Ok (tt {0}));
   reads : calls (block l.room 1) l.room (context_of l.fn.reading) (value_of l.so_far) (state_of l.reading) 0 l.reading.words
       ≡ calls (block l.room 1) l.room (context_of l.fn.reading) (value_of l.fn.reached) (state_of l.fn.reading) 0 l.fn.reading.words;
 }
@@ -117,9 +110,7 @@ decreases-chains::calls-calls l = length l.reading.words
 
 abbrev pub invariant-declarations::more_ones-ones : goal.invariant-declarations::more_ones-ones
 invariant-declarations::more_ones-ones l = record {
-  rest : IsRest l.fn.reading.words l.reading.words;
-  kept : context_of l.reading ≡ context_of l.fn.reading;
-  front : IsFront l.fn.reading.grown.atoms l.reading.grown.atoms;
+  goes_on : GoesOn IsRest l.fn.reading l.reading (Ok (tt {0}));
   reads : more_ones (block l.room) l.room (context_of l.fn.reading) (state_of l.reading) 0 l.reading.words
       ≡ more_ones (block l.room) l.room (context_of l.fn.reading) (state_of l.fn.reading) 0 l.fn.reading.words;
 }
