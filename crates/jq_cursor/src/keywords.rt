@@ -1,5 +1,5 @@
 //! Names that have a meaning of their own in a chain.
-ghost use Rattle.std.specs.Prelude.{◌≡◌, [], ◌∷◌, codes};
+ghost use Rattle.std.specs.Prelude.{◌≡◌, [], ◌∷◌, codes, IsUtf8};
 ghost use Rattle.jq_words.specs.Words.{is_mark, is_name_among, fits, first_is, spelled};
 ghost use Rattle.jq_cursor.specs.Keywords.{jquery};
 
@@ -33,7 +33,8 @@ pub fn is_jquery_call(words: &Words<'_>) -> bool
 /// The spelling of the first word; none where there is no word. Constant.
 #[tactic(auto, unfolding(jq_words::specs::Words::spelled))]
 pub fn spelled<'a>(words: &Words<'a>) -> &'a [u8]
-    ensures { result.now ≡ spelled words.now }
+    ensures bytes { result.now ≡ spelled words.now }
+    ensures utf8 { IsUtf8 result.now }
 {
     match words.first() {
         None => &[],

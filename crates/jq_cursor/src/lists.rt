@@ -1,6 +1,7 @@
 //! The words of a file, and how far the arguments in its brackets reach.
 ghost use Rattle.std.specs.Prelude.{◌≡◌, ◌≤◌, [], ◌∷◌, ◌++◌, Some, None, true, false, length, drop, codes, OnOk, IfOk, IfErr, IfSome, IfNone};
 ghost use Rattle.js_scan.specs.Tokens.{InOrder};
+ghost use Rattle.js_scan.specs.Utf8.{AreTexts};
 ghost use Rattle.jq_words.specs.Words as spec;
 ghost use Rattle.jq_words.specs.Words.{is_mark};
 ghost use Rattle.jq_words.specs.Brackets as brackets;
@@ -44,7 +45,8 @@ impl<'a> Lists<'a> {
     /// All words of a file. Linear in them, but for an entry for each call.
     #[tactic(auto, unfolding(jq_words::specs::Words::words), using(crate::proofs::OrderSteps::ascend, crate::proofs::NoteSteps::none_noted))]
     pub fn new(alloc: Global, text: &'a [u8], tokens: &'a [Token]) -> Result<Self, ScriptFault>
-        requires { InOrder 0 (length text.now) tokens.now }
+        requires in_order { InOrder 0 (length text.now) tokens.now }
+        requires text { AreTexts text.now tokens.now }
         ensures gives { IfOk result (λ l. l ≡ spec.words text.now tokens.now) }
         ensures only_memory { IfErr result (λ e. e ≡ Memory) }
     {

@@ -17,7 +17,7 @@ use jq_chains::{MarkedCall, SharedChain};
 use jq_cursor::{Cursor, Reader, counts};
 use jq_stmts::{Call, Root, Selectors, SharedCompounds, SharpKind};
 use jq_words::{Form, Row, ScriptFault, begins, place, row_of};
-use sel_text::{Atoms, Compound, Compounds, Joins, Selector};
+use sel_text::{Atoms, Compound, Selector};
 use std::alloc::Global;
 use tp_base::NoMemory;
 
@@ -232,25 +232,13 @@ pub fn ended(
     }
 }
 
-// The selector that a compound is by itself.
-fn simple_selector(alloc: Global, compound: &Compound) -> Result<Selector, NoMemory>
-    ensures { IfOk result (λ s. simple compound.now.atoms ≡ selector_of s) }
-{
-    let mut parts = Vec::new(alloc);
-    parts.push(compound.copy()?)?;
-    Ok(Selector {
-        parts: Compounds::new(parts),
-        joins: Joins::new(Vec::new(alloc)),
-    })
-}
-
 // The selectors that compounds are.
 fn simple_selectors(alloc: Global, compounds: &[Compound]) -> Result<Vec<Selector>, NoMemory>
     ensures { IfOk result (λ v. map simple (sem.atoms_of compounds.now) ≡ map selector_of v.items) }
 {
     let mut found = Vec::new(alloc);
     for compound in compounds {
-        found.push(simple_selector(alloc, compound)?)?;
+        found.push(Selector::of_one(alloc, compound.copy()?)?)?;
     }
     Ok(found)
 }

@@ -1,8 +1,8 @@
 //! Functions: the handlers that they are, and what is seen in them.
-ghost use Rattle.std.specs.Prelude.{◌≡◌, true, length, take, option_map, is_some, OnOk, IfErr};
+ghost use Rattle.std.specs.Prelude.{◌≡◌, true, length, take, option_map, is_some, OnOk, OnErr, IfErr};
 ghost use Rattle.jq_words.specs.declared.faults.ScriptFault.TheVariants.{Memory};
 ghost use Rattle.jq_parts.specs.Views.{declarations_of};
-ghost use Rattle.jq_parts.specs.ScopeViews.{handler_of, handlers_of};
+ghost use Rattle.jq_parts.specs.ScopeViews.{handler_of, handlers_of, scope_of};
 ghost use Rattle.jq_parts.specs.Scopes as spec;
 
 use crate::scopes::{Handler, Scope};
@@ -14,6 +14,7 @@ pub fn enter(handler: Option<Handler>, scope: &mut Scope<'_>) -> Result<(), Scri
     ensures handlers { OnOk result (handlers_of scope.new.handlers.items ≡ spec.with_handler (option_map handler_of handler) (handlers_of scope.old.handlers.items)) }
     ensures names_this { OnOk result (scope.new.has_this ≡ is_some (option_map handler_of handler)) }
     ensures declarations { OnOk result (scope.new.declarations ≡ scope.old.declarations) }
+    ensures kept { OnErr result (scope_of scope.new ≡ scope_of scope.old) }
     ensures only_memory { IfErr result (λ e. e ≡ Memory) }
 {
     match handler {

@@ -1,5 +1,5 @@
 //! What is seen at a place of a script.
-ghost use Rattle.std.specs.Prelude.{◌≡◌, bytes_eq, is_some};
+ghost use Rattle.std.specs.Prelude.{◌≡◌, bytes_eq, is_some, IsUtf8};
 ghost use Rattle.jq_words.specs.Results.{Gives};
 ghost use Rattle.jq_parts.specs.Bindings.{bound};
 ghost use Rattle.jq_parts.specs.Scopes as spec;
@@ -50,6 +50,7 @@ pub fn same_places(under: &[usize], handlers: &[Handler]) -> bool
 /// The value of a name that stands at an offset. A look-up, and a copy where it is markup: other values are shared.
 #[tactic(auto, unfolding(crate::specs::Scopes::used, crate::specs::Bindings::bound))]
 pub fn used(alloc: Global, scope: &Scope<'_>, name: &[u8], at: usize) -> Result<Value, ScriptFault>
+    requires text { IsUtf8 name.now }
     ensures { Gives value_of result (spec.used (scope_of scope.now) name.now at) }
 {
     let Some(declaration) = scope.declarations.latest(name) else {

@@ -1,5 +1,5 @@
 //! The chain on which markup is placed.
-ghost use Rattle.std.specs.Prelude.{◌≡◌, [], ◌∷◌, Bool, false, codes, drop, length, IfSome, IfNone};
+ghost use Rattle.std.specs.Prelude.{◌≡◌, [], ◌∷◌, Bool, false, codes, drop, length, IfSome, IfNone, IsUtf8};
 ghost use Rattle.sel_text.specs.Results.{IsFront};
 ghost use Rattle.jq_words.specs.Words.{Word, is_mark, is_name_among, is_form, spelled};
 ghost use Rattle.jq_words.specs.Results.{Gives, Finds};
@@ -42,6 +42,7 @@ fn named_target(
     name: &[u8],
     name_at: usize,
 ) -> Result<SharedChain, ScriptFault>
+    requires text { IsUtf8 name.now }
     ensures { Gives shared_of result (spec.named_target (scope_of scope.now) at name.now name_at) }
 {
     if is_apart(&scope.declarations, name) {

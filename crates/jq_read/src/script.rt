@@ -5,6 +5,7 @@ ghost use Rattle.jq_stmts.specs.Sharp.{wides};
 ghost use Rattle.jq_stmts.specs.SharpViews.{exacts_of};
 ghost use Rattle.jq_stmts.specs.Views.{statements_of};
 ghost use Rattle.js_scan.specs.Tokens.{InOrder, script_tokens};
+ghost use Rattle.js_scan.specs.Utf8.{AreTexts};
 ghost use Rattle.js_scan.specs.declared.token.ScanFault.TheVariants as scan;
 ghost use Rattle.sel_text.specs.Results.{IsFront};
 ghost use Rattle.jq_words.specs.Results.{Gives, Finds};
@@ -29,6 +30,7 @@ use tp_base::AtomTable;
 fn tokens_of(alloc: Global, text: &[u8]) -> Result<Vec<Token>, ScriptFault>
     ensures gives { Gives (λ v. v.items) result (spec.from_scan (script_tokens text.now)) }
     ensures in_order { IfOk result (λ v. InOrder 0 (length text.now) v.items) }
+    ensures text { IfOk result (λ v. AreTexts text.now v.items) }
 {
     match scan(alloc, text) {
         Ok(tokens) => Ok(tokens),

@@ -2,6 +2,7 @@
 use Rattle.std.proofs.Common.{◌≡◌, ℕ, zero, suc, ◌≤◌, List, [], ◌∷◌, length, take, refl, ap, arith}
 use Rattle.js_scan.specs.declared.token.Token.{Token}
 use Rattle.js_scan.specs.Tokens.{InOrder}
+use Rattle.js_scan.specs.Utf8.{AreTexts}
 use Rattle.js_scan.proofs.TokensLemmas.{in_order_bounds}
 use Rattle.jq_words.specs.Words.{words_behind}
 
@@ -12,6 +13,11 @@ pub front_in_order : (low high k : ℕ) (ts : List Token) → InOrder low high t
 front_in_order low high zero ts sorted = in_order_bounds low high ts sorted
 front_in_order low high (suc k) [] sorted = sorted
 front_in_order low high (suc k) (t ∷ ts) sorted = (sorted.0, sorted.1, front_in_order t.to high k ts sorted.2)
+
+pub front_texts : (text : List ℕ) (k : ℕ) (ts : List Token) → AreTexts text ts → AreTexts text (take k ts)
+front_texts text zero ts texts = tt
+front_texts text (suc k) [] texts = tt
+front_texts text (suc k) (t ∷ ts) texts = (texts.0, front_texts text k ts texts.1)
 
 pub front_words : (text : List ℕ) (end k : ℕ) (ts : List Token) → words_behind text end (take k ts) ≡ take k (words_behind text end ts)
 unfolding words_behind

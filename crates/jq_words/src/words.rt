@@ -1,7 +1,8 @@
 //! The words of a script: its tokens, with their spelling and with the ends of lines between them.
-ghost use Rattle.std.specs.Prelude.{◌≡◌, ◌≤◌, ◌<◌, ◌+◌, ◌==◌, not, true, false, [], ◌∷◌, length, map, take, drop, codes, Ok, Err, IfOk, IfErr, IfSome, IfNone, OnOk, IsTrue};
+ghost use Rattle.std.specs.Prelude.{◌≡◌, ◌≤◌, ◌<◌, ◌+◌, ◌==◌, not, true, false, [], ◌∷◌, length, map, take, drop, codes, Ok, Err, IfOk, IfErr, IfSome, IfNone, OnOk, IsTrue, IsUtf8};
 ghost use Rattle.jq_words.specs.Words as spec;
 ghost use Rattle.js_scan.specs.Tokens.{InOrder};
+ghost use Rattle.js_scan.specs.Utf8.{AreTexts};
 ghost use Rattle.jq_words.specs.Results.{Finds, Leaves, IsRest, IsBehind};
 
 use crate::faults::ScriptFault;
@@ -19,13 +20,15 @@ pub struct Word<'a> {
 }
 
 impl<'a> Model for Word<'a> {
-    ghost use Rattle.std.specs.Prelude.{◌==◌};
+    ghost use Rattle.std.specs.Prelude.{◌==◌, IsUtf8};
     ghost use Rattle.std.specs.List.{list_any};
     ghost use Rattle.jq_words.specs.Words.{Word};
 
     ghost Value = { Word };
 
     ghost view = { λ w. record { kind = w.kind.now; spelling = w.spelling.now; at = w.at; later = list_any (λ b. b == 10) w.gap.now } };
+
+    ghost invariant = { λ w. IsUtf8 w.spelling.now };
 }
 
 /// Whether a spelling is one of these.
@@ -45,6 +48,7 @@ pub fn is_one_of(names: &[&[u8]], name: &[u8]) -> bool
 
 /// A spelling, as letters of its own.
 pub fn letters(alloc: Global, spelling: &[u8]) -> Result<Letters, ScriptFault>
+    requires text { IsUtf8 spelling.now }
     ensures letters { IfOk result (λ l. l ≡ spelling.now) }
     ensures only_memory { IfErr result (λ e. e ≡ ScriptFault.Memory) }
 {
@@ -52,7 +56,7 @@ pub fn letters(alloc: Global, spelling: &[u8]) -> Result<Letters, ScriptFault>
     bytes.extend_from_slice(spelling)?;
     match String::from_utf8(bytes) {
         Ok(text) => Ok(Letters::new(text)),
-        Err(_) => Err(ScriptFault::Memory),
+        Err(_) => unreachable!(),
     }
 }
 
@@ -146,9 +150,10 @@ impl<'a> Word<'a> {
         self.gap.contains(&b'\n')
     }
 
-    /// Its bytes as they stand in the file. Constant.
+    /// Its bytes as they stand in the file, which are UTF-8. Constant.
     pub fn spelling(&self) -> &'a [u8]
-        ensures { result.now ≡ self.now.spelling }
+        ensures bytes { result.now ≡ self.now.spelling }
+        ensures utf8 { IsUtf8 result.now }
     {
         self.spelling
     }
@@ -166,20 +171,22 @@ pub struct Words<'a> {
 impl<'a> Model for Words<'a> {
     ghost use Rattle.std.specs.Prelude.{◌≤◌, List, length};
     ghost use Rattle.js_scan.specs.Tokens.{InOrder};
+    ghost use Rattle.js_scan.specs.Utf8.{AreTexts};
     ghost use Rattle.jq_words.specs.Words.{Word, words_behind};
 
     ghost Value = { List Word };
 
     ghost view = { λ w. words_behind w.text.now w.end w.tokens.now };
 
-    ghost invariant = { λ w. InOrder w.end (length w.text.now) w.tokens.now };
+    ghost invariant = { λ w. InOrder w.end (length w.text.now) w.tokens.now × AreTexts w.text.now w.tokens.now };
 }
 
 impl<'a> Words<'a> {
     /// All words of a file.
     #[tactic(auto, unfolding(crate::specs::Words::words))]
     pub fn new(text: &'a [u8], tokens: &'a [Token]) -> Self
-        requires { InOrder 0 (length text.now) tokens.now }
+        requires in_order { InOrder 0 (length text.now) tokens.now }
+        requires text { AreTexts text.now tokens.now }
         ensures { result ≡ spec.words text.now tokens.now }
     {
         Words {
@@ -210,7 +217,7 @@ impl<'a> Words<'a> {
     }
 
     /// The first of the words, so many of them.
-    #[tactic(auto, using(crate::proofs::Orders::front_in_order, crate::proofs::Orders::front_words, crate::proofs::Orders::all_words))]
+    #[tactic(auto, using(crate::proofs::Orders::front_in_order, crate::proofs::Orders::front_texts, crate::proofs::Orders::front_words, crate::proofs::Orders::all_words))]
     pub fn front(&self, count: usize) -> Words<'a>
         ensures { result ≡ take count self.now }
     {

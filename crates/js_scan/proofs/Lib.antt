@@ -3,4 +3,5 @@ pub mod TokensLemmas
 pub mod Utf8Lemmas
 pub mod OwnBytes
 pub mod Spelling
+pub mod TokenTexts
 mod Rows

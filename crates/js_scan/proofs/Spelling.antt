@@ -21,13 +21,13 @@ use Rattle.js_scan.specs.Tokens.{Front, text_front, block_comment, slash, mark_f
 use Rattle.text_bytes.proofs.Fronts.{own_run}
 use Rattle.js_scan.proofs.OwnBytes.{own_mark, own_text}
 
-bind_ok : {A B : Type 0} (r : Outcome A) (f : A → Outcome B) (y : B) → (r >>= f) ≡ Ok y → (x : A) × (r ≡ Ok x) × (f x ≡ Ok y)
+pub bind_ok : {A B : Type 0} (r : Outcome A) (f : A → Outcome B) (y : B) → (r >>= f) ≡ Ok y → (x : A) × (r ≡ Ok x) × (f x ≡ Ok y)
 bind_ok (Ok x) f y read = (x, refl, read)
 bind_ok (Err e) f y read = absurd (grind arith)
 
 -- ---- one token
 
-abbrev len_of : Front → ℕ
+abbrev pub len_of : Front → ℕ
 len_of (Ok f) = f.1
 len_of (Err e) = 0
 
@@ -57,17 +57,13 @@ own_text_front quote behind at len kind q read =
 abbrev passed : ℕ → Front
 passed n = Ok (None, n)
 
-abbrev as_mark : ℕ → Front
+abbrev pub as_mark : ℕ → Front
 as_mark n = Ok (Some Mark, n)
 
-own_slash : (divides : Bool) (behind : List ℕ) (at len : ℕ) (kind : TokenKind) → slash divides behind at ≡ Ok (Some kind, len)
-    → (1 ≤ len) × (slash true (take (len - 1) behind) at ≡ Ok (Some kind, len))
+pub slash_mark : (divides : Bool) (behind : List ℕ) (at len : ℕ) (kind : TokenKind) → slash divides behind at ≡ Ok (Some kind, len) → as_mark 1 ≡ Ok (Some kind, len)
 unfolding slash block_comment
-own_slash divides behind at len kind read =
-    let mark = chosen (starts_with nat_eq behind (47 ∷ [])) (starts_with nat_eq behind (42 ∷ [])) divides at (1 + prefix_len is_in_line behind) (behind_close (drop 1 behind)) _ len kind read in
-    let one : 1 ≡ len = ap len_of mark in
-    let less : len - 1 ≡ 0 = omega arith in
-    (omega arith, rw less mark)
+slash_mark divides behind at len kind read =
+    chosen (starts_with nat_eq behind (47 ∷ [])) (starts_with nat_eq behind (42 ∷ [])) divides at (1 + prefix_len is_in_line behind) (behind_close (drop 1 behind)) _ len kind read
   where
     chosen : (line block divides : Bool) (at n : ℕ) (o : Option (List ℕ)) (f : List ℕ → ℕ) (len : ℕ) (kind : TokenKind)
         → (if line then passed n else (if block then (ok_or o (BadByte at) >>= λ rest. passed (f rest)) else (if divides then as_mark 1 else Err (Regexp at)))) ≡ Ok (Some kind, len)
@@ -78,7 +74,16 @@ own_slash divides behind at len kind read =
     chosen false false true at n o f len kind read = read
     chosen false false false at n o f len kind read = absurd (grind arith)
 
-some_mark : (o : Option ℕ) (at len : ℕ) (kind : TokenKind) → (ok_or o (BadByte at) >>= λ n. as_mark n) ≡ Ok (Some kind, len) → (o ≡ Some len) × (as_mark len ≡ Ok (Some kind, len))
+own_slash : (divides : Bool) (behind : List ℕ) (at len : ℕ) (kind : TokenKind) → slash divides behind at ≡ Ok (Some kind, len)
+    → (1 ≤ len) × (slash true (take (len - 1) behind) at ≡ Ok (Some kind, len))
+unfolding slash
+own_slash divides behind at len kind read =
+    let mark = slash_mark divides behind at len kind read in
+    let one : 1 ≡ len = ap len_of mark in
+    let less : len - 1 ≡ 0 = omega arith in
+    (omega arith, rw less mark)
+
+pub some_mark : (o : Option ℕ) (at len : ℕ) (kind : TokenKind) → (ok_or o (BadByte at) >>= λ n. as_mark n) ≡ Ok (Some kind, len) → (o ≡ Some len) × (as_mark len ≡ Ok (Some kind, len))
 some_mark None at len kind read = absurd (grind arith)
 some_mark (Some n) at len kind read =
     let same : n ≡ len = ap len_of read in (ap (λ (k : ℕ). let o : Option ℕ = Some k in o) same, subst (λ (k : ℕ). as_mark k ≡ Ok (Some kind, len)) same read)
@@ -98,7 +103,7 @@ choice : (r : Front) (low : Type 0) (test : Bool) (x y own_x own_y : Front) → 
 choice r low true x y own_x own_y first later read = first refl read
 choice r low false x y own_x own_y first later read = later refl read
 
-own_front : (divides : Bool) (b : ℕ) (bs : List ℕ) (at len : ℕ) (kind : TokenKind) → front divides (b ∷ bs) at ≡ Ok (Some kind, len)
+pub own_front : (divides : Bool) (b : ℕ) (bs : List ℕ) (at len : ℕ) (kind : TokenKind) → front divides (b ∷ bs) at ≡ Ok (Some kind, len)
     → (1 ≤ len) × (front true (b ∷ take (len - 1) bs) at ≡ Ok (Some kind, len))
 unfolding front
 own_front divides b bs at len kind read =

@@ -1,7 +1,7 @@
 //! From bytes to tokens.
 ghost use Rattle.std.specs.Prelude.{◌≡◌, ◌+◌, ◌≤◌, ◌<◌, ◌++◌, length, All, IfOk, OnOk, IfErr, IsUtf8};
 ghost use Rattle.js_scan.specs.Tokens as spec;
-ghost use Rattle.js_scan.specs.Utf8.{TextBehindAscii};
+ghost use Rattle.js_scan.specs.Utf8.{TextBehindAscii, AreTexts};
 ghost use Rattle.js_scan.specs.Views.{Gives};
 
 use crate::bytes::{begins_name, is_quote, name_len, number_len};
@@ -163,11 +163,12 @@ fn tokens(alloc: Global, text: &[u8]) -> Result<Vec<Token>, ScanFault>
 
 /// The tokens of a script file, with a byte order mark at its front passed over. Linear in the file, in time
 /// and in memory.
-#[tactic(auto, using(text_bytes::proofs::Utf8::valid_len, crate::proofs::Utf8Lemmas::behind_ascii, crate::proofs::Spelling::all_spelled))]
+#[tactic(auto, using(text_bytes::proofs::Utf8::valid_len, crate::proofs::Utf8Lemmas::behind_ascii, crate::proofs::Spelling::all_spelled, crate::proofs::TokenTexts::all_texts))]
 pub fn scan(alloc: Global, text: &[u8]) -> Result<Vec<Token>, ScanFault>
     ensures exact { Gives (λ v. v.items) result (spec.script_tokens text.now) }
     ensures in_order { IfOk result (λ v. spec.InOrder 0 (length text.now) v.items) }
     ensures spelled { IfOk result (λ v. All (spec.IsSpelled text.now) v.items) }
+    ensures text { IfOk result (λ v. AreTexts text.now v.items) }
 {
     match text.to_str() {
         Err(e) => Err(ScanFault::NotUtf8(e.valid_up_to())),

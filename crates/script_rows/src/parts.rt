@@ -1,6 +1,7 @@
 //! Parts of chains, with the name `a` bound to document or window.
 ghost use Rattle.std.specs.Prelude.{length};
 ghost use Rattle.js_scan.specs.Tokens.{InOrder};
+ghost use Rattle.js_scan.specs.Utf8.{AreTexts};
 
 use crate::words::{lettered, tokens_of};
 use jq_chains::{MarkedChain, SharedChain};
@@ -40,7 +41,8 @@ fn of_tokens(
     text: &[u8],
     tokens: &[Token],
 ) -> Result<String, ScriptFault>
-    requires { InOrder 0 (length text.now) tokens.now }
+    requires in_order { InOrder 0 (length text.now) tokens.now }
+    requires text { AreTexts text.now tokens.now }
 {
     if text.len() > MOST_BYTES as usize {
         return Ok(String::from_str(alloc, "too large")?);

@@ -1,6 +1,7 @@
 //! What is read of words without their names.
 ghost use Rattle.std.specs.Prelude.{length, IfOk};
 ghost use Rattle.js_scan.specs.Tokens.{InOrder};
+ghost use Rattle.js_scan.specs.Utf8.{AreTexts};
 
 use jq_words::{
     Rules, ScriptFault, Words, argument_len, closed_texts, declared_in, free, joined_texts, place,
@@ -18,7 +19,8 @@ pub(crate) enum OfWords {
 }
 
 pub(crate) fn tokens_of(alloc: Global, text: &[u8]) -> Result<Vec<Token>, ScriptFault>
-    ensures { IfOk result (λ v. InOrder 0 (length text.now) v.items) }
+    ensures in_order { IfOk result (λ v. InOrder 0 (length text.now) v.items) }
+    ensures text { IfOk result (λ v. AreTexts text.now v.items) }
 {
     match scan(alloc, text) {
         Ok(tokens) => Ok(tokens),

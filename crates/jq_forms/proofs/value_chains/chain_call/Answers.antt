@@ -7,14 +7,14 @@ pub returns-then-reads_with-clause-other : goal.returns-then-reads_with-clause-o
 returns-then-reads_with-clause-other c =
     no_other_call c.args.exact c.args.words.now (extent_of c.in_ok-enclosed.enclosed)
     (rw c.words-2.ensures at c.begins_call.ensures ∙ c.if-not-begins_call.false)
-    (rw (c.spelled-name.ensures, c.words.ensures) at c.is_known.ensures ∙ c.if-not-is_known.false)
+    (rw (c.spelled-name.ensures.bytes, c.words.ensures) at c.is_known.ensures ∙ c.if-not-is_known.false)
     (rw (c.pass.ensures.passed, c.again-list.ensures) at c.in_ok-enclosed.ensures.gives)
-    (rw (c.behind.ensures, c.words-3.ensures, c.pass.ensures.passed, c.again-list.ensures, c.spelled-name.ensures, c.words.ensures) at c.reads_with.ensures ∙ c.if-reads_with.true)
+    (rw (c.behind.ensures, c.words-3.ensures, c.pass.ensures.passed, c.again-list.ensures, c.spelled-name.ensures.bytes, c.words.ensures) at c.reads_with.ensures ∙ c.if-reads_with.true)
 
 pub returns-clause-call : goal.returns-clause-call
 returns-clause-call c =
     one_call c.args.exact c.args.words.now (extent_of c.in_ok-enclosed.enclosed)
     (rw c.words-2.ensures at c.begins_call.ensures ∙ c.if-not-begins_call.false)
-    (rw (c.spelled-name.ensures, c.words.ensures) at c.is_known.ensures ∙ c.if-not-is_known.false)
+    (rw (c.spelled-name.ensures.bytes, c.words.ensures) at c.is_known.ensures ∙ c.if-not-is_known.false)
     (rw (c.pass.ensures.passed, c.again-list.ensures) at c.in_ok-enclosed.ensures.gives)
-    (rw (c.behind.ensures, c.words-3.ensures, c.pass.ensures.passed, c.again-list.ensures, c.spelled-name.ensures, c.words.ensures) at c.reads_with.ensures ∙ c.if-reads_with.false)
+    (rw (c.behind.ensures, c.words-3.ensures, c.pass.ensures.passed, c.again-list.ensures, c.spelled-name.ensures.bytes, c.words.ensures) at c.reads_with.ensures ∙ c.if-reads_with.false)
