@@ -12,8 +12,8 @@ trait Compared {
 
     ghost seen: { Self → Seen };
 
-    // Whether two are written the same. Linear in the shorter.
-    fn is_same(&self, other: &Self) -> bool
+    // Whether two are surely written the same; where it says no, that costs time alone. Linear in the shorter.
+    fn is_surely_same(&self, other: &Self) -> bool
         ensures { result ≡ true → seen self.now ≡ seen other.now };
 }
 
@@ -25,7 +25,7 @@ fn shared<T: Compared>(first: &[T], second: &[T]) -> usize
 {
     let mut count = 0;
     'items: while count < first.len() && count < second.len() {
-        if !first[count].is_same(&second[count]) {
+        if !first[count].is_surely_same(&second[count]) {
             return count;
         }
         count += 1;
@@ -47,7 +47,7 @@ impl Compared for Compound {
 
     ghost seen = { λ c. c.atoms };
 
-    fn is_same(&self, other: &Compound) -> bool {
+    fn is_surely_same(&self, other: &Compound) -> bool {
         self.atoms.items() == other.atoms.items()
     }
 }
@@ -59,7 +59,7 @@ impl Compared for Selector {
 
     ghost seen = { selector_of };
 
-    fn is_same(&self, other: &Selector) -> bool {
+    fn is_surely_same(&self, other: &Selector) -> bool {
         self.joins.items() == other.joins.items()
             && all_same(self.parts.items(), other.parts.items())
     }
@@ -72,7 +72,7 @@ impl Compared for Call {
 
     ghost seen = { call_of };
 
-    fn is_same(&self, other: &Call) -> bool {
+    fn is_surely_same(&self, other: &Call) -> bool {
         match (self, other) {
             (Call::Find(first), Call::Find(second))
             | (Call::Children(first), Call::Children(second))
@@ -107,7 +107,7 @@ impl Compared for Chain {
 
     ghost seen = { chain_of };
 
-    fn is_same(&self, other: &Chain) -> bool {
+    fn is_surely_same(&self, other: &Chain) -> bool {
         same_root(&self.root, &other.root) && all_same(self.calls.items(), other.calls.items())
     }
 }

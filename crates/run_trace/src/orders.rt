@@ -11,7 +11,8 @@ struct RunList {
     item: usize,
 }
 
-/// The numbers of the items whose answers show steps, in the order of their runs. It costs a sort of these lists of runs.
+/// The numbers of the items whose answers show steps, in the order of their runs. It costs a sort of these lists of runs. Time alone
+/// rests on it: a list that is missing or stands elsewhere is done by itself.
 pub(crate) fn in_order(alloc: Global, task: &Task) -> Result<Vec<usize>, NoMemory> {
     let mut lists = lists_of(alloc, task)?;
     lists.sort()?;

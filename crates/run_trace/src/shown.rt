@@ -79,7 +79,7 @@ pub(crate) fn has_runs(steps: &[Step], runs: &[u32]) -> bool
     steps.len() <= runs.len() && begins_with(steps, runs)
 }
 
-/// How many of the first steps have the same statements.
+/// How many of the first steps have the same statements. Time alone rests on it.
 pub(crate) fn shared_length(steps: &[Step], others: &[Step]) -> usize {
     let most = steps.len().min(others.len());
     'steps: for i in 0..most {

@@ -1,9 +1,10 @@
 //! Finds the CSS rules that a page can never use: `treeped PAGE SHEET SCRIPT`.
 #![tactic(auto)]
 
-ghost use Rattle.std.specs.Prelude.{◌≡◌, drop, map, string_bytes, IfOk};
+ghost use Rattle.std.specs.Prelude.{◌≡◌, ◌≢◌, [], drop, map, string_bytes, Err, IfOk, IfErr};
 ghost use Rattle.std.specs.Vec.Iter.{into_iter_items};
 ghost use Rattle.std.specs.Process.{exit_status};
+ghost use Rattle.std.specs.IoError.{error_kind};
 ghost use Rattle.treeped.specs.Runs.{IsSystemRun, stream_put};
 ghost use Rattle.treeped_app.specs.Stops.{code_of};
 
@@ -19,7 +20,7 @@ fn main(rt: HostRuntime) -> ExitCode {
     let alloc = rt.alloc();
     let mut out = HostSink::output(rt.stdout());
     let mut err = HostSink::error(rt.stderr());
-    let status = match words(&rt, alloc) {
+    let status = match words(alloc, env::args(&rt)) {
         Ok(words) => run(alloc, &words, rt, &mut out, &mut err),
         Err(_) => no_words(&mut err),
     };
@@ -54,9 +55,14 @@ fn exit_code(status: Status) -> ExitCode
     ExitCode::from(status.code())
 }
 
-// The words after the program's name. A word that isn't UTF-8 names no file, so that there are no words then.
-fn words<R: Env + Alloc<A = Global>>(rt: &R, alloc: Global) -> io::Result<Vec<String>> {
-    match env::args(rt) {
+// The words after the program's name, of the arguments that the system gave. A word that isn't UTF-8 names no file, so that there
+// are no words then.
+fn words(alloc: Global, given: io::Result<env::Args>) -> io::Result<Vec<String>>
+    ensures words { IfOk given (λ args. IfOk result (λ words. words.items ≡ drop 1 (into_iter_items args))) }
+    ensures not_utf8 { IfErr given (λ e. error_kind e ≡ ErrorKind.InvalidData → IfOk result (λ words. words.items ≡ [])) }
+    ensures err { IfErr given (λ e. error_kind e ≢ ErrorKind.InvalidData → result ≡ Err e) }
+{
+    match given {
         Ok(args) => Ok(behind_name(alloc, args)?),
         Err(e) if e.kind() == ErrorKind::InvalidData => Ok(Vec::new(alloc)),
         Err(e) => Err(e),

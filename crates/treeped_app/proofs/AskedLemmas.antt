@@ -21,12 +21,12 @@ use Rattle.guard_sem.proofs.SameGuards.{same_guard-sound, same_guard-itself}
 use Rattle.rule_translate.specs.Translation.{rules_of}
 use Rattle.simple_core.specs.declared.system.System.{System}
 use Rattle.guard_simplify.specs.declared.simplified.TheConstants.{MOST_VISIBLE}
-use Rattle.guard_simplify.specs.Firsts.{with_new, different}
+use Rattle.guard_simplify.specs.Firsts.{different}
 use Rattle.guard_simplify.specs.Auxiliaries.{formulas_of, formulas, seen}
 use Rattle.guard_simplify.specs.Law.{IsOver}
 use Rattle.guard_simplify.specs.Numbered.{with_all}
-use Rattle.guard_simplify.proofs.NumberLemmas.{Contains-among, Contains-folded_list}
-use Rattle.guard_simplify.proofs.NumberedLemmas.{with_all-append, grown}
+use Rattle.guard_simplify.proofs.NumberLemmas.{Contains-folded_list}
+use Rattle.guard_simplify.proofs.NumberedLemmas.{with_all-append, with_all-there, grown}
 use Rattle.proof_check.specs.declared.proofs.Proof.{Proof}
 use Rattle.proof_check.specs.declared.unfolded.Unfolded.{Unfolded}
 use Rattle.proof_check.specs.Unfolding.{unfolded}
@@ -48,14 +48,7 @@ use Rattle.treeped_app.proofs.TablesLemmas.{same_auxiliaries, same_atom, same_sy
 
 -- ---- a list without repeats takes nothing twice
 
--- what is among the kept changes nothing
-known_again : (kept xs : List Guard) → ((x : Guard) → Contains xs x → Contains kept x) → with_all kept xs ≡ kept
-known_again kept [] known = refl
-known_again kept (x ∷ xs) known =
-    let here : with_new same_guard kept x ≡ kept = rw (Contains-among same_guard same_guard-sound same_guard-itself x kept (known x (Contains-here x x xs refl))) refl in
-    ap (λ z. with_all z xs) here ∙ known_again kept xs (λ y is. known y (Contains-behind y x xs is))
-
--- and what is kept stays
+-- what is kept stays
 stays_kept : (kept xs : List Guard) (x : Guard) → Contains kept x → Contains (with_all kept xs) x
 stays_kept kept xs x is = let more = grown kept xs in subst (λ z. Contains z x) (sym more.1) (Contains-append_left kept more.0 x is)
 
@@ -98,7 +91,7 @@ module _ (f : Guard → List Guard) (gs : List Guard) where
   once_each : (numbers : List ℕ) (k : ℕ) (kept : List Guard) → AreKept k kept → InOrder k numbers (length gs) → with_all kept (all_of numbers) ≡ with_all kept (flat_map f (drop k gs))
   once_each [] k kept are order = ap (λ z. with_all kept (flat_map f z)) (sym (drop_all k gs (omega (arith, order))))
   once_each (j ∷ numbers) k kept are (inl (before, order)) =
-      with_all-append kept (one j) (all_of numbers) ∙ ap (λ z. with_all z (all_of numbers)) (known_again kept (one j) (are j before)) ∙ once_each numbers k kept are order
+      with_all-append kept (one j) (all_of numbers) ∙ ap (λ z. with_all z (all_of numbers)) (with_all-there kept (one j) (are j before)) ∙ once_each numbers k kept are order
   once_each (j ∷ numbers) k kept are (inr (next, order)) =
       let within : k < length gs = omega (arith, (in_order_known (k + 1) (length gs) numbers order).0) in
       with_all-append kept (one j) (all_of numbers) ∙ ap (λ z. with_all (with_all kept (one z)) (all_of numbers)) next

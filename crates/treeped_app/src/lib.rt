@@ -9,6 +9,7 @@ mod pruning;
 mod reading;
 mod runs;
 mod saying;
+mod settling;
 mod sites;
 mod statuses;
 mod tasks;

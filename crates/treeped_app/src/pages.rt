@@ -3,7 +3,6 @@ ghost use Rattle.std.specs.Prelude.{◌≡◌, ◌≤◌, List, ℕ, Some, false
 ghost use Rattle.command_words.specs.Orders.{takes_pages};
 ghost use Rattle.triple_gen.specs.declared.triple.TheConstants.{MOST_BOXES};
 ghost use Rattle.tp_io.specs.Files.{Load};
-ghost use Rattle.limits.specs.Budgets.{IsInRange};
 ghost use Rattle.treeped_app.specs.Inputs.{Written};
 ghost use Rattle.treeped_app.specs.Modes as modes;
 ghost use Rattle.run_ends.specs.Tells.{put_of};
@@ -16,10 +15,8 @@ use crate::loading::{Wanted, load_three};
 use crate::reading::Texts;
 use crate::saying::say;
 use crate::statuses::status_of;
-use crate::tasks::Names;
+use crate::tasks::{Names, Request};
 use crate::writing::write_one;
-use command_words::Mode;
-use limits::Limits;
 use run_ends::{Part, Status, Stop};
 use std::alloc::Global;
 use tp_io::{Files, Sink};
@@ -30,14 +27,12 @@ use usage_report::write_summary;
 pub(crate) fn run_page<F: Files, O: Sink>(
     alloc: Global,
     names: &Names<'_>,
-    mode: Mode,
-    limits: &Limits,
+    request: &Request<'_>,
     files: &mut F,
     out: &mut O,
 ) -> Result<Status, Stop>
-    requires limits { IsInRange limits.now }
-    requires one { takes_pages mode ≡ false }
-    ensures { (words : List (List ℕ)) → task.command words ≡ Some (task.task_by (task.one (names_of names.now)) mode limits.now) → Ends (run_of (F.told files.old) words (F.loads files.old) (F.loads files.new)
+    requires one { takes_pages request.now.mode ≡ false }
+    ensures { (words : List (List ℕ)) → task.command words ≡ Some (task.task_by (task.one (names_of names.now)) request.now.mode request.now.limits.now) → Ends (run_of (F.told files.old) words (F.loads files.old) (F.loads files.new)
         (put_of (O.written out.old) (O.written out.new) (O.faults out.old) (O.faults out.new))) result }
 {
     let page = Wanted {
@@ -58,38 +53,34 @@ pub(crate) fn run_page<F: Files, O: Sink>(
         sheet: &loaded.1,
         script: &loaded.2,
     };
-    answer(alloc, mode, limits, &texts, out)
+    answer(alloc, request, &texts, out)
 }
 
 // Reads and judges the texts of a page, and writes what the mode says of it.
 fn answer<O: Sink>(
     alloc: Global,
-    mode: Mode,
-    limits: &Limits,
+    request: &Request<'_>,
     texts: &Texts<'_>,
     out: &mut O,
 ) -> Result<Status, Stop>
-    requires limits { IsInRange limits.now }
     requires fit { Fit (texts_of texts.now) }
-    ensures { Written mode limits.now (texts_of texts.now) (modes.text_on mode) (put_of (O.written out.old) (O.written out.new) (O.faults out.old) (O.faults out.new)) result }
+    ensures { Written request.now.mode request.now.limits.now (texts_of texts.now) (modes.text_on request.now.mode) (put_of (O.written out.old) (O.written out.new) (O.faults out.old) (O.faults out.new)) result }
 {
-    let said = say(alloc, mode, limits, None, texts)?;
-    write_one(alloc, mode, texts, &said, out)?;
-    Ok(status_of(mode, &said))
+    let said = say(alloc, request, None, texts)?;
+    write_one(alloc, request.mode, texts, &said, out)?;
+    Ok(status_of(request.mode, &said))
 }
 
 /// Judges a ring of n boxes, and writes the line that counts the answers.
 pub(crate) fn run_ring<O: Sink>(
     alloc: Global,
     n: u32,
-    mode: Mode,
-    limits: &Limits,
+    request: &Request<'_>,
     out: &mut O,
 ) -> Result<Status, Stop>
-    requires limits { IsInRange limits.now }
     requires few { n ≤ MOST_BOXES }
-    requires one { takes_pages mode ≡ false }
-    ensures { (told : Told) (words : List (List ℕ)) (loads : List Load) → task.command words ≡ Some (task.task_by (task.ring n) mode limits.now) → Ends (run_of told words loads loads
+    requires one { takes_pages request.now.mode ≡ false }
+    ensures { (told : Told) (words : List (List ℕ)) (loads : List Load) → task.command words ≡ Some (task.task_by (task.ring n) request.now.mode request.now.limits.now) → Ends (run_of told words loads loads
         (put_of (O.written out.old) (O.written out.new) (O.faults out.old) (O.faults out.new))) result }
 {
     let triple = generate(alloc, n)?;
@@ -101,23 +92,21 @@ pub(crate) fn run_ring<O: Sink>(
         sheet: &sheet,
         script: &script,
     };
-    count(alloc, n, mode, limits, &texts, out)
+    count(alloc, n, request, &texts, out)
 }
 
 // Reads and judges the texts of a ring of n boxes, and writes the line that counts the answers.
 fn count<O: Sink>(
     alloc: Global,
     n: u32,
-    mode: Mode,
-    limits: &Limits,
+    request: &Request<'_>,
     texts: &Texts<'_>,
     out: &mut O,
 ) -> Result<Status, Stop>
-    requires limits { IsInRange limits.now }
     requires fit { Fit (texts_of texts.now) }
-    ensures { Written mode limits.now (texts_of texts.now) (λ s. summary n s.items) (put_of (O.written out.old) (O.written out.new) (O.faults out.old) (O.faults out.new)) result }
+    ensures { Written request.now.mode request.now.limits.now (texts_of texts.now) (λ s. summary n s.items) (put_of (O.written out.old) (O.written out.new) (O.faults out.old) (O.faults out.new)) result }
 {
-    let said = say(alloc, mode, limits, None, texts)?;
+    let said = say(alloc, request, None, texts)?;
     write_summary(alloc, n, &said.items, out)?;
-    Ok(status_of(mode, &said))
+    Ok(status_of(request.mode, &said))
 }

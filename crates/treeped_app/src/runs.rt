@@ -1,6 +1,5 @@
 //! The command itself.
 ghost use Rattle.std.specs.Prelude.{◌≡◌, ℕ, List, Some, map, string_bytes};
-ghost use Rattle.limits.specs.Budgets.{IsInRange};
 ghost use Rattle.treeped_app.specs.Tasks.{IsFew, IsOfMode, task_by, command};
 ghost use Rattle.treeped_app.specs.Views as view;
 ghost use Rattle.treeped_app.specs.Runs.{Ends, run_of};
@@ -9,9 +8,8 @@ ghost use Rattle.treeped_app.specs.Commands.{Headline, IsEnded, Causes};
 
 use crate::pages::{run_page, run_ring};
 use crate::sites::run_site;
-use crate::tasks::{Source, source_of};
-use command_words::{Mode, read_words};
-use limits::Limits;
+use crate::tasks::{Request, Source, source_of};
+use command_words::read_words;
 use run_ends::{Status, Stop, tell};
 use std::alloc::Global;
 use tp_io::{Files, Sink};
@@ -60,30 +58,30 @@ fn run<F: Files, O: Sink>(
         (put_of (O.written out.old) (O.written out.new) (O.faults out.old) (O.faults out.new))) result }
 {
     let order = read_words(alloc, words)?;
-    match source_of(&order) {
-        Some(source) => run_task(alloc, &source, order.mode, &order.limits, files, out),
-        None => Err(Stop::Words),
-    }
+    let source = source_of(&order);
+    let request = Request {
+        mode: order.mode,
+        limits: &order.limits,
+    };
+    run_task(alloc, &source, &request, files, out)
 }
 
 // Does a task, by where its texts come from.
 fn run_task<F: Files, O: Sink>(
     alloc: Global,
     source: &Source<'_>,
-    mode: Mode,
-    limits: &Limits,
+    request: &Request<'_>,
     files: &mut F,
     out: &mut O,
 ) -> Result<Status, Stop>
     requires few { IsFew (view.source_of source.now) }
-    requires mode { IsOfMode mode (view.source_of source.now) }
-    requires limits { IsInRange limits.now }
-    ensures { (words : List (List ℕ)) → command words ≡ Some (task_by (view.source_of source.now) mode limits.now) → Ends (run_of (F.told files.old) words (F.loads files.old) (F.loads files.new)
+    requires mode { IsOfMode request.now.mode (view.source_of source.now) }
+    ensures { (words : List (List ℕ)) → command words ≡ Some (task_by (view.source_of source.now) request.now.mode request.now.limits.now) → Ends (run_of (F.told files.old) words (F.loads files.old) (F.loads files.new)
         (put_of (O.written out.old) (O.written out.new) (O.faults out.old) (O.faults out.new))) result }
 {
     match source {
-        Source::One(names) => run_page(alloc, names, mode, limits, files, out),
-        Source::Several(pages) => run_site(alloc, pages, mode, limits, files, out),
-        Source::Ring(n) => run_ring(alloc, *n, mode, limits, out),
+        Source::One(names) => run_page(alloc, names, request, files, out),
+        Source::Several(pages) => run_site(alloc, pages, request, files, out),
+        Source::Ring(n) => run_ring(alloc, *n, request, out),
     }
 }

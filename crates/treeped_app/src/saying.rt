@@ -1,6 +1,5 @@
 //! What is said of a page: the answers, and the traces that a mode asks for.
 ghost use Rattle.std.specs.Prelude.{◌≡◌, All, length, map, option_map, IfOk, IfErr};
-ghost use Rattle.limits.specs.Budgets.{IsInRange};
 ghost use Rattle.css_read.specs.Places.{ArePlaced};
 ghost use Rattle.usage_report.specs.Answers.{spent};
 ghost use Rattle.usage_report.specs.Views.{answer_of, trace_of};
@@ -14,20 +13,17 @@ ghost use Rattle.treeped_app.specs.Inputs.{AreInputs, IsUnanswered, IsSaying};
 ghost use Rattle.treeped_app.specs.Modes.{AreJudgedOf, AreTracesIn, extra_in};
 ghost use Rattle.treeped_app.specs.Runs.{Fit};
 ghost use Rattle.treeped_app.specs.Views.{inputs_of, texts_of};
-ghost use Rattle.jq_exact.specs.Scripts.{exact_in};
 
 use crate::reading::{Inputs, Texts, read_all};
+use crate::settling::settle_all;
+use crate::tasks::Request;
 use command_words::Mode;
 use dead_script::{Asked, ask};
-use jq_exact::{Script, any_marked, joined, parted, settle};
 use judge::{Both, JudgeFault, judge_more};
-use limits::Limits;
 use run_ends::{JudgeRefusal, Stop};
 use run_trace::trace_answers;
-use simple_core::System;
 use std::alloc::Global;
 use tp_base::NoMemory;
-use tree_sem::Tree;
 use usage_report::{Answer, RunTrace};
 
 /// What was read of a page, an answer for each item of its sheet, one for each guard that is asked besides, for each further goal the
@@ -65,24 +61,23 @@ fn judging_stop(fault: JudgeFault) -> Stop
     }
 }
 
-/// The answers for the items of a sheet and for the guards that are asked besides, and for each further goal the number of its answer
-/// among the latter.
+// The answers for the items of a sheet and for the guards that are asked besides, and for each further goal the number of its answer
+// among the latter.
 #[derive(Drop)]
-pub(crate) struct Answered {
-    pub(crate) both: Both,
-    pub(crate) numbers: Vec<usize>,
+struct Answered {
+    both: Both,
+    numbers: Vec<usize>,
 }
 
 // The answers, of what the statements that are judged make of the page. It costs what `judge_more` costs.
-fn answers_of(alloc: Global, mode: Mode, inputs: &Inputs, limits: &Limits) -> Result<Answered, Stop>
+fn answers_of(alloc: Global, request: &Request<'_>, inputs: &Inputs) -> Result<Answered, Stop>
     requires given { AreInputs (inputs_of inputs.now) }
-    requires limits { IsInRange limits.now }
-    ensures answers { IfOk result (λ a. AreJudgedOf mode limits.now (inputs_of inputs.now) (map answer_of a.both.items) (by_number spent (map answer_of a.both.extra) a.numbers.items)) }
+    ensures answers { IfOk result (λ a. AreJudgedOf request.now.mode request.now.limits.now (inputs_of inputs.now) (map answer_of a.both.items) (by_number spent (map answer_of a.both.extra) a.numbers.items)) }
     ensures in_order { IfOk result (λ a. InOrder 0 a.numbers.items (length a.both.extra)) }
-    ensures system { IfOk result (λ a. a.both.system ≡ system_in (inputs_of inputs.now).stmts (inputs_of inputs.now).sheet.items (extra_in mode (inputs_of inputs.now)) (length (inputs_of inputs.now).names)) }
-    ensures stop { IfErr result (λ e. IsUnanswered mode (inputs_of inputs.now) e) }
+    ensures system { IfOk result (λ a. a.both.system ≡ system_in (inputs_of inputs.now).stmts (inputs_of inputs.now).sheet.items (extra_in request.now.mode (inputs_of inputs.now)) (length (inputs_of inputs.now).names)) }
+    ensures stop { IfErr result (λ e. IsUnanswered request.now.mode (inputs_of inputs.now) e) }
 {
-    let asked = extra_guards(alloc, mode, inputs)?;
+    let asked = extra_guards(alloc, request.mode, inputs)?;
     let numbers = asked.numbers;
     match judge_more(
         alloc,
@@ -91,7 +86,7 @@ fn answers_of(alloc: Global, mode: Mode, inputs: &Inputs, limits: &Limits) -> Re
         &inputs.script.stmts,
         asked.guards,
         &inputs.atoms,
-        limits,
+        request.limits,
     ) {
         Ok(both) => Ok(Answered { both, numbers }),
         Err(fault) => Err(judging_stop(fault)),
@@ -113,36 +108,6 @@ fn traces_of(
         Mode::Runs => trace_answers(alloc, &inputs.page, &inputs.script.stmts, items, answers),
         _ => Ok(Vec::new(alloc)),
     }
-}
-
-/// A script, and answers by its statements as they stand in it.
-#[derive(Drop)]
-pub(crate) struct Settled {
-    pub(crate) script: Script,
-    pub(crate) items: Vec<Answer>,
-}
-
-// The answers, settled where a call is sharper than what was judged in its place. It costs what `settle` costs, and next to nothing
-// for a script without sharp calls.
-fn settle_all(
-    alloc: Global,
-    page: &Tree,
-    script: Script,
-    system: &System,
-    items: Vec<Answer>,
-) -> Result<Settled, NoMemory>
-    requires room { HasRoom page.now (exact_in script) }
-    requires unfolded { All (λ a. IsUnfolded page.now system.now (answer_of a)) items.items }
-    ensures same { IfOk result (λ s. exact_in s.script ≡ exact_in script) }
-    ensures settled { IfOk result (λ s. AreSettled page.now (exact_in script) system.now (map answer_of items.items) (map answer_of s.items.items)) }
-{
-    if !any_marked(&script.sharp) {
-        return Ok(Settled { script, items });
-    }
-    let exact = joined(alloc, script)?;
-    let items = settle(alloc, page, &exact, system, items)?;
-    let script = parted(alloc, exact)?;
-    Ok(Settled { script, items })
 }
 
 // What is said of a page by its answers, without traces.
@@ -178,21 +143,19 @@ fn said_by(alloc: Global, inputs: Inputs, answered: Answered) -> Result<Said, No
 /// Reads a page's texts and judges its selectors and what the mode asks besides. The page has a number where there are several.
 pub(crate) fn say(
     alloc: Global,
-    mode: Mode,
-    limits: &Limits,
+    request: &Request<'_>,
     number: Option<u32>,
     texts: &Texts<'_>,
 ) -> Result<Said, Stop>
     requires fit { Fit (texts_of texts.now) }
-    requires limits { IsInRange limits.now }
-    ensures said { IsSaying mode limits.now number (texts_of texts.now) result }
+    ensures said { IsSaying request.now.mode request.now.limits.now number (texts_of texts.now) result }
     ensures placed { IfOk result (λ s. ArePlaced (length (texts_of texts.now).sheet) s.inputs.sheet.items) }
     ensures in_order { IfOk result (λ s. InOrder 0 s.numbers.items (length s.others.items)) }
 {
-    let inputs = read_all(alloc, mode, number, texts)?;
-    let answered = answers_of(alloc, mode, &inputs, limits)?;
+    let inputs = read_all(alloc, request.mode, number, texts)?;
+    let answered = answers_of(alloc, request, &inputs)?;
     let mut said = said_by(alloc, inputs, answered)?;
-    let traces = traces_of(alloc, mode, &said.inputs, &said.items)?;
+    let traces = traces_of(alloc, request.mode, &said.inputs, &said.items)?;
     said.traces = traces;
     Ok(said)
 }

@@ -2,7 +2,6 @@
 ghost use Rattle.std.specs.Prelude.{◌≡◌, ◌<◌, ◌≤◌, ◌+◌, ◌∷◌, List, ℕ, Some, true, length, map, OnOk, OnErr, IfOk};
 ghost use Rattle.tp_base.specs.declared.places.TheConstants.{MOST_BYTES};
 ghost use Rattle.tp_io.specs.Sinks.{Adds, AddsPrefix, Rose};
-ghost use Rattle.limits.specs.Budgets.{IsInRange};
 ghost use Rattle.command_words.specs.Orders.{takes_pages};
 ghost use Rattle.css_read.specs.Places.{ArePlaced};
 ghost use Rattle.limits.specs.declared.pages.TheConstants.{MOST_PAGES};
@@ -18,10 +17,9 @@ use crate::loading::{Wanted, load_three, load_two};
 use crate::pruning::write_pruned;
 use crate::reading::{Inputs, Texts};
 use crate::saying::{Said, say};
-use crate::tasks::Pages;
+use crate::tasks::{Pages, Request};
 use crate::writing::places_of;
 use command_words::{Mode, Word};
-use limits::Limits;
 use run_ends::{Part, Status, Stop};
 use site_judge::{Site, write_site};
 use std::alloc::Global;
@@ -42,8 +40,7 @@ pub(crate) struct Seen {
 #[derive(Clone, Copy)]
 pub(crate) struct Shared<'a> {
     pub(crate) sheet: &'a [u8],
-    pub(crate) mode: Mode,
-    pub(crate) limits: &'a Limits,
+    pub(crate) request: Request<'a>,
 }
 
 /// A page's number, from 1, and the names of the page and its script.
@@ -58,15 +55,13 @@ pub(crate) struct Page<'a> {
 pub(crate) fn run_site<F: Files, O: Sink>(
     alloc: Global,
     pages: &Pages<'_>,
-    mode: Mode,
-    limits: &Limits,
+    request: &Request<'_>,
     files: &mut F,
     out: &mut O,
 ) -> Result<Status, Stop>
-    requires limits { IsInRange limits.now }
-    requires on_pages { takes_pages mode ≡ true }
+    requires on_pages { takes_pages request.now.mode ≡ true }
     requires few { length (paired pages.now.later.now) + 1 ≤ MOST_PAGES }
-    ensures { (words : List (List ℕ)) → command words ≡ Some (task_by (several pages.now.first.sheet.now ((pages.now.first.page.now, pages.now.first.script.now) ∷ paired pages.now.later.now)) mode limits.now) → Ends (run_of (F.told files.old) words (F.loads files.old) (F.loads files.new)
+    ensures { (words : List (List ℕ)) → command words ≡ Some (task_by (several pages.now.first.sheet.now ((pages.now.first.page.now, pages.now.first.script.now) ∷ paired pages.now.later.now)) request.now.mode request.now.limits.now) → Ends (run_of (F.told files.old) words (F.loads files.old) (F.loads files.new)
         (put_of (O.written out.old) (O.written out.new) (O.faults out.old) (O.faults out.new))) result }
 {
     let sheet = Wanted {
@@ -87,25 +82,23 @@ pub(crate) fn run_site<F: Files, O: Sink>(
         sheet: &loaded.0,
         script: &loaded.2,
     };
-    let mut seen = begun(alloc, mode, limits, &texts)?;
+    let mut seen = begun(alloc, request, &texts)?;
     let shared = Shared {
         sheet: &loaded.0,
-        mode,
-        limits,
+        request: *request,
     };
     more_pages(alloc, 2, pages.later, &shared, files, &mut seen)?;
-    finished(alloc, mode, &loaded.0, &seen, out)
+    finished(alloc, request.mode, &loaded.0, &seen, out)
 }
 
 // What is known of a site behind its first page.
-fn begun(alloc: Global, mode: Mode, limits: &Limits, texts: &Texts<'_>) -> Result<Seen, Stop>
-    requires limits { IsInRange limits.now }
+fn begun(alloc: Global, request: &Request<'_>, texts: &Texts<'_>) -> Result<Seen, Stop>
     requires fit { Fit (texts_of texts.now) }
-    ensures begun { IsBegun mode limits.now (texts_of texts.now) result }
+    ensures begun { IsBegun request.now.mode request.now.limits.now (texts_of texts.now) result }
     ensures kept { IfOk result (λ s. IsKept (texts_of texts.now).sheet s) }
     ensures placed { IfOk result (λ s. ArePlaced (length (texts_of texts.now).sheet) s.last.sheet.items) }
 {
-    let said = say(alloc, mode, limits, Some(1), texts)?;
+    let said = say(alloc, request, Some(1), texts)?;
     let seen = seen_first(alloc, said)?;
     Ok(seen)
 }
@@ -135,13 +128,12 @@ fn more_pages<F: Files>(
     files: &mut F,
     seen: &mut Seen,
 ) -> Result<(), Stop>
-    requires limits { IsInRange shared.now.limits.now }
     requires in_limit { length shared.now.sheet.now ≤ MOST_BYTES }
     requires kept { IsKept shared.now.sheet.now seen.old }
     requires here { number ≡ seen.old.site.pages + 1 }
     requires few { seen.old.site.pages + length (paired later.now) ≤ MOST_PAGES }
     ensures same_files { F.told files.new ≡ F.told files.old }
-    ensures more { MorePages (F.told files.old) shared.now.mode shared.now.limits.now shared.now.sheet.now number (paired later.now) (F.loads files.old) (F.loads files.new) seen.old seen.new result }
+    ensures more { MorePages (F.told files.old) shared.now.request.mode shared.now.request.limits.now shared.now.sheet.now number (paired later.now) (F.loads files.old) (F.loads files.new) seen.old seen.new result }
     ensures kept { OnOk result (IsKept shared.now.sheet.now seen.new) }
     ensures placed { OnOk result (ArePlaced (length shared.now.sheet.now) seen.old.last.sheet.items → ArePlaced (length shared.now.sheet.now) seen.new.last.sheet.items) }
 {
@@ -167,12 +159,11 @@ fn next_page<F: Files>(
     files: &mut F,
     seen: &mut Seen,
 ) -> Result<(), Stop>
-    requires limits { IsInRange shared.now.limits.now }
     requires in_limit { length shared.now.sheet.now ≤ MOST_BYTES }
     requires kept { IsKept shared.now.sheet.now seen.old }
     requires room { seen.old.site.pages < MOST_PAGES }
     ensures same_files { F.told files.new ≡ F.told files.old }
-    ensures added { PageAdded (F.told files.old) shared.now.mode shared.now.limits.now shared.now.sheet.now next.now.number (next.now.page.now, next.now.script.now) (F.loads files.old) (F.loads files.new) seen.old seen.new result }
+    ensures added { PageAdded (F.told files.old) shared.now.request.mode shared.now.request.limits.now shared.now.sheet.now next.now.number (next.now.page.now, next.now.script.now) (F.loads files.old) (F.loads files.new) seen.old seen.new result }
     ensures kept { OnOk result (IsKept shared.now.sheet.now seen.new) }
     ensures placed { OnOk result (ArePlaced (length shared.now.sheet.now) seen.new.last.sheet.items) }
 {
@@ -190,7 +181,7 @@ fn next_page<F: Files>(
         sheet: shared.sheet,
         script: &loaded.1,
     };
-    let said = say(alloc, shared.mode, shared.limits, Some(next.number), &texts)?;
+    let said = say(alloc, &shared.request, Some(next.number), &texts)?;
     add(alloc, said, seen)?;
     Ok(())
 }

@@ -9,5 +9,5 @@ pub returns-in_err-write_one : goal.returns-in_err-write_one
 returns-in_err-write_one g c =
     let exit = err_from_is_err_and c.from_residual-in_err-write_one.result c.from_residual-in_err-write_one.ensures.1 in
     rw (exit.1, exit.2)
-    (cut_short c.args.mode c.args.limits.now (texts_of c.args.texts.now) (text_on c.args.mode) _ _ _ _ (said_of (texts_of c.args.texts.now) c.in_ok-said.said) c.in_err-write_one.field-0.0 refl c.in_ok-said.ensures.said
+    (cut_short c.args.request.now.mode c.args.request.now.limits.now (texts_of c.args.texts.now) (text_on c.args.request.now.mode) _ _ _ _ (said_of (texts_of c.args.texts.now) c.in_ok-said.said) c.in_err-write_one.field-0.0 refl c.in_ok-said.ensures.said
     (c.in_err-write_one.ensures.err) (λ is. c.in_err-write_one.ensures.write (ap (λ e. Err e) is)))

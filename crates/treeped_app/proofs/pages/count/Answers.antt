@@ -9,5 +9,5 @@ pub returns-in_err-write_summary : goal.returns-in_err-write_summary
 returns-in_err-write_summary g c =
     let exit = err_from_is_err_and c.from_residual-in_err-write_summary.result c.from_residual-in_err-write_summary.ensures.1 in
     rw (exit.1, exit.2)
-    (cut_short c.args.mode c.args.limits.now (texts_of c.args.texts.now) (λ s. summary c.args.n s.items) _ _ _ _ (said_of (texts_of c.args.texts.now) c.in_ok-said.said) c.in_err-write_summary.field-0.0 refl c.in_ok-said.ensures.said
+    (cut_short c.args.request.now.mode c.args.request.now.limits.now (texts_of c.args.texts.now) (λ s. summary c.args.n s.items) _ _ _ _ (said_of (texts_of c.args.texts.now) c.in_ok-said.said) c.in_err-write_summary.field-0.0 refl c.in_ok-said.ensures.said
     (rw c.deref.ensures.value at c.in_err-write_summary.ensures.err) (λ is. c.in_err-write_summary.ensures.write (ap (λ e. Err e) is)))

@@ -7,7 +7,7 @@ use Rattle.treeped_app.proofs.pages.run_ring.Goals as goal
 pub returns : goal.returns
 returns g c = λ told words loads task.
     let made = c.in_ok-triple.ensures in
-    ring_ends told words loads _ c.args.n c.args.mode c.args.limits.now (ring_texts c.args.n) c.count.result c.requires.one task refl
+    ring_ends told words loads _ c.args.n c.args.request.now.mode c.args.request.now.limits.now (ring_texts c.args.n) c.count.result c.requires.one task refl
     (record {
       page = subst (λ (z : List ℕ). length z ≤ MOST_BYTES) made.page made.small_page;
       sheet = subst (λ (z : List ℕ). length z ≤ MOST_BYTES) made.sheet made.small_sheet;

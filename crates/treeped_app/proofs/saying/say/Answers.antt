@@ -11,17 +11,17 @@ use Rattle.treeped_app.proofs.saying.say.Goals as goal
 pub returns-in_err-inputs-clause-said : goal.returns-in_err-inputs-clause-said
 returns-in_err-inputs-clause-said c =
     let exit = err_from_is_err_and c.from_residual.result c.from_residual.ensures.1 in
-    rw (exit.1, exit.2) (not_read c.args.mode c.args.limits.now c.args.number (texts_of c.args.texts.now) _ c.in_err-inputs.ensures.read)
+    rw (exit.1, exit.2) (not_read c.args.request.now.mode c.args.request.now.limits.now c.args.number (texts_of c.args.texts.now) _ c.in_err-inputs.ensures.read)
 
 pub returns-in_err-answered-clause-said : goal.returns-in_err-answered-clause-said
 returns-in_err-answered-clause-said c =
     let exit = err_from_is_err_and c.from_residual-in_err-answered.result c.from_residual-in_err-answered.ensures.1 in
-    rw (exit.1, exit.2) (not_answered c.args.mode c.args.limits.now c.args.number (texts_of c.args.texts.now) (inputs_of c.in_ok-inputs.inputs) _ c.in_ok-inputs.ensures.read c.in_err-answered.ensures.stop)
+    rw (exit.1, exit.2) (not_answered c.args.request.now.mode c.args.request.now.limits.now c.args.number (texts_of c.args.texts.now) (inputs_of c.in_ok-inputs.inputs) _ c.in_ok-inputs.ensures.read c.in_err-answered.ensures.stop)
 
 pub said_by-requires-clause-unfolded : goal.said_by-requires-clause-unfolded
 said_by-requires-clause-unfolded c =
     let i = inputs_of c.in_ok-inputs.inputs in
-    rw c.in_ok-answered.ensures.system (unfolded_of c.args.mode c.args.limits.now i c.in_ok-answered.answered.both.items (by_number spent (map answer_of c.in_ok-answered.answered.both.extra) c.in_ok-answered.answered.numbers.items) c.requires.limits c.in_ok-answered.ensures.answers)
+    rw c.in_ok-answered.ensures.system (unfolded_of c.args.request.now.mode c.args.request.now.limits.now i c.in_ok-answered.answered.both.items (by_number spent (map answer_of c.in_ok-answered.answered.both.extra) c.in_ok-answered.answered.numbers.items) c.args.request.now.in_range c.in_ok-answered.ensures.answers)
 
 pub traces_of-requires : goal.traces_of-requires
 traces_of-requires c =
@@ -32,8 +32,8 @@ traces_of-requires c =
     record {
       tracked =
           rw c.deref.ensures.value
-          (tracked_of c.args.mode c.args.limits.now (inputs_of said.inputs) (map answer_of said.items.items) others
-          (said_right c.args.mode c.args.limits.now (inputs_of old) (inputs_of said.inputs) (map answer_of both.items) (map answer_of said.items.items) others both.system c.in_ok-said.ensures.inputs
+          (tracked_of c.args.request.now.mode c.args.request.now.limits.now (inputs_of said.inputs) (map answer_of said.items.items) others
+          (said_right c.args.request.now.mode c.args.request.now.limits.now (inputs_of old) (inputs_of said.inputs) (map answer_of both.items) (map answer_of said.items.items) others both.system c.in_ok-said.ensures.inputs
           (wides_marked old.script.stmts.items old.script.sharp.items) c.in_ok-answered.ensures.answers c.in_ok-answered.ensures.system c.in_ok-said.ensures.settled));
     }
 
@@ -47,7 +47,7 @@ returns-clause-said c =
       read = c.in_ok-inputs.ensures.read ∙ ap Ok (sym c.in_ok-said.ensures.inputs);
       answers =
           rw (c.in_ok-said.ensures.others, c.in_ok-said.ensures.numbers)
-          (said_right c.args.mode c.args.limits.now (inputs_of old) (inputs_of said.inputs) (map answer_of both.items) (map answer_of said.items.items) others both.system c.in_ok-said.ensures.inputs
+          (said_right c.args.request.now.mode c.args.request.now.limits.now (inputs_of old) (inputs_of said.inputs) (map answer_of both.items) (map answer_of said.items.items) others both.system c.in_ok-said.ensures.inputs
           (wides_marked old.script.stmts.items old.script.sharp.items) c.in_ok-answered.ensures.answers c.in_ok-answered.ensures.system c.in_ok-said.ensures.settled);
       traces = rw c.deref.ensures.value at c.in_ok-traces.ensures;
     }

@@ -8,7 +8,7 @@ use Rattle.treeped_app.proofs.sites.run_site.Goals as goal
 pub returns-in_err-loaded : goal.returns-in_err-loaded
 returns-in_err-loaded g c = λ words task.
     let exit = err_from_is_err_and c.from_residual.result c.from_residual.ensures.1 in
-    rw (exit.1, exit.2) (site_not_loaded _ words _ c.args.mode c.requires.on_pages c.args.limits.now _ _ _ _ task _ _ _ refl c.in_err-loaded.ensures.loaded)
+    rw (exit.1, exit.2) (site_not_loaded _ words _ c.args.request.now.mode c.requires.on_pages c.args.request.now.limits.now _ _ _ _ task _ _ _ refl c.in_err-loaded.ensures.loaded)
 
 pub returns-in_err-seen : goal.returns-in_err-seen
 returns-in_err-seen g c = λ words task.
@@ -18,8 +18,8 @@ returns-in_err-seen g c = λ words task.
     let same : seen ≡ x = rw (c.deref.ensures.value, c.deref-2.ensures.value, c.deref-3.ensures.value) refl in
     let exit = err_from_is_err_and c.from_residual-in_err-seen.result c.from_residual-in_err-seen.ensures.1 in
     rw (exit.1, exit.2)
-    (site_not_begun _ words _ c.args.mode c.requires.on_pages c.args.limits.now _ _ _ _ task x _ _ _ refl c.in_ok-loaded.ensures.loaded
-    (subst (λ (z : Texts). IsBegun c.args.mode c.args.limits.now z (Err c.in_err-seen.field-0.0)) same c.in_err-seen.ensures.begun))
+    (site_not_begun _ words _ c.args.request.now.mode c.requires.on_pages c.args.request.now.limits.now _ _ _ _ task x _ _ _ refl c.in_ok-loaded.ensures.loaded
+    (subst (λ (z : Texts). IsBegun c.args.request.now.mode c.args.request.now.limits.now z (Err c.in_err-seen.field-0.0)) same c.in_err-seen.ensures.begun))
 
 pub more_pages-requires-clause-kept : goal.more_pages-requires-clause-kept
 more_pages-requires-clause-kept g c = rw (c.deref-4.ensures.value, sym c.deref-2.ensures.value) c.in_ok-seen.ensures.kept
@@ -29,7 +29,7 @@ returns-in_err-more_pages g c = λ words task.
     let loaded = c.in_ok-loaded.loaded in
     let exit = err_from_is_err_and c.from_residual-in_err-more_pages.result c.from_residual-in_err-more_pages.ensures.1 in
     rw (exit.1, exit.2)
-    (site_stops _ words _ c.args.mode c.requires.on_pages c.args.limits.now _ _ _ _ task _ (record { page = loaded.1.items; sheet = loaded.0.items; script = loaded.2.items }) _ _ _ _ _ _ refl c.in_ok-loaded.ensures.loaded
+    (site_stops _ words _ c.args.request.now.mode c.requires.on_pages c.args.request.now.limits.now _ _ _ _ task _ (record { page = loaded.1.items; sheet = loaded.0.items; script = loaded.2.items }) _ _ _ _ _ _ refl c.in_ok-loaded.ensures.loaded
     (rw (c.deref.ensures.value, c.deref-2.ensures.value, c.deref-3.ensures.value) at c.in_ok-seen.ensures.begun) (rw (c.deref-4.ensures.value, c.in_ok-loaded.ensures.same_files) at c.in_err-more_pages.ensures.more))
 
 pub finished-requires-clause-read : goal.finished-requires-clause-read
@@ -38,6 +38,6 @@ finished-requires-clause-read g c = rw (c.deref-5.ensures.value, sym c.deref-4.e
 pub returns : goal.returns
 returns g c = λ words task.
     let loaded = c.in_ok-loaded.loaded in
-    site_ends _ words _ c.args.mode c.requires.on_pages c.args.limits.now _ _ _ _ task (record { page = loaded.1.items; sheet = loaded.0.items; script = loaded.2.items }) _ _ _ _ c.in_ok-loaded.ensures.loaded
+    site_ends _ words _ c.args.request.now.mode c.requires.on_pages c.args.request.now.limits.now _ _ _ _ task (record { page = loaded.1.items; sheet = loaded.0.items; script = loaded.2.items }) _ _ _ _ c.in_ok-loaded.ensures.loaded
     (rw (c.deref.ensures.value, c.deref-2.ensures.value, c.deref-3.ensures.value) at c.in_ok-seen.ensures.begun) _ (rw (c.deref-4.ensures.value, c.in_ok-loaded.ensures.same_files) at c.in_ok-more_pages.ensures.more) _ c.finished.result
     (rw c.deref-5.ensures.value at c.finished.ensures)

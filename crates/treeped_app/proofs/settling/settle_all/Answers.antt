@@ -4,7 +4,7 @@ use Rattle.usage_report.specs.Views.{answer_of}
 use Rattle.jq_exact.specs.Scripts.{exact_in, has_marks}
 use Rattle.treeped_app.proofs.ExactLemmas.{all_kept}
 use Rattle.jq_exact.proofs.MarkLemmas.{none_marked}
-use Rattle.treeped_app.proofs.saying.settle_all.Goals as goal
+use Rattle.treeped_app.proofs.settling.settle_all.Goals as goal
 
 pub returns-then-not-any_marked-clause-settled : goal.returns-then-not-any_marked-clause-settled
 returns-then-not-any_marked-clause-settled c =

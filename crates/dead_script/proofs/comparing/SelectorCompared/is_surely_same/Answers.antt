@@ -1,7 +1,7 @@
 use Rattle.std.proofs.Common.{true, refl}
 use Rattle.std.proofs.lemmas.Slice.Eq.{slice_eq-Decides}
 use Rattle.dead_script.proofs.ComparingLemmas.{joins_decided, selectors_same}
-use Rattle.dead_script.proofs.comparing.SelectorCompared.is_same.Goals as goal
+use Rattle.dead_script.proofs.comparing.SelectorCompared.is_surely_same.Goals as goal
 
 pub returns-then-eq : goal.returns-then-eq
 returns-then-eq c = λ yes.
