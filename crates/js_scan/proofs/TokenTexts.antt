@@ -5,7 +5,7 @@ use Rattle.std.specs.Str.{IsCharBoundary}
 use Rattle.std.specs.Char.{is_ascii_digit}
 use Rattle.std.proofs.lemmas.Bool.Decides.{nat_tests}
 use Rattle.std.proofs.lemmas.Bool.{and_parts}
-use Rattle.std.proofs.lemmas.List.{get_or_at}
+use Rattle.std.proofs.lemmas.List.{get_or_at, length-take}
 use Rattle.std.proofs.lemmas.List.Elements.{All-head, All-tail}
 use Rattle.std.proofs.lemmas.List.Sums.{prefix_len-le-length, prefix_len_passes}
 use Rattle.std.proofs.lemmas.Str.{IsUtf8-nil, IsUtf8-take, IsUtf8-drop, IsCharBoundary-before_ascii, IsCharBoundary-after_ascii}
@@ -140,11 +140,6 @@ front_ends divides b bs at len kind some read =
 
 -- ---- a token of a file
 
-take_within : (n : ℕ) (bs : List ℕ) → length (take n bs) ≤ length bs
-take_within zero bs = omega arith
-take_within (suc n) [] = omega arith
-take_within (suc n) (b ∷ bs) = let less = take_within n bs in omega (arith, less)
-
 token_text : (bs : List ℕ) (from len : ℕ) (rest : List ℕ) (kind : TokenKind) → drop from bs ≡ rest → IsUtf8 bs → front true (take len rest) from ≡ Ok (Some kind, len) → IsUtf8 (take len rest)
 unfolding front
 token_text bs from zero rest kind here text read = IsUtf8-nil
@@ -154,7 +149,7 @@ token_text bs from (suc len) (c ∷ cs) kind here text read =
     let size : length bs - from ≡ suc (length cs) = sym (length-drop from bs) ∙ ap length here in
     let first : slice_index bs from ≡ c = ap (λ (k : ℕ). slice_index bs k) {x = from} {y = from + 0} (omega arith) ∙ sym (get_or-drop from bs 0 0) ∙ ap (λ (x : List ℕ). slice_index x 0) here in
     let rest_text : IsUtf8 (c ∷ cs) = subst IsUtf8 here (IsUtf8-drop bs from text (IsCharBoundary-before_ascii bs from (omega (arith, size)) (rw first ends.0))) in
-    let shorter : length (take len cs) ≤ length cs = take_within len cs in
+    let shorter : length (take len cs) ≤ length cs = let taken = length-take len cs in omega (arith, taken) in
     let less : suc len - 1 ≡ len = omega arith in
     let last : slice_index (c ∷ cs) len < 128 = rw (less, get_or-take (suc len) (c ∷ cs) len 0 (omega arith)) at ends.2 in
     IsUtf8-take (c ∷ cs) (suc len) rest_text (subst (IsCharBoundary (c ∷ cs)) {x = len + 1} {y = suc len} (omega arith)

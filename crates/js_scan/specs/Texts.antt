@@ -1,7 +1,9 @@
 -- Texts in quotes.
 use Rattle.std.specs.Prelude.{ℕ, zero, suc, ◌+◌, ◌-◌, ◌&&◌, ◌==◌, not, Bool, if◌then◌else◌, List, [], ◌∷◌, ◌++◌, take, Option, Some, None, Result, Ok, Err, nat_eq, codes}
+pub use Rattle.std.specs.Option.{ok_or}
 use Rattle.std.specs.Str.{byte}
 use Rattle.std.specs.List.{starts_with, prefix_len}
+pub use Rattle.tp_base.specs.Outcomes.{◌>>=◌}
 use Rattle.js_scan.specs.declared.token.ScanFault.{ScanFault}
 use Rattle.js_scan.specs.declared.token.ScanFault.TheVariants.{BadString, Template}
 use Rattle.js_scan.specs.Bytes.{is_plain}
@@ -10,15 +12,6 @@ use Rattle.js_scan.specs.Escapes.{Piece, escape}
 -- what was read, or the first fault
 abbrev pub Outcome : Type 0 → Type 0
 Outcome A = Result A ScanFault
-
-abbrev pub ok_or : {A : Type 0} → Option A → ScanFault → Outcome A
-ok_or (Some x) e = Ok x
-ok_or None e = Err e
-
-infixl 10 ◌>>=◌
-abbrev pub ◌>>=◌ : {A B : Type 0} → Outcome A → (A → Outcome B) → Outcome B
-(Ok x) >>= f = f x
-(Err e) >>= f = Err e
 
 -- only between backquotes
 abbrev pub is_backquote : ℕ → Bool

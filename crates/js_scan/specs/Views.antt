@@ -1,5 +1,6 @@
 -- How a result stands to what the definitions give.
 use Rattle.std.specs.Prelude.{◌≡◌, ◌≢◌, ℕ, List, [], ◌∷◌, take, Option, Some, None, Result, Ok, Err, encode_utf8}
+use Rattle.tp_base.specs.Outcomes.{GivesUnless}
 use Rattle.js_scan.specs.declared.token.ScanFault.{ScanFault}
 use Rattle.js_scan.specs.declared.token.ScanFault.TheVariants.{Memory}
 use Rattle.js_scan.specs.declared.escapes.Meaning.{Meaning}
@@ -9,8 +10,7 @@ use Rattle.js_scan.specs.Texts.{Outcome}
 
 -- the result is what is read, seen by view, unless memory ran out
 abbrev pub Gives : {X Y : Type 0} → (X → Y) → Result X ScanFault → Outcome Y → Type 0
-Gives view (Ok x) read = read ≡ Ok (view x)
-Gives view (Err e) read = e ≢ Memory → read ≡ Err e
+Gives = GivesUnless Memory
 
 -- the bytes that an escape stands for
 abbrev pub bytes_of : Meaning → List ℕ

@@ -12,7 +12,8 @@ use simple_core::{Link, Spawn, System};
 use std::alloc::Global;
 use tp_base::{ClassSet, NoMemory};
 
-/// The rules of a system by what they look at.
+/// The rules of a system by what they look at, but for `makers`, which has the spawns by the kind that they make. `ends` are
+/// the atoms that links from children give, and `looked` those at which a link or a spawn looks.
 #[derive(Drop)]
 pub(crate) struct Reads {
     pub(crate) by_needs: Table,

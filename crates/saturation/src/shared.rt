@@ -161,6 +161,9 @@ impl Summaries for SharedSummaries {
 
     ghost spent_on = { λ s. None };
 
+    // The histories are by kind, so that nothing is to be found first.
+    ghost is_entry = { λ s n q. Unit {0} };
+
     ghost room = { λ s. None };
 
     fn gain(&mut self, kind: u32, parent: &ClassSet) -> Result<ClassSet, GainFault> {
@@ -169,7 +172,11 @@ impl Summaries for SharedSummaries {
         Ok(label)
     }
 
-    fn first_round(&self, kind: u32, parent: &ClassSet, atom: Atom) -> Option<u64> {
+    fn entry(&self, _kind: u32, _parent: &ClassSet) -> usize {
+        0
+    }
+
+    fn first_at(&self, _entry: usize, kind: u32, parent: &ClassSet, atom: Atom) -> Option<u64> {
         self.first_told(kind, parent, atom)
     }
 }

@@ -3,6 +3,7 @@ use Rattle.std.specs.Prelude.{ℕ, ◌+◌, ◌-◌, ◌==◌, ◌&&◌, ◌||�
 use Rattle.std.specs.List.{prefix_len}
 use Rattle.std.specs.Str.{bytes_eq}
 use Rattle.std.specs.Char.{to_ascii_lowercase}
+pub use Rattle.tp_base.specs.Outcomes.{◌>>=◌}
 use Rattle.tp_base.specs.declared.atoms.AtomKind.{AtomKind}
 use Rattle.tp_base.specs.declared.atoms.AtomKind.TheVariants as kind
 use Rattle.sel_text.specs.declared.faults.Skip.{Skip}
@@ -17,11 +18,6 @@ use Rattle.sel_text.specs.Bytes.{begins_with, begins_name, name_len, behind_gap}
 
 abbrev pub Outcome : Type 0 → Type 0
 Outcome A = Result A SelFault
-
-infixl 10 ◌>>=◌
-abbrev pub ◌>>=◌ : {A B E : Type 0} → Result A E → (A → Result B E) → Result B E
-(Ok x) >>= f = f x
-(Err e) >>= f = Err e
 
 -- why the grammar is left at a byte, or at the end
 abbrev pub cause_of : List ℕ → Skip

@@ -5,6 +5,7 @@ use Rattle.tp_base.specs.declared.atoms.AtomKind.TheVariants as kind
 use Rattle.text_bytes.specs.Attributes.{with_value}
 use Rattle.tp_base.specs.Names as names
 pub use Rattle.tp_base.specs.Names.{IsFront}
+use Rattle.tp_base.specs.Outcomes.{GivesUnless, ReadsUnless}
 use Rattle.sel_text.specs.declared.faults.SelFault.{SelFault}
 use Rattle.sel_text.specs.declared.faults.SelFault.TheVariants.{Memory}
 use Rattle.sel_text.specs.declared.selectors.Join.{Join}
@@ -16,8 +17,7 @@ use Rattle.sel_text.specs.Grammar.{Outcome, Word, Front, Begun, whole, wanting}
 
 -- a call's result is what reading gives, seen by the view, unless memory ran out
 abbrev pub Gives : {X Y : Type 0} → (X → Y) → Result X SelFault → Outcome Y → Type 0
-Gives view (Ok x) read = read ≡ Ok (view x)
-Gives view (Err e) read = e ≢ Memory → read ≡ Err e
+Gives = GivesUnless Memory
 
 abbrev pub word_of : code_word.Word → Word
 word_of (Named k name) = (k, name.now)
@@ -52,5 +52,4 @@ join_view j = (j.0, j.1.now)
 
 -- a call's result, and the names that it leaves, are what reading gives, unless memory ran out
 abbrev pub Reads : {X Y : Type 0} → (X → Y) → Result X SelFault → List names.Named → List names.Named × Outcome Y → Type 0
-Reads view (Ok x) names read = read ≡ (names, Ok (view x))
-Reads view (Err e) names read = e ≢ Memory → read ≡ (names, Err e)
+Reads = ReadsUnless Memory

@@ -46,7 +46,7 @@ impl Atoms {
     }
 }
 
-/// What one node has to have: the type first, if there is one, and then the classes and ids as written.
+/// What one node has to have: the type first, if there is one, and then the classes, ids and attributes as written.
 /// Without atoms it is `*`.
 #[derive(Debug, Drop)]
 pub struct Compound {

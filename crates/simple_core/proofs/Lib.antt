@@ -12,5 +12,4 @@ pub mod Steps
 pub mod PlaceLemmas
 pub mod ReachRounds
 mod GiverLemmas
-mod PartLemmas
 mod Examples

@@ -6,7 +6,6 @@ pub mod Knowledge
 pub mod Labels
 pub mod Pages
 pub mod Pairs
-pub mod Partly
 pub mod Reached
 pub mod Rounds
 pub mod SimpleSteps

@@ -4,14 +4,12 @@
 mod copying;
 mod givers;
 mod growth;
-mod rounds;
 mod rules;
 mod summaries;
 mod system;
 
 pub use givers::{AllGivers, Givers};
 pub use growth::{brings_closed, keeps_growth, keeps_out};
-pub use rounds::{add_by_links, add_by_rules};
 pub use rules::{Kind, Link, Local, Spawn};
 pub use summaries::{GainFault, Summaries};
 pub use system::{Kinds, Links, Locals, MOST_KINDS, Spawns, System};

@@ -3,4 +3,5 @@ pub mod Classes
 pub mod Cursor
 pub mod Losses
 pub mod Names
+pub mod Outcomes
 pub mod Places
