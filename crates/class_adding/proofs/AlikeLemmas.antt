@@ -1,5 +1,5 @@
 -- What was found at one node is so at another one that is like it.
-use Rattle.std.proofs.Common.{◌≡◌, ℕ, zero, suc, ◌<◌, ◌≤◌, List, [], ◌∷◌, ◌++◌, map, ◌^◌, length, get_or, slice_get, Option, Some, None, IsSome, IfSome, IsTrue, IsFalse, option_map, unwrap_or, All, Contains, refl, sym, ap, ◌∙◌, inl, inr, arith, subst}
+use Rattle.std.proofs.Common.{◌≡◌, ℕ, zero, suc, ◌<◌, List, [], ◌∷◌, ◌++◌, map, length, get_or, Option, Some, None, IsSome, IfSome, IsTrue, option_map, unwrap_or, All, Contains, refl, sym, ap, ◌∙◌, inl, inr, arith, subst}
 use Rattle.std.specs.List.{range_with_len}
 use Rattle.std.proofs.lemmas.List.{get_or_default}
 use Rattle.tp_base.proofs.Rising.{Contains-none}
@@ -12,29 +12,13 @@ use Rattle.simple_core.specs.Rounds.{grown}
 use Rattle.simple_core.specs.Pairs.{Pair}
 use Rattle.simple_core.proofs.Members.{Contains-range}
 use Rattle.simple_core.proofs.PageRest.{counted_child}
-use Rattle.rule_index.specs.Asking.{AreUnseen}
 use Rattle.closed_page.specs.Gains.{label_in}
 use Rattle.closed_page.specs.Labelled.{IsAbove, AreKids}
 use Rattle.closed_page.specs.declared.gains.Gain.{Gain}
 use Rattle.class_adding.specs.declared.looking.Look.{Look}
-use Rattle.class_adding.specs.Filling.{above_in, real_in, label_next, IsNews}
+use Rattle.class_adding.specs.Filling.{above_in, real_in, label_next}
 use Rattle.class_adding.specs.Fresh.{IsAsleep}
-use Rattle.class_adding.specs.Looks.{IsLook, AreLooks, IsAlike, IsTakenOver}
-
--- ---- sets, atom by atom
-
-same_lists : (xs ys : List ℕ) → length xs ≡ length ys → ((j : ℕ) → j < length xs → slice_get xs j ≡ slice_get ys j) → xs ≡ ys
-same_lists [] [] len same = refl
-same_lists [] (y ∷ ys) len same = absurd (omega arith)
-same_lists (x ∷ xs) [] len same = absurd (omega arith)
-same_lists (x ∷ xs) (y ∷ ys) len same =
-    let both : Some x ≡ Some y = same zero (omega arith) in
-    let first : x ≡ y = cc in
-    let rest = same_lists xs ys (omega arith) (λ j less. same (suc j) (omega arith)) in
-    λ i. first i ∷ rest i
-
-pub all_atoms : (xs ys : List ℕ) (i m n : ℕ) → m ≡ length xs → n ≡ length ys → m ≡ n → length xs ≤ i → ((j : ℕ) → j < i → slice_get xs j ≡ slice_get ys j) → xs ≡ ys
-all_atoms xs ys i m n is_m is_n len le same = same_lists xs ys (sym is_m ∙ len ∙ is_n) (λ j less. same j (omega arith))
+use Rattle.class_adding.specs.Looks.{IsLookAt, AreLooks, IsAlike, IsTakenOver}
 
 -- ---- nodes next to each other
 
@@ -71,60 +55,36 @@ next_alike s f u v w is =
     ∙ ap (λ z. next_label s (above_in u w) z (real_in u v ++ labels_below s f z)) is.own
     ∙ ap (λ z. next_label s (above_in u w) (label_in u w) (z ++ labels_below s f (label_in u w))) is.below
 
-after_of : (k n : ℕ) (wake : Option ℕ) → IfSome wake (λ r. (k < r) × (r < n)) → IfSome wake (λ r. k < r)
-after_of k n None h = tt
-after_of k n (Some r) h = h.0
-
-bound_of : (k n : ℕ) (wake : Option ℕ) → IfSome wake (λ r. (k < r) × (r < n)) → IfSome wake (λ r. r < n)
-bound_of k n None h = tt
-bound_of k n (Some r) h = h.1
-
 -- the look, where one is taken over
 pub taken_over : (u : LabelTree) (nodes : List (List ℕ)) (looks : List Look) (number : ℕ) (o : Option Look) (l : Look) → o ≡ Some l → IfSome o (IsTakenOver u nodes looks number) → IsTakenOver u nodes looks number l
 taken_over u nodes looks number o l is there = subst (λ (z : Option Look). IfSome z (IsTakenOver u nodes looks number)) is there
 
-module _ (s : System) (u : LabelTree) (k : ℕ) (known : Pair → Type 0) (gains : List Gain) (nodes : List (List ℕ)) (looks : List Look) (number : ℕ) (l : Look) (are : AreLooks s u k known gains nodes looks) (t : IsTakenOver u nodes looks number l) where
-  abbrev v : List ℕ
-  v = get_or nodes t.before.number []
-
-  abbrev w : List ℕ
-  w = get_or nodes number []
-
-  look : IsLook s u k known gains nodes t.before
-  look = are t.before t.there
-
-  -- what is so of the look before is so of this one
-  kept : (P : Look → Type 0) → P (record t.before { number = number }) → P l
-  kept P is = subst P (sym t.moved) is
-
-  pub again_number : l.number ≡ number
-  again_number = ap (λ (z : Look). z.number) t.moved
-
-  pub again_news : IsNews s u k w l.news
-  again_news = kept (λ z. IsNews s u k w z.news) (record {
-    right = λ a h. subst (λ (z : List ℕ). Contains z a) (next_alike s (grown s k) u v w t.alike) (look.is_news.right a h);
-    whole = λ a h. elim (look.is_news.whole a (subst (λ (z : List ℕ). Contains z a) (sym (next_alike s (grown s k) u v w t.alike)) h)) [
+pub again : (s : System) (u : LabelTree) (k : ℕ) (known : Pair → Type 0) (gains : List Gain) (nodes : List (List ℕ)) (looks : List Look) (number : ℕ) (l : Look) → AreLooks s u k known gains nodes looks → IsTakenOver u nodes looks number l
+    → IsLookAt s u k known nodes number l
+again s u k known gains nodes looks number l are t = subst (IsLookAt s u k known nodes number) (sym t.moved) (record {
+  here = refl;
+  is_news = record {
+    right = λ a h. subst (λ (z : List ℕ). Contains z a) next (tells.is_news.right a h);
+    whole = λ a h. elim (tells.is_news.whole a (subst (λ (z : List ℕ). Contains z a) (sym next) h)) [
       | inl old ↦ inl (subst (λ (z : List ℕ). Contains z a) t.alike.own old)
       | inr new ↦ inr new
     ];
-  })
+  };
+  same = tells.same;
+  above = tells.above;
+  below = tells.below;
+  other = subst (λ (z : List ℕ). IsTrue t.before.grew → All (Contains z) t.before.news → ⊥) t.alike.own tells.other;
+  asleep = subst (λ (z : List ℕ). IsAsleep s k known z t.before.wake) t.alike.own tells.asleep;
+})
+  where
+    v : List ℕ
+    v = get_or nodes t.before.number []
 
-  pub again_same : IsFalse l.grew → l.news ≡ []
-  again_same = kept (λ z. IsFalse z.grew → z.news ≡ []) look.same
+    w : List ℕ
+    w = get_or nodes number []
 
-  pub again_above : IsFalse l.seen_above → AreUnseen s.down l.news
-  again_above = kept (λ z. IsFalse z.seen_above → AreUnseen s.down z.news) look.above
+    tells : IsLookAt s u k known nodes t.before.number t.before
+    tells = (are t.before t.there).tells
 
-  pub again_below : IsFalse l.seen_below → AreUnseen s.up l.news
-  again_below = kept (λ z. IsFalse z.seen_below → AreUnseen s.up z.news) look.below
-
-  pub again_other : IsTrue l.grew → All (Contains (label_in u w)) l.news → ⊥
-  again_other = kept (λ z. IsTrue z.grew → All (Contains (label_in u w)) z.news → ⊥) (subst (λ (z : List ℕ). IsTrue t.before.grew → All (Contains z) t.before.news → ⊥) t.alike.own look.other)
-
-  pub again_asleep : IsAsleep s k known (label_in u w) l.wake
-  again_asleep = kept (λ z. IsAsleep s k known (label_in u w) z.wake) (subst (λ (z : List ℕ). IsAsleep s k known z t.before.wake) t.alike.own (record {
-    sleeps = look.looked.sleeps;
-    after = after_of k (2 ^ 62) t.before.wake look.looked.later;
-    bound = bound_of k (2 ^ 62) t.before.wake look.looked.later;
-    told = look.looked.told;
-  }))
+    next : label_next s (grown s k) u v ≡ label_next s (grown s k) u w
+    next = next_alike s (grown s k) u v w t.alike

@@ -16,7 +16,7 @@ use Rattle.class_adding.specs.declared.filling.Filling.{Filling}
 use Rattle.class_adding.specs.declared.rounds.Round.{Round}
 use Rattle.class_adding.specs.declared.work.Work.{Work}
 use Rattle.class_adding.proofs.EndLemmas.{IsClosing, closing_start, closing_next, few_next}
-use Rattle.class_adding.proofs.RoundLemmas.{looked_more, news_rest}
+use Rattle.class_adding.proofs.RoundLemmas.{looked_now, looked_more, news_rest}
 use Rattle.class_adding.proofs.SettledLemmas.{all_labels_are, settled_start, resting_start, settled_next, resting_next, rest_now}
 use Rattle.class_adding.proofs.WrittenLemmas.{working_start, working_next, look_of, cases_true, is_due}
 
@@ -63,7 +63,7 @@ module _ (s : System) (u : LabelTree) (nodes : List (List ℕ)) (k : ℕ) (known
   all_seen before until i less = elim (is_due i w.due.items) [
     | inl there ↦
         let l = found.covers i there in
-        let at : IsLooked s u k known' r.gains.items l.0.wake (get_or nodes i []) = subst (λ n. IsLooked s u k known' r.gains.items l.0.wake (get_or nodes n [])) l.2 (found.looks_are l.0 l.1).looked in
+        let at : IsLooked s u k known' r.gains.items l.0.wake (get_or nodes i []) = subst (λ n. IsLooked s u k known' r.gains.items l.0.wake (get_or nodes n [])) l.2 (looked_now s u k known' r.gains.items nodes l.0 (found.looks_are l.0 l.1)) in
         (l.0.wake, at, until l.0 l.1)
     | inr never ↦ (wake_at w.wakes.items i, still i less never, sooner (wake_at w.wakes.items i) before (working.until i))
   ]
@@ -80,7 +80,7 @@ module _ (s : System) (u : LabelTree) (nodes : List (List ℕ)) (k : ℕ) (known
         let none : get_or w.fresh.items i [] ≡ [] = elim (working.quiet i less) [ inl is ↦ is | inr there ↦ absurd (never there) ] in
         subst (λ (z : List ℕ). IsNews s u k (get_or nodes i []) z) (sym (kept.0 ∙ none)) (news_rest s u k known (wake_at w.wakes.items i) (get_or nodes i []) (undue i less never))
     | inr l ↦
-        subst (λ (z : List ℕ). IsNews s u k (get_or nodes i []) z) (sym l.3) (subst (λ n. IsNews s u k (get_or nodes n []) l.0.news) l.2 (found.looks_are l.0 l.1).is_news)
+        subst (λ (z : List ℕ). IsNews s u k (get_or nodes i []) z) (sym l.3) (subst (λ n. IsNews s u k (get_or nodes n []) l.0.news) l.2 (found.looks_are l.0 l.1).tells.is_news)
   ]
 
   pub all_looked : (wakes : List (Option ℕ)) → IsWritten (λ (l : Look). l.wake) None r.looks.items w.wakes.items wakes → AreLooked s u k known' r.gains.items wakes nodes
@@ -90,7 +90,7 @@ module _ (s : System) (u : LabelTree) (nodes : List (List ℕ)) (k : ℕ) (known
         subst (λ (z : Option ℕ). IsLooked s u k known' r.gains.items z (get_or nodes i [])) (sym kept.0) (still i less never)
     | inr l ↦
         subst (λ (z : Option ℕ). IsLooked s u k known' r.gains.items z (get_or nodes i [])) (sym l.3)
-        (subst (λ n. IsLooked s u k known' r.gains.items l.0.wake (get_or nodes n [])) l.2 (found.looks_are l.0 l.1).looked)
+        (subst (λ n. IsLooked s u k known' r.gains.items l.0.wake (get_or nodes n [])) l.2 (looked_now s u k known' r.gains.items nodes l.0 (found.looks_are l.0 l.1)))
   ]
 
 not_woken : (wake : Option ℕ) (n : ℕ) → (wake ≡ Some n → ⊥) → wakes_in n wake ≡ false
@@ -105,7 +105,7 @@ rests_next s t u u' k k' latest known gains nodes w w' looks all after after' fr
   | inl there ↦ inl there
   | inr never ↦
       let wakes = w'.wakes.items in
-      let of = look_of nodes w looks latest k' w' working (λ l there. (looks_are l there).same) covers next in
+      let of = look_of nodes w looks latest k' w' working (λ l there. (looks_are l there).tells.same) covers next in
       let quiet : get_or w'.fresh.items i [] ≡ [] = elim (working'.quiet i less) [ inl is ↦ is | inr there ↦ absurd (never there) ] in
       let awaited : wake_at wakes i ≡ Some (suc k) → Contains (nodes_in w'.awaited (suc k)) i = λ e. subst (λ (z : Option ℕ). IfSome z (λ n. Contains (nodes_in w'.awaited n) i)) e (working'.awaited i) in
       let asleep : wakes_in (suc k) (wake_at wakes i) ≡ false = not_woken (wake_at wakes i) (suc k) (λ e. never (next.woken i (subst (λ z. Contains (nodes_in w'.awaited z) i) (sym one) (awaited e)))) in
@@ -115,13 +115,13 @@ rests_next s t u u' k k' latest known gains nodes w w' looks all after after' fr
       let l = of j m.from in_j from in
       elim (cases_true l.0.seen_below) [
         | inl seen ↦ never ((next.near l.0 l.1 l.3).below seen i n less (at ∙ ap (λ z. get_or nodes z [] ++ n ∷ []) (sym l.2)))
-        | inr unseen ↦ (looks_are l.0 l.1).below unseen m listed l.4
+        | inr unseen ↦ (looks_are l.0 l.1).tells.below unseen m listed l.4
       ])
       (λ j n in_j at m listed from.
       let l = of j m.from in_j from in
       elim (cases_true l.0.seen_above) [
         | inl seen ↦ never ((next.near l.0 l.1 l.3).above seen i n less (ap (λ z. get_or nodes z []) l.2 ∙ at))
-        | inr unseen ↦ (looks_are l.0 l.1).above unseen m listed l.4
+        | inr unseen ↦ (looks_are l.0 l.1).tells.above unseen m listed l.4
       ])
       known gains wakes looked asleep))
 ]
@@ -145,7 +145,7 @@ filled_next s t k k' latest known known' f f' r filled more found before until b
     let closing : IsClosing s t u' f'.labels.firsts k' known' =
     closing_next s t u f.labels.firsts k known known' nodes gains latest filled.nodes filled.closing found.right seen more k' u' f'.labels.firsts next taken.labels taken.firsts in
     let after' : IsAfter s t (suc k) u' = subst (λ z. IsAfter s t z u') next closing.after in
-    let working : IsWorking nodes f'.work = working_next nodes f.work looks latest k' f'.work filled.working (λ l there. (found.looks_are l there).same) found.covers taken.next (λ l there. (found.looks_are l there).within) before until bound in
+    let working : IsWorking nodes f'.work = working_next nodes f.work looks latest k' f'.work filled.working (λ l there. (found.looks_are l there).tells.same) found.covers taken.next (λ l there. (found.looks_are l there).within) before until bound in
     let rests : RestUndue s u' k' known' due wakes nodes =
     rests_next s t u u' k k' latest known' gains nodes f.work f'.work looks filled.nodes filled.closing.after after' is_fresh found.looks_are looked filled.working found.covers taken.next working next in
     let same : nodes' ≡ nodes = taken.nodes in

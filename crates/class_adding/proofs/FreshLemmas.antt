@@ -1,7 +1,8 @@
 -- What only older atoms give is there.
 use Rattle.std.proofs.lemmas.List.Sums.{fold-append}
-use Rattle.std.proofs.Common.{◌≡◌, ◌⊎◌, ◌==◌, ℕ, zero, suc, ◌+◌, ◌<◌, ◌≤◌, not, List, [], ◌∷◌, ◌++◌, length, get_or, take, slice_get, Option, Some, None, option_map, unwrap_or, IsSome, IsTrue, All, Contains, refl, sym, ap, ◌∙◌, inl, inr, arith, subst}
+use Rattle.std.proofs.Common.{◌≡◌, ◌⊎◌, ◌==◌, ℕ, zero, suc, ◌+◌, ◌<◌, ◌≤◌, true, false, not, List, [], ◌∷◌, ◌++◌, length, get_or, take, slice_get, Option, Some, None, option_map, unwrap_or, IsSome, IsTrue, IsFalse, All, Contains, refl, sym, ap, ◌∙◌, inl, inr, arith, subst}
 use Rattle.std.specs.List.{flat_map, range_with_len}
+use Rattle.std.proofs.lemmas.Bool.{cases_Bool, eqb-true}
 use Rattle.std.proofs.lemmas.List.{get_or_past, get_or_default}
 use Rattle.std.proofs.lemmas.List.Elements.{Contains-append_left, Contains-append_right, Contains-append_cases}
 use Rattle.tp_base.specs.Classes.{with_class, union_of}
@@ -264,6 +265,13 @@ some_new own given (a ∷ news) n new is some all = new.other a (Contains-here a
 pub was_some : (n : ℕ) → IsTrue (not (n == 0)) → n ≡ 0 → ⊥
 was_some zero h e = cc
 was_some (suc n) h e = omega (arith, e)
+
+pub none_new : (n : ℕ) (news : List ℕ) → n ≡ length news → IsFalse (not (n == 0)) → news ≡ []
+none_new n [] is h = refl
+none_new n (a ∷ news) is h = elim (cases_Bool (n == 0)) [
+  | inl here ↦ let zero_is : n ≡ 0 = eqb-true n 0 here in absurd (omega (arith, is, zero_is))
+  | inr other ↦ let never : true ≡ false = sym (ap not other) ∙ h in cc
+]
 
 -- ---- what is given by the labels with some numbers
 

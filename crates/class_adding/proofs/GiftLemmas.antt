@@ -1,10 +1,14 @@
 -- What is remembered of added children.
-use Rattle.std.proofs.Common.{◌≡◌, ℕ, ◌<◌, ◌≤◌, ◌^◌, nat_le, Bool, true, false, List, [], ◌∷◌, ◌++◌, map, length, Option, Some, None, IfSome, Contains, refl, sym, ap, ◌∙◌, inl, inr, arith, subst}
+use Rattle.std.proofs.Common.{◌≡◌, ℕ, ◌<◌, ◌≤◌, ◌^◌, nat_le, Bool, true, false, List, [], ◌∷◌, ◌++◌, map, length, Option, Some, None, IfSome, slice_get, Contains, refl, sym, ap, ◌∙◌, inl, inr, arith, subst}
 use Rattle.std.specs.List.{filter}
 use Rattle.std.proofs.lemmas.List.{map-append}
 use Rattle.std.proofs.lemmas.List.Elements.{filter-append, Contains-append_cases}
 use Rattle.tp_base.specs.Classes.{has_class, union_of}
+use Rattle.tp_base.proofs.Lists.{Contains-at}
 use Rattle.tp_base.proofs.Rising.{Contains-here, Contains-cons, Contains-none}
+use Rattle.pair_table.specs.declared.table.Row.{Row}
+use Rattle.pair_table.specs.Rows.{IsRowOf}
+use Rattle.pair_table.proofs.RowLemmas.{row_of_pair}
 use Rattle.simple_core.specs.declared.system.System.{System}
 use Rattle.simple_core.specs.declared.rules.Link.{Link}
 use Rattle.simple_core.specs.Labels.{given_by_links}
@@ -12,10 +16,9 @@ use Rattle.simple_core.specs.Rounds.{grown, IsFirst}
 use Rattle.simple_core.specs.Pairs.{Pair}
 use Rattle.simple_core.proofs.RoundLemmas.{grown-one_more}
 use Rattle.class_adding.specs.declared.gifts.Gift.{Gift}
-use Rattle.class_adding.specs.declared.gift_table.Row.{Row}
 use Rattle.class_adding.specs.Filling.{GivesSame, IsBefore}
 use Rattle.class_adding.specs.Fresh.{HasGiven}
-use Rattle.class_adding.specs.Gifts.{given_by, AreEarly, IsGiven, IsOf, AreGifts}
+use Rattle.class_adding.specs.Gifts.{given_by, AreEarly, IsGiven, AreGifts}
 use Rattle.class_adding.proofs.AddedLemmas.{has_from, has_never}
 
 given_by-push : (k : ℕ) (gifts : List Gift) (g : Gift) → given_by k (gifts ++ g ∷ []) ≡ given_by k gifts ++ given_by k (g ∷ [])
@@ -114,24 +117,31 @@ has_given s k known kind seen gifts lent wake old new is same given stays after 
   told = told;
 }
 
+-- a row, and a list of them
+abbrev Kept : Type 0
+Kept = Row (List Gift)
+
 -- what is remembered of a pair
-pub remembered : (s : System) (known : Pair → Type 0) (rows : List Row) (kind : ℕ) (seen : List ℕ) (r : Row) → AreGifts s known rows → Contains rows r → IsOf kind seen r → known (kind, seen) × IsGiven s kind seen r.gifts.items
-remembered s known rows kind seen r are there is =
-    let row = are r there in
-    let a = subst (λ (n : ℕ). known (n, r.seen) × IsGiven s n r.seen r.gifts.items) is.kind_is row in
-    subst (λ (z : List ℕ). known (kind, z) × IsGiven s kind z r.gifts.items) is.seen_is a
+pub remembered : (s : System) (known : Pair → Type 0) (rows : List Kept) (kind : ℕ) (seen : List ℕ) (i : ℕ) (gifts : List Gift) → AreGifts s known rows → IsRowOf rows kind seen i → ((r : Kept) → slice_get rows i ≡ Some r → gifts ≡ r.value)
+    → known (kind, seen) × IsGiven s kind seen gifts
+remembered s known rows kind seen i gifts are there is =
+    let row = row_of_pair rows kind seen i there in
+    let r = row.0 in
+    let a = subst (λ (n : ℕ). known (n, r.label) × IsGiven s n r.label r.value) row.2 (are r (Contains-at rows i r row.1)) in
+    let b = subst (λ (z : List ℕ). known (kind, z) × IsGiven s kind z r.value) row.3 a in
+    (b.0, subst (λ (z : List Gift). IsGiven s kind seen z) (sym (is r row.1)) b.1)
 
-pub gifts_kept : (s : System) (known known' : Pair → Type 0) (rows : List Row) → ((q : Pair) → known q → known' q) → AreGifts s known rows → AreGifts s known' rows
-gifts_kept s known known' rows kept are r there = let row = are r there in (kept (r.kind, r.seen) row.0, row.1)
+pub gifts_kept : (s : System) (known known' : Pair → Type 0) (rows : List Kept) → ((q : Pair) → known q → known' q) → AreGifts s known rows → AreGifts s known' rows
+gifts_kept s known known' rows kept are r there = let row = are r there in (kept (r.kind, r.label) row.0, row.1)
 
-pub gifts_push : (s : System) (known : Pair → Type 0) (rows rows' : List Row) (row : Row) → AreGifts s known rows → rows' ≡ rows ++ row ∷ [] → known (row.kind, row.seen) → IsGiven s row.kind row.seen row.gifts.items → AreGifts s known rows'
-gifts_push s known rows rows' row are is there given = λ r in_rows. elim (Contains-append_cases rows (row ∷ []) r (subst (λ (z : List Row). Contains z r) is in_rows)) [
+pub gifts_push : (s : System) (known : Pair → Type 0) (rows rows' : List Kept) (row : Kept) → AreGifts s known rows → rows' ≡ rows ++ row ∷ [] → known (row.kind, row.label) → IsGiven s row.kind row.label row.value → AreGifts s known rows'
+gifts_push s known rows rows' row are is there given = λ r in_rows. elim (Contains-append_cases rows (row ∷ []) r (subst (λ (z : List Kept). Contains z r) is in_rows)) [
   | inl old ↦ are r old
   | inr new ↦ elim ((Contains-cons r row []).0 new) [
-    | inl here ↦ subst (λ (z : Row). known (z.kind, z.seen) × IsGiven s z.kind z.seen z.gifts.items) (sym here) (there, given)
+    | inl here ↦ subst (λ (z : Kept). known (z.kind, z.label) × IsGiven s z.kind z.label z.value) (sym here) (there, given)
     | inr none ↦ absurd (Contains-none r none)
   ]
 ]
 
-pub no_gifts : (s : System) (known : Pair → Type 0) (rows : List Row) → rows ≡ [] → AreGifts s known rows
-no_gifts s known rows none r there = absurd (Contains-none r (subst (λ (z : List Row). Contains z r) none there))
+pub no_gifts : (s : System) (known : Pair → Type 0) (rows : List Kept) → rows ≡ [] → AreGifts s known rows
+no_gifts s known rows none r there = absurd (Contains-none r (subst (λ (z : List Kept). Contains z r) none there))

@@ -4,12 +4,12 @@
 --     AreGifts s known rows  each row is of a known pair, and has what it gives
 use Rattle.std.specs.Prelude.{◌≡◌, ◌<◌, ◌^◌, ℕ, nat_le, List, map, Contains}
 use Rattle.std.specs.List.{filter}
+use Rattle.pair_table.specs.declared.table.Row.{Row}
 use Rattle.simple_core.specs.declared.system.System.{System}
 use Rattle.simple_core.specs.Labels.{given_by_links}
 use Rattle.simple_core.specs.Rounds.{grown}
 use Rattle.simple_core.specs.Pairs.{Pair}
 use Rattle.class_adding.specs.declared.gifts.Gift.{Gift}
-use Rattle.class_adding.specs.declared.gift_table.Row.{Row}
 
 abbrev pub given_by : ℕ → List Gift → List ℕ
 given_by k gifts = map (λ g. g.to) (filter (λ g. nat_le g.round k) gifts)
@@ -22,9 +22,5 @@ pub record IsGiven (s : System) (kind : ℕ) (seen : List ℕ) (gifts : List Gif
   pub gives : (k : ℕ) → given_by k gifts ≡ given_by_links s.down (grown s k kind seen)
   pub early : AreEarly gifts
 
-pub record IsOf (kind : ℕ) (seen : List ℕ) (r : Row) : Type 0 where
-  pub kind_is : r.kind ≡ kind
-  pub seen_is : r.seen ≡ seen
-
-abbrev pub AreGifts : System → (Pair → Type 0) → List Row → Type 0
-AreGifts s known rows = (r : Row) → Contains rows r → known (r.kind, r.seen) × IsGiven s r.kind r.seen r.gifts.items
+abbrev pub AreGifts : System → (Pair → Type 0) → List (Row (List Gift)) → Type 0
+AreGifts s known rows = (r : Row (List Gift)) → Contains rows r → known (r.kind, r.label) × IsGiven s r.kind r.label r.value

@@ -1,5 +1,7 @@
 -- What a round found at the nodes that were due.
---     IsLook .. nodes l      the look l says what is new at its node, and when it wakes
+--     MayLook S a f k number a look at the node with this number tells what is new there after one more round than k
+--     IsLookAt .. number l   the look l says what is new at the node with this number, and when it wakes
+--     IsLook .. nodes l      l is such a look at its node, and what is new there is among the gains
 --     IsAlike u v w          the nodes at v and w have one label, next to the same labels, so that both gain the same
 --     IsTakenOver .. looks number l   l is one of the looks, moved to a node that is like its own
 --     AreSeen .. latest nodes   each node was looked at or need not be, and wakes in no round after `latest`
@@ -9,22 +11,41 @@ use Rattle.std.specs.Prelude.{◌≡◌, ◌⊎◌, ◌≤◌, ◌<◌, ℕ, Lis
 use Rattle.tree_sem.specs.Trees.{LabelTree}
 use Rattle.simple_core.specs.declared.system.System.{System}
 use Rattle.simple_core.specs.Pairs.{Pair}
+use Rattle.simple_core.specs.declared.summaries.Summaries.{Ghosts}
 use Rattle.rule_index.specs.Asking.{AreUnseen}
 use Rattle.closed_page.specs.declared.gains.Gain.{Gain}
+use Rattle.closed_page.specs.Gains.{label_in}
+use Rattle.closed_page.specs.Labelled.{node_of}
+use Rattle.class_adding.specs.declared.asker.Asker.{Asker}
+use Rattle.class_adding.specs.declared.filling.Filling.{Filling}
 use Rattle.class_adding.specs.declared.looking.Look.{Look}
 use Rattle.class_adding.specs.declared.rounds.Round.{Round}
-use Rattle.closed_page.specs.Gains.{label_in}
-use Rattle.class_adding.specs.Filling.{above_in, real_in, IsLooked, IsNews, AreRight, AreNew, wake_at}
-use Rattle.class_adding.specs.Work.{IsSeen}
+use Rattle.class_adding.specs.Asking.{IsReady}
+use Rattle.class_adding.specs.Filling.{above_in, real_in, IsGained, IsLooked, IsNews, AreRight, AreNew, wake_at}
+use Rattle.class_adding.specs.Fresh.{IsSettled, IsAsleep, IsResting}
+use Rattle.class_adding.specs.Work.{IsWorking, IsSeen}
 
-pub record IsLook (s : System) (u : LabelTree) (k : ℕ) (known : Pair → Type 0) (gains : List Gain) (nodes : List (List ℕ)) (l : Look) : Type 0 where
-  pub within : l.number < length nodes
-  pub looked : IsLooked s u k known gains l.wake (get_or nodes l.number [])
-  pub is_news : IsNews s u k (get_or nodes l.number []) l.news
+-- the asker may look at the node with this number
+pub record MayLook {X : Type 0} (S : Ghosts X) (a : Asker X) (f : Filling) (k number : ℕ) : Type 0 where
+  pub within : number < length f.labels.nodes
+  pub working : IsWorking f.labels.nodes f.work
+  pub settled : IsSettled a.system.now f.labels.labels f.labels.nodes f.work.fresh.items number
+  pub resting : IsResting a.system.now k (S.known a.sums.now) (label_in f.labels.labels (node_of f.labels number)) (get_or f.work.fresh.items number []) (wake_at f.work.wakes.items number)
+  pub ready : IsReady S a
+
+pub record IsLookAt (s : System) (u : LabelTree) (k : ℕ) (known : Pair → Type 0) (nodes : List (List ℕ)) (number : ℕ) (l : Look) : Type 0 where
+  pub here : l.number ≡ number
+  pub is_news : IsNews s u k (get_or nodes number []) l.news
   pub same : IsFalse l.grew → l.news ≡ []
   pub above : IsFalse l.seen_above → AreUnseen s.down l.news
   pub below : IsFalse l.seen_below → AreUnseen s.up l.news
-  pub other : IsTrue l.grew → All (Contains (label_in u (get_or nodes l.number []))) l.news → ⊥
+  pub other : IsTrue l.grew → All (Contains (label_in u (get_or nodes number []))) l.news → ⊥
+  pub asleep : IsAsleep s k known (label_in u (get_or nodes number [])) l.wake
+
+pub record IsLook (s : System) (u : LabelTree) (k : ℕ) (known : Pair → Type 0) (gains : List Gain) (nodes : List (List ℕ)) (l : Look) : Type 0 where
+  pub within : l.number < length nodes
+  pub tells : IsLookAt s u k known nodes l.number l
+  pub gained : IsTrue l.grew → IsGained gains (get_or nodes l.number [])
 
 pub record IsAlike (u : LabelTree) (v w : List ℕ) : Type 0 where
   pub own : label_in u v ≡ label_in u w

@@ -1,22 +1,19 @@
 //! What was found at one node, taken over at the next one where the two are alike.
-ghost use Rattle.std.specs.Prelude.{◌≡◌, ◌<◌, ℕ, List, [], length, get_or, All, Contains, IfOk, IfSome, IsSome, IsTrue, IsFalse};
+ghost use Rattle.std.specs.Prelude.{◌≡◌, ◌<◌, List, [], length, Contains, IfOk, IfSome, IsSome, IsTrue};
 ghost use Rattle.simple_core.specs.Pairs.{Asks};
-ghost use Rattle.rule_index.specs.Asking.{AreUnseen};
 ghost use Rattle.closed_page.specs.Gains.{label_in};
 ghost use Rattle.closed_page.specs.declared.gains.Gain.{Gain};
 ghost use Rattle.closed_page.specs.Labelled.{node_of};
-ghost use Rattle.class_adding.specs.Asking.{IsReady, Went, TellsSpent};
-ghost use Rattle.class_adding.specs.Filling.{above_in, real_in, IsNews, wake_at};
-ghost use Rattle.class_adding.specs.Fresh.{IsSettled, IsAsleep, IsResting};
-ghost use Rattle.class_adding.specs.Looks.{IsAlike, IsTakenOver, AreLooks};
-ghost use Rattle.class_adding.specs.Work.{IsWorking};
+ghost use Rattle.class_adding.specs.Asking.{Went, TellsSpent};
+ghost use Rattle.class_adding.specs.Filling.{above_in, real_in};
+ghost use Rattle.class_adding.specs.Looks.{IsLookAt, MayLook, IsAlike, IsTakenOver, AreLooks};
 ghost use Rattle.class_adding.specs.declared.looking.Look.{Look};
 
 use crate::asker::Asker;
-use crate::gift_table::is_same;
+use crate::filling::Filling;
 use crate::looking::Look;
-use crate::work::Work;
 use closed_page::PageLabels;
+use pair_table::same_atoms;
 use simple_core::{GainFault, Summaries};
 use tp_base::{ClassSet, NoMemory};
 
@@ -64,10 +61,10 @@ fn are_alike(labels: &PageLabels, first: usize, second: usize) -> bool
     if !is_leaf(labels, second) {
         return false;
     }
-    is_same(labels.own(first), labels.own(second))
+    same_atoms(labels.own(first), labels.own(second))
 }
 
-// Whether the last round brought something to a node.
+// Whether the last round brought something to a node. Time alone rests on it.
 fn is_fresh(fresh: &[ClassSet], number: usize) -> bool {
     match fresh.get(number) {
         Some(atoms) => atoms.len() != 0,
@@ -99,23 +96,18 @@ fn last_of(looks: &[Look]) -> Option<&Look>
 
 // The last of these looks, moved to a node that is like its own. The labels are compared only where the last round changed
 // the node's: elsewhere a look costs less.
-fn look_before(
-    labels: &PageLabels,
-    work: &Work,
-    looks: &[Look],
-    number: usize,
-) -> Result<Option<Look>, NoMemory>
-    requires number { number < length labels.now.nodes }
-    requires numbers { (l : Look) → Contains looks.now l → l.number < length labels.now.nodes }
-    ensures { IfOk result (λ o. IfSome o (IsTakenOver labels.now.labels labels.now.nodes looks.now number)) }
+fn look_before(filling: &Filling, looks: &[Look], number: usize) -> Result<Option<Look>, NoMemory>
+    requires number { number < length filling.now.labels.nodes }
+    requires numbers { (l : Look) → Contains looks.now l → l.number < length filling.now.labels.nodes }
+    ensures { IfOk result (λ o. IfSome o (IsTakenOver filling.now.labels.labels filling.now.labels.nodes looks.now number)) }
 {
-    if !is_fresh(&work.fresh, number) {
+    if !is_fresh(&filling.work.fresh, number) {
         return Ok(None);
     }
     let Some(look) = last_of(looks) else {
         return Ok(None);
     };
-    if !are_alike(labels, look.number, number) {
+    if !are_alike(&filling.labels, look.number, number) {
         return Ok(None);
     }
     let again = moved(look, number)?;
@@ -127,32 +119,21 @@ impl<'a, 's, S: Summaries> Asker<'a, 's, S> {
     /// walk along the label and a copy of what is new.
     pub(crate) fn look_on(
         &mut self,
-        labels: &PageLabels,
-        work: &Work,
+        filling: &Filling,
         looks: &[Look],
         number: usize,
         k: u64,
     ) -> Result<Look, GainFault>
-        requires number { number < length labels.now.nodes }
-        requires working { IsWorking labels.now.nodes work.now }
-        requires ready { IsReady S.Summaries self.old }
-        requires settled { IsSettled self.old.system.now labels.now.labels labels.now.nodes work.now.fresh.items number }
-        requires resting { IsResting self.old.system.now k (S.known self.old.sums.now) (label_in labels.now.labels (node_of labels.now number)) (get_or work.now.fresh.items number []) (wake_at work.now.wakes.items number) }
-        requires looks { (gains : List Gain) × AreLooks self.old.system.now labels.now.labels k (S.known self.old.sums.now) gains labels.now.nodes looks.now }
-        ensures number { IfOk result (λ l. l.number ≡ number) }
-        ensures news { IfOk result (λ l. IsNews self.old.system.now labels.now.labels k (node_of labels.now number) l.news) }
-        ensures same { IfOk result (λ l. IsFalse l.grew → l.news ≡ []) }
-        ensures above { IfOk result (λ l. IsFalse l.seen_above → AreUnseen self.old.system.now.down l.news) }
-        ensures below { IfOk result (λ l. IsFalse l.seen_below → AreUnseen self.old.system.now.up l.news) }
-        ensures other { IfOk result (λ l. IsTrue l.grew → ¬ All (Contains (label_in labels.now.labels (node_of labels.now number))) l.news) }
-        ensures asleep { IfOk result (λ l. IsAsleep self.old.system.now k (S.known self.new.sums.now) (label_in labels.now.labels (node_of labels.now number)) l.wake) }
-        ensures went { Went S.Summaries (Asks self.old.system.now (label_in labels.now.labels (node_of labels.now number))) self.old self.new }
+        requires may { MayLook S.Summaries self.old filling.now k number }
+        requires looks { (gains : List Gain) × AreLooks self.old.system.now filling.now.labels.labels k (S.known self.old.sums.now) gains filling.now.labels.nodes looks.now }
+        ensures look { IfOk result (IsLookAt self.old.system.now filling.now.labels.labels k (S.known self.new.sums.now) filling.now.labels.nodes number) }
+        ensures went { Went S.Summaries (Asks self.old.system.now (label_in filling.now.labels.labels (node_of filling.now.labels number))) self.old self.new }
         ensures spent { TellsSpent S.Summaries result self.old self.new }
     {
-        let before = look_before(labels, work, looks, number)?;
+        let before = look_before(filling, looks, number)?;
         if let Some(look) = before {
             return Ok(look);
         }
-        self.look_at(labels, work, number, k)
+        self.look_at(filling, number, k)
     }
 }

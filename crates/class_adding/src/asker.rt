@@ -2,17 +2,19 @@
 ghost use Rattle.std.specs.Prelude.{◌≡◌, ◌<◌, length, Contains, All, OnOk};
 ghost use Rattle.class_adding.specs.Asking.{IsReady, Went, TellsSpent};
 
-use crate::gift_table::GiftTable;
+use crate::gifts::Gift;
+use pair_table::PairTable;
 use rule_index::IndexedSystem;
 use simple_core::{GainFault, Summaries};
-use tp_base::ClassSet;
+use tp_base::{ClassSet, Items};
 
-/// The rules of a page, the summaries that are asked for added children, and what is remembered of these.
+/// The rules of a system, the summaries that are asked for added children, and what is remembered of these: a row for each kind below
+/// a visible label, with what it gives.
 #[derive(Drop)]
 pub(crate) struct Asker<'a, 's, S: Summaries> {
     pub(crate) system: &'a IndexedSystem<'s>,
     pub(crate) sums: &'a mut S,
-    pub(crate) remembered: &'a mut GiftTable,
+    pub(crate) remembered: &'a mut PairTable<Items<Gift>>,
 }
 
 impl<'a, 's, S: Summaries> Asker<'a, 's, S> {

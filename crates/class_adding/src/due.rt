@@ -107,7 +107,7 @@ fn in_order(numbers: Vec<usize>) -> Result<Vec<usize>, NoMemory>
 }
 
 /// The nodes at which something is new, those next to them from which a link looks at it, and those that wake, in the order
-/// of the document. It costs these nodes, but for a sort.
+/// of the document. What is there too much costs time alone. It costs these nodes, but for a sort.
 pub(crate) fn next_due(
     alloc: Global,
     labels: &PageLabels,

@@ -79,7 +79,7 @@ impl<'a, 's, S: Summaries> Asker<'a, 's, S> {
     {
         let mut k = 0;
         'rounds: loop {
-            let round = self.look_at_all(alloc, &filling.labels, &filling.work, k)?;
+            let round = self.look_at_all(alloc, &*filling, k)?;
             let latest = latest_of(filling.work.latest, &round.looks);
             if round.is_last(latest, k) {
                 return Ok(());

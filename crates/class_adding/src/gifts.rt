@@ -29,10 +29,11 @@ pub(crate) fn gifts_of<S: Summaries>(
     requires made { S.system sums.now ≡ system.now }
     ensures { IfOk result (λ v. IsGiven system.now kind seen.now v.items) }
 {
+    let entry = sums.entry(kind, seen);
     let mut gifts = Vec::new(alloc);
     let mut rest = system.down_links();
     'links: while let Some((link, others)) = rest.split_first() {
-        if let Some(round) = sums.first_round(kind, seen, link.from) {
+        if let Some(round) = sums.first_at(entry, kind, seen, link.from) {
             gifts.push(Gift { to: link.to, round })?;
         }
         rest = others;

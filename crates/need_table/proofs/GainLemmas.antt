@@ -11,8 +11,10 @@ use Rattle.std.proofs.lemmas.Option.{get_or_from_slice_get}
 use Rattle.tp_base.specs.Classes.{has_class, with_class, union_of}
 use Rattle.tp_base.proofs.ClassLemmas.{same_members, has_class-Contains, Contains-has_class, Contains-union_of, IsStrictlyIncreasing-union_of, Contains-cut_to, IsStrictlyIncreasing-cut_to}
 use Rattle.tp_base.proofs.Rising.{Contains-here, Contains-behind, Contains-none}
-use Rattle.tp_base.proofs.Lists.{Contains-at}
+use Rattle.tp_base.proofs.Lists.{Contains-at, Contains-only}
+use Rattle.tree_sem.proofs.NodeLemmas.{Contains-map, map-Contains}
 use Rattle.simple_core.specs.declared.system.System.{System}
+use Rattle.simple_core.specs.declared.rules.Link.{Link}
 use Rattle.simple_core.specs.Labels.{set_of, given_by_rules, given_by_links, visible_in, labels_below}
 use Rattle.simple_core.specs.Rounds.{grown, IsFirst}
 use Rattle.simple_core.specs.Pairs.{Pair, Asks}
@@ -21,6 +23,7 @@ use Rattle.simple_core.proofs.LabelLemmas.{IsByLink, given_by_rules-is, is-given
 use Rattle.simple_core.proofs.RoundLemmas.{set_of-is, is-set_of, labels_below-is, is-labels_below, grown-rises, grown-later, grown-one_more}
 use Rattle.simple_core.proofs.RestLemmas.{first_is, first_one}
 use Rattle.rule_index.specs.Asking.{IsMore, AreMet, AsksAnew}
+use Rattle.rule_index.proofs.IndexLemmas.{union_of-same}
 use Rattle.need_table.specs.declared.entries.First.{First}
 use Rattle.need_table.specs.declared.entries.Entry.{Entry}
 use Rattle.need_table.specs.Tables.{pair_of, atoms_within, fresh_of, labels, replaced, AreInOrder, IsHeard, IsAskedAt, IsTable}
@@ -309,13 +312,31 @@ pub given_none : (s : System) (entries : List Entry) (from to j : ℕ) → slice
 given_none s entries from to j at = ap (λ (o : Option Entry). unwrap_or (option_map (λ (e : Entry). given_by_links s.down (set_of (atoms_within from to e.firsts.items))) o) []) at
 
 -- one after another
-pub union_next : (f : ℕ → List ℕ) (next next' rest : List ℕ) (j : ℕ) (others : List ℕ) → rest ≡ j ∷ others → next' ≡ union_of next (f j) → union_of next' (flat_map f others) ≡ union_of next (flat_map f rest)
+pub union_next : {X : Type 0} (f : X → List ℕ) (next next' : List ℕ) (rest : List X) (j : X) (others : List X) → rest ≡ j ∷ others → next' ≡ union_of next (f j) → union_of next' (flat_map f others) ≡ union_of next (flat_map f rest)
 union_next f next next' rest j others split given =
     ap (λ z. union_of z (flat_map f others)) given ∙ sym (fold-append (λ (xs : List ℕ) (y : ℕ). with_class y xs) next (f j) (flat_map f others)) ∙ ap (λ z. union_of next (flat_map f z)) (sym split)
 
-pub union_end : (f : ℕ → List ℕ) (next start rest all : List ℕ) → length rest ≡ 0 → union_of next (flat_map f rest) ≡ union_of start (flat_map f all) → next ≡ union_of start (flat_map f all)
+pub union_end : {X : Type 0} (f : X → List ℕ) (next start : List ℕ) (rest all : List X) → length rest ≡ 0 → union_of next (flat_map f rest) ≡ union_of start (flat_map f all) → next ≡ union_of start (flat_map f all)
 union_end f next start [] all none same = same
 union_end f next start (j ∷ rest) all none same = absurd (omega arith)
+
+-- what atoms give one by one is what they give as a set
+pub firsts_linked : (links : List Link) (firsts : List First) (start : List ℕ) → IsStrictlyIncreasing start
+    → union_of start (flat_map (λ (f : First). given_by_links links (f.atom ∷ [])) firsts) ≡ union_of start (given_by_links links (set_of (map (λ f. f.atom) firsts)))
+firsts_linked links firsts start rises =
+    let atom : First → ℕ = λ f. f.atom in
+    let give : First → List ℕ = λ f. given_by_links links (f.atom ∷ []) in
+    let label = set_of (map atom firsts) in
+    union_of-same start (flat_map give firsts) (given_by_links links label) rises
+    (λ y there.
+    let of = flat_map-Contains give firsts y there in
+    let by = given_by_links-is links (of.0.atom ∷ []) y of.2 in
+    let from = subst (Contains label) (Contains-only of.0.atom by.link.from by.from) (is-set_of (map atom firsts) of.0.atom (Contains-map atom firsts of.0 of.1)) in
+    is-given_by_links links label y (record { link = by.link; listed = by.listed; from = from; to = by.to }))
+    (λ y there.
+    let by = given_by_links-is links label y there in
+    let f = map-Contains atom firsts by.link.from (set_of-is (map atom firsts) by.link.from by.from) in
+    Contains-flat_map give firsts f.0 y f.1 (is-given_by_links links (f.0.atom ∷ []) y (record { link = by.link; listed = by.listed; from = Contains-here by.link.from f.0.atom [] f.2; to = by.to })))
 
 -- what is new is the same, whatever of the old stands beside it
 pub fresh_same : (own given next : List ℕ) (round : ℕ) → IsStrictlyIncreasing given → IsStrictlyIncreasing next → ((a : ℕ) → Contains given a → Contains next a)

@@ -1,8 +1,8 @@
-mod PlaceLemmas
 pub mod TableLemmas
 mod OrderLemmas
 pub mod FillLemmas
 pub mod ChildLemmas
+mod PlaceLemmas
 mod GainLemmas
 pub mod BoundLemmas
 pub mod SettleLemmas

@@ -85,10 +85,6 @@ place_found firsts round place within point = record {
   from = λ i f le at. ltb-false f.round round (ap (λ (z : First). nat_lt z.round round) (sym (get_or_from_slice_get firsts i f f at)) ∙ point.1 i f le (slice_get_within firsts i f at));
 }
 
-pub order_drop : (firsts : List First) (n : ℕ) → AreInOrder firsts → AreInOrder (drop n firsts)
-order_drop firsts n order i j f g le at_i at_j =
-    order (n + i) (n + j) f g (omega arith) (sym (drop_at firsts n i (n + i) refl) ∙ at_i) (sym (drop_at firsts n j (n + j) refl) ∙ at_j)
-
 -- the first that is found comes soonest
 pub soonest : (firsts : List First) (from place : ℕ) (first : First) → AreInOrder firsts → IsPlaceFrom firsts from place → slice_get firsts place ≡ Some first
     → (from ≤ first.round) × ((f : First) → Contains firsts f → from ≤ f.round → first.round ≤ f.round)
@@ -109,6 +105,31 @@ none_later firsts from place found none f there late =
     let within = slice_get_within firsts g.0 f g.1 in
     let less = found.before g.0 f (omega arith) g.1 in
     omega arith
+
+-- ---- a walk from behind
+
+-- those before a place were searched
+pub place_before : (firsts known : List First) (r place m : ℕ) → known ≡ take place firsts → ((i : ℕ) (f : First) → place ≤ i → slice_get firsts i ≡ Some f → r ≤ f.round) → IsPlaceFrom known r m → IsPlaceFrom firsts r m
+place_before firsts known r place m is late found =
+    let few = take_few firsts place in
+    let count : length known ≡ length (take place firsts) = ap length is in
+    let within = found.within in
+    let at_known : (i : ℕ) (f : First) → i < place → slice_get firsts i ≡ Some f → slice_get known i ≡ Some f =
+    λ i f less at. ap (λ (z : List First). slice_get z i) is ∙ slice_get-take firsts place i less ∙ at in
+    record {
+      within = omega (arith, few.0, count, within);
+      before = λ i f less at. found.before i f less (at_known i f (omega (arith, few.1, count, within)) at);
+      from = λ i f le at. elim (cases_lt i place) [
+        | inl less ↦ found.from i f le (at_known i f less at)
+        | inr behind ↦ late i f behind at
+      ];
+    }
+  where
+    take_few : {X : Type 0} (xs : List X) (n : ℕ) → (length (take n xs) ≤ length xs) × (length (take n xs) ≤ n)
+    take_few [] zero = (omega arith, omega arith)
+    take_few [] (suc n) = (omega arith, omega arith)
+    take_few (x ∷ xs) zero = (omega arith, omega arith)
+    take_few (x ∷ xs) (suc n) = let rest = take_few xs n in let a = rest.0 in let b = rest.1 in (omega arith, omega arith)
 
 -- ---- the firsts of some rounds
 

@@ -5,7 +5,7 @@ use Rattle.std.proofs.lemmas.List.{length-map}
 use Rattle.std.proofs.lemmas.Option.{get_or_from_slice_get}
 use Rattle.tp_base.proofs.ClassLemmas.{same_members}
 use Rattle.tp_base.proofs.Rising.{Contains-here, Contains-behind, Contains-cons, Contains-none}
-use Rattle.tp_base.proofs.Lists.{Contains-at}
+use Rattle.tp_base.proofs.Lists.{Contains-at, at_map}
 use Rattle.tree_sem.proofs.NodeLemmas.{Contains-map, map-Contains}
 use Rattle.simple_core.specs.Labels.{set_of}
 use Rattle.simple_core.specs.Rounds.{grown, IsRest, IsFirst}
@@ -164,6 +164,24 @@ round_in-none (g ∷ fs) a is f there = elim (cases_Bool (eqb g.atom a)) [
   ]
 ]
 
+-- none stands with an atom that the label doesn't have
+pub round_absent : (label : List ℕ) (fs : List First) (a : ℕ) → label ≡ set_of (map (λ f. f.atom) fs) → (Contains label a → ⊥) → None ≡ round_in fs a
+round_absent label fs a is absent = elim (round_in fs a) as (λ o. round_in fs a ≡ o → None ≡ o) [
+  | None ↦ λ _. refl
+  | Some r ↦ λ found.
+      let f = round_in-some fs a r found in
+      let there : Contains (map (λ (f : First). f.atom) fs) a = subst (λ z. Contains (map (λ (f : First). f.atom) fs) z) f.2 (Contains-map (λ (f : First). f.atom) fs f.0 f.1) in
+      absurd (absent (subst (λ (z : List ℕ). Contains z a) (sym is) (is-set_of (map (λ (f : First). f.atom) fs) a there)))
+] refl
+
+-- the label of an entry has the atoms of its firsts
+pub label_of_firsts : (s : System) (pairs : ℕ) (entries : List Entry) (i : ℕ) (q : Pair) (x : Entry) → IsTable s pairs entries → slice_get (map pair_of entries) i ≡ Some q → x ≡ get_or entries i x
+    → x.label ≡ set_of (map (λ f. f.atom) x.firsts.items)
+label_of_firsts s pairs entries i q x table at read =
+    let e = at_map pair_of entries i q at in
+    let here : x ≡ e.0 = read ∙ get_or_from_slice_get entries i e.0 x e.1 in
+    subst (λ (z : Entry). z.label ≡ set_of (map (λ f. f.atom) z.firsts.items)) (sym here) (table.up_to e.0 (Contains-at entries i e.0 e.1)).all
+
 pub first_in_rest : (s : System) (e : Entry) (a : ℕ) (r : Option ℕ) → IsUpTo s e → e.rounds ≡ None → round_in e.firsts.items a ≡ r → IsFirst (labels s (pair_of e)) a r
 first_in_rest s e a None up none is = λ k there.
     let f = up.whole k a (subst (λ o. IsDone o k) (sym none) tt) there in
@@ -182,14 +200,13 @@ round_bound s pairs entries e a (Some r) table rest fits there is =
     let same = f.3 in
     omega arith
 
-pub first_known : (s : System) (pairs : ℕ) (entries : List Entry) (i : ℕ) (q : Pair) (x : Entry) (a : ℕ) (fs : List First) (r : Option ℕ) → IsTable s pairs entries → AllRest entries
-    → IsSomeAnd (slice_get entries i) (λ e. pair_of e ≡ q) → x ≡ get_or entries i x → fs ≡ x.firsts.items → r ≡ round_in fs a
-    → IsFirst (labels s q) a r × (pairs < 4294967296 → IfSome r (λ k. k < 4611686018427387904))
-first_known s pairs entries i q x a fs r table rest at read is_fs is_r =
-    let e = some_at (λ e. pair_of e ≡ q) (slice_get entries i) at in
+pub first_known : (s : System) (pairs : ℕ) (entries : List Entry) (i : ℕ) (q : Pair) (x : Entry) (a : ℕ) (r : Option ℕ) → IsTable s pairs entries → AllRest entries
+    → slice_get (map pair_of entries) i ≡ Some q → x ≡ get_or entries i x → r ≡ round_in x.firsts.items a → IsFirst (labels s q) a r × (pairs < 4294967296 → IfSome r (λ k. k < 4611686018427387904))
+first_known s pairs entries i q x a r table rest at read is =
+    let e = at_map pair_of entries i q at in
     let here : x ≡ e.0 = read ∙ get_or_from_slice_get entries i e.0 x e.1 in
     let there = Contains-at entries i e.0 e.1 in
-    let round : round_in e.0.firsts.items a ≡ r = sym (is_r ∙ ap (λ z. round_in z a) (is_fs ∙ ap (λ (z : Entry). z.firsts.items) here)) in (
+    let round : round_in e.0.firsts.items a ≡ r = sym (is ∙ ap (λ (z : Entry). round_in z.firsts.items a) here) in (
       subst (λ (z : Pair). IsFirst (labels s z) a r) e.2 (first_in_rest s e.0 a r (table.up_to e.0 there) (rest e.0 there) round),
       λ fits. round_bound s pairs entries e.0 a r table rest fits there round,
     )

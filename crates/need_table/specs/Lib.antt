@@ -2,7 +2,6 @@
 pub mod PlainTables
 -- Invariants, and the states of the code.
 pub mod Agendas
-pub mod Places
 pub mod PlainViews
 pub mod Rows
 pub mod Tables

@@ -54,6 +54,10 @@ AreUpTo s entries = (e : Entry) → Contains entries e → IsUpTo s e
 abbrev pub AreOrdered : List Entry → Type 0
 AreOrdered entries = (e : Entry) → Contains entries e → AreInOrder e.firsts.items
 
+-- no entry at the place has the pair
+abbrev pub IsNotAt : List Entry → Pair → ℕ → Type 0
+IsNotAt entries q i = (e : Entry) → slice_get entries i ≡ Some e → ¬ (pair_of e ≡ q)
+
 -- one of these places has the pair
 abbrev pub IsHeard : List Entry → List ℕ → Pair → Type 0
 IsHeard entries children r = (j : ℕ) × Contains children j × IsSomeAnd (slice_get entries j) (λ c. pair_of c ≡ r)

@@ -1,11 +1,12 @@
 //! Questions to the table.
-ghost use Rattle.std.specs.Prelude.{◌≡◌, ◌<◌, ◌^◌, ℕ, List, map, length, Contains, IfOk, OnOk, OnErr, IfSome};
-ghost use Rattle.simple_core.specs.Rounds.{IsRest, IsFirst};
+ghost use Rattle.std.specs.Prelude.{◌≡◌, ◌<◌, ℕ, List, map, length, Contains, IfOk, OnOk, OnErr, IfSome};
+ghost use Rattle.simple_core.specs.Labels.{set_of};
+ghost use Rattle.simple_core.specs.Rounds.{IsRest};
 ghost use Rattle.simple_core.specs.Pairs.{Pair, Needed, HasMore};
-ghost use Rattle.need_table.specs.Tables.{pair_of, labels, IsTable, IsMore, AreNeeded, AllRest, round_in};
+ghost use Rattle.need_table.specs.Tables.{pair_of, IsTable, IsMore, AreNeeded, AllRest, round_in};
 
-use crate::entries::First;
-use crate::pair_table::Table;
+use crate::entries::{Entry, First};
+use crate::entry_table::Table;
 use crate::settling::fill;
 use rule_index::IndexedSystem;
 use simple_core::GainFault;
@@ -26,24 +27,15 @@ fn round_of(firsts: &[First], atom: Atom) -> Option<u64>
     None
 }
 
-/// The first round of an atom at an entry of a table at rest.
-pub(crate) fn first_at(
-    system: &IndexedSystem,
-    table: &Table,
-    kind: u32,
-    parent: &ClassSet,
-    atom: Atom,
-) -> Option<u64>
-    requires table { (pairs : ℕ) × IsTable system.now pairs table.now × (pairs < 2 ^ 32) }
-    requires at_rest { AllRest table.now }
-    requires known { Contains (map pair_of table.now) (kind, parent.now) }
-    ensures first { IsFirst (labels system.now (kind, parent.now)) atom result }
-    ensures bound { IfSome result (λ k. k < 2 ^ 62) }
+/// The first round of an atom at an entry. Logarithmic in the label where it doesn't have the atom, and else linear.
+pub(crate) fn first_of(entry: &Entry, atom: Atom) -> Option<u64>
+    requires { entry.now.label ≡ set_of (map (λ f. f.atom) entry.now.firsts.items) }
+    ensures { result ≡ round_in entry.now.firsts.items atom }
 {
-    match table.find(kind, parent) {
-        Some(i) => round_of(&table.entry(i).firsts, atom),
-        None => None,
+    if !entry.label.has(atom) {
+        return None;
     }
+    round_of(&entry.firsts, atom)
 }
 
 // The label of a pair that is there already.

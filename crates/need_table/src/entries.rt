@@ -40,18 +40,21 @@ fn search(firsts: &[First], round: u64) -> usize
     firsts.partition_point(|first| first.round < round)
 }
 
-/// How many of the firsts come before this round. Constant where all but a few of them do, and else logarithmic in all.
+/// How many of the firsts come before this round. It looks at a few of the last ones, and where none of these does, it is
+/// logarithmic in all.
 pub(crate) fn place_from(firsts: &[First], round: u64) -> usize
     requires { AreInOrder firsts.now }
     ensures { IsPlaceFrom firsts.now round result }
 {
     let seam = firsts.len().saturating_sub(A_FEW);
-    if let Some(first) = firsts.get(seam)
-        && first.round < round
-    {
-        return seam + search(behind(firsts, seam), round);
+    let mut place = firsts.len();
+    'last: while place > seam {
+        if firsts[place - 1].round < round {
+            return place;
+        }
+        place -= 1;
     }
-    search(firsts, round)
+    search(before(firsts, place), round)
 }
 
 // The firsts from this place on.
@@ -70,8 +73,8 @@ fn before(firsts: &[First], place: usize) -> &[First]
     firsts.split_at(place).0
 }
 
-// The firsts of these rounds.
-fn within(firsts: &[First], from: u64, to: u64) -> &[First]
+/// The firsts of these rounds. Each end costs what `place_from` does.
+pub(crate) fn within(firsts: &[First], from: u64, to: u64) -> &[First]
     requires order { AreInOrder firsts.now }
     requires round { to + 1 < 2 ^ 64 }
     ensures { (f : First) → Contains result.now f ↔ (Contains firsts.now f × (from ≤ f.round) × (f.round ≤ to)) }

@@ -9,7 +9,7 @@ ghost use Rattle.need_table.specs.Agendas.{IsAppended};
 ghost use Rattle.need_table.specs.Turns.{IsAsked};
 
 use crate::entries::{Entry, atoms_of, fresh, label_within};
-use crate::pair_table::Table;
+use crate::entry_table::Table;
 use rule_index::IndexedSystem;
 use simple_core::GainFault;
 use std::alloc::Global;

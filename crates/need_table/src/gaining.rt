@@ -3,23 +3,36 @@ ghost use Rattle.std.specs.Prelude.{◌≡◌, ◌+◌, ◌<◌, ◌^◌, ℕ, s
 ghost use Rattle.std.specs.List.{flat_map};
 ghost use Rattle.std.specs.List.Sorted.{IsStrictlyIncreasing};
 ghost use Rattle.tp_base.specs.Classes.{union_of};
+ghost use Rattle.simple_core.specs.Labels.{set_of, given_by_links};
 ghost use Rattle.need_table.specs.Tables.{pair_of, replaced, IsDone, IsMore, AreOrdered};
 ghost use Rattle.need_table.specs.Rows.{IsEmptyBelow, AreSameBelow};
 ghost use Rattle.need_table.specs.Agendas.{AreKnown, IsGoing};
 ghost use Rattle.need_table.specs.Turns.{given_at, given_above, IsAsked, IsGained};
 
 use crate::agenda::{Agenda, listen_anew, tell};
-use crate::entries::{Entry, fresh, label_within};
+use crate::entries::{Entry, First, fresh, within};
+use crate::entry_table::Table;
 use crate::filling::{Asked, asked_places};
-use crate::pair_table::Table;
 use gathered::Gathered;
 use rule_index::IndexedSystem;
 use std::alloc::Global;
 use tp_base::{ClassSet, NoMemory};
 
+// Adds what these atoms of a child give.
+fn add_firsts(system: &IndexedSystem, firsts: &[First], next: &mut Gathered) -> Result<(), NoMemory>
+    requires { IsStrictlyIncreasing next.old }
+    ensures { OnOk result (next.new ≡ union_of next.old (given_by_links system.now.down (set_of (map (λ f. f.atom) firsts.now)))) }
+{
+    let mut rest = firsts;
+    'firsts: while let Some((first, others)) = rest.split_first() {
+        system.add_down_of(first.atom, next)?;
+        rest = others;
+    }
+    Ok(())
+}
+
 // Adds what the entry at a place gives by atoms of these rounds.
 fn add_child(
-    alloc: Global,
     system: &IndexedSystem,
     entries: &[Entry],
     from: u64,
@@ -33,15 +46,13 @@ fn add_child(
     ensures { OnOk result (next.new ≡ union_of next.old (given_at system.now entries.now from to j)) }
 {
     if let Some(entry) = entries.get(j) {
-        let label = label_within(alloc, &entry.firsts, from, to)?;
-        system.add_down(&label, next)?;
+        add_firsts(system, within(&entry.firsts, from, to), next)?;
     }
     Ok(())
 }
 
 // Adds what the entries at these places give by atoms of these rounds.
 fn add_children(
-    alloc: Global,
     system: &IndexedSystem,
     entries: &[Entry],
     from: u64,
@@ -56,7 +67,7 @@ fn add_children(
 {
     let mut rest = children;
     'places: while let Some((j, others)) = rest.split_first() {
-        add_child(alloc, system, entries, from, to, *j, next)?;
+        add_child(system, entries, from, to, *j, next)?;
         rest = others;
     }
     Ok(())
@@ -99,15 +110,7 @@ fn gained(
     system.add_local(&entry.label, &asked.fresh, &mut next)?;
     add_above(system, &entry.parent, k, &mut next)?;
     let children = asked_places(&asked.anew, &entry.children);
-    add_children(
-        alloc,
-        system,
-        table.entries(),
-        asked.from,
-        k,
-        children,
-        &mut next,
-    )?;
+    add_children(system, table.entries(), asked.from, k, children, &mut next)?;
     let next = next.into_set()?;
     Ok(next)
 }

@@ -4,10 +4,9 @@
 mod agenda;
 mod asking;
 mod entries;
+mod entry_table;
 mod filling;
 mod gaining;
-mod pair_table;
-mod places;
 mod rows;
 mod settling;
 mod table;

@@ -6,8 +6,8 @@ ghost use Rattle.need_table.specs.Rows.{row_in};
 ghost use Rattle.need_table.specs.Agendas.{IsGoing};
 
 use crate::agenda::{Agenda, start};
+use crate::entry_table::Table;
 use crate::filling::place_of;
-use crate::pair_table::Table;
 use crate::turning::advance;
 use rule_index::IndexedSystem;
 use simple_core::GainFault;

@@ -5,8 +5,8 @@ ghost use Rattle.simple_core.specs.Pairs.{Pair};
 ghost use Rattle.simple_core.specs.Rounds.{grown, IsRest, IsFirst};
 ghost use Rattle.simple_core.specs.Knowledge.{KeepsAsking, TellsAfter, IsToldBy, KeepsRoom};
 
-use crate::asking::{ask, first_at};
-use crate::pair_table::Table;
+use crate::asking::{ask, first_of};
+use crate::entry_table::Table;
 use rule_index::IndexedSystem;
 use simple_core::{GainFault, Summaries, System};
 use std::alloc::Global;
@@ -26,6 +26,8 @@ struct Question {
 /// search of the label for each of them, or a copy of the label where they are many, and a look at each pair that asks it, too.
 /// Where what is new of the label makes it ask something else, all of it and all atoms of what it asks then are looked at. Where
 /// it asks new pairs, it waits for them and is made again, which costs a step for each round so far besides.
+/// A pair is found by a number that is worked out of its atoms, so that a look for its entry is linear in these, on average. The
+/// first round of an atom at an entry costs a search of the label, and where the label has it, a look at the atoms that came before.
 #[derive(Drop)]
 pub struct PlainSummaries<'a> {
     system: IndexedSystem<'a>,
@@ -73,7 +75,7 @@ impl<'a> PlainSummaries<'a> {
 }
 
 impl<'a> Summaries for PlainSummaries<'a> {
-    ghost use Rattle.std.specs.Prelude.{Contains, Some};
+    ghost use Rattle.std.specs.Prelude.{◌≡◌, Contains, Some, slice_get};
 
     ghost system = { λ t. t.system };
 
@@ -82,6 +84,8 @@ impl<'a> Summaries for PlainSummaries<'a> {
     ghost told = { λ t. Some t.known };
 
     ghost spent_on = { λ t. t.spent };
+
+    ghost is_entry = { λ t i q. slice_get t.known i ≡ Some q };
 
     ghost room = { λ t. Some t.pairs };
 
@@ -111,7 +115,14 @@ impl<'a> Summaries for PlainSummaries<'a> {
         }
     }
 
-    fn first_round(&self, kind: u32, parent: &ClassSet, atom: Atom) -> Option<u64> {
-        first_at(&self.system, &self.table, kind, parent, atom)
+    fn entry(&self, kind: u32, parent: &ClassSet) -> usize {
+        let Some(i) = self.table.find(kind, parent) else {
+            unreachable!()
+        };
+        i
+    }
+
+    fn first_at(&self, entry: usize, _kind: u32, _parent: &ClassSet, atom: Atom) -> Option<u64> {
+        first_of(self.table.entry(entry), atom)
     }
 }

@@ -8,9 +8,9 @@ ghost use Rattle.need_table.specs.Agendas.{IsBehind, IsGoing};
 
 use crate::agenda::{Agenda, start};
 use crate::entries::Entry;
+use crate::entry_table::Table;
 use crate::filling::asked_by;
 use crate::gaining::step;
-use crate::pair_table::Table;
 use rule_index::IndexedSystem;
 use simple_core::GainFault;
 use std::alloc::Global;

@@ -11,7 +11,7 @@ use Rattle.std.proofs.lemmas.Option.{slice_get-get_or}
 use Rattle.tp_base.proofs.Lists.{drop_at}
 use Rattle.simple_core.specs.declared.rules.Link.{Link}
 use Rattle.simple_core.specs.declared.rules.Local as rule
-use Rattle.simple_core.specs.Pairs.{Pair}
+use Rattle.simple_core.specs.declared.summaries.Summaries.{Ghosts}
 use Rattle.proof_check.proofs.EntryLemmas.{drop_end}
 use Rattle.proof_maker.specs.declared.worlds.Place.{Place}
 use Rattle.proof_maker.specs.declared.worlds.World.{World}
@@ -71,7 +71,7 @@ module _ (p : ℕ → Bool) where
 
 -- ### all ways to an atom
 
-module _ (world : World) (known : Pair → Type 0) (ready : IsReady world known) (place : Place) (a k : ℕ) where
+module _ {X : Type 0} (S : Ghosts X) (world : World X) (ready : IsReady S world) (place : Place) (a k : ℕ) where
   abbrev passes : Choice → Bool
   passes = stands_at world place k
 
@@ -122,7 +122,7 @@ module _ (world : World) (known : Pair → Type 0) (ready : IsReady world known)
 pub link_from : (links down : List Link) (l from : ℕ) → links ≡ down → from ≡ unwrap_or (option_map (λ (r : Link). r.from) (slice_get links l)) 0 → from ≡ unwrap_or (option_map (λ (r : Link). r.from) (slice_get down l)) 0
 link_from links down l from same is = is ∙ ap (λ ls. unwrap_or (option_map (λ (r : Link). r.from) (slice_get ls l)) 0) same
 
-module _ (world : World) (place : Place) (k l from : ℕ) (is : from ≡ from_down world.system.now l) where
+module _ {X : Type 0} (world : World X) (place : Place) (k l from : ℕ) (is : from ≡ from_down world.system.now l) where
   abbrev below : List Choice
   below = ways_down world.system.now (setting_of world.system.now world.page.now place) (path_of place) l
 

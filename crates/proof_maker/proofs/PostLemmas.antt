@@ -1,5 +1,5 @@
 -- A walk in post-order: what it leaves, and that it is the walk of a proof through its entries.
-use Rattle.std.proofs.Common.{◌≡◌, ◌⊎◌, ℕ, zero, suc, ◌<◌, true, false, eqb, cond, List, [], ◌∷◌, ◌++◌, length, map, get_or, Contains, Some, None, unwrap_or, slice_get, nat_lt, inl, inr, refl, sym, ap, ◌∙◌, subst, arith}
+use Rattle.std.proofs.Common.{◌≡◌, ℕ, zero, suc, ◌<◌, true, false, eqb, cond, List, [], ◌∷◌, ◌++◌, length, map, get_or, Contains, Some, None, unwrap_or, slice_get, nat_lt, inl, inr, refl, sym, ap, ◌∙◌, subst, arith}
 use Rattle.std.specs.List.{position_or_len}
 use Rattle.std.proofs.lemmas.Bool.Decides.{Decides-eqb, eqb_tells, Decides-ltb}
 use Rattle.std.proofs.lemmas.List.{length-append}

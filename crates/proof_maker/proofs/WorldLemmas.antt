@@ -20,11 +20,12 @@ use Rattle.tree_sem.specs.Trees.{LabelTree, node_at, children_at}
 use Rattle.tree_sem.specs.Paths.{parent_of}
 use Rattle.tree_sem.proofs.PathLemmas.{parent_of-take}
 use Rattle.simple_core.specs.declared.rules.Spawn.{Spawn}
+use Rattle.simple_core.specs.declared.summaries.Summaries.{Ghosts}
 use Rattle.simple_core.specs.declared.system.System.{System}
 use Rattle.simple_core.specs.Labels.{visible_in}
 use Rattle.simple_core.specs.Rounds.{grown, IsFirst}
 use Rattle.simple_core.specs.Pages.{page_round}
-use Rattle.simple_core.specs.Pairs.{Pair, Asks}
+use Rattle.simple_core.specs.Pairs.{Asks}
 use Rattle.simple_core.proofs.LabelLemmas.{is-kinds_at}
 use Rattle.simple_core.proofs.Members.{Among, Contains-range}
 use Rattle.simple_core.proofs.PageRest.{counted_child}
@@ -118,21 +119,21 @@ pub added_never : (s : System) (j : ℕ) (parent : List ℕ) (a k : ℕ) → IsF
 added_never s j parent a k never = never_has (λ m. grown s m j parent) (grown-one_more s j parent) a k never
 
 -- the pair of a child that a spawn rule adds at a place is known
-pub below_known : (world : World) (known : Pair → Type 0) → IsReady world known → (place : Place) (k : ℕ) (c : Spawn) (visible : List ℕ) → IsPlace world.page.now known place
-    → IsAsking world.system.now known place → Contains world.system.now.child c → true ≡ has_class c.needs (labels_of world.system.now world.page.now place k)
-    → visible ≡ visible_in world.system.now (labels_of world.system.now world.page.now place k) → known (c.kind, visible)
-below_known world known ready (Node at) k c visible node asking listed needs is =
+pub below_known : {X : Type 0} (S : Ghosts X) (world : World X) → IsReady S world → (place : Place) (k : ℕ) (c : Spawn) (visible : List ℕ) → IsPlace world.page.now (S.known world.sums.now) place
+    → IsAsking world.system.now (S.known world.sums.now) place → Contains world.system.now.child c → true ≡ has_class c.needs (labels_of world.system.now world.page.now place k)
+    → visible ≡ visible_in world.system.now (labels_of world.system.now world.page.now place k) → S.known world.sums.now (c.kind, visible)
+below_known S world ready (Node at) k c visible node asking listed needs is =
     let s = world.system.now in
     let own = page_round s world.page.now k at.now in
     let asks : Asks s own (c.kind, visible) = (is-kinds_at s own c.kind (record { spawn = c; listed = listed; needs = Contains-has_class c.needs own (sym needs); kind = refl }), is) in
     ready.asked (c.kind, visible) (at.now, node, k, asks)
-below_known world known ready (Added j parent arrivals) k c visible pair asking listed needs is =
+below_known S world ready (Added j parent arrivals) k c visible pair asking listed needs is =
     let s = world.system.now in
     let own = grown s k j parent.now in
     let asks : Asks s own (c.kind, visible) = (is-kinds_at s own c.kind (record { spawn = c; listed = listed; needs = Contains-has_class c.needs own (sym needs); kind = refl }), is) in
     asking (j, parent.now) (c.kind, visible) k pair asks
 
-pub spawn_is : (world : World) (place : Place) (k from c : ℕ) (spawns : List Spawn) (x : Spawn) (visible : List ℕ) (b : Bool) → spawns ≡ world.system.now.child → c < length spawns
+pub spawn_is : {X : Type 0} (world : World X) (place : Place) (k from c : ℕ) (spawns : List Spawn) (x : Spawn) (visible : List ℕ) (b : Bool) → spawns ≡ world.system.now.child → c < length spawns
     → x ≡ get_or spawns c x → visible ≡ visible_in world.system.now (labels_of world.system.now world.page.now place k)
     → b ≡ (has_class x.needs (labels_of world.system.now world.page.now place k) && has_class from (grown world.system.now k x.kind visible)) → b ≡ spawn_has world place k from c
 spawn_is world place k from c spawns x visible b are less is seen test =

@@ -28,7 +28,7 @@ is_spawn (Real l n) = false
 is_spawn (Spawn l c) = true
 
 -- a spawn is found with the visible label at the place in the round
-abbrev pub HasBelow : World → Place → ℕ → Found → Type 0
+abbrev pub HasBelow : {X : Type 0} → World X → Place → ℕ → Found → Type 0
 HasBelow world place k f = is_spawn f.choice ≡ true → f.below ≡ visible_in world.system.now (labels_of world.system.now world.page.now place k)
 
 pub record IsGlanceAt (s : System) (page : LabelTree) (place : Place) (a : ℕ) (g : Glance) : Type 0 where

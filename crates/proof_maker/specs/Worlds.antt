@@ -3,11 +3,13 @@
 --     labels_of s page place k the label at the place after so many rounds
 --     IsPlace page known place it is a node of the page, or an added node of a known pair
 --     HasArrivals s place      what an added node has with it is what comes to it
---     IsReady world known      the page is closed, what it asks is known, and the rules are those of the system
-use Rattle.std.specs.Prelude.{ℕ, Bool, ◌&&◌, Some, None, List, [], ◌∷◌, ◌++◌, IsSome, option_map, unwrap_or}
+--     IsReady S world          the page is closed, what it asks is known to the summaries, which S reads, and these and the rules are of
+--                              the system
+use Rattle.std.specs.Prelude.{◌≡◌, ℕ, Bool, ◌&&◌, Some, None, List, [], ◌∷◌, ◌++◌, IsSome, option_map, unwrap_or}
 use Rattle.tp_base.specs.Classes.{has_class}
 use Rattle.tree_sem.specs.Trees.{LabelTree, node_at}
 use Rattle.tree_sem.specs.Paths.{parent_of}
+use Rattle.simple_core.specs.declared.summaries.Summaries.{Ghosts}
 use Rattle.simple_core.specs.declared.system.System.{System}
 use Rattle.simple_core.specs.Pairs.{Pair, Asked}
 use Rattle.simple_core.specs.Labels.{visible_in}
@@ -57,20 +59,21 @@ abbrev pub IsAsking : System → (Pair → Type 0) → Place → Type 0
 IsAsking s known (Node at) = Unit {0}
 IsAsking s known (Added j parent arrivals) = KeepsAsking s known
 
-pub record IsReady (world : World) (known : Pair → Type 0) : Type 0 where
+pub record IsReady {X : Type 0} (S : Ghosts X) (world : World X) : Type 0 where
+  pub made : S.system world.sums.now ≡ world.system.now
   pub closed : IsClosedPage world.system.now world.page.now world.closed.now
-  pub asked : (q : Pair) → Asked world.system.now world.page.now q → known q
+  pub asked : (q : Pair) → Asked world.system.now world.page.now q → S.known world.sums.now q
   pub rules : AreAllGivers world.system.now world.rules.now
 
 -- whether all premises of the reason stand at the place in a round
-abbrev pub stands_at : World → Place → ℕ → Reason → Bool
+abbrev pub stands_at : {X : Type 0} → World X → Place → ℕ → Reason → Bool
 stands_at world place k w = stands world.system.now (setting_of world.system.now world.page.now place) k (path_of place) w
 
 -- whether the page's child n, or the child that the spawn rule c adds, has the atom
-abbrev pub real_has : World → Place → ℕ → ℕ → ℕ → Bool
+abbrev pub real_has : {X : Type 0} → World X → Place → ℕ → ℕ → ℕ → Bool
 real_has world place k from n = has_class from ((setting_of world.system.now world.page.now place).label k (path_of place ++ n ∷ []))
 
-abbrev pub spawn_has : World → Place → ℕ → ℕ → ℕ → Bool
+abbrev pub spawn_has : {X : Type 0} → World X → Place → ℕ → ℕ → ℕ → Bool
 spawn_has world place k from c =
     let s = world.system.now in
     let label = labels_of s world.page.now place k in

@@ -78,10 +78,11 @@ pub(crate) fn arrivals_of<S: Summaries>(
     requires known { S.known sums.now (kind, parent.now) }
     ensures { IfOk result (AreArrivals system.now.visible (λ k. grown system.now k kind parent.now)) }
 {
+    let entry = sums.entry(kind, parent);
     let mut items = Vec::new(alloc);
     for i in 0..system.visible.len() {
         let atom = system.visible.at(i);
-        let first = sums.first_round(kind, parent, atom);
+        let first = sums.first_at(entry, kind, parent, atom);
         note(&mut items, atom, first)?;
     }
     by_rounds(items)

@@ -4,7 +4,6 @@ ghost use Rattle.std.specs.List.{flat_map, range_with_len};
 ghost use Rattle.tp_base.specs.Classes.{has_class};
 ghost use Rattle.simple_core.specs.Labels.{visible_in};
 ghost use Rattle.simple_core.specs.Rounds.{grown};
-ghost use Rattle.closed_page.specs.ClosedPages.{IsClosedPage};
 ghost use Rattle.proof_needs.specs.Choices.{by_local, by_up, ways_down, ways, chosen};
 ghost use Rattle.proof_maker.specs.Worlds.{setting_of, path_of, labels_of, IsPlace, HasArrivals, IsNodeOf, IsReady, stands_at, real_has, spawn_has};
 ghost use Rattle.proof_maker.specs.Glances.{HasBelow};
@@ -44,15 +43,13 @@ fn alone(alloc: Global, choice: Choice) -> Found
 /// The reason for an atom whose first round is `round`.
 pub(crate) fn chosen<S: Summaries>(
     alloc: Global,
-    world: &World<'_>,
-    sums: &S,
+    world: &World<'_, S>,
     place: &Place<'_>,
     atom: Atom,
     round: u64,
 ) -> Result<Found, NoMemory>
-    requires made { S.system sums.now ≡ world.now.system.now }
-    requires ready { IsReady world.now (S.known sums.now) }
-    requires place { IsPlace world.now.page.now (S.known sums.now) place.now }
+    requires ready { IsReady S.Summaries world.now }
+    requires place { IsPlace world.now.page.now (S.known world.now.sums.now) place.now }
     requires arrivals { HasArrivals world.now.system.now place.now }
     ensures choice { IfOk result (λ f. found_reason f ≡ chosen world.now.system.now (setting_of world.now.system.now world.now.page.now place.now) (path_of place.now) atom round) }
     ensures below { IfOk result (HasBelow world.now place.now (round - 1)) }
@@ -60,7 +57,7 @@ pub(crate) fn chosen<S: Summaries>(
     match round.checked_sub(1) {
         None => Ok(alone(alloc, Choice::Start)),
         Some(before) => {
-            let way = way(alloc, world, sums, place, atom, before)?;
+            let way = way(alloc, world, place, atom, before)?;
             match way {
                 Some(found) => Ok(found),
                 None => Ok(alone(alloc, Choice::Start)),
@@ -72,37 +69,33 @@ pub(crate) fn chosen<S: Summaries>(
 /// Whether an atom whose first round is `round` may be given by a child: a link from a child gives it, and neither the node's own atoms
 /// nor its parent do. Only what is asked rests on it, and no answer.
 pub(crate) fn looks_below<S: Summaries>(
-    world: &World<'_>,
-    sums: &S,
+    world: &World<'_, S>,
     place: &Place<'_>,
     atom: Atom,
     round: u64,
 ) -> Result<bool, NoMemory>
-    requires made { S.system sums.now ≡ world.now.system.now }
-    requires ready { IsReady world.now (S.known sums.now) }
-    requires place { IsPlace world.now.page.now (S.known sums.now) place.now }
+    requires ready { IsReady S.Summaries world.now }
+    requires place { IsPlace world.now.page.now (S.known world.now.sums.now) place.now }
 {
     if round == 0 {
         return Ok(false);
     }
-    may_come_from_below(world, sums, place, atom, round - 1)
+    may_come_from_below(world, place, atom, round - 1)
 }
 
 fn may_come_from_below<S: Summaries>(
-    world: &World<'_>,
-    sums: &S,
+    world: &World<'_, S>,
     place: &Place<'_>,
     atom: Atom,
     before: u64,
 ) -> Result<bool, NoMemory>
-    requires made { S.system sums.now ≡ world.now.system.now }
-    requires ready { IsReady world.now (S.known sums.now) }
-    requires place { IsPlace world.now.page.now (S.known sums.now) place.now }
+    requires ready { IsReady S.Summaries world.now }
+    requires place { IsPlace world.now.page.now (S.known world.now.sums.now) place.now }
 {
     if world.rules.downs.of(atom).is_empty() {
         return Ok(false);
     }
-    let rule = local_way(world, sums, place, world.rules.locals.of(atom), before);
+    let rule = local_way(world, place, world.rules.locals.of(atom), before);
     if rule.is_some() {
         return Ok(false);
     }
@@ -113,43 +106,39 @@ fn may_come_from_below<S: Summaries>(
 // The first way to the atom all of whose premises stand in the round.
 fn way<S: Summaries>(
     alloc: Global,
-    world: &World<'_>,
-    sums: &S,
+    world: &World<'_, S>,
     place: &Place<'_>,
     atom: Atom,
     round: u64,
 ) -> Result<Option<Found>, NoMemory>
-    requires made { S.system sums.now ≡ world.now.system.now }
-    requires ready { IsReady world.now (S.known sums.now) }
-    requires place { IsPlace world.now.page.now (S.known sums.now) place.now }
+    requires ready { IsReady S.Summaries world.now }
+    requires place { IsPlace world.now.page.now (S.known world.now.sums.now) place.now }
     requires arrivals { HasArrivals world.now.system.now place.now }
     ensures below { IfOk result (λ w. IfSome w (HasBelow world.now place.now round)) }
     ensures choice { IfOk result (λ w. option_map found_reason w
         ≡ find (stands_at world.now place.now round) (ways world.now.system.now (setting_of world.now.system.now world.now.page.now place.now) (path_of place.now) atom)) }
 {
-    if let Some(rule) = local_way(world, sums, place, world.rules.locals.of(atom), round) {
+    if let Some(rule) = local_way(world, place, world.rules.locals.of(atom), round) {
         return Ok(Some(alone(alloc, Choice::Local(rule as u64))));
     }
     if let Some(link) = up_way(world, place, world.rules.ups.of(atom), round)? {
         return Ok(Some(alone(alloc, Choice::Up(link as u64))));
     }
-    down_way(alloc, world, sums, place, world.rules.downs.of(atom), round)
+    down_way(alloc, world, place, world.rules.downs.of(atom), round)
 }
 
 fn local_way<S: Summaries>(
-    world: &World<'_>,
-    sums: &S,
+    world: &World<'_, S>,
     place: &Place<'_>,
     rules: &[usize],
     round: u64,
 ) -> Option<usize>
-    requires made { S.system sums.now ≡ world.now.system.now }
-    requires closed { IsClosedPage world.now.system.now world.now.page.now world.now.closed.now }
-    requires place { IsPlace world.now.page.now (S.known sums.now) place.now }
+    requires ready { IsReady S.Summaries world.now }
+    requires place { IsPlace world.now.page.now (S.known world.now.sums.now) place.now }
     ensures { result ≡ find (λ l. stands_at world.now place.now round (by_local l)) rules.now }
 {
     for rule in rules {
-        if local_stands(world, sums, place, *rule, round) {
+        if local_stands(world, place, *rule, round) {
             return Some(*rule);
         }
     }
@@ -157,30 +146,28 @@ fn local_way<S: Summaries>(
 }
 
 fn local_stands<S: Summaries>(
-    world: &World<'_>,
-    sums: &S,
+    world: &World<'_, S>,
     place: &Place<'_>,
     rule: usize,
     round: u64,
 ) -> bool
-    requires made { S.system sums.now ≡ world.now.system.now }
-    requires closed { IsClosedPage world.now.system.now world.now.page.now world.now.closed.now }
-    requires place { IsPlace world.now.page.now (S.known sums.now) place.now }
+    requires ready { IsReady S.Summaries world.now }
+    requires place { IsPlace world.now.page.now (S.known world.now.sums.now) place.now }
     ensures { result ≡ stands_at world.now place.now round (by_local rule) }
 {
     match world.system.local.items().get(rule) {
-        Some(rule) => has_all(world, sums, place, &rule.needs, round),
+        Some(rule) => has_all(world, place, &rule.needs, round),
         None => true,
     }
 }
 
-fn up_way(
-    world: &World<'_>,
+fn up_way<S: Summaries>(
+    world: &World<'_, S>,
     place: &Place<'_>,
     links: &[usize],
     round: u64,
 ) -> Result<Option<usize>, NoMemory>
-    requires closed { IsClosedPage world.now.system.now world.now.page.now world.now.closed.now }
+    requires ready { IsReady S.Summaries world.now }
     requires node { IsNodeOf world.now.page.now place.now }
     ensures { IfOk result (λ w. w ≡ find (λ l. stands_at world.now place.now round (by_up l)) links.now) }
 {
@@ -195,22 +182,20 @@ fn up_way(
 
 fn down_way<S: Summaries>(
     alloc: Global,
-    world: &World<'_>,
-    sums: &S,
+    world: &World<'_, S>,
     place: &Place<'_>,
     links: &[usize],
     round: u64,
 ) -> Result<Option<Found>, NoMemory>
-    requires made { S.system sums.now ≡ world.now.system.now }
-    requires ready { IsReady world.now (S.known sums.now) }
-    requires place { IsPlace world.now.page.now (S.known sums.now) place.now }
+    requires ready { IsReady S.Summaries world.now }
+    requires place { IsPlace world.now.page.now (S.known world.now.sums.now) place.now }
     requires arrivals { HasArrivals world.now.system.now place.now }
     ensures below { IfOk result (λ w. IfSome w (HasBelow world.now place.now round)) }
     ensures choice { IfOk result (λ w. option_map found_reason w
         ≡ find (stands_at world.now place.now round) (flat_map (ways_down world.now.system.now (setting_of world.now.system.now world.now.page.now place.now) (path_of place.now)) links.now)) }
 {
     for link in links {
-        let way = link_way(alloc, world, sums, place, *link, round)?;
+        let way = link_way(alloc, world, place, *link, round)?;
         if way.is_some() {
             return Ok(way);
         }
@@ -221,15 +206,13 @@ fn down_way<S: Summaries>(
 // The first child, in the page or by a spawn rule, that has the link's left side by the round.
 fn link_way<S: Summaries>(
     alloc: Global,
-    world: &World<'_>,
-    sums: &S,
+    world: &World<'_, S>,
     place: &Place<'_>,
     link: usize,
     round: u64,
 ) -> Result<Option<Found>, NoMemory>
-    requires made { S.system sums.now ≡ world.now.system.now }
-    requires ready { IsReady world.now (S.known sums.now) }
-    requires place { IsPlace world.now.page.now (S.known sums.now) place.now }
+    requires ready { IsReady S.Summaries world.now }
+    requires place { IsPlace world.now.page.now (S.known world.now.sums.now) place.now }
     requires arrivals { HasArrivals world.now.system.now place.now }
     ensures below { IfOk result (λ w. IfSome w (HasBelow world.now place.now round)) }
     ensures choice { IfOk result (λ w. option_map found_reason w
@@ -239,13 +222,13 @@ fn link_way<S: Summaries>(
     if let Some(child) = real_child(world, place, from, round) {
         return Ok(Some(alone(alloc, Choice::Real(link as u64, child))));
     }
-    let visible = visible_at(alloc, world, sums, place, round)?;
+    let visible = visible_at(alloc, world, place, round)?;
     let scene = Scene {
         place,
         round,
         visible: &visible,
     };
-    match added_child(world, sums, &scene, from) {
+    match added_child(world, &scene, from) {
         Some(spawn) => Ok(Some(Found {
             choice: Choice::Spawn(link as u64, spawn as u64),
             below: visible,
@@ -254,8 +237,13 @@ fn link_way<S: Summaries>(
     }
 }
 
-fn real_child(world: &World<'_>, place: &Place<'_>, from: Atom, round: u64) -> Option<u32>
-    requires closed { IsClosedPage world.now.system.now world.now.page.now world.now.closed.now }
+fn real_child<S: Summaries>(
+    world: &World<'_, S>,
+    place: &Place<'_>,
+    from: Atom,
+    round: u64,
+) -> Option<u32>
+    requires ready { IsReady S.Summaries world.now }
     requires node { IsNodeOf world.now.page.now place.now }
     ensures { result ≡ find (real_has world.now place.now round from)
         (range_with_len 0 ((setting_of world.now.system.now world.now.page.now place.now).reals (path_of place.now))) }
@@ -267,22 +255,16 @@ fn real_child(world: &World<'_>, place: &Place<'_>, from: Atom, round: u64) -> O
 }
 
 // The first spawn rule whose child has the atom.
-fn added_child<S: Summaries>(
-    world: &World<'_>,
-    sums: &S,
-    scene: &Scene<'_>,
-    from: Atom,
-) -> Option<usize>
-    requires made { S.system sums.now ≡ world.now.system.now }
-    requires ready { IsReady world.now (S.known sums.now) }
-    requires place { IsPlace world.now.page.now (S.known sums.now) scene.now.place.now }
+fn added_child<S: Summaries>(world: &World<'_, S>, scene: &Scene<'_>, from: Atom) -> Option<usize>
+    requires ready { IsReady S.Summaries world.now }
+    requires place { IsPlace world.now.page.now (S.known world.now.sums.now) scene.now.place.now }
     requires visible { scene.now.visible.now ≡ visible_in world.now.system.now (labels_of world.now.system.now world.now.page.now scene.now.place.now scene.now.round) }
     ensures { result ≡ find (spawn_has world.now scene.now.place.now scene.now.round from) (range_with_len 0 (length world.now.system.now.child)) }
 {
     let spawns = world.system.child.items();
     for c in 0..spawns.len() {
         let spawn = spawns[c];
-        if spawn_stands(world, sums, scene, &spawn, from) {
+        if spawn_stands(world, scene, &spawn, from) {
             return Some(c);
         }
     }
@@ -290,21 +272,19 @@ fn added_child<S: Summaries>(
 }
 
 fn spawn_stands<S: Summaries>(
-    world: &World<'_>,
-    sums: &S,
+    world: &World<'_, S>,
     scene: &Scene<'_>,
     spawn: &Spawn,
     from: Atom,
 ) -> bool
-    requires made { S.system sums.now ≡ world.now.system.now }
-    requires ready { IsReady world.now (S.known sums.now) }
-    requires place { IsPlace world.now.page.now (S.known sums.now) scene.now.place.now }
+    requires ready { IsReady S.Summaries world.now }
+    requires place { IsPlace world.now.page.now (S.known world.now.sums.now) scene.now.place.now }
     requires visible { scene.now.visible.now ≡ visible_in world.now.system.now (labels_of world.now.system.now world.now.page.now scene.now.place.now scene.now.round) }
     requires listed { Contains world.now.system.now.child spawn.now }
     ensures { result ≡ (has_class spawn.now.needs (labels_of world.now.system.now world.now.page.now scene.now.place.now scene.now.round) && has_class from (grown world.now.system.now scene.now.round spawn.now.kind scene.now.visible.now)) }
 {
-    if !has(world, sums, scene.place, spawn.needs, scene.round) {
+    if !has(world, scene.place, spawn.needs, scene.round) {
         return false;
     }
-    added_has(sums, spawn.kind, scene.visible, from, scene.round)
+    added_has(world.sums, spawn.kind, scene.visible, from, scene.round)
 }

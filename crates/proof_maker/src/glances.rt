@@ -27,21 +27,19 @@ pub(crate) struct Glance {
 // Looks at an atom that comes at the place.
 fn glance_in<S: Summaries>(
     alloc: Global,
-    world: &World<'_>,
-    sums: &S,
+    world: &World<'_, S>,
     place: &Place<'_>,
     atom: Atom,
 ) -> Result<Glance, NoMemory>
-    requires made { S.system sums.now ≡ world.now.system.now }
-    requires ready { IsReady world.now (S.known sums.now) }
-    requires place { IsPlace world.now.page.now (S.known sums.now) place.now }
+    requires ready { IsReady S.Summaries world.now }
+    requires place { IsPlace world.now.page.now (S.known world.now.sums.now) place.now }
     requires arrivals { HasArrivals world.now.system.now place.now }
     requires comes { (k : ℕ) × Contains (labels_of world.now.system.now world.now.page.now place.now k) atom }
     ensures glance { IfOk result (IsGlanceAt world.now.system.now world.now.page.now place.now atom) }
-    ensures asking { OnOk result (IsAsking world.now.system.now (S.known sums.now) place.now) }
+    ensures asking { OnOk result (IsAsking world.now.system.now (S.known world.now.sums.now) place.now) }
 {
-    let round = first(world, sums, place, atom).unwrap_or(0);
-    let found = chosen(alloc, world, sums, place, atom, round)?;
+    let round = first(world, place, atom).unwrap_or(0);
+    let found = chosen(alloc, world, place, atom, round)?;
     Ok(Glance {
         round,
         choice: found.choice,
@@ -54,45 +52,41 @@ pub(crate) fn glance_node<S: Summaries>(
     alloc: Global,
     nodes: &IndexSet<Vec<u32>>,
     n: usize,
-    world: &World<'_>,
-    sums: &S,
+    world: &World<'_, S>,
     atom: Atom,
 ) -> Result<Glance, NoMemory>
-    requires made { S.system sums.now ≡ world.now.system.now }
-    requires ready { IsReady world.now (S.known sums.now) }
+    requires ready { IsReady S.Summaries world.now }
     requires node { IsNodeAt world.now.system.now world.now.page.now (paths_in nodes.now.keys) n atom }
     ensures { IfOk result (λ g. (v : List ℕ) → slice_get (paths_in nodes.now.keys) n ≡ Some v → IsGlance world.now.system.now world.now.page.now (page_node v) atom g) }
 {
     let at = path_of(alloc, nodes, n)?;
-    glance_in(alloc, world, sums, &Place::Node(&at), atom)
+    glance_in(alloc, world, &Place::Node(&at), atom)
 }
 
 /// Looks at an atom that comes at the added node of a triple. What comes to that node is asked only where its children are looked at.
 pub(crate) fn glance_added<S: Summaries>(
     alloc: Global,
     key: &TripleKey,
-    world: &World<'_>,
-    sums: &S,
+    world: &World<'_, S>,
     atom: Atom,
     memo: &mut PlaceMemo,
 ) -> Result<Glance, NoMemory>
-    requires made { S.system sums.now ≡ world.now.system.now }
-    requires ready { IsReady world.now (S.known sums.now) }
-    requires key { IsKeyOf world.now.system.now world.now.page.now (S.known sums.now) (triple_of key.now) atom }
+    requires ready { IsReady S.Summaries world.now }
+    requires key { IsKeyOf world.now.system.now world.now.page.now (S.known world.now.sums.now) (triple_of key.now) atom }
     requires memo { IsPlaceMemo world.now.system.now memo.old }
     ensures glance { IfOk result (IsGlance world.now.system.now world.now.page.now (added (triple_of key.now)) atom) }
-    ensures asking { OnOk result (KeepsAsking world.now.system.now (S.known sums.now)) }
+    ensures asking { OnOk result (KeepsAsking world.now.system.now (S.known world.now.sums.now)) }
     ensures memo { IsPlaceMemo world.now.system.now memo.new }
 {
     let parent = set_of(alloc, &key.parent)?;
     let bare = Place::Added(key.kind, &parent, None);
-    let round = first(world, sums, &bare, atom).unwrap_or(0);
-    let below = looks_below(world, sums, &bare, atom, round)?;
+    let round = first(world, &bare, atom).unwrap_or(0);
+    let below = looks_below(world, &bare, atom, round)?;
     if !below {
-        return glance_in(alloc, world, sums, &bare, atom);
+        return glance_in(alloc, world, &bare, atom);
     }
-    let row = memo.reach(alloc, world.system, sums, key.kind, &parent)?;
+    let row = memo.reach(alloc, world.system, world.sums, key.kind, &parent)?;
     let arrivals = memo.arrivals(row);
     let place = Place::Added(key.kind, &parent, Some(arrivals));
-    glance_in(alloc, world, sums, &place, atom)
+    glance_in(alloc, world, &place, atom)
 }

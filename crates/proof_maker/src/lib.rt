@@ -14,4 +14,3 @@ mod worlds;
 pub use laws::{canonical_is_one, canonical_is_valid, canonical_length};
 pub use making::{ProofGround, ProveFault, prove, prove_next};
 pub use place_memo::PlaceMemo;
-pub use simple_core::AllGivers as Rules;

@@ -25,25 +25,23 @@ use tp_base::{Atom, ClassSet, NoMemory, Path};
 fn glance_at<S: Summaries>(
     alloc: Global,
     needs: &Needs,
-    world: &World<'_>,
-    sums: &S,
+    world: &World<'_, S>,
     want: &Want,
     memo: &mut PlaceMemo,
 ) -> Result<Glance, NoMemory>
-    requires made { S.system sums.now ≡ world.now.system.now }
-    requires ready { IsReady world.now (S.known sums.now) }
-    requires working { IsWorking world.now.system.now world.now.page.now (S.known sums.now) needs.now }
+    requires ready { IsReady S.Summaries world.now }
+    requires working { IsWorking world.now.system.now world.now.page.now (S.known world.now.sums.now) needs.now }
     requires wanted { Contains needs.now.wants.keys want.now }
     requires memo { IsPlaceMemo world.now.system.now memo.old }
     ensures glance { IfOk result (IsGlance world.now.system.now world.now.page.now (spot_in (paths_in needs.now.nodes.keys) (triples_in needs.now.triples.keys) want.now.spot) want.now.atom) }
-    ensures asking { OnOk result (AsksAt world.now.system.now (S.known sums.now) (spot_in (paths_in needs.now.nodes.keys) (triples_in needs.now.triples.keys) want.now.spot)) }
+    ensures asking { OnOk result (AsksAt world.now.system.now (S.known world.now.sums.now) (spot_in (paths_in needs.now.nodes.keys) (triples_in needs.now.triples.keys) want.now.spot)) }
     ensures memo { IsPlaceMemo world.now.system.now memo.new }
 {
     match want.spot {
-        Spot::Page(n) => glance_node(alloc, &needs.nodes, n, world, sums, want.atom),
+        Spot::Page(n) => glance_node(alloc, &needs.nodes, n, world, want.atom),
         Spot::Added(n) => {
             let key = key_at(&needs.triples, n);
-            glance_added(alloc, key, world, sums, want.atom, memo)
+            glance_added(alloc, key, world, want.atom, memo)
         }
     }
 }
@@ -122,23 +120,21 @@ fn enter(
 fn look<S: Summaries>(
     alloc: Global,
     needs: &mut Needs,
-    world: &World<'_>,
-    sums: &S,
+    world: &World<'_, S>,
     memo: &mut PlaceMemo,
 ) -> Result<(), NoMemory>
-    requires made { S.system sums.now ≡ world.now.system.now }
-    requires ready { IsReady world.now (S.known sums.now) }
-    requires working { IsWorking world.now.system.now world.now.page.now (S.known sums.now) needs.old }
+    requires ready { IsReady S.Summaries world.now }
+    requires working { IsWorking world.now.system.now world.now.page.now (S.known world.now.sums.now) needs.old }
     requires more { length needs.old.drafts.items < length needs.old.wants.keys }
     requires memo { IsPlaceMemo world.now.system.now memo.old }
-    ensures working { OnOk result (IsWorking world.now.system.now world.now.page.now (S.known sums.now) needs.new) }
+    ensures working { OnOk result (IsWorking world.now.system.now world.now.page.now (S.known world.now.sums.now) needs.new) }
     ensures done { OnOk result (length needs.new.drafts.items ≡ suc (length needs.old.drafts.items)) }
     ensures target { needs.new.target ≡ needs.old.target }
     ensures memo { IsPlaceMemo world.now.system.now memo.new }
 {
     let next = needs.drafts.len();
     let want = needs.wants.as_slice()[next];
-    let glance = glance_at(alloc, needs, world, sums, &want, memo)?;
+    let glance = glance_at(alloc, needs, world, &want, memo)?;
     let triple = enter(alloc, needs, world.system, &glance)?;
     let draft = Draft {
         round: glance.round,
@@ -170,22 +166,20 @@ fn start(alloc: Global, target: Atom) -> Result<Needs, NoMemory>
 /// Everything that the target needs at the page's root; nothing where it uses more triples than the limit.
 pub(crate) fn needs_of<S: Summaries>(
     alloc: Global,
-    world: &World<'_>,
-    sums: &S,
+    world: &World<'_, S>,
     target: Atom,
     limit: u32,
     memo: &mut PlaceMemo,
 ) -> Result<Option<Needs>, NoMemory>
-    requires made { S.system sums.now ≡ world.now.system.now }
-    requires ready { IsReady world.now (S.known sums.now) }
+    requires ready { IsReady S.Summaries world.now }
     requires target { HasAtom world.now.closed.now.labels [] target }
     requires memo { IsPlaceMemo world.now.system.now memo.old }
-    ensures needs { IfOk result (λ r. MatchOption r (UsesMore world.now.system.now world.now.page.now target limit) (IsDone world.now.system.now world.now.page.now (S.known sums.now) target limit)) }
+    ensures needs { IfOk result (λ r. MatchOption r (UsesMore world.now.system.now world.now.page.now target limit) (IsDone world.now.system.now world.now.page.now (S.known world.now.sums.now) target limit)) }
     ensures memo { IsPlaceMemo world.now.system.now memo.new }
 {
     let mut needs = start(alloc, target)?;
     'wants: while needs.drafts.len() < needs.wants.len() {
-        look(alloc, &mut needs, world, sums, memo)?;
+        look(alloc, &mut needs, world, memo)?;
         if needs.triples.len() > limit as usize {
             return Ok(None);
         }

@@ -116,8 +116,9 @@ pub fn prove_next<S: Summaries>(
         system: ground.system,
         closed: ground.closed,
         rules: ground.rules,
+        sums,
     };
-    match needs_of(alloc, &world, sums, target, limit, memo)? {
+    match needs_of(alloc, &world, target, limit, memo)? {
         Some(needs) => Ok(proof_of(alloc, &needs, ground.system)?),
         None => Err(ProveFault::Unshown),
     }

@@ -6,8 +6,7 @@ ghost use Rattle.simple_core.specs.Labels.{visible_in};
 ghost use Rattle.simple_core.specs.Rounds.{grown, IsFirst};
 ghost use Rattle.simple_core.specs.Pages.{page_round};
 ghost use Rattle.simple_core.specs.Knowledge.{KeepsAsking};
-ghost use Rattle.closed_page.specs.ClosedPages.{IsClosedPage};
-ghost use Rattle.proof_maker.specs.Worlds.{setting_of, path_of, labels_of, IsPlace, HasArrivals, above_on, IsNodeOf, IsAsking};
+ghost use Rattle.proof_maker.specs.Worlds.{setting_of, path_of, labels_of, IsPlace, HasArrivals, above_on, IsNodeOf, IsAsking, IsReady};
 
 use crate::arrivals::Arrivals;
 use closed_page::Closed;
@@ -16,13 +15,14 @@ use std::alloc::Global;
 use tp_base::{Atom, ClassSet, NoMemory, Path};
 use tree_sem::Tree;
 
-/// A closed page and the rules of its system by what they give.
-#[derive(Clone, Copy)]
-pub(crate) struct World<'a> {
+/// A closed page, the rules of its system by what they give, and the summaries of its added nodes.
+#[derive(Drop)]
+pub(crate) struct World<'a, S: Summaries> {
     pub(crate) page: &'a Tree,
     pub(crate) system: &'a System,
     pub(crate) closed: &'a Closed,
     pub(crate) rules: &'a AllGivers,
+    pub(crate) sums: &'a S,
 }
 
 /// A node of the page, or an added node of a kind below a parent with this visible label, with what comes to it where that was asked.
@@ -34,26 +34,29 @@ pub(crate) enum Place<'a> {
 
 /// The first round in which the label at the place has the atom.
 pub(crate) fn first<S: Summaries>(
-    world: &World<'_>,
-    sums: &S,
+    world: &World<'_, S>,
     place: &Place<'_>,
     atom: Atom,
 ) -> Option<u64>
-    requires made { S.system sums.now ≡ world.now.system.now }
-    requires closed { IsClosedPage world.now.system.now world.now.page.now world.now.closed.now }
-    requires place { IsPlace world.now.page.now (S.known sums.now) place.now }
+    requires ready { IsReady S.Summaries world.now }
+    requires place { IsPlace world.now.page.now (S.known world.now.sums.now) place.now }
     ensures first { IsFirst (labels_of world.now.system.now world.now.page.now place.now) atom result }
-    ensures asking { IsAsking world.now.system.now (S.known sums.now) place.now }
+    ensures asking { IsAsking world.now.system.now (S.known world.now.sums.now) place.now }
 {
     match place {
         Place::Node(at) => world.closed.first_round(at, atom),
-        Place::Added(kind, parent, _) => sums.first_round(*kind, parent, atom),
+        Place::Added(kind, parent, _) => world.sums.first_round(*kind, parent, atom),
     }
 }
 
 /// Whether a node of the page has the atom by the round.
-pub(crate) fn node_has(world: &World<'_>, at: &Path, atom: Atom, round: u64) -> bool
-    requires closed { IsClosedPage world.now.system.now world.now.page.now world.now.closed.now }
+pub(crate) fn node_has<S: Summaries>(
+    world: &World<'_, S>,
+    at: &Path,
+    atom: Atom,
+    round: u64,
+) -> bool
+    requires ready { IsReady S.Summaries world.now }
     requires node { IsSome (node_at at.now world.now.page.now) }
     ensures { result ≡ has_class atom (page_round world.now.system.now world.now.page.now round at.now) }
 {
@@ -83,39 +86,35 @@ pub(crate) fn added_has<S: Summaries>(
 
 /// Whether the label at the place has the atom by the round.
 pub(crate) fn has<S: Summaries>(
-    world: &World<'_>,
-    sums: &S,
+    world: &World<'_, S>,
     place: &Place<'_>,
     atom: Atom,
     round: u64,
 ) -> bool
-    requires made { S.system sums.now ≡ world.now.system.now }
-    requires closed { IsClosedPage world.now.system.now world.now.page.now world.now.closed.now }
-    requires place { IsPlace world.now.page.now (S.known sums.now) place.now }
+    requires ready { IsReady S.Summaries world.now }
+    requires place { IsPlace world.now.page.now (S.known world.now.sums.now) place.now }
     ensures test { result ≡ has_class atom (labels_of world.now.system.now world.now.page.now place.now round) }
-    ensures asking { IsAsking world.now.system.now (S.known sums.now) place.now }
+    ensures asking { IsAsking world.now.system.now (S.known world.now.sums.now) place.now }
 {
     match place {
         Place::Node(at) => node_has(world, at, atom, round),
-        Place::Added(kind, parent, _) => added_has(sums, *kind, parent, atom, round),
+        Place::Added(kind, parent, _) => added_has(world.sums, *kind, parent, atom, round),
     }
 }
 
 /// Whether it has all these atoms.
 pub(crate) fn has_all<S: Summaries>(
-    world: &World<'_>,
-    sums: &S,
+    world: &World<'_, S>,
     place: &Place<'_>,
     atoms: &ClassSet,
     round: u64,
 ) -> bool
-    requires made { S.system sums.now ≡ world.now.system.now }
-    requires closed { IsClosedPage world.now.system.now world.now.page.now world.now.closed.now }
-    requires place { IsPlace world.now.page.now (S.known sums.now) place.now }
+    requires ready { IsReady S.Summaries world.now }
+    requires place { IsPlace world.now.page.now (S.known world.now.sums.now) place.now }
     ensures { result ≡ all_among atoms.now (labels_of world.now.system.now world.now.page.now place.now round) }
 {
     for i in 0..atoms.len() {
-        if !has(world, sums, place, atoms.at(i), round) {
+        if !has(world, place, atoms.at(i), round) {
             return false;
         }
     }
@@ -123,13 +122,13 @@ pub(crate) fn has_all<S: Summaries>(
 }
 
 /// Whether the parent has the atom by the round.
-pub(crate) fn is_above(
-    world: &World<'_>,
+pub(crate) fn is_above<S: Summaries>(
+    world: &World<'_, S>,
     place: &Place<'_>,
     atom: Atom,
     round: u64,
 ) -> Result<bool, NoMemory>
-    requires closed { IsClosedPage world.now.system.now world.now.page.now world.now.closed.now }
+    requires ready { IsReady S.Summaries world.now }
     requires node { IsNodeOf world.now.page.now place.now }
     ensures { IfOk result (λ b. b ≡ has_class atom ((setting_of world.now.system.now world.now.page.now place.now).above round (path_of place.now))) }
 {
@@ -139,8 +138,13 @@ pub(crate) fn is_above(
     }
 }
 
-fn parent_has(world: &World<'_>, at: &Path, atom: Atom, round: u64) -> Result<bool, NoMemory>
-    requires closed { IsClosedPage world.now.system.now world.now.page.now world.now.closed.now }
+fn parent_has<S: Summaries>(
+    world: &World<'_, S>,
+    at: &Path,
+    atom: Atom,
+    round: u64,
+) -> Result<bool, NoMemory>
+    requires ready { IsReady S.Summaries world.now }
     requires node { IsSome (node_at at.now world.now.page.now) }
     ensures { IfOk result (λ b. b ≡ has_class atom (above_on world.now.system.now world.now.page.now round at.now)) }
 {
@@ -155,43 +159,39 @@ fn parent_has(world: &World<'_>, at: &Path, atom: Atom, round: u64) -> Result<bo
 /// added node was asked; else a look-up for each visible atom.
 pub(crate) fn visible_at<S: Summaries>(
     alloc: Global,
-    world: &World<'_>,
-    sums: &S,
+    world: &World<'_, S>,
     place: &Place<'_>,
     round: u64,
 ) -> Result<ClassSet, NoMemory>
-    requires made { S.system sums.now ≡ world.now.system.now }
-    requires closed { IsClosedPage world.now.system.now world.now.page.now world.now.closed.now }
-    requires place { IsPlace world.now.page.now (S.known sums.now) place.now }
+    requires ready { IsReady S.Summaries world.now }
+    requires place { IsPlace world.now.page.now (S.known world.now.sums.now) place.now }
     requires arrivals { HasArrivals world.now.system.now place.now }
     ensures { IfOk result (λ l. l ≡ visible_in world.now.system.now (labels_of world.now.system.now world.now.page.now place.now round)) }
 {
     match place {
         Place::Added(_, _, told) => match told {
             Some(arrivals) => arrivals.by(alloc, round),
-            None => visible_now(alloc, world, sums, place, round),
+            None => visible_now(alloc, world, place, round),
         },
-        Place::Node(_) => visible_now(alloc, world, sums, place, round),
+        Place::Node(_) => visible_now(alloc, world, place, round),
     }
 }
 
 // The same, by a look-up for each visible atom.
 fn visible_now<S: Summaries>(
     alloc: Global,
-    world: &World<'_>,
-    sums: &S,
+    world: &World<'_, S>,
     place: &Place<'_>,
     round: u64,
 ) -> Result<ClassSet, NoMemory>
-    requires made { S.system sums.now ≡ world.now.system.now }
-    requires closed { IsClosedPage world.now.system.now world.now.page.now world.now.closed.now }
-    requires place { IsPlace world.now.page.now (S.known sums.now) place.now }
+    requires ready { IsReady S.Summaries world.now }
+    requires place { IsPlace world.now.page.now (S.known world.now.sums.now) place.now }
     ensures { IfOk result (λ l. l ≡ visible_in world.now.system.now (labels_of world.now.system.now world.now.page.now place.now round)) }
 {
     let mut label = ClassSet::new(alloc);
     for i in 0..world.system.visible.len() {
         let atom = world.system.visible.at(i);
-        if has(world, sums, place, atom, round) {
+        if has(world, place, atom, round) {
             label.add(atom)?;
         }
     }

@@ -1,5 +1,5 @@
 //! The rules of a system, found by the atoms that they look at.
-ghost use Rattle.std.specs.Prelude.{◌≡◌, ◌≢◌, ◌++◌, ◌+◌, ℕ, Contains, IfOk, OnOk, IsFalse};
+ghost use Rattle.std.specs.Prelude.{◌≡◌, ◌≢◌, ◌++◌, ◌+◌, ◌∷◌, [], ℕ, Contains, IfOk, OnOk, IsFalse};
 ghost use Rattle.std.specs.List.Sorted.{IsStrictlyIncreasing};
 ghost use Rattle.tp_base.specs.Classes.{all_among, union_of};
 ghost use Rattle.simple_core.specs.Labels.{given_by_rules, given_by_links};
@@ -99,7 +99,22 @@ impl<'a> IndexedSystem<'a> {
         add_linked(self.system.down.items(), &self.down, label, next)
     }
 
-    /// Whether a label that gets these atoms asks something else than before. Linear in them.
+    /// Adds what one atom of a child gives.
+    pub fn add_down_of(&self, atom: Atom, next: &mut Gathered) -> Result<(), NoMemory>
+        requires { IsStrictlyIncreasing next.old }
+        ensures { OnOk result (next.new ≡ union_of next.old (given_by_links self.now.down (atom ∷ []))) }
+    {
+        add_linked_by(self.system.down.items(), &self.down, atom, next)
+    }
+
+    /// The kinds.
+    pub fn kinds(&self) -> &[Kind]
+        ensures { result.now ≡ self.now.kinds }
+    {
+        self.system.kinds.items()
+    }
+
+    /// Whether a label that gets these atoms asks something else than before. A yes costs time alone. Linear in them.
     pub fn is_asking(&self, fresh: &ClassSet) -> bool
         ensures { IsFalse result → (a : ℕ) → Contains fresh.now a → ¬ AsksAnew self.now a }
     {
@@ -125,14 +140,16 @@ impl<'a> IndexedSystem<'a> {
         self.child.of(atom.0 as usize).len() != 0
     }
 
-    /// Whether some link from a child looks at one of these atoms, so that they give something to the parent. Linear in them.
+    /// Whether some link from a child looks at one of these atoms, so that they give something to the parent. A yes costs time
+    /// alone. Linear in them.
     pub fn is_seen_above(&self, label: &ClassSet) -> bool
         ensures { IsFalse result → AreUnseen self.now.down label.now }
     {
         are_seen(self.system.down.items(), &self.down, label)
     }
 
-    /// Whether some link from a parent looks at one of these atoms, so that they give something to children. Linear in them.
+    /// Whether some link from a parent looks at one of these atoms, so that they give something to children. A yes costs time
+    /// alone. Linear in them.
     pub fn is_seen_below(&self, label: &ClassSet) -> bool
         ensures { IsFalse result → AreUnseen self.now.up label.now }
     {
@@ -267,6 +284,20 @@ fn add_links(links: &[Link], row: &[usize], next: &mut Gathered) -> Result<(), N
     Ok(())
 }
 
+fn add_linked_by(
+    links: &[Link],
+    index: &Index,
+    atom: Atom,
+    next: &mut Gathered,
+) -> Result<(), NoMemory>
+    requires index { AreLinksAt links.now index.now }
+    requires rises { IsStrictlyIncreasing next.old }
+    ensures { OnOk result (next.new ≡ union_of next.old (given_by_links links.now (atom ∷ []))) }
+{
+    add_links(links, index.of(atom.0 as usize), next)?;
+    Ok(())
+}
+
 fn add_linked(
     links: &[Link],
     index: &Index,
@@ -317,13 +348,4 @@ fn add_spawned(
         add_spawns(spawns, index.of(atom.0 as usize), kinds)?;
     }
     Ok(())
-}
-
-impl<'a> IndexedSystem<'a> {
-    /// The kinds.
-    pub fn kinds(&self) -> &[Kind]
-        ensures { result.now ≡ self.now.kinds }
-    {
-        self.system.kinds.items()
-    }
 }

@@ -12,14 +12,14 @@ use Rattle.class_adding.proofs.looking.given_within.Goals as goal
 
 pub add_local-requires : goal.add_local-requires
 add_local-requires c =
-    let fresh = c.args.work.now.fresh.items in
+    let fresh = c.args.filling.now.work.fresh.items in
     let number = c.args.number in
-    let long : length fresh ≡ length c.args.labels.now.nodes = c.requires.working.long in
+    let long : length fresh ≡ length c.args.filling.now.labels.nodes = c.requires.working.long in
     let less : number < length fresh = omega (arith, c.requires.number, long) in
     let here : c.index-fresh-number.result ≡ get_or fresh number [] = rw c.as_slice-fresh.ensures.value at (get_or_read c.as_slice-fresh.result.now number c.index-fresh-number.result (omega (arith, less, ap (λ (z : List (List ℕ)). length z) c.as_slice-fresh.ensures.value)) c.index-fresh-number.is []) in
-    let own : label_in c.args.labels.now.labels (node_of c.args.labels.now number) ≡ c.args.own.now = ap (λ o. unwrap_or o []) c.requires.own in
+    let own : label_in c.args.filling.now.labels.labels (node_of c.args.filling.now.labels number) ≡ c.args.own.now = ap (λ o. unwrap_or o []) c.requires.own in
     subst (λ (z : List ℕ). AreMet c.args.system.now.local z c.index-fresh-number.result) own
-    (subst (λ (z : List ℕ). AreMet c.args.system.now.local (label_in c.args.labels.now.labels (node_of c.args.labels.now number)) z) (sym here) c.requires.settled.here)
+    (subst (λ (z : List ℕ). AreMet c.args.system.now.local (label_in c.args.filling.now.labels.labels (node_of c.args.filling.now.labels number)) z) (sym here) c.requires.settled.here)
 
 pub add_above-requires : goal.add_above-requires
 add_above-requires c = c.in_ok-add_local.ensures.rises (subst IsStrictlyIncreasing (sym c.new-given.ensures) (λ k within. absurd (omega arith)))
@@ -32,14 +32,14 @@ add_each-requires c =
 
 pub returns : goal.returns
 returns c =
-    let nodes = c.args.labels.now.nodes in
-    let fresh = c.args.work.now.fresh.items in
+    let nodes = c.args.filling.now.labels.nodes in
+    let fresh = c.args.filling.now.work.fresh.items in
     let number = c.args.number in
-    let row : AreCallers c.args.system.now c.args.labels.now.labels nodes fresh number c.requires.number c.requires.settled c.parent.ensures.whole c.of.result.now =
+    let row : AreCallers c.args.system.now c.args.filling.now.labels.labels nodes fresh number c.requires.number c.requires.settled c.parent.ensures.whole c.of.result.now =
     record {
       only = λ d there. c.requires.working.only number d (subst (λ (z : List ℕ). Contains z d) c.of.ensures there);
       heard = λ d n a less at there. subst (λ (z : List ℕ). Contains z d) (sym c.of.ensures) (c.requires.working.heard d a less there number n c.requires.number at);
     } in
-    given_more c.args.system.now c.args.labels.now.labels nodes fresh number c.requires.number c.requires.settled c.parent.ensures.whole c.args.own.now (ap (λ o. unwrap_or o []) c.requires.own)
+    given_more c.args.system.now c.args.filling.now.labels.labels nodes fresh number c.requires.number c.requires.settled c.parent.ensures.whole c.args.own.now (ap (λ o. unwrap_or o []) c.requires.own)
     c.parent.result c.of.result.now c.new-given.result c.add_local.new.next c.add_above.new.next c.add_each.new.next c.new-given.ensures c.parent.ensures.above row c.in_ok-add_local.ensures
     (rw c.as_slice-fresh.ensures.value at c.in_ok-add_above.ensures) (rw c.as_slice-fresh.ensures.value at c.in_ok-add_each.ensures)

@@ -1,5 +1,4 @@
 use Rattle.std.proofs.Common.{◌≡◌, ◌<◌, map, length, slice_get, IsSomeAnd, Contains, refl, subst, arith}
-use Rattle.simple_core.specs.Pairs.{Pair}
 use Rattle.need_table.specs.Tables.{pair_of}
 use Rattle.need_table.proofs.FillLemmas.{IsPushed, pushed, full, appended_none}
 use Rattle.need_table.proofs.filling.place_of.Goals.{In-None, In_ok-push-in-None}
@@ -33,9 +32,6 @@ returns-in_ok-push-in-None-clause-place c =
 
 pub returns-in_ok-push-in-None-clause-needed : goal.returns-in_ok-push-in-None-clause-needed
 returns-in_ok-push-in-None-clause-needed c = (stands (goal.at.returns-in_ok-push-in-None-clause-needed c).In_ok-push-in-None).needed
-
-pub push-requires : goal.push-requires
-push-requires c = λ there. c.in-None.ensures.none.0 refl (subst (λ (q : Pair). Contains (map pair_of c.args.table.now) q) c.in_ok-entry-in-None.ensures.pair there)
 
 pub returns-in_ok-push-in-None-clause-appended : goal.returns-in_ok-push-in-None-clause-appended
 returns-in_ok-push-in-None-clause-appended c = (stands (goal.at.returns-in_ok-push-in-None-clause-appended c).In_ok-push-in-None).appended

@@ -8,8 +8,8 @@ pub loop-i-preserved : goal.loop-i-preserved
 loop-i-preserved g c =
     let s = c.args.system.now in
     let labels : ℕ → List ℕ = λ k. grown s k c.args.kind c.args.parent.now in
-    arrivals_next s.visible labels c.loop-i.items.items c.loop-i.i c.at-atom.result c.at-atom.ensures c.loop-i.invariant c.first_round-first.result c.note.new.items.items
-    (subst (λ (y : System). IsFirst (λ m. grown y m c.args.kind c.args.parent.now) c.at-atom.result c.first_round-first.result) c.requires.made c.first_round-first.ensures.first) c.in_ok-note.ensures
+    arrivals_next s.visible labels c.loop-i.items.items c.loop-i.i c.at-atom.result c.at-atom.ensures c.loop-i.invariant c.first_at-first.result c.note.new.items.items
+    (subst (λ (y : System). IsFirst (λ m. grown y m c.args.kind c.args.parent.now) c.at-atom.result c.first_at-first.result) c.requires.made c.first_at-first.ensures.first) c.in_ok-note.ensures
 
 pub returns : goal.returns
 returns g c =

@@ -8,7 +8,7 @@ use Rattle.proof_maker.proofs.choices.spawn_stands.Goals as goal
 pub added_has-requires : goal.added_has-requires
 added_has-requires g c = record {
   known =
-      below_known c.args.world.now (g.S.Summaries.known c.args.sums.now) c.requires.ready c.args.scene.now.place.now c.args.scene.now.round c.args.spawn.now c.args.scene.now.visible.now c.requires.place c.has.ensures.asking c.requires.listed
+      below_known g.S.Summaries c.args.world.now c.requires.ready c.args.scene.now.place.now c.args.scene.now.round c.args.spawn.now c.args.scene.now.visible.now c.requires.place c.has.ensures.asking c.requires.listed
       c.if-not-has.ensures.test c.requires.visible;
 }
 
@@ -16,5 +16,5 @@ pub returns : goal.returns
 returns g c =
     let scene = c.args.scene.now in
     c.added_has.ensures.test
-    ∙ ap (λ (s : System). has_class c.args.from (grown s scene.round c.args.spawn.now.kind scene.visible.now)) c.requires.made
+    ∙ ap (λ (s : System). has_class c.args.from (grown s scene.round c.args.spawn.now.kind scene.visible.now)) c.requires.ready.made
     ∙ ap (λ b. b && has_class c.args.from (grown c.args.world.now.system.now scene.round c.args.spawn.now.kind scene.visible.now)) c.if-not-has.ensures.test

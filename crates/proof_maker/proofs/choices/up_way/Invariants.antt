@@ -4,5 +4,5 @@ use Rattle.proof_maker.specs.Worlds.{stands_at}
 use Rattle.proof_maker.proofs.choices.up_way.Given as goal
 
 abbrev pub invariant-loop-link : goal.invariant-loop-link
-invariant-loop-link l =
+invariant-loop-link g l =
     find (λ x. stands_at l.world l.place l.round (by_up x)) l.links ≡ find (λ x. stands_at l.world l.place l.round (by_up x)) (drop l.link-index l.links)

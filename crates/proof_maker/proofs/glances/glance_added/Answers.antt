@@ -11,7 +11,7 @@ pub reach-requires-clause-known : goal.reach-requires-clause-known
 reach-requires-clause-known g c =
     let key = c.args.key.now in
     let rises = subst (λ (z : List ℕ). IsStrictlyIncreasing z) (sym c.deref.ensures.value) c.requires.key.rises in
-    subst (λ (z : List ℕ). g.S.Summaries.known c.args.sums.now (key.kind, z)) (sym (c.in_ok-parent.ensures rises ∙ c.deref.ensures.value)) c.requires.key.pair
+    subst (λ (z : List ℕ). g.S.Summaries.known c.args.world.now.sums.now (key.kind, z)) (sym (c.in_ok-parent.ensures rises ∙ c.deref.ensures.value)) c.requires.key.pair
 
 pub arrivals-arrivals-requires : goal.arrivals-arrivals-requires
 arrivals-arrivals-requires g c = row_bound c.reach.new.self c.args.key.now.kind c.in_ok-parent.parent c.in_ok-row.row c.in_ok-row.ensures.row
@@ -20,25 +20,25 @@ pub first-requires-clause-place : goal.first-requires-clause-place
 first-requires-clause-place g c =
     let key = c.args.key.now in
     let rises = subst (λ (z : List ℕ). IsStrictlyIncreasing z) (sym c.deref.ensures.value) c.requires.key.rises in
-    subst (λ (z : List ℕ). g.S.Summaries.known c.args.sums.now (key.kind, z)) (sym (c.in_ok-parent.ensures rises ∙ c.deref.ensures.value)) c.requires.key.pair
+    subst (λ (z : List ℕ). g.S.Summaries.known c.args.world.now.sums.now (key.kind, z)) (sym (c.in_ok-parent.ensures rises ∙ c.deref.ensures.value)) c.requires.key.pair
 
 pub looks_below-requires-clause-place : goal.looks_below-requires-clause-place
 looks_below-requires-clause-place g c =
     let key = c.args.key.now in
     let rises = subst (λ (z : List ℕ). IsStrictlyIncreasing z) (sym c.deref.ensures.value) c.requires.key.rises in
-    subst (λ (z : List ℕ). g.S.Summaries.known c.args.sums.now (key.kind, z)) (sym (c.in_ok-parent.ensures rises ∙ c.deref.ensures.value)) c.requires.key.pair
+    subst (λ (z : List ℕ). g.S.Summaries.known c.args.world.now.sums.now (key.kind, z)) (sym (c.in_ok-parent.ensures rises ∙ c.deref.ensures.value)) c.requires.key.pair
 
 pub glance_in-requires-clause-place : goal.glance_in-requires-clause-place
 glance_in-requires-clause-place g c =
     let key = c.args.key.now in
     let rises = subst (λ (z : List ℕ). IsStrictlyIncreasing z) (sym c.deref.ensures.value) c.requires.key.rises in
-    subst (λ (z : List ℕ). g.S.Summaries.known c.args.sums.now (key.kind, z)) (sym (c.in_ok-parent.ensures rises ∙ c.deref.ensures.value)) c.requires.key.pair
+    subst (λ (z : List ℕ). g.S.Summaries.known c.args.world.now.sums.now (key.kind, z)) (sym (c.in_ok-parent.ensures rises ∙ c.deref.ensures.value)) c.requires.key.pair
 
 pub glance_in-requires-2-clause-place : goal.glance_in-requires-2-clause-place
 glance_in-requires-2-clause-place g c =
     let key = c.args.key.now in
     let rises = subst (λ (z : List ℕ). IsStrictlyIncreasing z) (sym c.deref.ensures.value) c.requires.key.rises in
-    subst (λ (z : List ℕ). g.S.Summaries.known c.args.sums.now (key.kind, z)) (sym (c.in_ok-parent.ensures rises ∙ c.deref.ensures.value)) c.requires.key.pair
+    subst (λ (z : List ℕ). g.S.Summaries.known c.args.world.now.sums.now (key.kind, z)) (sym (c.in_ok-parent.ensures rises ∙ c.deref.ensures.value)) c.requires.key.pair
 
 pub glance_in-requires-2-clause-arrivals : goal.glance_in-requires-2-clause-arrivals
 glance_in-requires-2-clause-arrivals g c =

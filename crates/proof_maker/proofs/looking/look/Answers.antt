@@ -19,7 +19,7 @@ follow-requires g c =
 pub returns-clause-working : goal.returns-clause-working
 returns-clause-working g c =
     let s = c.args.world.now.system.now in
-    let known = g.S.Summaries.known c.args.sums.now in
+    let known = g.S.Summaries.known c.args.world.now.sums.now in
     let n = c.args.needs.now in
     let w = c.index-as_slice-next.result in
     let at : c.len-next.result ≡ length n.drafts.items = omega (arith, c.len-next.ensures, n.drafts.ok.0) in

@@ -5,7 +5,7 @@ use Rattle.proof_maker.proofs.looking.needs_of.Given as goal
 
 abbrev pub invariant-wants : goal.invariant-wants
 invariant-wants g l = record {
-  working : IsWorking l.world.system.now l.world.page.now (g.S.Summaries.known l.sums) l.needs;
+  working : IsWorking l.world.system.now l.world.page.now (g.S.Summaries.known l.world.sums.now) l.needs;
   target_is : l.needs.target ≡ l.fn.target;
   few : length l.needs.triples.keys ≤ l.limit;
   memo : IsPlaceMemo l.world.system.now l.memo;

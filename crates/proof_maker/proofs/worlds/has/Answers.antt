@@ -11,9 +11,9 @@ pub returns-in-Added-clause-test : goal.returns-in-Added-clause-test
 returns-in-Added-clause-test g c =
     let w = c.args.world.now in
     subst (λ (p : Place). c.added_has.result ≡ has_class c.args.atom (labels_of w.system.now w.page.now p c.args.round)) (sym c.in-Added.is)
-    (c.added_has.ensures.test ∙ ap (λ (s : System). has_class c.args.atom (grown s c.args.round c.in-Added.kind c.in-Added.parent.now)) c.requires.made)
+    (c.added_has.ensures.test ∙ ap (λ (s : System). has_class c.args.atom (grown s c.args.round c.in-Added.kind c.in-Added.parent.now)) c.requires.ready.made)
 
 pub returns-in-Added-clause-asking : goal.returns-in-Added-clause-asking
 returns-in-Added-clause-asking g c =
-    subst (λ (p : Place). IsAsking c.args.world.now.system.now (g.S.Summaries.known c.args.sums.now) p) (sym c.in-Added.is)
-    (subst (λ (s : System). KeepsAsking s (g.S.Summaries.known c.args.sums.now)) c.requires.made c.added_has.ensures.asking)
+    subst (λ (p : Place). IsAsking c.args.world.now.system.now (g.S.Summaries.known c.args.world.now.sums.now) p) (sym c.in-Added.is)
+    (subst (λ (s : System). KeepsAsking s (g.S.Summaries.known c.args.world.now.sums.now)) c.requires.ready.made c.added_has.ensures.asking)

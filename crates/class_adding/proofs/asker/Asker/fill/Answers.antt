@@ -1,4 +1,4 @@
-use Rattle.std.proofs.Common.{ℕ, List, Option, Some, None, IfSome, Contains, ◌+◌, ◌<◌, ◌^◌, sym, refl, ◌∙◌, arith, subst}
+use Rattle.std.proofs.Common.{List, Contains, ◌+◌, ◌^◌, sym, refl, ◌∙◌, arith, subst}
 use Rattle.simple_core.specs.declared.system.System.{System}
 use Rattle.simple_core.specs.Pairs.{Asked}
 use Rattle.class_adding.specs.declared.looking.Look.{Look}
@@ -11,10 +11,6 @@ use Rattle.class_adding.proofs.FirstsLemmas.{firsts_placed}
 use Rattle.class_adding.proofs.FillingLemmas.{filled_start, all_seen, filled_next}
 use Rattle.class_adding.proofs.ThereLemmas.{gains_there}
 use Rattle.class_adding.proofs.asker.Asker.fill.Goals as goal
-
-soon : (wake : Option ℕ) (k : ℕ) → IfSome wake (λ r. (k < r) × (r < 2 ^ 62)) → IfSome wake (λ r. r < 2 ^ 62)
-soon None k h = tt
-soon (Some r) k h = h.1
 
 pub rounds-init : goal.rounds-init
 rounds-init g c =
@@ -126,7 +122,7 @@ rounds-preserved g c =
     let f = c.rounds.invariant.filled in
     let looks = c.in_ok-round.round.looks.items in
     let until : AreUntil looks latest = subst (λ (z : List Look). AreUntil z latest) c.deref.ensures.value c.latest_of-latest.ensures.until in
-    let bound = c.latest_of-latest.ensures.bound (2 ^ 62) f.working.bound (λ l there. soon l.wake c.rounds.k (found.looks_are l (subst (λ (z : List Look). Contains z l) c.deref.ensures.value there)).looked.later) in
+    let bound = c.latest_of-latest.ensures.bound (2 ^ 62) f.working.bound (λ l there. (found.looks_are l (subst (λ (z : List Look). Contains z l) c.deref.ensures.value there)).tells.asleep.bound) in
     record {
       filled = filled_next s c.args.page.now c.rounds.k (c.rounds.k + 1) latest known known' c.rounds.filling c.take_round.new.filling c.in_ok-round.round f c.look_at_all.ensures.went.kept found c.latest_of-latest.ensures.least until bound
           (c.is_last.ensures.more c.if-is_last.false) c.in_ok-take_round.ensures (omega arith);

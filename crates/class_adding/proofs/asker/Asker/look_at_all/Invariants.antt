@@ -6,8 +6,8 @@ use Rattle.class_adding.proofs.asker.Asker.look_at_all.Given as goal
 
 abbrev pub invariant-nodes : goal.invariant-nodes
 invariant-nodes g l = record {
-  looking : IsLooking l.initial.self.system.now l.labels.labels l.k l.labels.nodes (g.S.Summaries.known l.self.sums.now) l.gains.items l.looks.items l.work.due.items l.rest;
-  went : Went g.S.Summaries (AsksIn l.initial.self.system.now l.labels.labels) l.initial.self l.self;
+  looking : IsLooking l.initial.self.system.now l.filling.labels.labels l.k l.filling.labels.nodes (g.S.Summaries.known l.self.sums.now) l.gains.items l.looks.items l.filling.work.due.items l.rest;
+  went : Went g.S.Summaries (AsksIn l.initial.self.system.now l.filling.labels.labels) l.initial.self l.self;
   spent : g.S.Summaries.spent_on l.self.sums.now ≡ g.S.Summaries.spent_on l.initial.self.sums.now;
 }
 

@@ -1,0 +1,97 @@
+//! Closes a page.
+ghost use Rattle.std.specs.Prelude.{◌≡◌, ◌↔◌, ℕ, List, None, IfOk, OnOk, OnErr, IfSome, IsSome, IsErrOf};
+ghost use Rattle.simple_core.specs.Systems.{IsSound};
+ghost use Rattle.simple_core.specs.Pairs.{Pair, Asked};
+ghost use Rattle.simple_core.specs.Knowledge.{KeepsAsking, IsToldBy, TellsAfter, TellsWithin, KeepsRoom};
+ghost use Rattle.closed_page.specs.ClosedPages.{IsClosedPage, HasNoOthers, round_of};
+ghost use Rattle.closed_page.specs.Firsts.{AreOfNodes};
+ghost use Rattle.closed_page.specs.Views.{firsts_of};
+
+use crate::asker::Asker;
+use crate::filling::{Filling, begin};
+use closed_page::Closed;
+use pair_table::PairTable;
+use rule_index::IndexedSystem;
+use simple_core::{GainFault, Summaries, System};
+use std::alloc::Global;
+use tree_sem::Tree;
+
+// The closed page that is known once nothing more comes.
+fn closed_of(filling: Filling) -> Closed
+    requires nodes { AreOfNodes filling.labels.nodes filling.labels.firsts }
+    requires others { HasNoOthers filling.labels.labels (firsts_of filling.labels.firsts) }
+    ensures labels { result.labels ≡ filling.labels.labels }
+    ensures rounds { (v : List ℕ) (a : ℕ) → round_of result.firsts v a ≡ round_of (firsts_of filling.labels.firsts) v a }
+{
+    Closed::new(filling.labels)
+}
+
+// Closes the page, over rules that are found by their atoms.
+fn close_over<S: Summaries>(
+    alloc: Global,
+    page: &Tree,
+    system: &IndexedSystem,
+    sums: &mut S,
+) -> Result<Closed, GainFault>
+    requires sound { IsSound system.now }
+    requires made { S.system sums.old ≡ system.now }
+    requires lawful { KeepsAsking system.now (S.known sums.old) }
+    requires tells { IsToldBy (S.told sums.old) (S.known sums.old) }
+    requires keeps_room { KeepsRoom system.now (S.room sums.old) (S.told sums.old) (S.spent_on sums.old) }
+    ensures closed { IfOk result (λ c. IsClosedPage system.now page.now c) }
+    ensures asked { OnOk result ((q : Pair) → Asked system.now page.now q → S.known sums.new q) }
+    ensures kept { (q : Pair) → S.known sums.old q → S.known sums.new q }
+    ensures told { OnOk result (TellsAfter system.now (S.told sums.old) (S.told sums.new) (Asked system.now page.now)) }
+    ensures within { OnErr result (TellsWithin system.now (S.told sums.old) (S.told sums.new) (Asked system.now page.now)) }
+    ensures system { S.system sums.new ≡ S.system sums.old }
+    ensures room { S.room sums.new ≡ S.room sums.old }
+    ensures keeps_room { KeepsRoom system.now (S.room sums.new) (S.told sums.new) (S.spent_on sums.new) }
+    ensures spent { S.spent_on sums.old ≡ None → (IsErrOf result GainFault.Spent ↔ IsSome (S.spent_on sums.new)) }
+    ensures stays_spent { IsSome (S.spent_on sums.old) → S.spent_on sums.new ≡ S.spent_on sums.old }
+    ensures spent_on { S.spent_on sums.old ≡ None → IfSome (S.spent_on sums.new) (λ q. Asked system.now page.now q) }
+{
+    let mut filling = begin(alloc, page)?;
+    let mut remembered = PairTable::new(alloc);
+    let mut asker = Asker {
+        system,
+        sums,
+        remembered: &mut remembered,
+    };
+    asker.fill(alloc, page, &mut filling)?;
+    Ok(closed_of(filling))
+}
+
+/// Closes the page. Each pair that it asks is asked of the summaries once, with a first round for each link from a
+/// child. It costs a few steps for each round, and a look at a node for each round in which its label or what an added child
+/// gives has changed, or its parent's or a child's label by an atom at which a link looks from the node. A look costs a few
+/// steps for each atom that is new there or next to it, and for each rule that is found by one of these or needs none; where
+/// an added child gives more, or a new atom adds a child or can be seen by one, a few steps for each atom of the label and of
+/// what such a child sees, too. Where a changed node has the parent and the label of the one before that was looked at, and
+/// neither has children, it takes over that look by a walk along the label. A change costs the label's length and the node's
+/// depth in steps that only copy.
+pub fn close_page<S: Summaries>(
+    alloc: Global,
+    page: &Tree,
+    system: &System,
+    sums: &mut S,
+) -> Result<Closed, GainFault>
+    requires sound { IsSound system.now }
+    requires made { S.system sums.old ≡ system.now }
+    requires lawful { KeepsAsking system.now (S.known sums.old) }
+    requires tells { IsToldBy (S.told sums.old) (S.known sums.old) }
+    requires keeps_room { KeepsRoom system.now (S.room sums.old) (S.told sums.old) (S.spent_on sums.old) }
+    ensures closed { IfOk result (λ c. IsClosedPage system.now page.now c) }
+    ensures asked { OnOk result ((q : Pair) → Asked system.now page.now q → S.known sums.new q) }
+    ensures kept { (q : Pair) → S.known sums.old q → S.known sums.new q }
+    ensures told { OnOk result (TellsAfter system.now (S.told sums.old) (S.told sums.new) (Asked system.now page.now)) }
+    ensures within { OnErr result (TellsWithin system.now (S.told sums.old) (S.told sums.new) (Asked system.now page.now)) }
+    ensures system { S.system sums.new ≡ S.system sums.old }
+    ensures room { S.room sums.new ≡ S.room sums.old }
+    ensures keeps_room { KeepsRoom system.now (S.room sums.new) (S.told sums.new) (S.spent_on sums.new) }
+    ensures spent { S.spent_on sums.old ≡ None → (IsErrOf result GainFault.Spent ↔ IsSome (S.spent_on sums.new)) }
+    ensures stays_spent { IsSome (S.spent_on sums.old) → S.spent_on sums.new ≡ S.spent_on sums.old }
+    ensures spent_on { S.spent_on sums.old ≡ None → IfSome (S.spent_on sums.new) (λ q. Asked system.now page.now q) }
+{
+    let indexed = IndexedSystem::new(alloc, system)?;
+    close_over(alloc, page, &indexed, sums)
+}

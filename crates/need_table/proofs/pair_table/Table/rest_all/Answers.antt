@@ -1,8 +1,0 @@
-use Rattle.std.proofs.Common.{map, ap, ◌∙◌}
-use Rattle.need_table.specs.Tables.{pair_of}
-use Rattle.need_table.proofs.PlaceLemmas.{at_same, pairs_rested}
-use Rattle.need_table.proofs.pair_table.Table.rest_all.Goals as goal
-
-pub invariant_of-self : goal.invariant_of-self
-invariant_of-self c =
-    at_same c.self.inside.places (map pair_of c.self.inside.entries.items) (map pair_of c.rest_all.new.entries.items) (ap (map pair_of) c.rest_all.ensures ∙ pairs_rested c.self.inside.entries.items) c.self.invariant

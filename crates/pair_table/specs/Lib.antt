@@ -1,0 +1,3 @@
+-- What contracts and invariants cite.
+pub mod Hashes
+pub mod Rows
