@@ -3,6 +3,7 @@ pub mod PagePassLemmas
 pub mod WorldLemmas
 pub mod WalkLemmas
 pub mod WorkLemmas
+pub mod KeyedLemmas
 pub mod PassLemmas
 pub mod NodePassLemmas
 pub mod KeepLemmas

@@ -1,7 +1,6 @@
 -- The items of a page that were passed, in their order.
-use Rattle.std.proofs.Common.{◌≡◌, ◌≤◌, ◌+◌, ℕ, zero, suc, Bool, true, false, cond, nat_lt, is_some, if◌then◌else◌, ◌==◌, ◌&&◌, List, [], ◌∷◌, ◌++◌, length, map, take, find, filter, reverse, Option, Some, None, option_map, option_and_then, unwrap_or, slice_get, refl, sym, ap, subst, ◌∙◌, append_assoc, arith, length-append}
-use Rattle.std.proofs.lemmas.Bool.{ltb-true, ltb-false, and_parts}
-use Rattle.std.proofs.lemmas.Bool.Decides.{Decides-eqb}
+use Rattle.std.proofs.Common.{◌≡◌, ◌≤◌, ◌+◌, ℕ, zero, suc, Bool, true, false, cond, nat_lt, if◌then◌else◌, ◌==◌, ◌&&◌, List, [], ◌∷◌, ◌++◌, length, map, take, find, filter, reverse, Option, Some, None, option_map, option_and_then, unwrap_or, slice_get, refl, sym, ap, subst, ◌∙◌, append_assoc, arith, length-append}
+use Rattle.std.proofs.lemmas.Bool.{ltb-true, ltb-false}
 use Rattle.std.proofs.lemmas.List.{append-nil, map-append, length-take}
 use Rattle.std.proofs.lemmas.List.Elements.{filter-append}
 use Rattle.std.proofs.lemmas.Option.{slice_get_past}
@@ -9,9 +8,9 @@ use Rattle.std.proofs.Math.Seq.{take-append_seam}
 use Rattle.tp_base.proofs.Lists.{past_end, slice_get-take}
 use Rattle.proof_core.specs.declared.node_passes.NodePass.{NodePass}
 use Rattle.proof_core.specs.NodePasses.{Seen, way_on, seen_one, seen_from, all_seen, passed_to, seen_at, first_at}
-use Rattle.proof_core.specs.Passes.{first_place}
+use Rattle.proof_core.specs.KeyedLists.{first_place}
 use Rattle.proof_check.specs.Unfolding.{Passed, child_for, end_for}
-use Rattle.proof_core.proofs.PassLemmas.{find_place, first_new, first_known}
+use Rattle.proof_core.proofs.KeyedLemmas.{find_place}
 
 -- one item more
 pub seen_push : (before : List Seen) (here : List NodePass) (p : NodePass) → seen_from before (here ++ p ∷ []) ≡ seen_from before here ++ seen_one (seen_from before here) p ∷ []
@@ -127,8 +126,10 @@ end_at here n a v = ap (λ o. unwrap_or (option_map (λ (p : Passed). p.end) o) 
     by None = sym (append-nil v)
     by (Some s) = refl
 
-pub child_at : (here : List NodePass) (n a : ℕ) (v : List ℕ) → child_for a (seen_at here n v) ≡ unwrap_or (option_and_then (λ (p : NodePass). p.pass.child) (option_and_then (slice_get here) (first_at here n a))) 0
-child_at here n a v = ap (λ o. unwrap_or (option_and_then (λ (p : Passed). p.child) o) 0) (found here n a v) ∙ ap (λ o. unwrap_or o 0) (by (first_at here n a))
+pub child_at : (here : List NodePass) (n a : ℕ) (v : List ℕ) → child_for a (seen_at here n v) ≡ unwrap_or (option_and_then (λ (p : NodePass). p.pass.child) (find (λ p. p.node == n && p.pass.atom == a) here)) 0
+child_at here n a v =
+    ap (λ o. unwrap_or (option_and_then (λ (p : Passed). p.child) o) 0) (found here n a v) ∙ ap (λ o. unwrap_or o 0) (by (first_at here n a))
+    ∙ ap (λ o. unwrap_or (option_and_then (λ (p : NodePass). p.pass.child) o) 0) (sym (find_place (λ (p : NodePass). p.node == n && p.pass.atom == a) here))
   where
     of_seen : (o : Option Seen) → option_and_then (λ (p : Passed). p.child) (option_map (passed_to v) o) ≡ option_and_then (λ (s : Seen). s.child) o
     of_seen None = refl
@@ -144,23 +145,6 @@ child_at here n a v = ap (λ o. unwrap_or (option_and_then (λ (p : Passed). p.c
     by : (o : Option ℕ) → option_and_then (λ (p : Passed). p.child) (option_map (passed_to v) (option_and_then (slice_get (all_seen here)) o)) ≡ option_and_then (λ (p : NodePass). p.pass.child) (option_and_then (slice_get here) o)
     by None = refl
     by (Some i) = of_seen (slice_get (all_seen here) i) ∙ same i
-
--- a table of first places, with an item more
-abbrev is_spot : ℕ × ℕ → NodePass → Bool
-is_spot k p = p.node == k.0 && p.pass.atom == k.1
-
-same_spot : (p : NodePass) (n a : ℕ) → (p.node == n && p.pass.atom == a) ≡ true → (p.node ≡ n) × (p.pass.atom ≡ a)
-same_spot p n a e = let r = and_parts (p.node == n) (p.pass.atom == a) e in ((Decides-eqb p.node n).0 r.0, (Decides-eqb p.pass.atom a).0 r.1)
-
-pub node_new : (old new : ℕ → ℕ → Option ℕ) (here : List NodePass) (p : NodePass) → ((n a : ℕ) → old n a ≡ first_at here n a) → old p.node p.pass.atom ≡ None
-    → ((n a : ℕ) → new n a ≡ (if p.node == n && p.pass.atom == a then Some (length here) else old n a)) → (n a : ℕ) → new n a ≡ first_at (here ++ p ∷ []) n a
-node_new old new here p is none step n a =
-    first_new is_spot (λ k. old k.0 k.1) (λ k. new k.0 k.1) here p (λ k. is k.0 k.1) (λ k e. let s = same_spot p k.0 k.1 e in (λ j. old (sym s.0 j) (sym s.1 j)) ∙ none) (λ k. step k.0 k.1) (n, a)
-
-pub node_known : (old : ℕ → ℕ → Option ℕ) (here : List NodePass) (p : NodePass) → ((n a : ℕ) → old n a ≡ first_at here n a) → is_some (old p.node p.pass.atom) ≡ true
-    → (n a : ℕ) → old n a ≡ first_at (here ++ p ∷ []) n a
-node_known old here p is known n a =
-    first_known is_spot (λ k. old k.0 k.1) here p (λ k. is k.0 k.1) (λ k e. let s = same_spot p k.0 k.1 e in (λ j. is_some (old (sym s.0 j) (sym s.1 j))) ∙ known) (n, a)
 
 -- as the unfolding sees the items of a node
 pub seen_at-push : (here : List NodePass) (p : NodePass) (m : ℕ) (q : List ℕ) → seen_at (here ++ p ∷ []) m q ≡ seen_at here m q ++ (if p.node == m then passed_to q (seen_one (all_seen here) p) ∷ [] else [])

@@ -1,19 +1,18 @@
 -- The counts of added children.
-use Rattle.std.proofs.Common.{Vec, Global, ◌≡◌, ◌≤◌, ℕ, ◌+◌, ◌*◌, Bool, true, false, cond, if◌then◌else◌, List, [], ◌∷◌, ◌++◌, length, Option, Some, None, option_map, unwrap_or, refl, sym, ap, ◌∙◌, arith, length-append}
+use Rattle.std.proofs.Common.{Vec, Global, ◌≡◌, ◌≤◌, ℕ, ◌+◌, ◌*◌, Bool, true, false, cond, if◌then◌else◌, List, [], ◌∷◌, length, Some, None, unwrap_or, refl, sym, ap, subst, ◌∙◌}
 use Rattle.std.proofs.lemmas.Slice.Eq.{bytes_eq-Decides}
 use Rattle.std.specs.Map.{lookup}
+use Rattle.std.specs.Prelude.{Result, Ok, Err, OnOk, OnErr}
 use Rattle.std.specs.Str.{bytes_eq}
 use Rattle.indexmap.specs.IndexMap.{insert_entry}
 use Rattle.tp_base.proofs.Lists.{bytes_eq-sym}
-use Rattle.simple_core.specs.declared.rules.Kind.{Kind}
-use Rattle.simple_core.specs.declared.rules.Local as rule
-use Rattle.simple_core.specs.declared.system.System.{System}
+use Rattle.tree_sem.specs.declared.actions.Step.{Step}
 use Rattle.simple_core.specs.declared.system.TheConstants.{MOST_KINDS}
-use Rattle.proof_core.specs.Trails.{no_progress, grown_at, step_of_forest}
-use Rattle.proof_check.specs.Unfolding.{Progress, with_children, with_step, after_local}
-use Rattle.proof_core.specs.Walks.{IsFew}
+use Rattle.proof_check.specs.Unfolding.{Progress, with_children}
+use Rattle.proof_core.specs.AddedChildren.{IsFew, progress_in}
+use Rattle.proof_core.specs.Trails.{grown_at}
 
-pub lookup-inserted : (es : List (Vec ℕ Global × ℕ)) (k : Vec ℕ Global) (w : ℕ) (q : List ℕ)
+lookup-inserted : (es : List (Vec ℕ Global × ℕ)) (k : Vec ℕ Global) (w : ℕ) (q : List ℕ)
     → lookup (λ x. bytes_eq q x.items) (insert_entry (λ x y. bytes_eq x.items y.items) es k w) ≡ (if bytes_eq k.items q then Some w else lookup (λ x. bytes_eq q x.items) es)
 lookup-inserted [] k w q = ap (λ b. cond b (Some w) None) (bytes_eq-sym q k.items)
 lookup-inserted (e ∷ es) k w q =
@@ -43,7 +42,7 @@ lookup-inserted (e ∷ es) k w q =
     apart false b x y z never = refl
 
 -- the counts, with n children more at the key
-pub counts-inserted : (es : List (Vec ℕ Global × ℕ)) (k : Vec ℕ Global) (w n : ℕ) → w ≡ unwrap_or (lookup (λ x. bytes_eq k.items x.items) es) 0 + n → (q : List ℕ)
+counts-inserted : (es : List (Vec ℕ Global × ℕ)) (k : Vec ℕ Global) (w n : ℕ) → w ≡ unwrap_or (lookup (λ x. bytes_eq k.items x.items) es) 0 + n → (q : List ℕ)
     → unwrap_or (lookup (λ x. bytes_eq q x.items) (insert_entry (λ x y. bytes_eq x.items y.items) es k w)) 0 ≡ with_children k.items n (λ p. unwrap_or (lookup (λ x. bytes_eq p x.items) es) 0) q
 counts-inserted es k w n sum q =
     ap (λ o. unwrap_or o 0) (lookup-inserted es k w q)
@@ -53,28 +52,19 @@ counts-inserted es k w n sum q =
       | false ↦ λ e. refl
     ] refl
 
--- steps keep the children few
-pub few_none : IsFew no_progress
-few_none q = omega arith
+pub progress_grows : (steps : List Step) (es new : List (Vec ℕ Global × ℕ)) (k : Vec ℕ Global) (w n : ℕ) → new ≡ insert_entry (λ x y. bytes_eq x.items y.items) es k w
+    → w ≡ (progress_in steps es).added k.items + n → progress_in steps new ≡ grown_at k.items n (progress_in steps es)
+progress_grows steps es new k w n is sum = ap (progress_in steps) is ∙ (λ j. record { steps = steps; added = λ q. counts-inserted es k w n sum q j })
 
-pub few_step : (s : ℕ) (v : List ℕ) (done : Progress) → IsFew done → IsFew (with_step s v done)
-few_step s v done few q =
-    let old : done.added q ≤ 4096 * length done.steps = few q in
-    let longer : length (with_step s v done).steps ≡ length done.steps + 1 = length-append done.steps (record { stmt = s; at = v } ∷ []) in
-    let new : done.added q ≤ 4096 * length (with_step s v done).steps = omega (arith, old, longer) in
-    new
+-- the children stay few
+pub few_grows : (v : List ℕ) (n : ℕ) (done : Progress) → IsFew done → done.added v + n ≤ MOST_KINDS * length done.steps → IsFew (grown_at v n done)
+few_grows v n done few room q =
+    elim (bytes_eq v q) as (λ b. bytes_eq v q ≡ b → (if b then done.added q + n else done.added q) ≤ MOST_KINDS * length done.steps) [
+      | true ↦ λ e. subst (λ w. done.added w + n ≤ MOST_KINDS * length done.steps) ((bytes_eq-Decides v q).0 e) room
+      | false ↦ λ e. few q
+    ] refl
 
-pub few_local : (system : System) (o : Option rule.Local) (v : List ℕ) (done : Progress) → IsFew done → IsFew (after_local system o v done)
-few_local system None v done few = few
-few_local system (Some rule) v done few =
-    elim rule.stmt as (λ o. IsFew (unwrap_or (option_map (λ s. with_step s v done) o) done)) [ None ↦ few | Some s ↦ few_step s v done few ]
-
-pub few_grown : (kind : Kind) (v : List ℕ) (child : ℕ) (done : Progress) → kind.siblings ≤ MOST_KINDS → IsFew done → IsFew (grown_at v kind.siblings (step_of_forest kind v child done))
-few_grown kind v child done siblings few q =
-    let limit : kind.siblings ≤ 4096 = siblings in
-    let old : done.added q ≤ 4096 * length done.steps = few q in
-    let longer : length (step_of_forest kind v child done).steps ≡ length done.steps + 1 = length-append done.steps (record { stmt = kind.stmt; at = if kind.beside then v ++ child ∷ [] else v } ∷ []) in
-    elim (bytes_eq v q) as (λ b. (if b then done.added q + kind.siblings else done.added q) ≤ 4096 * length (step_of_forest kind v child done).steps) [
-      | true ↦ omega (arith, old, limit, longer)
-      | false ↦ omega (arith, old, longer)
-    ]
+pub few_inserted : {T E : Type 0} (r : Result T E) (steps : List Step) (es new : List (Vec ℕ Global × ℕ)) (k : Vec ℕ Global) (w n : ℕ) → OnOk r (new ≡ insert_entry (λ x y. bytes_eq x.items y.items) es k w) → OnErr r (new ≡ es)
+    → w ≡ (progress_in steps es).added k.items + n → IsFew (progress_in steps es) → (progress_in steps es).added k.items + n ≤ MOST_KINDS * length steps → IsFew (progress_in steps new)
+few_inserted (Ok x) steps es new k w n is same sum few room = subst IsFew (sym (progress_grows steps es new k w n is sum)) (few_grows k.items n (progress_in steps es) few room)
+few_inserted (Err e) steps es new k w n is same sum few room = subst (λ xs. IsFew (progress_in steps xs)) (sym same) few

@@ -1,6 +1,8 @@
 -- What public contracts cite.
 pub use Rattle.proof_check.specs.Validity
 pub use Rattle.proof_check.specs.Unfolding
+pub mod AddedChildren
+pub mod KeyedLists
 pub mod NodePasses
 pub mod PagePasses
 pub mod Passes

@@ -1,11 +1,9 @@
 -- The items of a page that were passed, in their order.
 --     all_seen here          each with the way from its node to the one where the walk for a match ends
 --     seen_at here n v       those at the node of number n and path v, as the unfolding sees them
-use Rattle.std.specs.Prelude.{◌≡◌, ℕ, suc, ◌==◌, ◌&&◌, List, [], ◌∷◌, ◌++◌, map, filter, reverse, Option, Some, None, option_map, option_and_then, unwrap_or, slice_get}
-use Rattle.indexmap.specs.IndexMap.{IndexMap, get_by}
+use Rattle.std.specs.Prelude.{ℕ, suc, ◌==◌, ◌&&◌, List, [], ◌∷◌, ◌++◌, map, filter, reverse, Option, Some, None, option_map, option_and_then, unwrap_or, slice_get}
 use Rattle.proof_core.specs.declared.node_passes.NodePass.{NodePass}
-use Rattle.proof_core.specs.declared.node_passes.NodeAtom.{NodeAtom}
-use Rattle.proof_core.specs.Passes.{first_place}
+use Rattle.proof_core.specs.KeyedLists.{first_place}
 use Rattle.proof_check.specs.Unfolding.{Passed}
 
 pub record Seen : Type 0 where
@@ -38,10 +36,6 @@ seen_at here n v = map (passed_to v) (filter (λ (s : Seen). s.node == n) (all_s
 -- the place of the first item with the atom at the node
 abbrev pub first_at : List NodePass → ℕ → ℕ → Option ℕ
 first_at here n a = first_place (λ (p : NodePass). p.node == n && p.pass.atom == a) here
-
--- the table has these places
-abbrev pub KnowsFirsts : {S : Type 0} → IndexMap NodeAtom ℕ S → List NodePass → Type 0
-KnowsFirsts firsts here = (n a : ℕ) → get_by (λ s. n == s.node && a == s.atom) firsts ≡ first_at here n a
 
 -- how many turns a walk from an item takes at most
 abbrev pub turns : Option ℕ → ℕ

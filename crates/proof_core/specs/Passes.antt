@@ -1,17 +1,8 @@
 -- Items that were passed at one node.
 --     seen v here        as the unfolding sees them, at the node v
-use Rattle.std.specs.Prelude.{◌≡◌, ℕ, suc, Bool, ◌==◌, if◌then◌else◌, List, [], ◌∷◌, ◌++◌, map, find, reverse, Option, Some, None, option_map, option_and_then, unwrap_or}
-use Rattle.indexmap.specs.IndexMap.{IndexMap, get_by}
+use Rattle.std.specs.Prelude.{ℕ, ◌==◌, List, [], ◌++◌, map, find, reverse, option_map, option_and_then, unwrap_or}
 use Rattle.proof_core.specs.declared.passes.Pass.{Pass}
 use Rattle.proof_check.specs.Unfolding.{Passed}
-
-abbrev pub first_place : {X : Type 0} → (X → Bool) → List X → Option ℕ
-first_place test [] = None
-first_place test (x ∷ xs) = if test x then Some 0 else option_map (λ n. suc n) (first_place test xs)
-
--- the table has the place of the first item with each atom
-abbrev pub AreFirsts : {S : Type 0} → IndexMap ℕ ℕ S → List Pass → Type 0
-AreFirsts firsts items = (a : ℕ) → get_by (λ b. a == b) firsts ≡ first_place (λ p. p.atom == a) items
 
 abbrev pub passed_of : List ℕ → Pass → Passed
 passed_of v p = record { atom = p.atom; child = p.child; end = v ++ reverse p.way.items }

@@ -1,12 +1,12 @@
 -- What the state of an unfolding holds.
-use Rattle.std.specs.Prelude.{ℕ, ◌+◌, Option, Some, None, option_map, List, [], ◌∷◌, ◌++◌, if◌then◌else◌, unwrap_or, bytes_eq}
-use Rattle.indexmap.specs.IndexMap.{get_by}
+use Rattle.std.specs.Prelude.{ℕ, ◌+◌, Option, Some, None, option_map, List, [], ◌∷◌, ◌++◌, if◌then◌else◌, unwrap_or}
 use Rattle.simple_core.specs.declared.rules.Kind.{Kind}
 use Rattle.proof_core.specs.declared.trails.Trail.{Trail}
+use Rattle.proof_core.specs.AddedChildren.{progress_in}
 use Rattle.proof_check.specs.Unfolding.{Progress, Passed, with_children, with_step, end_for}
 
 abbrev pub progress_of : Trail → Progress
-progress_of trail = record { steps = trail.steps.items; added = λ q. unwrap_or (get_by (λ k. bytes_eq q k.items) trail.added) 0 }
+progress_of trail = progress_in trail.steps.items trail.added.entries
 
 abbrev pub no_progress : Progress
 no_progress = record { steps = []; added = λ q. 0 }

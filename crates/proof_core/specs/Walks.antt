@@ -1,9 +1,8 @@
 -- Walks through the entries of a proof, where the levels above wait on a stack.
 --     rest_of s es v walk done    what is left of a walk that began at the node v, and what it has made in the end
 --     walk_work s es walk         how many turns it takes at most
-use Rattle.std.specs.Prelude.{◌≡◌, ℕ, zero, suc, ◌+◌, ◌-◌, ◌*◌, ◌≤◌, ◌==◌, List, [], ◌∷◌, ◌++◌, length, map, drop, Some, option_map, unwrap_or, slice_get}
+use Rattle.std.specs.Prelude.{◌≡◌, ℕ, zero, suc, ◌+◌, ◌-◌, List, [], ◌∷◌, ◌++◌, length, map, drop, Some, option_map, unwrap_or, slice_get}
 use Rattle.simple_core.specs.declared.system.System.{System}
-use Rattle.simple_core.specs.declared.system.TheConstants.{MOST_KINDS}
 use Rattle.proof_core.specs.Passes.{seen}
 use Rattle.proof_check.specs.declared.proofs.Below.TheVariants.{Real, Grown}
 use Rattle.proof_check.specs.declared.proofs.Reason.{Reason}
@@ -14,10 +13,6 @@ use Rattle.proof_core.specs.declared.walks.Frame.{Frame}
 use Rattle.proof_core.specs.declared.walks.Level.{Level}
 use Rattle.proof_core.specs.declared.walks.Walk.{Walk}
 use Rattle.proof_check.specs.Unfolding.{Progress, Passed, end_for, forest_children, unfold_items, unfold_entry}
-
--- each step has added no more children than a kind can have siblings
-abbrev pub IsFew : Progress → Type 0
-IsFew done = (v : List ℕ) → done.added v ≤ MOST_KINDS * length done.steps
 
 -- the items of the entry e, where n levels of entries may follow
 abbrev pub level_items : List Entry → ℕ → ℕ → List ProofItem

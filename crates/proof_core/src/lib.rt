@@ -1,6 +1,7 @@
 //! What a proof that a selector is used unfolds to, and what a valid one shows.
 #![tactic(auto)]
 
+mod keyed_list;
 mod laws;
 mod node_passes;
 mod page_passes;

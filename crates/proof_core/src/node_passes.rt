@@ -1,13 +1,12 @@
 //! The items of the page that were passed, and where the walk for a match goes from each of them.
-ghost use Rattle.std.specs.Prelude.{◌≡◌, ◌≤◌, ◌<◌, ◌∷◌, ◌++◌, ℕ, List, [], Some, None, nat_lt, if◌then◌else◌, option_and_then, unwrap_or, slice_get, length, reverse, IfOk, OnOk};
-ghost use Rattle.proof_core.specs.NodePasses.{Seen, seen_one, all_seen, way_on, passed_to, seen_at, first_at, turns};
+ghost use Rattle.std.specs.Prelude.{◌≡◌, ◌≤◌, ◌++◌, ℕ, List, Some, None, nat_lt, if◌then◌else◌, option_and_then, reverse, IfOk, OnOk};
+ghost use Rattle.proof_core.specs.NodePasses.{Seen, seen_one, all_seen, way_on, passed_to, seen_at, turns};
 ghost use Rattle.proof_core.specs.Passes.{passed_of};
 ghost use Rattle.proof_check.specs.Unfolding as spec;
 
+use crate::keyed_list::{Keyed, KeyedList};
 use crate::passes::{Pass, plain};
-use indexmap::IndexMap;
 use std::alloc::Global;
-use std::marker::Model;
 use tp_base::{Atom, NoMemory, Path};
 
 /// An item that was passed at the node of this number. Where its own way ends, the walk goes on as from the item `on`, which was
@@ -26,99 +25,34 @@ pub struct NodeAtom {
     pub atom: Atom,
 }
 
-/// Passed items of the page, in their order. A contract sees the list of them.
-#[derive(Drop)]
-pub struct NodePasses {
-    items: Vec<NodePass>,
-    firsts: IndexMap<NodeAtom, usize>,
-}
+impl Keyed for NodePass {
+    type Key = NodeAtom;
 
-impl Model for NodePasses {
-    ghost use Rattle.std.specs.Prelude.{List};
-    ghost use Rattle.proof_core.specs.declared.node_passes.NodePass.{NodePass};
-    ghost use Rattle.proof_core.specs.NodePasses.{KnowsFirsts};
+    ghost key_of = { λ p. record { node = p.node; atom = p.pass.atom } };
 
-    ghost Value = { List NodePass };
-
-    ghost view = { λ p. p.items.items };
-
-    ghost invariant = { λ p. KnowsFirsts p.firsts p.items.items };
-}
-
-impl NodePasses {
-    /// No passes yet. Constant.
-    pub fn new(alloc: Global) -> Self
-        ensures { result ≡ [] }
-    {
-        NodePasses {
-            items: Vec::new(alloc),
-            firsts: IndexMap::new(alloc),
+    fn key(&self) -> NodeAtom {
+        NodeAtom {
+            node: self.node,
+            atom: self.pass.atom,
         }
-    }
-
-    fn len(&self) -> usize
-        ensures { result ≡ length self.now }
-    {
-        self.items.len()
-    }
-
-    /// The place of the first item with the atom at the node. Constant on average.
-    pub fn first(&self, node: usize, atom: Atom) -> Option<usize>
-        ensures { result ≡ first_at self.now node atom }
-    {
-        match self.firsts.get(&NodeAtom { node, atom }) {
-            Some(place) => Some(*place),
-            None => None,
-        }
-    }
-
-    /// The child that the first item with the atom at the node names. Constant on average.
-    pub fn child_for(&self, node: usize, atom: Atom) -> u32
-        ensures { (v : List ℕ) → result ≡ spec.child_for atom (seen_at self.now node v) }
-    {
-        match self.first(node, atom) {
-            Some(place) => child_at(&self.items, place),
-            None => 0,
-        }
-    }
-
-    /// Adds an item. Constant on average.
-    pub fn push(&mut self, pass: NodePass) -> Result<(), NoMemory>
-        ensures { OnOk result (self.new ≡ self.old ++ pass ∷ []) }
-    {
-        let key = key_of(&pass);
-        let known = self.first(key.node, key.atom);
-        let place = self.len();
-        self.items.push(pass)?;
-        if known.is_some() {
-            return Ok(());
-        }
-        if self.firsts.insert(key, place).is_err() {
-            self.items.pop();
-            return Err(NoMemory);
-        }
-        Ok(())
-    }
-
-    /// The way of the walk from an item. Linear in its length and in the items on it.
-    pub fn walk(&self, from: Option<usize>, alloc: Global) -> Result<Path, NoMemory>
-        ensures { IfOk result (λ p. p ≡ way_on (all_seen self.now) from) }
-    {
-        walk_from(&self.items, from, alloc)
     }
 }
 
-fn key_of(pass: &NodePass) -> NodeAtom
-    ensures node { result.node ≡ pass.now.node }
-    ensures atom { result.atom ≡ pass.now.pass.atom }
+/// Passed items of the page, in their order, found by their atoms and nodes.
+pub type NodePasses = KeyedList<NodePass>;
+
+/// The child that the first item with the atom at the node names. Constant on average.
+pub fn child_for(here: &NodePasses, at: NodeAtom) -> u32
+    ensures { (v : List ℕ) → result ≡ spec.child_for at.atom (seen_at here.now at.node v) }
 {
-    NodeAtom {
-        node: pass.node,
-        atom: pass.pass.atom,
+    match here.first(at) {
+        Some(p) => p.pass.child.unwrap_or(0),
+        None => 0,
     }
 }
 
-fn walk_from(items: &[NodePass], from: Option<usize>, alloc: Global) -> Result<Path, NoMemory>
+/// The way of the walk from an item. Linear in its length and in the items on it.
+pub fn walk_from(items: &[NodePass], from: Option<usize>, alloc: Global) -> Result<Path, NoMemory>
     ensures { IfOk result (λ p. p ≡ way_on (all_seen items.now) from) }
 {
     let mut path = Path::root(alloc);
@@ -128,15 +62,6 @@ fn walk_from(items: &[NodePass], from: Option<usize>, alloc: Global) -> Result<P
         next = on;
     }
     Ok(path)
-}
-
-fn child_at(items: &[NodePass], place: usize) -> u32
-    ensures { result ≡ unwrap_or (option_and_then (λ p. p.pass.child) (slice_get items.now place)) 0 }
-{
-    match items.get(place) {
-        Some(item) => item.pass.child.unwrap_or(0),
-        None => 0,
-    }
 }
 
 // The item's own way, and the item from which the walk goes on.

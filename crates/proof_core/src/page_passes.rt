@@ -7,19 +7,24 @@ ghost use Rattle.proof_core.specs.NodePasses.{all_seen, seen_one, passed_to, way
 ghost use Rattle.proof_core.specs.PagePasses.{seen_in, item_seen, unfold_at};
 ghost use Rattle.proof_core.specs.Trails.{progress_of};
 ghost use Rattle.proof_check.specs.Unfolding.{end_for, unfold_entry, unfold_page};
-ghost use Rattle.proof_core.specs.Walks.{IsFew};
-ghost use Rattle.proof_core.specs.Worlds.{HasFewSiblings, KnowsForests};
 ghost use Rattle.proof_core.specs.declared.unfolded.TheConstants.{MOST_LISTED};
 
-use crate::node_passes::{NodePass, NodePasses, alone, stays};
-use crate::passes::down;
+use crate::node_passes::{NodeAtom, NodePass, NodePasses, alone, child_for, stays};
+use crate::passes::{down, way_from};
 use crate::trails::Trail;
 use crate::walks::entry_passed;
-use crate::worlds::{World, after_local, from_of, needed_by, spawned};
+use crate::worlds::{GrownChild, World, after_local, from_of, needed_by, spawned};
 use proof_check::{Below, Nodes, PageItem, ProofItem, Reason, steps_of};
 use std::alloc::Global;
 use tp_base::{Atom, NoMemory, Path};
 use tree_sem::Tree;
+
+/// The page, with the numbers of its nodes.
+#[derive(Clone, Copy)]
+pub struct NumberedPage<'a> {
+    pub tree: &'a Tree,
+    pub nodes: &'a Nodes,
+}
 
 /// A node of the page, with its number and how many children it has, and what was passed before.
 #[derive(Clone, Copy)]
@@ -34,22 +39,18 @@ pub struct PageNode<'a> {
 /// Passes the items of the page, one after another.
 pub fn page_passed(
     items: &[PageItem],
-    page: &Tree,
-    nodes: &Nodes,
+    page: &NumberedPage<'_>,
     world: &World<'_>,
     trail: &mut Trail,
 ) -> Result<NodePasses, NoMemory>
-    requires siblings { HasFewSiblings world.now.system.now.kinds }
-    requires forests { KnowsForests world.now.forests.now world.now.system.now.kinds }
-    requires all { HasAll nodes.now items.now }
-    requires few { IsFew (progress_of trail.old) }
-    requires short { length (unfold_page world.now.system.now (unfold_entry world.now.system.now world.now.entries.now (length world.now.entries.now)) page.now items.now (λ q. []) (progress_of trail.old)).0.steps ≤ MOST_LISTED }
-    ensures trail { OnOk result (progress_of trail.new ≡ (unfold_page world.now.system.now (unfold_entry world.now.system.now world.now.entries.now (length world.now.entries.now)) page.now items.now (λ q. []) (progress_of trail.old)).0) }
-    ensures here { IfOk result (λ here. seen_in nodes.now here ≡ (unfold_page world.now.system.now (unfold_entry world.now.system.now world.now.entries.now (length world.now.entries.now)) page.now items.now (λ q. []) (progress_of trail.old)).1) }
+    requires all { HasAll page.now.nodes.now items.now }
+    requires short { length (unfold_page world.now.system.now (unfold_entry world.now.system.now world.now.entries.now (length world.now.entries.now)) page.now.tree.now items.now (λ q. []) (progress_of trail.old)).0.steps ≤ MOST_LISTED }
+    ensures trail { OnOk result (progress_of trail.new ≡ (unfold_page world.now.system.now (unfold_entry world.now.system.now world.now.entries.now (length world.now.entries.now)) page.now.tree.now items.now (λ q. []) (progress_of trail.old)).0) }
+    ensures here { IfOk result (λ here. seen_in page.now.nodes.now here ≡ (unfold_page world.now.system.now (unfold_entry world.now.system.now world.now.entries.now (length world.now.entries.now)) page.now.tree.now items.now (λ q. []) (progress_of trail.old)).1) }
 {
     let mut here = NodePasses::new(trail.allocator());
     for i in items {
-        item_passed_at(i, page, nodes, &mut here, world, trail)?;
+        item_passed_at(i, page, &mut here, world, trail)?;
     }
     Ok(here)
 }
@@ -57,31 +58,26 @@ pub fn page_passed(
 // One item of the page more.
 fn item_passed_at(
     item: &PageItem,
-    page: &Tree,
-    nodes: &Nodes,
+    page: &NumberedPage<'_>,
     here: &mut NodePasses,
     world: &World<'_>,
     trail: &mut Trail,
 ) -> Result<(), NoMemory>
-    requires siblings { HasFewSiblings world.now.system.now.kinds }
-    requires forests { KnowsForests world.now.forests.now world.now.system.now.kinds }
-    requires numbered { is_some (number_in nodes.now item.now.at) ≡ true }
-    requires few { IsFew (progress_of trail.old) }
-    requires short { length (item_seen world.now.system.now world.now.entries.now page.now item.now (seen_in nodes.now here.old) (progress_of trail.old)).0.steps ≤ MOST_LISTED }
-    ensures trail { OnOk result (progress_of trail.new ≡ (item_seen world.now.system.now world.now.entries.now page.now item.now (seen_in nodes.now here.old) (progress_of trail.old)).0) }
-    ensures here { OnOk result ((q : List ℕ) → seen_in nodes.now here.new q ≡ (if bytes_eq item.now.at q
-        then seen_in nodes.now here.old q ++ (item_seen world.now.system.now world.now.entries.now page.now item.now (seen_in nodes.now here.old) (progress_of trail.old)).1 ∷ []
-        else seen_in nodes.now here.old q)) }
-    ensures few { OnOk result (IsFew (progress_of trail.new)) }
+    requires numbered { is_some (number_in page.now.nodes.now item.now.at) ≡ true }
+    requires short { length (item_seen world.now.system.now world.now.entries.now page.now.tree.now item.now (seen_in page.now.nodes.now here.old) (progress_of trail.old)).0.steps ≤ MOST_LISTED }
+    ensures trail { OnOk result (progress_of trail.new ≡ (item_seen world.now.system.now world.now.entries.now page.now.tree.now item.now (seen_in page.now.nodes.now here.old) (progress_of trail.old)).0) }
+    ensures here { OnOk result ((q : List ℕ) → seen_in page.now.nodes.now here.new q ≡ (if bytes_eq item.now.at q
+        then seen_in page.now.nodes.now here.old q ++ (item_seen world.now.system.now world.now.entries.now page.now.tree.now item.now (seen_in page.now.nodes.now here.old) (progress_of trail.old)).1 ∷ []
+        else seen_in page.now.nodes.now here.old q)) }
 {
     let path = steps_of(trail.allocator(), &item.at)?;
-    let number = number_of(nodes, &path);
-    let base = base_of(page, &item.at);
+    let number = number_of(page.nodes, &path);
+    let base = base_of(page.tree, &item.at);
     let node = PageNode {
         at: &item.at,
         number,
         base,
-        nodes,
+        nodes: page.nodes,
         here,
     };
     let pass = item_passed(&item.item, &node, world, trail)?;
@@ -116,15 +112,11 @@ fn item_passed(
     world: &World<'_>,
     trail: &mut Trail,
 ) -> Result<NodePass, NoMemory>
-    requires siblings { HasFewSiblings world.now.system.now.kinds }
-    requires forests { KnowsForests world.now.forests.now world.now.system.now.kinds }
     requires base { node.now.base ≤ MOST_NODES }
-    requires few { IsFew (progress_of trail.old) }
     requires short { length (unfold_at world.now.system.now world.now.entries.now item.now node.now (progress_of trail.old)).0.steps ≤ MOST_LISTED }
     ensures trail { OnOk result (progress_of trail.new ≡ (unfold_at world.now.system.now world.now.entries.now item.now node.now (progress_of trail.old)).0) }
     ensures pass { IfOk result (λ p. passed_to node.now.at.now (seen_one (all_seen node.now.here.now) p) ≡ (unfold_at world.now.system.now world.now.entries.now item.now node.now (progress_of trail.old)).1) }
     ensures node { IfOk result (λ p. p.node ≡ node.now.number) }
-    ensures few { OnOk result (IsFew (progress_of trail.new)) }
 {
     let alloc = trail.allocator();
     match item.reason {
@@ -134,41 +126,15 @@ fn item_passed(
             after_local(world.system, l, node.at, trail)?;
             Ok(stays(node.number, item.atom, alloc))
         }
-        Reason::Down(link, below) => below_passed(item, link, below, node, world, trail),
-    }
-}
-
-fn below_passed(
-    item: &ProofItem,
-    link: u64,
-    below: Below,
-    node: &PageNode<'_>,
-    world: &World<'_>,
-    trail: &mut Trail,
-) -> Result<NodePass, NoMemory>
-    requires siblings { HasFewSiblings world.now.system.now.kinds }
-    requires forests { KnowsForests world.now.forests.now world.now.system.now.kinds }
-    requires base { node.now.base ≤ MOST_NODES }
-    requires few { IsFew (progress_of trail.old) }
-    requires short { length (unfold_at world.now.system.now world.now.entries.now item.now node.now (progress_of trail.old)).0.steps ≤ MOST_LISTED }
-    requires reason { item.now.reason ≡ Reason.Down link below }
-    ensures trail { OnOk result (progress_of trail.new ≡ (unfold_at world.now.system.now world.now.entries.now item.now node.now (progress_of trail.old)).0) }
-    ensures pass { IfOk result (λ p. passed_to node.now.at.now (seen_one (all_seen node.now.here.now) p) ≡ (unfold_at world.now.system.now world.now.entries.now item.now node.now (progress_of trail.old)).1) }
-    ensures node { IfOk result (λ p. p.node ≡ node.now.number) }
-    ensures few { OnOk result (IsFew (progress_of trail.new)) }
-{
-    match below {
-        Below::Real(k) => {
-            let pass = child_passed(
-                item.atom,
-                k,
-                from_of(world.system, link),
-                node,
-                trail.allocator(),
-            )?;
+        Reason::Down(link, Below::Real(k)) => {
+            let from = from_of(world.system, link);
+            let pass = child_passed(item.atom, k, from, node, alloc)?;
             Ok(pass)
         }
-        Below::Grown(spawn, entry) => grown_passed(item, link, spawn, entry, node, world, trail),
+        Reason::Down(link, Below::Grown(spawn, entry)) => {
+            let grown = GrownChild { link, spawn, entry };
+            grown_passed(item, grown, node, world, trail)
+        }
     }
 }
 
@@ -197,34 +163,31 @@ fn child_passed(
 
 fn grown_passed(
     item: &ProofItem,
-    link: u64,
-    spawn: u64,
-    entry: u32,
+    grown: GrownChild,
     node: &PageNode<'_>,
     world: &World<'_>,
     trail: &mut Trail,
 ) -> Result<NodePass, NoMemory>
-    requires siblings { HasFewSiblings world.now.system.now.kinds }
-    requires forests { KnowsForests world.now.forests.now world.now.system.now.kinds }
     requires base { node.now.base ≤ MOST_NODES }
-    requires few { IsFew (progress_of trail.old) }
     requires short { length (unfold_at world.now.system.now world.now.entries.now item.now node.now (progress_of trail.old)).0.steps ≤ MOST_LISTED }
-    requires reason { item.now.reason ≡ Reason.Down link (Below.Grown spawn entry) }
+    requires reason { item.now.reason ≡ Reason.Down grown.link (Below.Grown grown.spawn grown.entry) }
     ensures trail { OnOk result (progress_of trail.new ≡ (unfold_at world.now.system.now world.now.entries.now item.now node.now (progress_of trail.old)).0) }
     ensures pass { IfOk result (λ p. passed_to node.now.at.now (seen_one (all_seen node.now.here.now) p) ≡ (unfold_at world.now.system.now world.now.entries.now item.now node.now (progress_of trail.old)).1) }
     ensures node { IfOk result (λ p. p.node ≡ node.now.number) }
-    ensures few { OnOk result (IsFew (progress_of trail.new)) }
 {
-    let Some(kind) = spawned(world.system, spawn) else {
+    let Some(kind) = spawned(world.system, grown.spawn) else {
         return Ok(stays(node.number, item.atom, trail.allocator()));
     };
-    let child = node
-        .here
-        .child_for(node.number, needed_by(world.system, spawn));
+    let needed = NodeAtom {
+        node: node.number,
+        atom: needed_by(world.system, grown.spawn),
+    };
+    let child = child_for(node.here, needed);
     let k = trail.bring(kind, node.base, node.at, child)?;
     let at = child_at(node.at, k)?;
-    let here = entry_passed(entry, at, world, trail)?;
-    let pass = down(item.atom, k, here.into_way(from_of(world.system, link)))?;
+    let here = entry_passed(grown.entry, at, world, trail)?;
+    let way = way_from(here, from_of(world.system, grown.link));
+    let pass = down(item.atom, k, way)?;
     Ok(alone(node.number, pass))
 }
 
@@ -241,7 +204,7 @@ pub fn place_at(nodes: &Nodes, here: &NodePasses, path: &[u32], atom: Atom) -> O
     ensures { end_for atom (seen_in nodes.now here.now path.now) path.now ≡ path.now ++ way_on (all_seen here.now) result }
 {
     match nodes.get(path) {
-        Some(n) => here.first(n, atom),
+        Some(n) => here.place_of(NodeAtom { node: n, atom }),
         None => None,
     }
 }

@@ -1,11 +1,9 @@
 //! The items that were passed at one node.
-ghost use Rattle.std.specs.Prelude.{◌≡◌, ◌<◌, ◌==◌, ◌∷◌, ◌++◌, [], length, find, slice_get, Some, None, IfOk, OnOk};
-ghost use Rattle.std.specs.Option.{option_copied};
-ghost use Rattle.proof_core.specs.Passes.{first_place, way_for, named_for};
+ghost use Rattle.std.specs.Prelude.{◌≡◌, ◌∷◌, ◌++◌, [], Some, None, IfOk};
+ghost use Rattle.proof_core.specs.Passes.{way_for, named_for};
 
-use indexmap::IndexMap;
+use crate::keyed_list::{Keyed, KeyedList};
 use std::alloc::Global;
-use std::marker::Model;
 use tp_base::{Atom, NoMemory};
 
 /// An item that was passed: its atom, the child that it names, if it names one, and the way down from its node to the one where
@@ -17,115 +15,38 @@ pub struct Pass {
     pub way: Vec<u32>,
 }
 
-/// Passed items, in their order. A contract sees the list of them.
-#[derive(Drop)]
-pub struct Passes {
-    items: Vec<Pass>,
-    firsts: IndexMap<Atom, usize>,
-}
+impl Keyed for Pass {
+    type Key = Atom;
 
-impl Model for Passes {
-    ghost use Rattle.std.specs.Prelude.{List};
-    ghost use Rattle.proof_core.specs.declared.passes.Pass.{Pass};
-    ghost use Rattle.proof_core.specs.Passes.{AreFirsts};
+    ghost key_of = { λ p. p.atom };
 
-    ghost Value = { List Pass };
-
-    ghost view = { λ p. p.items.items };
-
-    ghost invariant = { λ p. AreFirsts p.firsts p.items.items };
-}
-
-impl Passes {
-    /// No passes yet. Constant.
-    pub fn new(alloc: Global) -> Self
-        ensures { result ≡ [] }
-    {
-        Passes {
-            items: Vec::new(alloc),
-            firsts: IndexMap::new(alloc),
-        }
-    }
-
-    /// How many there are. Constant.
-    pub fn len(&self) -> usize
-        ensures { result ≡ length self.now }
-    {
-        self.items.len()
-    }
-
-    // The place of the first item with the atom.
-    fn place_of(&self, atom: Atom) -> Option<usize>
-        ensures { result ≡ first_place (λ p. p.atom == atom) self.now }
-    {
-        match self.firsts.get(&atom) {
-            Some(place) => Some(*place),
-            None => None,
-        }
-    }
-
-    /// The first item with the atom. Constant on average.
-    pub fn first(&self, atom: Atom) -> Option<&Pass>
-        ensures { option_copied result ≡ find (λ p. p.atom == atom) self.now }
-    {
-        match self.place_of(atom) {
-            Some(place) => item_at(&self.items, place),
-            None => None,
-        }
-    }
-
-    /// The child that the first item with the atom names.
-    pub fn child_for(&self, atom: Atom) -> u32
-        ensures { result ≡ named_for atom self.now }
-    {
-        match self.first(atom) {
-            Some(p) => p.child.unwrap_or(0),
-            None => 0,
-        }
-    }
-
-    /// Adds an item. Constant on average.
-    pub fn push(&mut self, pass: Pass) -> Result<(), NoMemory>
-        ensures { OnOk result (self.new ≡ self.old ++ pass ∷ []) }
-    {
-        let atom = pass.atom;
-        let place = self.len();
-        self.items.push(pass)?;
-        if self.firsts.get(&atom).is_some() {
-            return Ok(());
-        }
-        if self.firsts.insert(atom, place).is_err() {
-            self.items.pop();
-            return Err(NoMemory);
-        }
-        Ok(())
-    }
-
-    /// The way of the first item with the atom, or the one that stays where it is. It lets the items go.
-    pub fn into_way(self, atom: Atom) -> Vec<u32>
-        ensures { result.items ≡ way_for atom self }
-    {
-        let first = self.place_of(atom);
-        let alloc = *self.items.allocator();
-        match first {
-            Some(place) => way_of(self.items, place),
-            None => Vec::new(alloc),
-        }
+    fn key(&self) -> Atom {
+        self.atom
     }
 }
 
-fn item_at(items: &[Pass], place: usize) -> Option<&Pass>
-    ensures { option_copied result ≡ slice_get items.now place }
+/// Passed items, in their order, found by their atoms.
+pub type Passes = KeyedList<Pass>;
+
+/// The child that the first item with the atom names. Constant on average.
+pub fn child_for(here: &Passes, atom: Atom) -> u32
+    ensures { result ≡ named_for atom here.now }
 {
-    items.get(place)
+    match here.first(atom) {
+        Some(p) => p.child.unwrap_or(0),
+        None => 0,
+    }
 }
 
-fn way_of(items: Vec<Pass>, place: usize) -> Vec<u32>
-    requires { place < length items.items }
-    ensures { (p : Pass) → slice_get items.items place ≡ Some p → result.items ≡ p.way.items }
+/// The way of the first item with the atom, or the one that stays where it is. It lets the items go.
+pub fn way_from(here: Passes, atom: Atom) -> Vec<u32>
+    ensures { result.items ≡ way_for atom here }
 {
-    let mut items = items;
-    items.swap_remove(place).way
+    let alloc = here.allocator();
+    match here.into_first(atom) {
+        Some(p) => p.way,
+        None => Vec::new(alloc),
+    }
 }
 
 /// An item that names no child.

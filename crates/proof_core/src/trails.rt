@@ -2,9 +2,8 @@
 ghost use Rattle.std.specs.Prelude.{◌≡◌, ◌+◌, ◌<◌, ◌≤◌, ◌*◌, ◌^◌, OnOk, IfOk, length};
 ghost use Rattle.simple_core.specs.declared.system.TheConstants.{MOST_KINDS};
 ghost use Rattle.tree_sem.specs.declared.tree_fault.TheConstants.{MOST_NODES};
-ghost use Rattle.proof_core.specs.Trails.{progress_of, grown_at, no_progress, step_of_forest, number_for, with_forest_of};
 ghost use Rattle.proof_check.specs.Unfolding as spec;
-ghost use Rattle.proof_core.specs.Walks.{IsFew};
+ghost use Rattle.proof_core.specs.AddedChildren.{IsFew, progress_in};
 ghost use Rattle.proof_core.specs.declared.unfolded.TheConstants.{MOST_LISTED};
 
 use indexmap::IndexMap;
@@ -19,9 +18,12 @@ use tree_sem::Step;
 pub struct Trail {
     steps: Vec<Step>,
     added: IndexMap<Vec<u32>, u64>,
+    ghost few: { IsFew (progress_in steps.items added.entries) },
 }
 
 impl Trail {
+    ghost use Rattle.proof_core.specs.Trails.{progress_of, grown_at, no_progress, step_of_forest, number_for, with_forest_of};
+
     /// No steps yet. Constant.
     pub fn new(alloc: Global) -> Trail
         ensures { progress_of result ≡ no_progress }
@@ -69,6 +71,7 @@ impl Trail {
     // Adds n children at the path. Linear in its length, on average.
     fn grow(&mut self, path: Vec<u32>, n: u32) -> Result<(), NoMemory>
         requires room { (progress_of self.old).added path.items < 2 ^ 63 }
+        requires few { (progress_of self.old).added path.items + n ≤ MOST_KINDS * length (progress_of self.old).steps }
         ensures { OnOk result (progress_of self.new ≡ grown_at path.items n (progress_of self.old)) }
     {
         let sum = sum_of(self.added(&path), n);
@@ -92,11 +95,9 @@ impl Trail {
         requires number { kind.now.number < MOST_KINDS }
         requires siblings { kind.now.siblings ≤ MOST_KINDS }
         requires base { base ≤ MOST_NODES }
-        requires few { IsFew (progress_of self.old) }
         requires short { length (progress_of self.old).steps ≤ MOST_LISTED }
         ensures number { IfOk result (λ k. k ≡ number_for kind.now base at.now (progress_of self.old)) }
         ensures trail { OnOk result (progress_of self.new ≡ with_forest_of kind.now at.now child (progress_of self.old)) }
-        ensures few { OnOk result (IsFew (progress_of self.new)) }
     {
         if kind.above.is_some() {
             return Ok(kind.number);

@@ -6,10 +6,10 @@ ghost use Rattle.proof_check.specs.Validity.{MOST_STEPS, IsValid};
 ghost use Rattle.proof_core.specs.Worlds.{HasFewSiblings};
 ghost use Rattle.proof_core.specs.declared.unfolded.TheConstants.{MOST_LISTED};
 
-use crate::node_passes::NodePasses;
-use crate::page_passes::{page_passed, place_at};
+use crate::node_passes::{NodePasses, walk_from};
+use crate::page_passes::{NumberedPage, page_passed, place_at};
 use crate::trails::Trail;
-use crate::worlds::{Forests, World};
+use crate::worlds::{ChildCounts, World};
 use proof_check::{Nodes, Proof, Steps, Unfolded, steps};
 use simple_core::System;
 use std::alloc::Global;
@@ -97,14 +97,18 @@ fn unfold_all(
 {
     let items = proof.page.items();
     let nodes = Nodes::of(alloc, items)?;
-    let forests = Forests::of(alloc, system.kinds.items())?;
+    let counts = ChildCounts::of(alloc, system.kinds.items())?;
     let world = World {
         system,
         entries: &proof.entries,
-        forests: &forests,
+        counts: &counts,
     };
     let mut trail = Trail::new(alloc);
-    let here = page_passed(items, page, &nodes, &world, &mut trail)?;
+    let numbered = NumberedPage {
+        tree: page,
+        nodes: &nodes,
+    };
+    let here = page_passed(items, &numbered, &world, &mut trail)?;
     let at = match_of(&nodes, &here, target, alloc)?;
     let steps = Steps::new(trail.into_steps());
     Ok(Unfolded { steps, at })
@@ -116,6 +120,6 @@ fn match_of(nodes: &Nodes, here: &NodePasses, target: Atom, alloc: Global) -> Re
 {
     let root = Vec::new(alloc);
     let from = place_at(nodes, here, root.as_slice(), target);
-    let path = here.walk(from, alloc)?;
+    let path = walk_from(here.items(), from, alloc)?;
     Ok(path)
 }

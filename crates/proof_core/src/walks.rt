@@ -4,14 +4,13 @@ ghost use Rattle.std.specs.Prelude.{◌≡◌, ◌<◌, ◌≤◌, ◌-◌, ◌�
 ghost use Rattle.simple_core.specs.declared.system.TheConstants.{MOST_KINDS};
 ghost use Rattle.proof_core.specs.Trails.{progress_of};
 ghost use Rattle.proof_check.specs.Unfolding.{Progress, unfold_entry};
-ghost use Rattle.proof_core.specs.Walks.{IsFew, GoesOn, level_items, level_base, rest_of, node_of, walk_work};
+ghost use Rattle.proof_core.specs.Walks.{GoesOn, level_items, level_base, rest_of, node_of, walk_work};
 ghost use Rattle.proof_core.specs.Passes.{seen};
-ghost use Rattle.proof_core.specs.Worlds.{HasFewSiblings, KnowsForests};
 ghost use Rattle.proof_core.specs.declared.unfolded.TheConstants.{MOST_LISTED};
 
-use crate::passes::{Passes, down, plain};
+use crate::passes::{Passes, child_for, down, plain, way_from};
 use crate::trails::Trail;
-use crate::worlds::{World, after_local, from_of, needed_by, spawned};
+use crate::worlds::{GrownChild, World, after_local, from_of, needed_by, spawned};
 use proof_check::{Below, ProofItem, Reason};
 use std::alloc::Global;
 use std::mem;
@@ -49,13 +48,9 @@ pub fn entry_passed(
     world: &World<'_>,
     trail: &mut Trail,
 ) -> Result<Passes, NoMemory>
-    requires siblings { HasFewSiblings world.now.system.now.kinds }
-    requires forests { KnowsForests world.now.forests.now world.now.system.now.kinds }
-    requires few { IsFew (progress_of trail.old) }
     requires short { length (unfold_entry world.now.system.now world.now.entries.now (length world.now.entries.now) entry at (progress_of trail.old)).0.steps ≤ MOST_LISTED }
     ensures trail { OnOk result (progress_of trail.new ≡ (unfold_entry world.now.system.now world.now.entries.now (length world.now.entries.now) entry at (progress_of trail.old)).0) }
     ensures here { IfOk result (λ here. seen at here ≡ (unfold_entry world.now.system.now world.now.entries.now (length world.now.entries.now) entry at (progress_of trail.old)).1) }
-    ensures few { OnOk result (IsFew (progress_of trail.new)) }
 {
     let alloc = trail.allocator();
     let mut walk = Walk::of(entry, at, world, alloc);
@@ -69,13 +64,11 @@ pub fn entry_passed(
 
 // How many children a node of the entry's kind had before all steps.
 fn base_of(entry: u32, world: &World<'_>) -> u32
-    requires siblings { HasFewSiblings world.now.system.now.kinds }
-    requires forests { KnowsForests world.now.forests.now world.now.system.now.kinds }
     ensures base { result ≡ level_base world.now.system.now world.now.entries.now entry }
     ensures few { result ≤ MOST_KINDS }
 {
     match world.entries.items().get(entry as usize) {
-        Some(entry) => world.forests.children_of(entry.kind),
+        Some(entry) => world.counts.children_of(entry.kind),
         None => 0,
     }
 }
@@ -113,15 +106,11 @@ impl Walk {
 
     // Passes the next item, or goes back to the level above. False where the walk has ended.
     fn turn(&mut self, world: &World<'_>, trail: &mut Trail) -> Result<bool, NoMemory>
-        requires siblings { HasFewSiblings world.now.system.now.kinds }
-        requires forests { KnowsForests world.now.forests.now world.now.system.now.kinds }
-        requires few { IsFew (progress_of trail.old) }
         requires short { length (progress_of trail.old).steps ≤ MOST_LISTED }
         ensures on { OnOk result (GoesOn world.now.system.now world.now.entries.now self.old (progress_of trail.old) self.new (progress_of trail.new)) }
         ensures work { IfOk result (λ more. IsTrue more → walk_work world.now.entries.now self.new < walk_work world.now.entries.now self.old) }
         ensures end { IfOk result (λ more. more ≡ false → (v : List ℕ) → self.new.at ≡ node_of v self.new.stack.items
             → rest_of world.now.system.now world.now.entries.now v self.new (progress_of trail.new) ≡ (progress_of trail.new, seen v self.new.level.here)) }
-        ensures few { OnOk result (IsFew (progress_of trail.new)) }
     {
         match self.level.next(world) {
             Some(item) => {
@@ -138,14 +127,10 @@ impl Walk {
         world: &World<'_>,
         trail: &mut Trail,
     ) -> Result<(), NoMemory>
-        requires siblings { HasFewSiblings world.now.system.now.kinds }
-        requires forests { KnowsForests world.now.forests.now world.now.system.now.kinds }
-        requires few { IsFew (progress_of trail.old) }
         requires short { length (progress_of trail.old).steps ≤ MOST_LISTED }
         requires next { slice_get (level_items world.now.entries.now self.old.level.depth self.old.level.entry) (length self.old.level.here) ≡ Some item }
         ensures on { OnOk result (GoesOn world.now.system.now world.now.entries.now self.old (progress_of trail.old) self.new (progress_of trail.new)) }
         ensures work { OnOk result (walk_work world.now.entries.now self.new < walk_work world.now.entries.now self.old) }
-        ensures few { OnOk result (IsFew (progress_of trail.new)) }
     {
         let alloc = trail.allocator();
         match item.reason {
@@ -155,35 +140,15 @@ impl Walk {
                 after_local(world.system, l, &self.at, trail)?;
                 self.level.here.push(plain(alloc, item.atom))
             }
-            Reason::Down(link, below) => self.pass_below(item, link, below, world, trail),
-        }
-    }
-
-    // An item with a `down` link. In an entry no child is one of the page.
-    fn pass_below(
-        &mut self,
-        item: ProofItem,
-        link: u64,
-        below: Below,
-        world: &World<'_>,
-        trail: &mut Trail,
-    ) -> Result<(), NoMemory>
-        requires siblings { HasFewSiblings world.now.system.now.kinds }
-        requires forests { KnowsForests world.now.forests.now world.now.system.now.kinds }
-        requires few { IsFew (progress_of trail.old) }
-        requires short { length (progress_of trail.old).steps ≤ MOST_LISTED }
-        requires next { slice_get (level_items world.now.entries.now self.old.level.depth self.old.level.entry) (length self.old.level.here) ≡ Some item }
-        requires reason { item.reason ≡ Reason.Down link below }
-        ensures on { OnOk result (GoesOn world.now.system.now world.now.entries.now self.old (progress_of trail.old) self.new (progress_of trail.new)) }
-        ensures work { OnOk result (walk_work world.now.entries.now self.new < walk_work world.now.entries.now self.old) }
-        ensures few { OnOk result (IsFew (progress_of trail.new)) }
-    {
-        match below {
-            Below::Real(k) => {
-                let pass = down(item.atom, k, Vec::new(trail.allocator()))?;
+            // In an entry no child is one of the page.
+            Reason::Down(_, Below::Real(k)) => {
+                let pass = down(item.atom, k, Vec::new(alloc))?;
                 self.level.here.push(pass)
             }
-            Below::Grown(spawn, entry) => self.pass_grown(item, link, spawn, entry, world, trail),
+            Reason::Down(link, Below::Grown(spawn, entry)) => {
+                let grown = GrownChild { link, spawn, entry };
+                self.pass_grown(item, grown, world, trail)
+            }
         }
     }
 
@@ -191,29 +156,24 @@ impl Walk {
     fn pass_grown(
         &mut self,
         item: ProofItem,
-        link: u64,
-        spawn: u64,
-        entry: u32,
+        grown: GrownChild,
         world: &World<'_>,
         trail: &mut Trail,
     ) -> Result<(), NoMemory>
-        requires siblings { HasFewSiblings world.now.system.now.kinds }
-        requires forests { KnowsForests world.now.forests.now world.now.system.now.kinds }
-        requires few { IsFew (progress_of trail.old) }
         requires short { length (progress_of trail.old).steps ≤ MOST_LISTED }
         requires next { slice_get (level_items world.now.entries.now self.old.level.depth self.old.level.entry) (length self.old.level.here) ≡ Some item }
-        requires reason { item.reason ≡ Reason.Down link (Below.Grown spawn entry) }
+        requires reason { item.reason ≡ Reason.Down grown.link (Below.Grown grown.spawn grown.entry) }
         ensures on { OnOk result (GoesOn world.now.system.now world.now.entries.now self.old (progress_of trail.old) self.new (progress_of trail.new)) }
         ensures work { OnOk result (walk_work world.now.entries.now self.new < walk_work world.now.entries.now self.old) }
-        ensures few { OnOk result (IsFew (progress_of trail.new)) }
     {
         let alloc = trail.allocator();
-        match spawned(world.system, spawn) {
+        match spawned(world.system, grown.spawn) {
             Some(kind) => {
-                let child = self.level.here.child_for(needed_by(world.system, spawn));
+                let child = child_for(&self.level.here, needed_by(world.system, grown.spawn));
                 let base = base_of(self.level.entry, world);
                 let number = trail.bring(kind, base, &self.at, child)?;
-                self.enter(entry, number, item.atom, from_of(world.system, link), alloc)
+                let from = from_of(world.system, grown.link);
+                self.enter(grown.entry, number, item.atom, from, alloc)
             }
             None => self.level.here.push(plain(alloc, item.atom)),
         }
@@ -261,7 +221,7 @@ impl Walk {
         };
         self.at.pop();
         let inside = mem::replace(&mut self.level, frame.level);
-        let way = inside.here.into_way(frame.from);
+        let way = way_from(inside.here, frame.from);
         let pass = down(frame.atom, frame.child, way)?;
         self.level.here.push(pass)?;
         Ok(true)

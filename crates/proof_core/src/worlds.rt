@@ -1,9 +1,9 @@
 //! The system and the entries of a proof, as they are looked up while it is unfolded.
 ghost use Rattle.std.specs.Prelude.{◌≡◌, ◌==◌, ℕ, OnOk, IfOk, Some, false, unwrap_or, slice_get};
-ghost use Rattle.std.specs.Option.{option_copied};
-ghost use Rattle.std.specs.Option.{option_or};
+ghost use Rattle.std.specs.Option.{option_copied, option_or};
+ghost use Rattle.std.proofs.Props.{props};
 ghost use Rattle.proof_core.specs.Trails.{progress_of};
-ghost use Rattle.proof_core.specs.Worlds.{known_in, siblings_below, KnowsForests};
+ghost use Rattle.proof_core.specs.Worlds.{known_in, siblings_below, HasFewSiblings, KnowsCounts};
 ghost use Rattle.proof_check.specs.Unfolding as spec;
 
 use crate::trails::Trail;
@@ -15,30 +15,41 @@ use tp_base::{Atom, NoMemory, Path};
 
 /// How many children a grown node of each kind has from its forest.
 #[derive(Drop)]
-pub struct Forests {
+pub struct ChildCounts {
     children: IndexMap<u32, u32>,
 }
 
-/// The system and the entries of a proof, with the forests of the system's kinds.
+/// The system and the entries of a proof, with the child counts of the system's kinds. The condition on siblings is one of those
+/// that a sound system meets.
 #[derive(Clone, Copy)]
 pub struct World<'a> {
     pub system: &'a System,
     pub entries: &'a Entries,
-    pub forests: &'a Forests,
+    pub counts: &'a ChildCounts,
+    ghost siblings: { HasFewSiblings system.now.kinds } by { Prim.hlevel props },
+    ghost known: { KnowsCounts counts.now system.now.kinds } by { Prim.hlevel props },
 }
 
-impl Forests {
+/// A child that a spawn rule adds: the `down` link from it, the rule, and the entry whose node it is.
+#[derive(Clone, Copy)]
+pub struct GrownChild {
+    pub link: u64,
+    pub spawn: u64,
+    pub entry: u32,
+}
+
+impl ChildCounts {
     /// Those of the kinds of a system. Linear in the kinds, on average.
-    pub fn of(alloc: Global, kinds: &[Kind]) -> Result<Forests, NoMemory>
-        ensures { IfOk result (λ forests. KnowsForests forests kinds.now) }
+    pub fn of(alloc: Global, kinds: &[Kind]) -> Result<ChildCounts, NoMemory>
+        ensures { IfOk result (λ counts. KnowsCounts counts kinds.now) }
     {
-        let mut forests = Forests {
+        let mut counts = ChildCounts {
             children: IndexMap::new(alloc),
         };
         for kind in kinds {
-            forests.note(kind)?;
+            counts.note(kind)?;
         }
-        Ok(forests)
+        Ok(counts)
     }
 
     /// How many children a node of the kind has from its forest. Constant on average.

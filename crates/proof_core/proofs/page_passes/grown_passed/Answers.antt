@@ -14,10 +14,10 @@ use Rattle.proof_core.specs.declared.unfolded.TheConstants.{MOST_LISTED}
 use Rattle.proof_core.proofs.page_passes.grown_passed.Goals as goal
 
 pub bring-requires-clause-number : goal.bring-requires-clause-number
-bring-requires-clause-number c = (few_spawned c.args.world.now.system.now c.requires.siblings c.args.spawn c.in-Some.kind.now (sym c.spawned.ensures ∙ ap option_copied c.in-Some.is)).0
+bring-requires-clause-number c = (few_spawned c.args.world.now.system.now c.args.world.now.siblings c.args.grown.spawn c.in-Some.kind.now (sym c.spawned.ensures ∙ ap option_copied c.in-Some.is)).0
 
 pub bring-requires-clause-siblings : goal.bring-requires-clause-siblings
-bring-requires-clause-siblings c = (few_spawned c.args.world.now.system.now c.requires.siblings c.args.spawn c.in-Some.kind.now (sym c.spawned.ensures ∙ ap option_copied c.in-Some.is)).1
+bring-requires-clause-siblings c = (few_spawned c.args.world.now.system.now c.args.world.now.siblings c.args.grown.spawn c.in-Some.kind.now (sym c.spawned.ensures ∙ ap option_copied c.in-Some.is)).1
 
 pub bring-requires-clause-short : goal.bring-requires-clause-short
 bring-requires-clause-short c =
@@ -30,24 +30,26 @@ bring-requires-clause-short c =
     (λ k. seen_in node.nodes.now node.here.now (node.at.now ++ k ∷ [])) (progress_of c.args.trail.now) in
     omega (arith, steps, c.requires.short)
 
-pub entry_passed-requires-clause-short : goal.entry_passed-requires-clause-short
-entry_passed-requires-clause-short c =
+pub entry_passed-requires : goal.entry_passed-requires
+entry_passed-requires c =
     let s = c.args.world.now.system.now in
     let es = c.args.world.now.entries.now in
     let after = progress_of c.bring.new.self in
-    let whole = page_grown s es c.args.item.now c.args.link c.args.spawn c.args.entry c.child_for-child.result c.in_ok-k.k c.in-Some.kind.now c.args.node.now (progress_of c.args.trail.now) after c.requires.reason (sym c.spawned.ensures ∙ ap option_copied c.in-Some.is)
+    let whole = page_grown s es c.args.item.now c.args.grown.link c.args.grown.spawn c.args.grown.entry c.child_for-child.result c.in_ok-k.k c.in-Some.kind.now c.args.node.now (progress_of c.args.trail.now) after c.requires.reason (sym c.spawned.ensures ∙ ap option_copied c.in-Some.is)
     (c.child_for-child.ensures c.args.node.now.at.now ∙ ap (λ a. child_for a (seen_at c.args.node.now.here.now c.args.node.now.number c.args.node.now.at.now)) c.needed_by.ensures) c.in_ok-k.ensures.number c.in_ok-k.ensures.trail in
-    subst (λ w. length (unfold_entry s es (length es) c.args.entry w after).0.steps ≤ MOST_LISTED) (sym c.in_ok-at.ensures)
-    (subst (λ (r : Progress × Passed). length r.0.steps ≤ MOST_LISTED) whole c.requires.short)
+    record {
+      short = subst (λ w. length (unfold_entry s es (length es) c.args.grown.entry w after).0.steps ≤ MOST_LISTED) (sym c.in_ok-at.ensures)
+          (subst (λ (r : Progress × Passed). length r.0.steps ≤ MOST_LISTED) whole c.requires.short);
+    }
 
 pub returns-clause-trail : goal.returns-clause-trail
 returns-clause-trail c =
     let s = c.args.world.now.system.now in
     let es = c.args.world.now.entries.now in
     let after = progress_of c.bring.new.self in
-    let whole = page_grown s es c.args.item.now c.args.link c.args.spawn c.args.entry c.child_for-child.result c.in_ok-k.k c.in-Some.kind.now c.args.node.now (progress_of c.args.trail.now) after c.requires.reason (sym c.spawned.ensures ∙ ap option_copied c.in-Some.is)
+    let whole = page_grown s es c.args.item.now c.args.grown.link c.args.grown.spawn c.args.grown.entry c.child_for-child.result c.in_ok-k.k c.in-Some.kind.now c.args.node.now (progress_of c.args.trail.now) after c.requires.reason (sym c.spawned.ensures ∙ ap option_copied c.in-Some.is)
     (c.child_for-child.ensures c.args.node.now.at.now ∙ ap (λ a. child_for a (seen_at c.args.node.now.here.now c.args.node.now.number c.args.node.now.at.now)) c.needed_by.ensures) c.in_ok-k.ensures.number c.in_ok-k.ensures.trail in
-    c.in_ok-here.ensures.trail ∙ ap (λ w. (unfold_entry s es (length es) c.args.entry w after).0) c.in_ok-at.ensures ∙ sym (ap (λ (r : Progress × Passed). r.0) whole)
+    c.in_ok-here.ensures.trail ∙ ap (λ w. (unfold_entry s es (length es) c.args.grown.entry w after).0) c.in_ok-at.ensures ∙ sym (ap (λ (r : Progress × Passed). r.0) whole)
 
 pub returns-clause-pass : goal.returns-clause-pass
 returns-clause-pass c =
@@ -56,15 +58,15 @@ returns-clause-pass c =
     let node = c.args.node.now in
     let k = c.in_ok-k.k in
     let p = c.in_ok-pass.pass in
-    let from = from_of (slice_get s.down c.args.link) in
+    let from = from_of (slice_get s.down c.args.grown.link) in
     let after = progress_of c.bring.new.self in
-    let whole = page_grown s es c.args.item.now c.args.link c.args.spawn c.args.entry c.child_for-child.result c.in_ok-k.k c.in-Some.kind.now c.args.node.now (progress_of c.args.trail.now) after c.requires.reason (sym c.spawned.ensures ∙ ap option_copied c.in-Some.is)
+    let whole = page_grown s es c.args.item.now c.args.grown.link c.args.grown.spawn c.args.grown.entry c.child_for-child.result c.in_ok-k.k c.in-Some.kind.now c.args.node.now (progress_of c.args.trail.now) after c.requires.reason (sym c.spawned.ensures ∙ ap option_copied c.in-Some.is)
     (c.child_for-child.ensures c.args.node.now.at.now ∙ ap (λ a. child_for a (seen_at c.args.node.now.here.now c.args.node.now.number c.args.node.now.at.now)) c.needed_by.ensures) c.in_ok-k.ensures.number c.in_ok-k.ensures.trail in
     let inside = c.in_ok-here.here in
     let child = node.at.now ++ k ∷ [] in
-    let is : seen child inside ≡ (unfold_entry s es (length es) c.args.entry child after).1
-    = subst (λ w. seen w inside ≡ (unfold_entry s es (length es) c.args.entry w after).1) c.in_ok-at.ensures c.in_ok-here.ensures.here in
-    let way = c.in_ok-pass.ensures.way ∙ ap (λ w. w ++ k ∷ []) (c.into_way.ensures ∙ ap (λ a. way_for a inside) c.from_of.ensures) in
+    let is : seen child inside ≡ (unfold_entry s es (length es) c.args.grown.entry child after).1
+    = subst (λ w. seen w inside ≡ (unfold_entry s es (length es) c.args.grown.entry w after).1) c.in_ok-at.ensures c.in_ok-here.ensures.here in
+    let way = c.in_ok-pass.ensures.way ∙ ap (λ w. w ++ k ∷ []) (c.way_from-way.ensures ∙ ap (λ a. way_for a inside) c.from_of.ensures) in
     let made : List Passed → Passed = λ h. record { atom = c.args.item.now.atom; child = Some k; end = end_for from h child } in
     c.alone.ensures.pass (all_seen node.here.now) node.at.now
     ∙ passed_down node.at.now p c.args.item.now.atom k from inside c.in_ok-pass.ensures.atom c.in_ok-pass.ensures.child way ∙ ap made is ∙ sym (ap (λ (r : Progress × Passed). r.1) whole)
@@ -74,8 +76,8 @@ returns-in_default-clause-trail c =
     let s = c.args.world.now.system.now in
     let es = c.args.world.now.entries.now in
     let node = c.args.node.now in
-    let none : spawned s c.args.spawn ≡ None = sym c.spawned.ensures ∙ ap option_copied c.in_default.is in
-    sym (ap (λ (r : Progress × Passed). r.0) (none_is s es (unfold_entry s es (length es)) c.args.item.now c.args.link c.args.spawn c.args.entry node.base node.at.now (seen_at node.here.now node.number node.at.now)
+    let none : spawned s c.args.grown.spawn ≡ None = sym c.spawned.ensures ∙ ap option_copied c.in_default.is in
+    sym (ap (λ (r : Progress × Passed). r.0) (none_is s es (unfold_entry s es (length es)) c.args.item.now c.args.grown.link c.args.grown.spawn c.args.grown.entry node.base node.at.now (seen_at node.here.now node.number node.at.now)
     (λ k. seen_in node.nodes.now node.here.now (node.at.now ++ k ∷ [])) (progress_of c.args.trail.now) c.requires.reason none))
 
 pub returns-in_default-clause-pass : goal.returns-in_default-clause-pass
@@ -83,7 +85,7 @@ returns-in_default-clause-pass c =
     let s = c.args.world.now.system.now in
     let es = c.args.world.now.entries.now in
     let node = c.args.node.now in
-    let none : spawned s c.args.spawn ≡ None = sym c.spawned.ensures ∙ ap option_copied c.in_default.is in
+    let none : spawned s c.args.grown.spawn ≡ None = sym c.spawned.ensures ∙ ap option_copied c.in_default.is in
     c.stays.ensures.pass (all_seen node.here.now) node.at.now
-    ∙ sym (ap (λ (r : Progress × Passed). r.1) (none_is s es (unfold_entry s es (length es)) c.args.item.now c.args.link c.args.spawn c.args.entry node.base node.at.now (seen_at node.here.now node.number node.at.now)
+    ∙ sym (ap (λ (r : Progress × Passed). r.1) (none_is s es (unfold_entry s es (length es)) c.args.item.now c.args.grown.link c.args.grown.spawn c.args.grown.entry node.base node.at.now (seen_at node.here.now node.number node.at.now)
     (λ k. seen_in node.nodes.now node.here.now (node.at.now ++ k ∷ [])) (progress_of c.args.trail.now) c.requires.reason none))

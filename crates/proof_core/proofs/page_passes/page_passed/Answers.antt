@@ -15,7 +15,7 @@ item_passed_at-requires-clause-short c =
     let i = c.loop-i.i-index in
     let x = c.i-item.result in
     let at = slice_get_read items (length items) i x refl c.loop-i-test.true c.i-item.is in
-    page_short s es c.args.page.now items i x (seen_in c.args.nodes.now c.loop-i.here) (progress_of c.loop-i.trail) MOST_LISTED at
+    page_short s es c.args.page.now.tree.now items i x (seen_in c.args.page.now.nodes.now c.loop-i.here) (progress_of c.loop-i.trail) MOST_LISTED at
     (subst (λ (r : Progress × (List ℕ → List Passed)). length r.0.steps ≤ MOST_LISTED) c.loop-i.invariant.whole c.requires.short)
 
 pub loop-i-preserved : goal.loop-i-preserved
@@ -24,17 +24,16 @@ loop-i-preserved c =
     let es = c.args.world.now.entries.now in
     let u = unfold_entry s es (length es) in
     let items = c.args.items.now in
-    let nodes = c.args.nodes.now in
+    let nodes = c.args.page.now.nodes.now in
     let i = c.loop-i.i-index in
     let x = c.i-item.result in
     let new = seen_in nodes c.item_passed_at.new.here in
     let after = progress_of c.item_passed_at.new.trail in
     let at = slice_get_read items (length items) i x refl c.loop-i-test.true c.i-item.is in
-    let start = unfold_page s u c.args.page.now items (λ q. []) (progress_of c.args.trail.now) in
-    let next : start ≡ unfold_page s u c.args.page.now (drop (suc i) items) new after
+    let start = unfold_page s u c.args.page.now.tree.now items (λ q. []) (progress_of c.args.trail.now) in
+    let next : start ≡ unfold_page s u c.args.page.now.tree.now (drop (suc i) items) new after
     = c.loop-i.invariant.whole
-    ∙ page_one s es c.args.page.now items i x (seen_in nodes c.loop-i.here) new (progress_of c.loop-i.trail) after at c.in_ok-item_passed_at.ensures.trail c.in_ok-item_passed_at.ensures.here in
+    ∙ page_one s es c.args.page.now.tree.now items i x (seen_in nodes c.loop-i.here) new (progress_of c.loop-i.trail) after at c.in_ok-item_passed_at.ensures.trail c.in_ok-item_passed_at.ensures.here in
     record {
-      whole = subst (λ n. start ≡ unfold_page s u c.args.page.now (drop n items) new after) {x = suc i} (omega arith) next;
-      few = c.in_ok-item_passed_at.ensures.few;
+      whole = subst (λ n. start ≡ unfold_page s u c.args.page.now.tree.now (drop n items) new after) {x = suc i} (omega arith) next;
     }

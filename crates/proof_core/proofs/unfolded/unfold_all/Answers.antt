@@ -1,14 +1,9 @@
-use Rattle.std.proofs.Common.{◌≡◌, ◌≤◌, ℕ, List, [], length, sym, ap, subst, ◌∙◌}
+use Rattle.std.proofs.Common.{◌≤◌, ℕ, List, [], length, sym, ap, subst, ◌∙◌}
 use Rattle.proof_check.specs.declared.proofs.PageItem.{PageItem}
 use Rattle.proof_core.specs.Trails.{progress_of, no_progress}
 use Rattle.proof_check.specs.Unfolding.{Progress, Passed, end_for, unfold_page, unfold_entry}
-use Rattle.proof_core.specs.Walks.{IsFew}
-use Rattle.proof_core.proofs.TrailLemmas.{few_none}
 use Rattle.proof_core.specs.declared.unfolded.TheConstants.{MOST_LISTED}
 use Rattle.proof_core.proofs.unfolded.unfold_all.Goals as goal
-
-pub page_passed-requires-clause-few : goal.page_passed-requires-clause-few
-page_passed-requires-clause-few c = subst IsFew (sym c.new-trail.ensures) few_none
 
 pub page_passed-requires-clause-short : goal.page_passed-requires-clause-short
 page_passed-requires-clause-short c =

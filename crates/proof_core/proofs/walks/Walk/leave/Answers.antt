@@ -25,7 +25,7 @@ returns-clause-on c = λ done.
     let f = c.in-Some.frame in
     let p = c.in_ok-pass.pass in
     let new : Walk = record { at = c.pop-2.new.self; level = record c.replace-inside.new.dest { here = c.push.new.self }; stack = c.pop.new.self } in
-    let way = c.in_ok-pass.ensures.way ∙ ap (λ w. w ++ f.child ∷ []) (c.into_way-way.ensures ∙ ap (λ (l : Level). way_for f.from l.here) c.replace-inside.ensures.value) in
+    let way = c.in_ok-pass.ensures.way ∙ ap (λ w. w ++ f.child ∷ []) (c.way_from-way.ensures ∙ ap (λ (l : Level). way_for f.from l.here) c.replace-inside.ensures.value) in
     goes_back s es c.args.self.now new f p c.push.new.self done c.requires.none c.in-Some.ensures.items c.pop-2.ensures.rest c.in_ok-pass.ensures.atom c.in_ok-pass.ensures.child way
     (c.in_ok-push.ensures ∙ ap (λ (l : Level). l.here ++ p ∷ []) c.replace-inside.ensures.after) (ap (λ (l : Level). record l { here = c.push.new.self }) c.replace-inside.ensures.after)
 

@@ -1,10 +1,9 @@
-use Rattle.std.proofs.Common.{◌≡◌, ◌++◌, ◌∷◌, [], slice_get, refl, sym, subst, ◌∙◌}
+use Rattle.std.proofs.Common.{◌++◌, ◌∷◌, [], refl, ap, ◌∙◌}
 use Rattle.std.proofs.lemmas.Result.{on_ok_weaker}
-use Rattle.proof_check.specs.declared.proofs.Reason.TheVariants.{Start, Local, Up}
+use Rattle.proof_check.specs.declared.proofs.Below.TheVariants.{Real}
+use Rattle.proof_check.specs.declared.proofs.Reason.TheVariants.{Start, Local, Up, Down}
 use Rattle.proof_core.specs.Trails.{progress_of}
-use Rattle.proof_core.specs.Walks.{IsFew}
-use Rattle.proof_core.proofs.PassLemmas.{passed_plain}
-use Rattle.proof_core.proofs.TrailLemmas.{few_local}
+use Rattle.proof_core.proofs.PassLemmas.{passed_plain, passed_alone}
 use Rattle.proof_core.proofs.WalkLemmas.{goes_by}
 use Rattle.proof_core.proofs.WorkLemmas.{less_stay}
 use Rattle.proof_core.proofs.walks.Walk.pass.Goals as goal
@@ -45,8 +44,18 @@ returns-in_ok-after_local-in-Local-clause-on c =
 pub returns-in_ok-after_local-in-Local-clause-work : goal.returns-in_ok-after_local-in-Local-clause-work
 returns-in_ok-after_local-in-Local-clause-work c = on_ok_weaker c.push-in-Local.result (λ is. less_stay c.args.world.now.entries.now c.args.self.now c.args.item c.push-in-Local.new.self c.plain-in-Local.result c.requires.next is) c.push-in-Local.ensures
 
-pub returns-in_ok-after_local-in-Local-clause-few : goal.returns-in_ok-after_local-in-Local-clause-few
-returns-in_ok-after_local-in-Local-clause-few c =
+pub returns-in_ok-pass-in-Down-default-Real-clause-on : goal.returns-in_ok-pass-in-Down-default-Real-clause-on
+returns-in_ok-pass-in-Down-default-Real-clause-on c =
     let s = c.args.world.now.system.now in
-    on_ok_weaker c.push-in-Local.result (λ is. subst IsFew (sym c.in_ok-after_local-in-Local.ensures)
-    (few_local s (slice_get s.local c.in-Local.l) c.args.self.now.at (progress_of c.args.trail.now) c.requires.few)) c.push-in-Local.ensures
+    let es = c.args.world.now.entries.now in
+    let old = c.args.self.now in
+    let before = progress_of c.args.trail.now in
+    let l = c.in-Down-default-Real.field-0 in
+    let k = c.in-Down-default-Real.k in
+    let p = c.in_ok-pass-in-Down-default-Real.pass in
+    let below = rw c.in-Down-default-Real.is at c.in-Down-default-Real.field-1-is in
+    on_ok_weaker c.push-in-Down-default-Real.result (λ is. goes_by s es old c.args.item (Down l (Real k)) c.push-in-Down-default-Real.new.self p before before c.requires.next is (c.in-Down-default-Real.is ∙ ap (Down l) below) refl
+    (passed_alone old.at p c.args.item.atom k c.in_ok-pass-in-Down-default-Real.ensures.atom c.in_ok-pass-in-Down-default-Real.ensures.child (c.in_ok-pass-in-Down-default-Real.ensures.way ∙ ap (λ w. w ++ k ∷ []) c.new.ensures.items))) c.push-in-Down-default-Real.ensures
+
+pub returns-in_ok-pass-in-Down-default-Real-clause-work : goal.returns-in_ok-pass-in-Down-default-Real-clause-work
+returns-in_ok-pass-in-Down-default-Real-clause-work c = on_ok_weaker c.push-in-Down-default-Real.result (λ is. less_stay c.args.world.now.entries.now c.args.self.now c.args.item c.push-in-Down-default-Real.new.self c.in_ok-pass-in-Down-default-Real.pass c.requires.next is) c.push-in-Down-default-Real.ensures

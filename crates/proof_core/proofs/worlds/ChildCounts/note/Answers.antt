@@ -1,6 +1,6 @@
 use Rattle.proof_core.specs.Worlds.{known_in}
 use Rattle.proof_core.proofs.WorldLemmas.{on_both, noted, not_noted}
-use Rattle.proof_core.proofs.worlds.Forests.note.Goals as goal
+use Rattle.proof_core.proofs.worlds.ChildCounts.note.Goals as goal
 
 pub returns-in-Some : goal.returns-in-Some
 returns-in-Some c =
