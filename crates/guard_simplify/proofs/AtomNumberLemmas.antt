@@ -13,18 +13,18 @@ use Rattle.guard_sem.specs.Guards.{Guard, always, atom, all, any, parent, ancest
 use Rattle.guard_sem.specs.declared.rules.Rule.{Rule}
 use Rattle.guard_sem.proofs.SameGuards.{same_guard-sound, same_guard-itself}
 use Rattle.guard_simplify.specs.declared.keys.Key.{Key}
-use Rattle.guard_simplify.specs.declared.counting.Counted.{Counted}
+use Rattle.guard_simplify.specs.declared.formulas.Formulas.{Formulas}
 use Rattle.guard_simplify.specs.Firsts.{different}
 use Rattle.guard_simplify.specs.Auxiliaries.{formulas, tops_of, forest_of, nodes_of, Place, by_rule, places}
 use Rattle.guard_simplify.specs.Simplified.{atom_of}
 use Rattle.guard_simplify.specs.Keys.{atom_in, HasNumber, HaveNumbers, PartsHaveNumbers}
 use Rattle.guard_simplify.specs.Numbered.{Kept, stored, parts_of, kept_of}
 use Rattle.guard_simplify.specs.ForestRules.{rooted}
-use Rattle.guard_simplify.specs.Counted.{IsCounted, first_seen}
+use Rattle.guard_simplify.specs.Counted.{IsNumbering}
 use Rattle.guard_simplify.specs.AtomNumbers.{HaveAtomParts, AreAtoms, HasAtoms, HasFewNodes, HaveFewNodes}
 use Rattle.guard_simplify.proofs.NumberLemmas.{different-Contains, place_within}
 use Rattle.guard_simplify.proofs.KeyRuleLemmas.{same_atom}
-use Rattle.guard_simplify.proofs.SystemLemmas.{first_is}
+use Rattle.guard_simplify.proofs.SystemLemmas.{count_formulas}
 
 -- what f gives for each element, where each is one
 all_map : {X : Type 0} (f : X → ℕ) (xs : List X) → ((x : X) → Contains xs x → IsAtom (f x)) → All IsAtom (map f xs)
@@ -69,7 +69,7 @@ module _ (n : ℕ) (fs : List Guard) (few : n + length fs ≤ MOST_ATOMS) where
         key_atoms some keys rest (λ g is. closed g (Contains-behind g f some is)),
       )
 
-module _ (rules : List Rule) (guards : List Guard) (n : ℕ) (c : Counted) (is : IsCounted rules guards n c) (within : first_seen c + length c.seen.keys ≤ MOST_ATOMS) where
+module _ (rules : List Rule) (guards : List Guard) (n : ℕ) (f : Formulas) (is : IsNumbering rules guards n f) (within : n + length f.keys.keys ≤ MOST_ATOMS) where
   abbrev fs : List Guard
   fs = formulas rules guards
 
@@ -77,14 +77,14 @@ module _ (rules : List Rule) (guards : List Guard) (n : ℕ) (c : Counted) (is :
   at g = atom_of rules guards n g
 
   few_formulas : n + length fs ≤ MOST_ATOMS
-  few_formulas = let first = first_is rules guards n c is in omega (arith, within, first)
+  few_formulas = let count = count_formulas rules guards n f is in omega (arith, within, count)
 
   guard_atom : (g : Guard) → HasNumber n fs g → IsAtom (at g)
   guard_atom g has = subst IsAtom (sym (same_atom rules guards n g has)) (number_atom n fs few_formulas g has)
 
-  pub has_atoms : HasAtoms c
+  pub has_atoms : HasAtoms f
   has_atoms = record {
-    formulas = key_atoms n fs few_formulas fs c.formulas.keys is.table.are is.table.closed;
+    formulas = key_atoms n fs few_formulas fs f.keys.keys is.table.are is.table.closed;
     rules = subst (All IsAtom) (sym is.of_rules) (all_map (λ (r : Rule). at r.guard) rules (λ r listed. guard_atom r.guard (is.known_rules r.guard (Contains-map (λ (r : Rule). r.guard) rules r listed))));
     seen = subst AreAtoms (sym is.seen) (are_map at (different same_guard guards) (λ g listed. guard_atom g (is.known g ((different-Contains same_guard same_guard-sound same_guard-itself guards g).0 listed))));
   }

@@ -1,5 +1,5 @@
 -- The numbers that are given in one pass over rules and guards are those of the definition.
-use Rattle.std.proofs.Common.{◌≡◌, ◌⊎◌, ℕ, suc, ◌+◌, ◌==◌, Bool, true, List, [], ◌∷◌, ◌++◌, length, map, fold, All, Contains, refl, sym, ap, ◌∙◌, subst, inl, inr}
+use Rattle.std.proofs.Common.{◌≡◌, ◌⊎◌, ℕ, suc, ◌==◌, Bool, true, List, [], ◌∷◌, ◌++◌, map, fold, All, Contains, refl, sym, ap, ◌∙◌, subst, inl, inr}
 use Rattle.std.proofs.lemmas.Bool.{cases_Bool, eqb-true, eq-eqb, false_from_ne_true}
 use Rattle.std.proofs.lemmas.List.{map-append}
 use Rattle.std.proofs.lemmas.List.Elements.{All-head, All-tail, Contains-push_cases}
@@ -8,19 +8,17 @@ use Rattle.guard_sem.specs.Guards.{Guard, guards_of, parts, same_guard}
 use Rattle.guard_sem.specs.declared.rules.Rule.{Rule}
 use Rattle.guard_sem.proofs.SameGuards.{same_guard-sound, same_guard-itself}
 use Rattle.guard_simplify.specs.declared.keys.Key.{Key}
-use Rattle.guard_simplify.specs.declared.counting.Counted.{Counted}
+use Rattle.guard_simplify.specs.declared.formulas.Formulas.{Formulas}
 use Rattle.guard_simplify.specs.Firsts.{is_among, with_new, different, place_of}
-use Rattle.guard_simplify.specs.Auxiliaries.{formulas_in, formulas, same_place, places, owners}
+use Rattle.guard_simplify.specs.Auxiliaries.{formulas_in, formulas}
 use Rattle.guard_simplify.specs.Simplified.{atom_of}
 use Rattle.guard_simplify.specs.Law.{IsOver, AreOver, IsRuleOver}
 use Rattle.guard_simplify.specs.Keys.{atom_in, HasNumber, HaveNumbers}
 use Rattle.guard_simplify.specs.Numbered.{IsTable, AreNumbered, with_all}
-use Rattle.guard_simplify.specs.ForestRules.{nodes_in, owners_in}
-use Rattle.guard_simplify.specs.Counted.{IsCounted}
+use Rattle.guard_simplify.specs.Counted.{IsNumbering}
 use Rattle.guard_simplify.proofs.Keyed.{one_number, still_all, numbers_still}
 use Rattle.guard_simplify.proofs.NumberedLemmas.{grown, parts-guards_of}
 use Rattle.guard_simplify.proofs.KeyRuleLemmas.{same_atom, same_atoms, formulas_numbered}
-use Rattle.guard_simplify.proofs.Distinct.{places_different, owners_different}
 
 rules_are_over : (n : ℕ) (rules : List Rule) → All (IsRuleOver n) rules → AreOver n (guards_of (map (λ (r : Rule). r.guard) rules))
 rules_are_over n [] over = tt
@@ -101,11 +99,10 @@ module _ (rules : List Rule) (guards : List Guard) (n : ℕ) where
   pub one_guard : (g h : Guard) → HasNumber n fs g → HasNumber n fs h → at g ≡ at h → g ≡ h
   one_guard g h k k' e = one_number n fs g h k k' (sym (same_atom rules guards n g k) ∙ e ∙ same_atom rules guards n h k')
 
-  pub counted : (mid : List Key) (c : Counted) → All (IsRuleOver n) rules → All (IsOver n) guards
-      → AreNumbered n [] mid (guards_of (map (λ (r : Rule). r.guard) rules)) c.rules.items → AreNumbered n mid c.formulas.keys (guards_of guards) c.guards.items
-      → nodes_in c.nodes ≡ different same_place (places rules) → owners_in c.nodes ≡ different same_place (owners rules) → c.nodes.first_owner ≡ n + length c.formulas.keys
-      → c.seen.keys ≡ different (λ (a b : ℕ). a == b) c.guards.items → IsCounted rules guards n c
-  counted mid c rules_over guards_over first second nodes' owners' first_owner' seen' =
+  pub numbering_is : (mid : List Key) (f : Formulas) → All (IsRuleOver n) rules → All (IsOver n) guards
+      → AreNumbered n [] mid (guards_of (map (λ (r : Rule). r.guard) rules)) f.of_rules.items → AreNumbered n mid f.keys.keys (guards_of guards) f.of_guards.items
+      → f.seen.keys ≡ different (λ (a b : ℕ). a == b) f.of_guards.items → IsNumbering rules guards n f
+  numbering_is mid f rules_over guards_over first second seen' =
       let outer : List Guard = map (λ (r : Rule). r.guard) rules in
       let empty : IsTable n [] [] = record { closed = λ f is. absurd (Contains-none f is); formulas = λ f is. absurd (Contains-none f is); are = refl } in
       let X = with_all [] (formulas_in (guards_of outer)) in
@@ -116,21 +113,18 @@ module _ (rules : List Rule) (guards : List Guard) (n : ℕ) where
       let more = grown X (formulas_in (guards_of guards)) in
       let have_rules : HaveNumbers n fs (guards_of outer) = subst (λ z. HaveNumbers n z (guards_of outer)) (sym more.1 ∙ whole) (still_all n X more.0 (guards_of outer) before.2) in
       let have_guards : HaveNumbers n fs (guards_of guards) = subst (λ z. HaveNumbers n z (guards_of guards)) whole after.2 in
-      let of_rules' : c.rules.items ≡ map at outer =
+      let of_rules' : f.of_rules.items ≡ map at outer =
       before.1 ∙ sym (numbers_still n X more.0 (guards_of outer) before.2) ∙ ap (λ z. map (atom_in n z) (parts (guards_of outer))) (sym more.1 ∙ whole)
       ∙ sym (same_atoms rules guards n (guards_of outer) have_rules) ∙ ap (map at) (parts-guards_of outer) in
-      let of_guards' : c.guards.items ≡ map at guards =
+      let of_guards' : f.of_guards.items ≡ map at guards =
       after.1 ∙ ap (λ z. map (atom_in n z) (parts (guards_of guards))) whole ∙ sym (same_atoms rules guards n (guards_of guards) have_guards) ∙ ap (map at) (parts-guards_of guards) in
       let known' : (g : Guard) → Contains guards g → HasNumber n fs g = each_has n fs guards have_guards in
       record {
-        table = subst (λ z. IsTable n z c.formulas.keys) whole after.0;
+        table = subst (λ z. IsTable n z f.keys.keys) whole after.0;
         of_rules = of_rules' ∙ map_map (λ (r : Rule). r.guard) at rules;
         of_guards = of_guards';
         known_rules = each_has n fs outer have_rules;
         known = known';
-        nodes = nodes' ∙ places_different rules;
-        owners = owners' ∙ owners_different rules;
-        first_owner = first_owner';
         seen =
             seen' ∙ ap (different (λ (a b : ℕ). a == b)) of_guards'
             ∙ once_numbers same_guard same_guard-sound same_guard-itself at guards [] (λ x y is is'. elim is' [

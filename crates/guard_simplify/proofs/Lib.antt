@@ -19,8 +19,10 @@ pub mod KeyRuleLemmas
 pub mod NodeSets
 pub mod Distinct
 pub mod RuleLists
+pub mod PlantedLemmas
 pub mod CountedLemmas
 pub mod SystemLemmas
+pub mod CountingLemmas
 pub mod PathEnds
 pub mod Pushes
 pub mod Outcomes

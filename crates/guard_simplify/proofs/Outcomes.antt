@@ -1,37 +1,45 @@
--- What is answered where the limits are kept, and where they aren't.
-use Rattle.std.proofs.Common.{◌≡◌, ◌↔◌, ℕ, ◌+◌, ◌≤◌, ◌<◌, Bool, true, false, List, length, Result, Ok, Err, Option, IfOk, IsErr, ok_or, refl, sym, ap, ◌∙◌, subst, inl, inr}
-use Rattle.std.proofs.lemmas.Bool.{both_ways, cases_lt, lt-ltb, le-ltb}
-use Rattle.tp_base.specs.declared.no_memory.NoMemory.{NoMemory}
+-- What is answered where too many atoms are counted, and where a system is put together.
+use Rattle.std.proofs.Common.{◌≡◌, ℕ, ◌+◌, ◌≤◌, ◌<◌, List, length, All, Result, Ok, Err, Option, Some, None, IsErrAnd, ok_or, refl, sym, ap, ◌∙◌, subst, inl, inr}
+use Rattle.std.specs.Prelude.{nat_lt}
+use Rattle.std.proofs.lemmas.Bool.{cases_Bool, lt-ltb}
 use Rattle.tp_base.specs.declared.atoms.TheConstants.{MOST_ATOMS}
+use Rattle.simple_core.specs.declared.system.TheConstants.{MOST_KINDS}
+use Rattle.simple_core.specs.Systems.{IsSound}
+use Rattle.guard_sem.specs.Guards.{Guard}
 use Rattle.guard_sem.specs.declared.rules.Rule.{Rule}
 use Rattle.guard_simplify.specs.declared.counting.Counted.{Counted}
 use Rattle.guard_simplify.specs.declared.simplified.Simplified.{Simplified}
 use Rattle.guard_simplify.specs.declared.simplified.SimplifyFault.{SimplifyFault}
 use Rattle.guard_simplify.specs.declared.simplified.SimplifyFault.TheVariants.{TooManyAtoms, TooManyVisible, Memory}
-use Rattle.guard_simplify.specs.Counted.{first_seen, counted_visibly, counted_outcome}
-use Rattle.guard_simplify.specs.Outcome.{Gives}
+use Rattle.guard_simplify.specs.declared.simplified.TheConstants.{MOST_VISIBLE}
+use Rattle.guard_simplify.specs.Auxiliaries.{places, auxiliaries}
+use Rattle.guard_simplify.specs.Law.{IsOver, IsRuleOver}
+use Rattle.guard_simplify.specs.Counted.{IsCounted, left_sides_of, counted_ups, counted_system, counted_seen, counted_visibly}
+use Rattle.guard_simplify.specs.Outcome.{simplified, Gives}
+use Rattle.guard_simplify.proofs.SystemLemmas.{outcome_same, made_sound}
 
-gives : (r spec : Result Simplified SimplifyFault) → spec ≡ r → Gives r spec
-gives (Ok x) spec is = is
-gives (Err e) spec is = λ other. is
+pub outcome_many : (rules : List Rule) (guards : List Guard) (n : ℕ) → MOST_ATOMS < n + length (auxiliaries rules guards) → simplified rules guards n ≡ Err TooManyAtoms
+outcome_many rules guards n more = let past = lt-ltb MOST_ATOMS (n + length (auxiliaries rules guards)) more in rw past refl
 
-module _ (rules : List Rule) (n : ℕ) (c : Counted) where
-  abbrev count : ℕ
-  count = first_seen c + length c.seen.keys
+pub err_gives : (r spec : Result Simplified SimplifyFault) → IsErrAnd r (λ e. e ≡ Memory) → Gives r spec
+err_gives (Ok s) spec is = absurd is
+err_gives (Err e) spec is = λ other. absurd (other is)
 
-  pub outcome_many : (b : Bool) → (b ≡ true) ↔ (count ≤ MOST_ATOMS) → b ≡ false → Gives (Err TooManyAtoms) (counted_outcome rules n c)
-  outcome_many b test no' other =
-      let more : MOST_ATOMS < count = elim (cases_lt MOST_ATOMS count) [
-        | inl past ↦ past
-        | inr few ↦ absurd (both_ways b no' (test.1 few))
-      ] in
-      let past = lt-ltb MOST_ATOMS count more in
-      rw past refl
+-- what is counted for rules and guards over a table of n atoms
+module _ (rules : List Rule) (guards : List Guard) (n : ℕ) (c : Counted) (same_rules : c.rules.now ≡ rules) (same_first : c.first ≡ n) (is : IsCounted guards c) where
+  pub outcome_made : (o : Option Simplified) → o ≡ counted_visibly c → simplified rules guards n ≡ ok_or o TooManyVisible
+  outcome_made o made =
+      sym (λ i. simplified (same_rules i) guards (same_first i)) ∙ sym (outcome_same guards c is) ∙ ap (λ (z : Option Simplified). ok_or z TooManyVisible) (sym made)
 
-  pub outcome_named : count ≤ MOST_ATOMS → (found : Result (Option Simplified) NoMemory) (r : Result Simplified SimplifyFault) → IfOk found (λ o. o ≡ counted_visibly rules n c)
-      → IfOk found (λ o. r ≡ ok_or o TooManyVisible) → (IsErr found → r ≡ Err Memory) → Gives r (counted_outcome rules n c)
-  outcome_named few (Ok o) r is named err =
-      let test = le-ltb MOST_ATOMS count few in
-      let whole : counted_outcome rules n c ≡ ok_or (counted_visibly rules n c) TooManyVisible = rw test refl in
-      gives r (counted_outcome rules n c) (whole ∙ ap (λ (z : Option Simplified). ok_or z TooManyVisible) (sym is) ∙ sym named)
-  outcome_named few (Err e) r is named err = subst (λ z. Gives z (counted_outcome rules n c)) (sym (err refl)) (λ other. absurd (other refl))
+  pub sound_made : All (IsRuleOver n) rules → All (IsOver n) guards → length (places rules) ≤ MOST_KINDS → (s : Simplified) → Some s ≡ counted_visibly c → IsSound s.system
+  sound_made rules_over guards_over few s made =
+      let rules_over' : All (IsRuleOver c.first) c.rules.now = subst (λ m. All (IsRuleOver m) c.rules.now) (sym same_first) (subst (All (IsRuleOver n)) (sym same_rules) rules_over) in
+      let guards_over' : All (IsOver c.first) guards = subst (λ m. All (IsOver m) guards) (sym same_first) guards_over in
+      let few' : length (places c.rules.now) ≤ MOST_KINDS = subst (λ z. length (places z) ≤ MOST_KINDS) (sym same_rules) few in
+      elim (cases_Bool (nat_lt MOST_VISIBLE (length (left_sides_of (counted_ups c))))) [
+        | inl past ↦ let none : ◌≡◌ {A = Option Simplified} (Some s) None = rw past at made in absurd (cc)
+        | inr within ↦
+            let some : ◌≡◌ {A = Option Simplified} (Some s) (Some (record { system = counted_system c; seen = counted_seen c })) = rw within at made in
+            let same : ◌≡◌ {A = Simplified} s (record { system = counted_system c; seen = counted_seen c }) = cc in
+            subst (λ (z : Simplified). IsSound z.system) (sym same) (made_sound guards c is rules_over' guards_over' few')
+      ]

@@ -1,6 +1,7 @@
--- Lists by rules, one rule after another.
+-- Lists by rules, and by other lists, one after another.
 use Rattle.std.proofs.Common.{◌≡◌, ℕ, suc, ◌+◌, Bool, List, [], ◌∷◌, ◌++◌, fold, Some, refl, sym, ap, ◌∙◌, subst, arith, append_assoc}
 use Rattle.std.specs.Prelude.{slice_get}
+use Rattle.std.specs.List.{flat_map}
 use Rattle.std.proofs.lemmas.List.Sums.{fold-append}
 use Rattle.guard_sem.specs.declared.rules.Rule.{Rule}
 use Rattle.guard_simplify.specs.Firsts.{with_new}
@@ -13,13 +14,10 @@ by_rule_next f i r rules = let next : suc i ≡ i + 1 = omega arith in ap (λ k.
 pub pushed_next : {X : Type 0} (f : ℕ → Rule → List X) (old new : List X) (i : ℕ) (r : Rule) (rules : List Rule) → new ≡ old ++ f i r → new ++ by_rule f (i + 1) rules ≡ old ++ by_rule f i (r ∷ rules)
 pushed_next f old new i r rules is = ap (λ z. z ++ by_rule f (i + 1) rules) is ∙ append_assoc old (f i r) (by_rule f (i + 1) rules) ∙ ap (λ z. old ++ z) (sym (by_rule_next f i r rules))
 
--- elements that are put in where they are new, rule by rule
-pub entered_next : {X : Type 0} (same : X → X → Bool) (f : ℕ → Rule → List X) (old new : List X) (i : ℕ) (r : Rule) (rules : List Rule) → new ≡ fold (with_new same) old (f i r)
-    → fold (with_new same) new (by_rule f (i + 1) rules) ≡ fold (with_new same) old (by_rule f i (r ∷ rules))
-entered_next same f old new i r rules is =
-    ap (λ z. fold (with_new same) z (by_rule f (i + 1) rules)) is
-    ∙ sym (fold-append (with_new same) old (f i r) (by_rule f (i + 1) rules))
-    ∙ ap (fold (with_new same) old) (sym (by_rule_next f i r rules))
+-- elements that are put in where they are new, list by list
+pub entered_next : {X Y : Type 0} (same : X → X → Bool) (f : Y → List X) (old new : List X) (y : Y) (ys : List Y) → new ≡ fold (with_new same) old (f y)
+    → fold (with_new same) new (flat_map f ys) ≡ fold (with_new same) old (flat_map f (y ∷ ys))
+entered_next same f old new y ys is = ap (λ z. fold (with_new same) z (flat_map f ys)) is ∙ sym (fold-append (with_new same) old (f y) (flat_map f ys))
 
 -- lists that agree at each rule
 pub by_rule_same : {X : Type 0} (f g : ℕ → Rule → List X) (i : ℕ) (rules : List Rule) → ((j : ℕ) (r : Rule) → slice_get rules j ≡ Some r → f (i + j) r ≡ g (i + j) r) → by_rule f i rules ≡ by_rule g i rules

@@ -1,8 +1,8 @@
 -- The system that is put together from what is counted is that of the definition.
-use Rattle.std.proofs.Common.{◌≡◌, ℕ, suc, ◌+◌, ◌≤◌, ◌==◌, Bool, true, false, List, [], ◌∷◌, ◌++◌, length, map, filter, All, Contains, Result, Ok, Err, Some, None, IfOk, ok_or, option_map, unwrap_or, refl, sym, ap, ◌∙◌, subst, inl, inr, arith}
+use Rattle.std.proofs.Common.{◌≡◌, ℕ, suc, ◌+◌, ◌≤◌, ◌==◌, Bool, true, false, List, [], ◌∷◌, ◌++◌, length, map, filter, All, Contains, Result, Ok, Err, Some, None, ok_or, option_map, unwrap_or, refl, sym, ap, ◌∙◌, subst, inl, inr, arith}
 use Rattle.std.specs.Prelude.{slice_get, nat_lt, get_or, if◌then◌else◌}
 use Rattle.std.specs.List.{flat_map}
-use Rattle.std.proofs.lemmas.Bool.{cases_Bool, cases_lt, lt-ltb, le-ltb, ltb-false}
+use Rattle.std.proofs.lemmas.Bool.{cases_Bool, le-ltb, ltb-false}
 use Rattle.std.proofs.lemmas.List.{length-map}
 use Rattle.std.proofs.lemmas.Option.{get_or_from_slice_get}
 use Rattle.tp_base.specs.declared.atoms.TheConstants.{MOST_ATOMS}
@@ -21,9 +21,11 @@ use Rattle.guard_sem.specs.Guards.{Guard, same_guard}
 use Rattle.guard_sem.specs.declared.rules.Rule.{Rule}
 use Rattle.guard_sem.proofs.SameGuards.{same_guard-sound, same_guard-itself}
 use Rattle.guard_simplify.specs.declared.counting.Counted.{Counted}
+use Rattle.guard_simplify.specs.declared.formulas.Formulas.{Formulas}
+use Rattle.guard_simplify.specs.declared.forest_nodes.ForestNode.{ForestNode}
 use Rattle.guard_simplify.specs.declared.simplified.Simplified.{Simplified}
 use Rattle.guard_simplify.specs.declared.simplified.SimplifyFault.{SimplifyFault}
-use Rattle.guard_simplify.specs.declared.simplified.SimplifyFault.TheVariants.{TooManyAtoms, TooManyVisible}
+use Rattle.guard_simplify.specs.declared.simplified.SimplifyFault.TheVariants.{TooManyVisible}
 use Rattle.guard_simplify.specs.declared.simplified.TheConstants.{MOST_VISIBLE}
 use Rattle.guard_simplify.specs.Firsts.{different, place_of}
 use Rattle.guard_simplify.specs.Auxiliaries.{formulas, forest_of, nodes_of, children_in, Place, same_place, by_rule, places, owners, owner, seen, auxiliaries}
@@ -31,14 +33,16 @@ use Rattle.guard_simplify.specs.Simplified.{is_beside, classes_of, atom_for, ato
 use Rattle.guard_simplify.specs.Law.{IsOver, IsRuleOver}
 use Rattle.guard_simplify.specs.Numbered.{stored, kept_of}
 use Rattle.guard_simplify.specs.Keys.{atom_in}
-use Rattle.guard_simplify.specs.ForestRules.{placed, above_among, own_among, made_label, made_kind, node_spawns, rule_kinds, rule_spawns, nodes_in, owners_in}
+use Rattle.guard_simplify.specs.ForestRules.{placed, above_among, own_among, made_label, made_kind, made_spawns, node_spawns, rule_kinds, rule_spawns}
+use Rattle.guard_simplify.specs.Forests.{Planted, nodes_in, owners_in}
 use Rattle.guard_simplify.specs.SeenRules.{class_locals, class_rules, seen_rules, seen_links, seen_of}
-use Rattle.guard_simplify.specs.Counted.{IsCounted, first_seen, counted_locals, counted_ups, counted_downs, counted_spawns, counted_kinds, left_sides_of, counted_system, counted_seen, counted_visibly, counted_outcome}
-use Rattle.guard_simplify.specs.Outcome.{simplified, Gives}
+use Rattle.guard_simplify.specs.Counted.{IsNumbering, IsCounted, first_seen, counted_locals, counted_ups, counted_downs, counted_spawns, counted_kinds, left_sides_of, counted_system, counted_seen, counted_visibly}
+use Rattle.guard_simplify.specs.Outcome.{simplified}
 use Rattle.guard_simplify.proofs.NumberLemmas.{different-Contains}
 use Rattle.guard_simplify.proofs.Numbering.{atom_for-owner, atom_for-seen, count_auxiliaries}
 use Rattle.guard_simplify.proofs.KeyRuleLemmas.{guards_placed, locals_by_keys, ups_by_keys, downs_by_keys}
 use Rattle.guard_simplify.proofs.ForestLemmas.{Contains-by_rule}
+use Rattle.guard_simplify.proofs.PlantedLemmas.{by_planted}
 use Rattle.guard_simplify.proofs.RuleLists.{by_rule_same}
 use Rattle.guard_simplify.proofs.Soundness.{sound}
 use Rattle.guard_simplify.proofs.BackLaw.{each_rule_over, each_guard_over}
@@ -167,122 +171,128 @@ module _ (rules : List Rule) (guards : List Guard) (n : ℕ) where
   seen_place : (j : ℕ) (g : Guard) → slice_get once j ≡ Some g → atom_for rules guards n (seen g) ≡ seen_from + j
   seen_place j g at' = seen_number g ∙ ap (λ k. seen_from + k) (guards_placed guards j g at')
 
-  module _ (c : Counted) (is : IsCounted rules guards n c) where
-    count_formulas : length c.formulas.keys ≡ length fs
+  -- what is numbered
+  module _ (f : Formulas) (is : IsNumbering rules guards n f) where
+    pub count_formulas : length f.keys.keys ≡ length fs
     count_formulas =
-        let left : length (map stored c.formulas.keys) ≡ length c.formulas.keys = length-map c.formulas.keys stored in
+        let left : length (map stored f.keys.keys) ≡ length f.keys.keys = length-map f.keys.keys stored in
         let right : length (map (kept_of (atom_in n fs)) fs) ≡ length fs = length-map fs (kept_of (atom_in n fs)) in
         sym left ∙ ap length is.table.are ∙ right
 
-    pub first_is : c.nodes.first_owner ≡ first
-    first_is = is.first_owner ∙ ap (λ k. n + k) count_formulas
-
-    count_owners : length c.nodes.owners.keys ≡ length (owners rules)
-    count_owners = let left : length (owners_in c.nodes) ≡ length c.nodes.owners.keys = length-map c.nodes.owners.keys placed in sym left ∙ ap length is.owners
-
-    pub count_nodes : length c.nodes.nodes.keys ≡ length (places rules)
-    count_nodes = let left : length (nodes_in c.nodes) ≡ length c.nodes.nodes.keys = length-map c.nodes.nodes.keys placed in sym left ∙ ap length is.nodes
-
-    from_is : first_seen c ≡ seen_from
-    from_is = let one = first_is in let other = count_owners in omega (arith, one, other)
-
-    count_seen : length c.seen.keys ≡ length once
+    count_seen : length f.seen.keys ≡ length once
     count_seen = ap length is.seen ∙ length-map once at
 
-    pub all_counted : n + length (auxiliaries rules guards) ≡ first_seen c + length c.seen.keys
-    all_counted =
-        let all' = count_auxiliaries rules guards n in
-        let start = from_is in
-        let end = count_seen in
-        omega (arith, all', start, end)
-
-    pub as_many : length c.rules.items ≡ length rules
+    pub as_many : length f.of_rules.items ≡ length rules
     as_many = ap length is.of_rules ∙ length-map rules (λ (r : Rule). at r.guard)
 
-    locals_same : counted_locals rules n c ≡ (system rules guards n).local
-    locals_same =
-        let formulas' = locals_by_keys rules guards n c.formulas.keys is.table in
-        let classes' = class_same c.rules.items is.of_rules in
-        let seen' : map (seen_local rules guards n) once ≡ seen_rules (first_seen c) c.seen.keys =
-        seen_rules_are seen_from at (λ g. atom_for rules guards n (seen g)) once seen_place ∙ ap (λ k. seen_rules k (map at once)) (sym from_is) ∙ ap (seen_rules (first_seen c)) (sym is.seen) in
-        λ i. (sym formulas' i ++ classes' i) ++ sym seen' i
+    module _ (os : List ForestNode) (owners' : map placed os ≡ owners rules) where
+      count_owners : length os ≡ length (owners rules)
+      count_owners = let left : length (map placed os) ≡ length os = length-map os placed in sym left ∙ ap length owners'
 
-    downs_same : counted_downs n c ≡ (system rules guards n).down
-    downs_same =
-        let formulas' = downs_by_keys rules guards n c.formulas.keys is.table in
-        let seen' : map (seen_down rules guards n) once ≡ seen_links (first_seen c) c.seen.keys =
-        seen_links_are seen_from (λ g. atom_for rules guards n (seen g)) at once seen_place ∙ ap (λ k. seen_links k (map at once)) (sym from_is) ∙ ap (seen_links (first_seen c)) (sym is.seen) in
-        λ i. sym formulas' i ++ sym seen' i
+      pub all_counted : n + length (auxiliaries rules guards) ≡ n + length f.keys.keys + length os + length f.seen.keys
+      all_counted =
+          let all' = count_auxiliaries rules guards n in
+          let formulas' = count_formulas in
+          let own' = count_owners in
+          let seen' = count_seen in
+          omega (arith, all', formulas', own', seen')
 
-    ups_same : counted_ups n c ≡ ups rules guards n
-    ups_same = sym (ups_by_keys rules guards n c.formulas.keys is.table)
+      from_is : n + length f.keys.keys + length os ≡ seen_from
+      from_is = let one = count_formulas in let other = count_owners in omega (arith, one, other)
 
-    numbers_same : {X : Type 0} (f : List Place → List Place → ℕ → List X) → f (nodes_in c.nodes) (owners_in c.nodes) c.nodes.first_owner ≡ f (places rules) (owners rules) first
-    numbers_same f = let nodes' = is.nodes in let owners' = is.owners in let first' = first_is in λ i. f (nodes' i) (owners' i) (first' i)
+-- the system of what is counted
+module _ (guards : List Guard) (c : Counted) (is : IsCounted guards c) where
+  abbrev rules : List Rule
+  rules = c.rules.now
 
-    pub system_same : counted_system rules n c ≡ system rules guards n
-    system_same =
-        let local' = locals_same in
-        let up' = ups_same in
-        let down' = downs_same in
-        let child' : counted_spawns rules c ≡ (system rules guards n).child = numbers_same (λ ps os k. by_rule (rule_spawns ps os k c.rules.items) 0 rules) ∙ all_spawns_same c.rules.items is.of_rules in
-        let kinds' : counted_kinds rules c ≡ (system rules guards n).kinds = numbers_same (λ ps os k. by_rule (rule_kinds ps os k) 0 rules) ∙ kinds_same in
-        λ i. record { local = local' i; up = up' i; down = down' i; child = child' i; kinds = kinds' i; visible = left_sides_of (up' i) }
+  abbrev n : ℕ
+  n = c.first
 
-    seen_one : (g : Guard) → Contains guards g → first_seen c + place_of (λ (x y : ℕ). x == y) (at g) c.seen.keys ≡ atom_for rules guards n (seen g)
-    seen_one g listed =
-        let place : place_of (λ (x y : ℕ). x == y) (at g) c.seen.keys ≡ place_of same_guard g once =
-        ap (place_of (λ (x y : ℕ). x == y) (at g)) is.seen
-        ∙ place_numbers same_guard same_guard-sound same_guard-itself at once g (λ h in_once. one_guard rules guards n g h (is.known g listed) (is.known h ((different-Contains same_guard same_guard-sound same_guard-itself guards h).0 in_once))) in
-        let start = from_is in
-        let number = seen_number g in
-        omega (arith, place, start, number)
+  abbrev f : Formulas
+  f = c.formulas
 
-    pub seen_same : counted_seen c ≡ seen_atoms rules guards n
-    seen_same =
-        ap (seen_of (first_seen c) c.seen.keys) is.of_guards
-        ∙ map_map at (λ a. first_seen c + place_of (λ (x y : ℕ). x == y) a c.seen.keys) guards
-        ∙ map_alike (λ g. first_seen c + place_of (λ (x y : ℕ). x == y) (at g) c.seen.keys) (λ g. atom_for rules guards n (seen g)) guards seen_one
+  first_is : c.nodes.first_owner ≡ first rules guards n
+  first_is = c.behind ∙ ap (λ k. n + k) (count_formulas rules guards n f is.numbering)
 
-    -- what the whole answers
-    visible_same : left_sides_of (counted_ups n c) ≡ (system rules guards n).visible
-    visible_same = ap left_sides_of ups_same
+  start_is : first_seen c ≡ seen_from rules guards n
+  start_is = ap (λ k. k + length c.nodes.owners.keys) c.behind ∙ from_is rules guards n f is.numbering c.nodes.owners.keys is.owners
 
-    pub outcome_same : counted_outcome rules n c ≡ simplified rules guards n
-    outcome_same =
-        let all' = all_counted in
-        let system' = system_same in
-        let seen' = seen_same in
-        let visible' = visible_same in
-        ap (λ (z : Result Simplified SimplifyFault). if nat_lt MOST_ATOMS (first_seen c + length c.seen.keys) then Err TooManyAtoms else z)
-        (visibly (nat_lt MOST_VISIBLE (length (left_sides_of (counted_ups n c)))) (record { system = counted_system rules n c; seen = counted_seen c }))
-        ∙ (λ i. if nat_lt MOST_ATOMS (sym all' i) then Err TooManyAtoms
-        else if nat_lt MOST_VISIBLE (length (visible' i)) then Err TooManyVisible
-        else Ok (record { system = system' i; seen = seen' i }))
+  all_within : n + length (auxiliaries rules guards) ≤ MOST_ATOMS
+  all_within = let all' = all_counted rules guards n f is.numbering c.nodes.owners.keys is.owners in omega (arith, all', c.behind, c.within)
 
-    pub made_sound : All (IsRuleOver n) rules → All (IsOver n) guards → first_seen c + length c.seen.keys ≤ MOST_ATOMS → length (places rules) ≤ MOST_KINDS → IsSound (counted_system rules n c)
-    made_sound rules_over guards_over few few' =
-        let all' = all_counted in
-        subst IsSound (sym system_same) (sound rules guards n (omega (arith, few, all')) (each_guard_over rules guards n rules_over guards_over) (each_rule_over rules n rules_over) few')
+  locals_same : counted_locals c ≡ (system rules guards n).local
+  locals_same =
+      let formulas' = locals_by_keys rules guards n f.keys.keys is.numbering.table in
+      let classes' = class_same rules guards n f.of_rules.items is.numbering.of_rules in
+      let seen' : map (seen_local rules guards n) (once rules guards n) ≡ seen_rules (first_seen c) f.seen.keys =
+      seen_rules_are (seen_from rules guards n) (at rules guards n) (λ g. atom_for rules guards n (seen g)) (once rules guards n) (seen_place rules guards n)
+      ∙ ap (λ k. seen_rules k (map (at rules guards n) (once rules guards n))) (sym start_is) ∙ ap (seen_rules (first_seen c)) (sym is.numbering.seen) in
+      λ i. (sym formulas' i ++ classes' i) ++ sym seen' i
 
-    pub sound_outcome : All (IsRuleOver n) rules → All (IsOver n) guards → length (places rules) ≤ MOST_KINDS → (r : Result Simplified SimplifyFault) → Gives r (counted_outcome rules n c) → IfOk r (λ s. IsSound s.system)
-    sound_outcome rules_over guards_over few' (Err e) gives = tt
-    sound_outcome rules_over guards_over few' (Ok s') gives = elim (cases_lt MOST_ATOMS (first_seen c + length c.seen.keys)) [
-      | inl past ↦
-          let test = lt-ltb MOST_ATOMS (first_seen c + length c.seen.keys) past in
-          let gives' : Err TooManyAtoms ≡ Ok s' = rw test at gives in
-          absurd (cc)
-      | inr few ↦
-          let test = le-ltb MOST_ATOMS (first_seen c + length c.seen.keys) few in
-          let gives' : ok_or (counted_visibly rules n c) TooManyVisible ≡ Ok s' = rw test at gives in
-          by_visible few gives'
-    ]
-      where
-        by_visible : first_seen c + length c.seen.keys ≤ MOST_ATOMS → ok_or (counted_visibly rules n c) TooManyVisible ≡ Ok s' → IsSound s'.system
-        by_visible few gives' = elim (cases_Bool (nat_lt MOST_VISIBLE (length (left_sides_of (counted_ups n c))))) [
-          | inl past ↦ let none : ◌≡◌ {A = Result Simplified SimplifyFault} (Err TooManyVisible) (Ok s') = rw past at gives' in absurd (cc)
-          | inr within' ↦
-              let some : ◌≡◌ {A = Result Simplified SimplifyFault} (Ok (record { system = counted_system rules n c; seen = counted_seen c })) (Ok s') = rw within' at gives' in
-              let made : ◌≡◌ {A = Simplified} (record { system = counted_system rules n c; seen = counted_seen c }) s' = cc in
-              subst (λ (z : Simplified). IsSound z.system) made (made_sound rules_over guards_over few few')
-        ]
+  downs_same : counted_downs c ≡ (system rules guards n).down
+  downs_same =
+      let formulas' = downs_by_keys rules guards n f.keys.keys is.numbering.table in
+      let seen' : map (seen_down rules guards n) (once rules guards n) ≡ seen_links (first_seen c) f.seen.keys =
+      seen_links_are (seen_from rules guards n) (λ g. atom_for rules guards n (seen g)) (at rules guards n) (once rules guards n) (seen_place rules guards n)
+      ∙ ap (λ k. seen_links k (map (at rules guards n) (once rules guards n))) (sym start_is) ∙ ap (seen_links (first_seen c)) (sym is.numbering.seen) in
+      λ i. sym formulas' i ++ sym seen' i
+
+  ups_same : counted_ups c ≡ ups rules guards n
+  ups_same = sym (ups_by_keys rules guards n f.keys.keys is.numbering.table)
+
+  numbers_same : {X : Type 0} (g : List Place → List Place → ℕ → List X) → g (nodes_in c.nodes) (owners_in c.nodes) c.nodes.first_owner ≡ g (places rules) (owners rules) (first rules guards n)
+  numbers_same g = let nodes' = is.nodes in let owners' = is.owners in let first' = first_is in λ i. g (nodes' i) (owners' i) (first' i)
+
+  spawns_are : counted_spawns c ≡ (system rules guards n).child
+  spawns_are =
+      by_planted (λ (p : Planted). made_spawns (nodes_in c.nodes) (owners_in c.nodes) c.nodes.first_owner p.rule p.tree p.paths (get_or f.of_rules.items p.rule 0)) c.forests.items rules is.forests
+      ∙ numbers_same (λ ps os k. by_rule (rule_spawns ps os k f.of_rules.items) 0 rules) ∙ all_spawns_same rules guards n f.of_rules.items is.numbering.of_rules
+
+  kinds_are : counted_kinds c ≡ (system rules guards n).kinds
+  kinds_are =
+      by_planted (λ (p : Planted). map (made_kind (nodes_in c.nodes) (owners_in c.nodes) c.nodes.first_owner p.rule p.tree p.beside) p.paths) c.forests.items rules is.forests
+      ∙ numbers_same (λ ps os k. by_rule (rule_kinds ps os k) 0 rules) ∙ kinds_same rules guards n
+
+  system_same : counted_system c ≡ system rules guards n
+  system_same =
+      let local' = locals_same in
+      let up' = ups_same in
+      let down' = downs_same in
+      let child' = spawns_are in
+      let kinds' = kinds_are in
+      λ i. record { local = local' i; up = up' i; down = down' i; child = child' i; kinds = kinds' i; visible = left_sides_of (up' i) }
+
+  seen_one : (g : Guard) → Contains guards g → first_seen c + place_of (λ (x y : ℕ). x == y) (at rules guards n g) f.seen.keys ≡ atom_for rules guards n (seen g)
+  seen_one g listed =
+      let place : place_of (λ (x y : ℕ). x == y) (at rules guards n g) f.seen.keys ≡ place_of same_guard g (once rules guards n) =
+      ap (place_of (λ (x y : ℕ). x == y) (at rules guards n g)) is.numbering.seen
+      ∙ place_numbers same_guard same_guard-sound same_guard-itself (at rules guards n) (once rules guards n) g
+      (λ h in_once. one_guard rules guards n g h (is.numbering.known g listed) (is.numbering.known h ((different-Contains same_guard same_guard-sound same_guard-itself guards h).0 in_once))) in
+      let start = start_is in
+      let number = seen_number rules guards n g in
+      omega (arith, place, start, number)
+
+  seen_same : counted_seen c ≡ seen_atoms rules guards n
+  seen_same =
+      ap (seen_of (first_seen c) f.seen.keys) is.numbering.of_guards
+      ∙ map_map (at rules guards n) (λ a. first_seen c + place_of (λ (x y : ℕ). x == y) a f.seen.keys) guards
+      ∙ map_alike (λ g. first_seen c + place_of (λ (x y : ℕ). x == y) (at rules guards n g) f.seen.keys) (λ g. atom_for rules guards n (seen g)) guards seen_one
+
+  -- what the whole answers
+  visible_same : left_sides_of (counted_ups c) ≡ (system rules guards n).visible
+  visible_same = ap left_sides_of ups_same
+
+  pub outcome_same : ok_or (counted_visibly c) TooManyVisible ≡ simplified rules guards n
+  outcome_same =
+      let few = le-ltb MOST_ATOMS (n + length (auxiliaries rules guards)) all_within in
+      let system' = system_same in
+      let seen' = seen_same in
+      let visible' = visible_same in
+      let whole : simplified rules guards n ≡ (if nat_lt MOST_VISIBLE (length (system rules guards n).visible) then Err TooManyVisible else Ok (record { system = system rules guards n; seen = seen_atoms rules guards n })) = rw few refl in
+      visibly (nat_lt MOST_VISIBLE (length (left_sides_of (counted_ups c)))) (record { system = counted_system c; seen = counted_seen c })
+      ∙ (λ i. if nat_lt MOST_VISIBLE (length (visible' i)) then Err TooManyVisible
+      else Ok (record { system = system' i; seen = seen' i }))
+      ∙ sym whole
+
+  pub made_sound : All (IsRuleOver n) rules → All (IsOver n) guards → length (places rules) ≤ MOST_KINDS → IsSound (counted_system c)
+  made_sound rules_over guards_over few = subst IsSound (sym system_same) (sound rules guards n all_within (each_guard_over rules guards n rules_over guards_over) (each_rule_over rules n rules_over) few)

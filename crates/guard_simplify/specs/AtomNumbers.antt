@@ -1,10 +1,11 @@
 -- Numbers that are counted, each of which is the atom of a system, and forests with few nodes.
 use Rattle.std.specs.Prelude.{ℕ, ◌≤◌, List, [], ◌∷◌, length, All}
+use Rattle.std.specs.Coded.{×_prop, Π_prop, Unit-prop, le_prop}
 use Rattle.simple_core.specs.Systems.{IsAtom}
 use Rattle.simple_core.specs.declared.system.TheConstants.{MOST_KINDS}
 use Rattle.guard_sem.specs.declared.rules.Rule.{Rule}
 use Rattle.guard_simplify.specs.declared.keys.Key.{Key}
-use Rattle.guard_simplify.specs.declared.counting.Counted.{Counted}
+use Rattle.guard_simplify.specs.declared.formulas.Formulas.{Formulas}
 use Rattle.guard_simplify.specs.Auxiliaries.{nodes_of}
 
 -- the parts of a formula are atoms
@@ -19,10 +20,29 @@ abbrev pub AreAtoms : List ℕ → Type 0
 AreAtoms [] = Unit {0}
 AreAtoms (a ∷ numbers) = IsAtom a × AreAtoms numbers
 
-pub record HasAtoms (c : Counted) : Type 0 where
-  pub formulas : HaveAtomParts c.formulas.keys
-  pub rules : All IsAtom c.rules.items
-  pub seen : AreAtoms c.seen.keys
+pub record HasAtoms (f : Formulas) : Type 0 where
+  pub formulas : HaveAtomParts f.keys.keys
+  pub rules : All IsAtom f.of_rules.items
+  pub seen : AreAtoms f.seen.keys
+
+-- each of these is so in one way
+all_atoms-prop : (xs : List ℕ) → IsProp (All IsAtom xs)
+all_atoms-prop xs = Π_prop (λ k. Π_prop (λ d. Π_prop (λ less. le_prop)))
+
+parts-prop : (keys : List Key) → IsProp (HaveAtomParts keys)
+parts-prop [] = Unit-prop
+parts-prop (k ∷ keys) = ×_prop (all_atoms-prop k.parts.items) (parts-prop keys)
+
+atoms-prop : (numbers : List ℕ) → IsProp (AreAtoms numbers)
+atoms-prop [] = Unit-prop
+atoms-prop (a ∷ numbers) = ×_prop le_prop (atoms-prop numbers)
+
+pub HasAtoms-prop : (f : Formulas) → IsProp (HasAtoms f)
+HasAtoms-prop f a b =
+    let parts' = parts-prop f.keys.keys a.formulas b.formulas in
+    let rules' = all_atoms-prop f.of_rules.items a.rules b.rules in
+    let seen' = atoms-prop f.seen.keys a.seen b.seen in
+    λ i. record { formulas = parts' i; rules = rules' i; seen = seen' i }
 
 -- the forest has no more nodes than there may be kinds
 abbrev pub HasFewNodes : Rule → Type 0

@@ -3,20 +3,16 @@
 --     kind_among ps p          the number of the kind of the node at p, among the nodes at ps
 --     own_among os first p     the own atom of the node at p, where those of the nodes at os count from `first`
 --     made_kind .. i t q       the kind of the node at q of t, the forest of the rule i
---     made_spawns .. i t a     the spawns of this forest, where the rule's guard has the atom a
-use Rattle.std.specs.Prelude.{ℕ, ◌+◌, ◌≤◌, nat_lt, Bool, if◌then◌else◌, List, [], ◌∷◌, ◌++◌, length, map, fold, Option, None, option_map, unwrap_or, get_or}
+--     made_spawns .. i t qs a  the spawns of this forest, whose nodes are at qs, where the rule's guard has the atom a
+use Rattle.std.specs.Prelude.{ℕ, ◌+◌, nat_lt, Bool, if◌then◌else◌, List, [], ◌∷◌, ◌++◌, map, fold, Option, None, option_map, unwrap_or, get_or}
 use Rattle.std.specs.List.{flat_map, range_with_len}
-use Rattle.tp_base.specs.declared.atoms.TheConstants.{MOST_ATOMS}
 use Rattle.tp_base.specs.Classes.{with_class}
 use Rattle.tree_sem.specs.Trees.{no_nodes, LabelTree, push_tree, label_at, children_at}
-use Rattle.tree_sem.specs.Order.{paths_from}
 use Rattle.tree_sem.specs.Paths.{parent_of, last_number}
 use Rattle.simple_core.specs.declared.rules.Spawn.{Spawn}
 use Rattle.simple_core.specs.declared.rules.Kind.{Kind}
-use Rattle.simple_core.specs.declared.system.TheConstants.{MOST_KINDS}
 use Rattle.guard_sem.specs.declared.rules.Rule.{Rule}
 use Rattle.guard_simplify.specs.declared.forest_nodes.ForestNode.{ForestNode}
-use Rattle.guard_simplify.specs.declared.node_numbers.NodeNumbers.{NodeNumbers}
 use Rattle.guard_simplify.specs.Firsts.{place_of}
 use Rattle.guard_simplify.specs.Auxiliaries.{forest_of, nodes_of, Place, same_place}
 use Rattle.guard_simplify.specs.Simplified.{is_beside}
@@ -65,22 +61,12 @@ module _ (ps os : List Place) (first : ℕ) where
   abbrev pub node_spawns : ℕ → LabelTree → List ℕ → List Spawn
   node_spawns i t q = children_spawned ps i (own_among os first (i, q)) q (child_count t q)
 
-  abbrev pub made_spawns : ℕ → LabelTree → ℕ → List Spawn
-  made_spawns i t a = children_spawned ps i a [] (child_count t []) ++ flat_map (node_spawns i t) (paths_from 0 t.below)
+  abbrev pub made_spawns : ℕ → LabelTree → List (List ℕ) → ℕ → List Spawn
+  made_spawns i t qs a = children_spawned ps i a [] (child_count t []) ++ flat_map (node_spawns i t) qs
 
   -- of a rule and its number, with the atoms of all rules' guards
   abbrev pub rule_kinds : ℕ → Rule → List Kind
   rule_kinds i r = map (made_kind i (forest_of r) (is_beside r.action)) (nodes_of r)
 
   abbrev pub rule_spawns : List ℕ → ℕ → Rule → List Spawn
-  rule_spawns guards i r = made_spawns i (forest_of r) (get_or guards i 0)
-
--- few enough for kinds and atoms
-abbrev pub AreFew : NodeNumbers → Type 0
-AreFew n = (length n.nodes.keys ≤ MOST_KINDS) × (n.first_owner + length n.owners.keys ≤ MOST_ATOMS)
-
-abbrev pub nodes_in : NodeNumbers → List Place
-nodes_in n = map placed n.nodes.keys
-
-abbrev pub owners_in : NodeNumbers → List Place
-owners_in n = map placed n.owners.keys
+  rule_spawns guards i r = made_spawns i (forest_of r) (nodes_of r) (get_or guards i 0)

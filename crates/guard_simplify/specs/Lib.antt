@@ -11,4 +11,5 @@ pub mod Simplified
 -- Invariants, and the states of the code.
 pub mod Counted
 pub mod ForestRules
+pub mod Forests
 pub mod SeenRules

@@ -1,99 +1,82 @@
-//! The numbering of all that a system has atoms and kinds for.
-ghost use Rattle.std.specs.Prelude.{◌≡◌, ◌+◌, ◌<◌, ◌≤◌, ◌^◌, ◌↔◌, length, map, All, IsTrue, IfOk};
+//! What a system is made of, counted.
+ghost use Rattle.std.specs.Prelude.{◌≡◌, ◌+◌, ◌≤◌, ◌↔◌, length, IsTrue};
 ghost use Rattle.tp_base.specs.declared.atoms.TheConstants.{MOST_ATOMS};
-ghost use Rattle.guard_sem.specs.Guards.{guards_of};
-ghost use Rattle.guard_simplify.specs.AtomNumbers.{HaveFewNodes};
-ghost use Rattle.guard_simplify.specs.Auxiliaries.{places};
-ghost use Rattle.guard_simplify.specs.Law.{IsOver, IsRuleOver};
-ghost use Rattle.guard_simplify.specs.Numbered.{AreNumbered};
-ghost use Rattle.guard_simplify.specs.Counted.{IsCounted, first_seen};
+ghost use Rattle.guard_simplify.specs.AtomNumbers.{HasAtoms, HasAtoms-prop};
+ghost use Rattle.guard_simplify.specs.Forests.{AreBelow};
 ghost use Rattle.guard_simplify.specs.declared.simplified.TheConstants.{MOST_RULES};
 
-use crate::forest_nodes::{all_nodes, all_owners};
-use crate::formula_numbers::{number, numbers};
-use crate::keys::Key;
+use crate::forest_nodes::{RuleForest, all_forests, all_nodes, all_owners};
+use crate::formulas::Formulas;
 use crate::node_numbers::NodeNumbers;
-use crate::seen_rules::each_once;
 use guard_sem::{Guard, Rule};
-use indexmap::IndexSet;
 use std::alloc::Global;
 use tp_base::{MOST_ATOMS, NoMemory};
 
-/// The formulas in their order, the numbers of the atoms of the rules' guards and of the guards handed in, the nodes
-/// of forests, and the different ones of the numbers of the guards handed in.
+/// The rules, their forests, the formulas, whose atoms begin with `first`, and the nodes of the forests, where all atoms
+/// and kinds are within the limits.
 #[derive(Drop)]
-pub struct Counted {
-    pub formulas: IndexSet<Key>,
-    pub rules: Vec<usize>,
-    pub guards: Vec<usize>,
+pub(crate) struct Counted<'r> {
+    pub first: u32,
+    pub rules: &'r [Rule],
+    pub forests: Vec<RuleForest>,
+    pub formulas: Formulas,
     pub nodes: NodeNumbers,
-    pub seen: IndexSet<usize>,
+    ghost few_rules: { length rules.now ≤ MOST_RULES },
+    ghost each: { length formulas.of_rules.items ≡ length rules.now },
+    ghost below: { AreBelow (length rules.now) forests.items },
+    ghost behind: { nodes.first_owner ≡ first + length formulas.keys.keys },
+    ghost within: { nodes.first_owner + length nodes.owners.keys + length formulas.seen.keys ≤ MOST_ATOMS },
+    ghost atoms: { HasAtoms formulas } by { HasAtoms-prop formulas },
 }
 
-impl Counted {
-    /// Whether all atoms are within the limit.
-    pub(crate) fn fits(&self) -> bool
-        ensures { IsTrue result ↔ (first_seen self.now + length self.now.seen.keys ≤ MOST_ATOMS) }
+// Whether so many atoms are within the limit: those of the table and of formulas, those of forests' nodes, and those
+// that are seen.
+fn fits(formulas: usize, owners: usize, seen: usize) -> bool
+    ensures { IsTrue result ↔ (formulas + owners + seen ≤ MOST_ATOMS) }
+{
+    let most = MOST_ATOMS as usize;
+    formulas <= most && owners <= most && seen <= most && formulas + owners + seen <= most
+}
+
+impl<'r> Counted<'r> {
+    ghost use Rattle.std.specs.Prelude.{All, IfOk};
+    ghost use Rattle.simple_core.specs.declared.system.TheConstants.{MOST_KINDS};
+    ghost use Rattle.guard_simplify.specs.Auxiliaries.{places};
+    ghost use Rattle.guard_simplify.specs.Law.{IsOver, IsRuleOver};
+    ghost use Rattle.guard_simplify.specs.Counted.{IsCountedWithin};
+
+    /// Numbers the formulas of the guards, the nodes of the forests, and what is seen, where the table has the atoms
+    /// below `first`; nothing where there are too many atoms. Linear in the guards and the forests, but for the look-ups.
+    pub(crate) fn new(
+        alloc: Global,
+        first: u32,
+        rules: &'r [Rule],
+        guards: &[Guard],
+    ) -> Result<Option<Counted<'r>>, NoMemory>
+        requires rules_over { All (IsRuleOver first) rules.now }
+        requires guards_over { All (IsOver first) guards.now }
+        requires few_rules { length rules.now ≤ MOST_RULES }
+        requires few_nodes { length (places rules.now) ≤ MOST_KINDS }
+        ensures { IfOk result (IsCountedWithin rules.now guards.now first) }
     {
-        let most = MOST_ATOMS as usize;
-        let formulas = self.nodes.first_owner;
-        let owners = self.nodes.owners.len();
-        let seen = self.seen.len();
-        formulas <= most && owners <= most && seen <= most && formulas + owners + seen <= most
+        let formulas = Formulas::new(alloc, first as usize, rules, guards)?;
+        let forests = all_forests(alloc, rules)?;
+        let nodes = all_nodes(alloc, &forests)?;
+        let owners = all_owners(alloc, &forests)?;
+        let first_owner = first as usize + formulas.keys.len();
+        if !fits(first_owner, owners.len(), formulas.seen.len()) {
+            return Ok(None);
+        }
+        Ok(Some(Counted {
+            first,
+            rules,
+            forests,
+            formulas,
+            nodes: NodeNumbers {
+                nodes,
+                owners,
+                first_owner,
+            },
+        }))
     }
-}
-
-// The numbers of the atoms of the rules' guards, one after another.
-fn rule_numbers(
-    alloc: Global,
-    first: usize,
-    keys: &mut IndexSet<Key>,
-    rules: &[Rule],
-) -> Result<Vec<usize>, NoMemory>
-    requires { first < 2 ^ 32 }
-    ensures { IfOk result (λ made. AreNumbered first keys.old.keys keys.new.keys (guards_of (map (λ r. r.guard) rules.now)) made.items) }
-{
-    let mut made = Vec::new(alloc);
-    'rules: for rule in rules {
-        made.push(number(alloc, first, keys, &rule.guard)?)?;
-    }
-    Ok(made)
-}
-
-/// Numbers the formulas of the guards, the nodes of the forests, and what is seen, where the table has the atoms below
-/// `first`. Linear in the guards and the forests, but for the look-ups.
-pub(crate) fn count_all(
-    alloc: Global,
-    first: u32,
-    rules: &[Rule],
-    guards: &[Guard],
-) -> Result<Counted, NoMemory>
-    requires rules_over { All (IsRuleOver first) rules.now }
-    requires guards_over { All (IsOver first) guards.now }
-    requires few_rules { length rules.now ≤ MOST_RULES }
-    requires forests { HaveFewNodes rules.now }
-    ensures counted { IfOk result (λ c. IsCounted rules.now guards.now first c) }
-    ensures each { IfOk result (λ c. length c.rules.items ≡ length rules.now) }
-    ensures nodes { IfOk result (λ c. length c.nodes.nodes.keys ≡ length (places rules.now)) }
-    ensures formulas { IfOk result (λ c. c.nodes.first_owner ≡ first + length c.formulas.keys) }
-{
-    let first = first as usize;
-    let mut formulas = IndexSet::new(alloc);
-    let of_rules = rule_numbers(alloc, first, &mut formulas, rules)?;
-    let of_guards = numbers(alloc, first, &mut formulas, guards)?;
-    let nodes = all_nodes(alloc, rules)?;
-    let owners = all_owners(alloc, rules)?;
-    let seen = each_once(alloc, &of_guards)?;
-    let first_owner = first + formulas.len();
-    Ok(Counted {
-        formulas,
-        rules: of_rules,
-        guards: of_guards,
-        nodes: NodeNumbers {
-            nodes,
-            owners,
-            first_owner,
-        },
-        seen,
-    })
 }

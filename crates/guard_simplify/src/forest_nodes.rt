@@ -1,11 +1,14 @@
-//! The nodes of the forests that rules add.
+//! The forests that rules add, and their nodes.
 ghost use Rattle.std.specs.Prelude.{◌≡◌, ◌≤◌, length, map, fold, filter, nat_lt, IfOk, OnOk};
+ghost use Rattle.std.specs.List.{flat_map};
 ghost use Rattle.tree_sem.specs.Order.{paths_from};
 ghost use Rattle.tree_sem.specs.Trees.{count_of};
 ghost use Rattle.tree_sem.specs.declared.tree_fault.TheConstants.{MOST_NODES};
 ghost use Rattle.guard_simplify.specs.Firsts.{with_new, different};
-ghost use Rattle.guard_simplify.specs.Auxiliaries.{forest_of, nodes_of, children_in, same_place, places, owners};
+ghost use Rattle.guard_simplify.specs.Auxiliaries.{forest_of, same_place};
+ghost use Rattle.guard_simplify.specs.Simplified.{is_beside};
 ghost use Rattle.guard_simplify.specs.ForestRules.{placed, rooted, child_count};
+ghost use Rattle.guard_simplify.specs.Forests.{planted, planting, plantings, places_of, owners_of};
 ghost use Rattle.guard_simplify.specs.AtomNumbers.{HasFewNodes, HaveFewNodes};
 ghost use Rattle.guard_simplify.specs.declared.simplified.TheConstants.{MOST_RULES};
 
@@ -22,11 +25,14 @@ pub struct ForestNode {
     pub path: Vec<u32>,
 }
 
-/// The forest of a rule below a root that stands for the node which takes it, and the paths of its nodes.
+/// The forest of the rule of this number, below a root that stands for the node which takes it; the paths of its nodes,
+/// in the order of the document; and whether its trees are added to the parent of the node that was selected.
 #[derive(Drop)]
 pub(crate) struct RuleForest {
+    pub rule: u32,
     pub tree: Tree,
     pub paths: Vec<Path>,
+    pub beside: bool,
 }
 
 // The trees below a root without atoms.
@@ -70,15 +76,15 @@ fn paths_below(alloc: Global, tree: &Tree) -> Result<Vec<Path>, NoMemory>
     }
 }
 
-/// The forest of a rule. Linear in its nodes, their labels and paths.
-pub(crate) fn rule_forest(alloc: Global, rule: &Rule) -> Result<RuleForest, NoMemory>
-    requires { HasFewNodes rule.now }
-    ensures tree { IfOk result (λ f. f.tree ≡ forest_of rule.now) }
-    ensures paths { IfOk result (λ f. f.paths.items ≡ nodes_of rule.now) }
+// Whether the trees are added to the parent of the node that was selected.
+fn is_beside(action: &Action) -> bool
+    ensures { result ≡ is_beside action.now }
 {
-    let tree = forest_tree(alloc, rule)?;
-    let paths = paths_below(alloc, &tree)?;
-    Ok(RuleForest { tree, paths })
+    match action {
+        Action::Classes(_) => false,
+        Action::Inside(_) => false,
+        Action::Beside(_) => true,
+    }
 }
 
 // The numbers of a path, from the root on.
@@ -92,87 +98,109 @@ fn steps_of(alloc: Global, at: &Path) -> Result<Vec<u32>, NoMemory>
     Ok(steps)
 }
 
-/// The node at the path, in the forest of the rule of this number.
-pub(crate) fn node_of(alloc: Global, rule: u32, at: &Path) -> Result<ForestNode, NoMemory>
-    ensures { IfOk result (λ n. placed n ≡ (rule, at.now)) }
-{
-    let path = steps_of(alloc, at)?;
-    Ok(ForestNode { rule, path })
-}
-
-// Puts the nodes at the paths behind those that are there.
-fn add_nodes(
-    alloc: Global,
-    rule: u32,
-    paths: &[Path],
-    nodes: &mut IndexSet<ForestNode>,
-) -> Result<(), NoMemory>
-    ensures { OnOk result (map placed nodes.new.keys ≡ fold (with_new same_place) (map placed nodes.old.keys) (map (λ q. (rule, q)) paths.now)) }
-{
-    'paths: for at in paths {
-        nodes.insert(node_of(alloc, rule, at)?)?;
+impl RuleForest {
+    // The forest of the rule, which has this number. Linear in its nodes, their labels and paths.
+    fn new(alloc: Global, number: u32, rule: &Rule) -> Result<RuleForest, NoMemory>
+        requires { HasFewNodes rule.now }
+        ensures { IfOk result (λ f. planted f ≡ planting number rule.now) }
+    {
+        let tree = forest_tree(alloc, rule)?;
+        let paths = paths_below(alloc, &tree)?;
+        Ok(RuleForest {
+            rule: number,
+            tree,
+            paths,
+            beside: is_beside(&rule.action),
+        })
     }
-    Ok(())
-}
 
-// The paths, of these, of the nodes with children.
-fn with_children(alloc: Global, tree: &Tree, paths: &[Path]) -> Result<Vec<Path>, NoMemory>
-    ensures { IfOk result (λ v. v.items ≡ filter (λ q. nat_lt 0 (child_count tree.now q)) paths.now) }
-{
-    let mut found = Vec::new(alloc);
-    'paths: for at in paths {
-        if tree.children(at).unwrap_or(0) > 0 {
-            found.push(at.copy()?)?;
+    /// The node at the path.
+    pub(crate) fn node(&self, at: &Path) -> Result<ForestNode, NoMemory>
+        ensures { IfOk result (λ n. placed n ≡ (self.now.rule, at.now)) }
+    {
+        let path = steps_of(*self.paths.allocator(), at)?;
+        Ok(ForestNode {
+            rule: self.rule,
+            path,
+        })
+    }
+
+    /// How many children the node at the path has; none where there is no such node.
+    pub(crate) fn children(&self, at: &Path) -> u32
+        ensures { result ≡ child_count self.now.tree at.now }
+    {
+        self.tree.children(at).unwrap_or(0)
+    }
+
+    // Puts the nodes at the paths behind those that are there.
+    fn add_nodes(&self, paths: &[Path], nodes: &mut IndexSet<ForestNode>) -> Result<(), NoMemory>
+        ensures { OnOk result (map placed nodes.new.keys ≡ fold (with_new same_place) (map placed nodes.old.keys) (map (λ q. (self.now.rule, q)) paths.now)) }
+    {
+        'paths: for at in paths {
+            nodes.insert(self.node(at)?)?;
         }
+        Ok(())
     }
-    Ok(found)
+
+    // The paths of the nodes with children.
+    fn with_children(&self) -> Result<Vec<Path>, NoMemory>
+        ensures { IfOk result (λ v. v.items ≡ filter (λ q. nat_lt 0 (child_count self.now.tree q)) self.now.paths.items) }
+    {
+        let mut found = Vec::new(*self.paths.allocator());
+        'paths: for at in &self.paths {
+            if self.children(at) > 0 {
+                found.push(at.copy()?)?;
+            }
+        }
+        Ok(found)
+    }
 }
 
-// Puts the nodes with children, in the forest of the rule of this number, behind those that are there.
-fn add_owners(
-    alloc: Global,
-    number: u32,
-    rule: &Rule,
-    owners: &mut IndexSet<ForestNode>,
-) -> Result<(), NoMemory>
-    requires { HasFewNodes rule.now }
-    ensures { OnOk result (map placed owners.new.keys ≡ fold (with_new same_place) (map placed owners.old.keys) (map (λ q. (number, q)) (filter (λ q. nat_lt 0 (children_in rule.now q)) (nodes_of rule.now)))) }
-{
-    let forest = rule_forest(alloc, rule)?;
-    let paths = with_children(alloc, &forest.tree, &forest.paths)?;
-    add_nodes(alloc, number, &paths, owners)
-}
-
-/// The nodes of all forests, each once, in the order of the rules and of the documents. Linear in the forests.
-pub(crate) fn all_nodes(alloc: Global, rules: &[Rule]) -> Result<IndexSet<ForestNode>, NoMemory>
+/// The forests of the rules, one after another. Linear in them.
+pub(crate) fn all_forests(alloc: Global, rules: &[Rule]) -> Result<Vec<RuleForest>, NoMemory>
     requires few_rules { length rules.now ≤ MOST_RULES }
-    requires forests { HaveFewNodes rules.now }
-    ensures { IfOk result (λ s. map placed s.keys ≡ different same_place (places rules.now)) }
+    requires few_nodes { HaveFewNodes rules.now }
+    ensures { IfOk result (λ v. map planted v.items ≡ plantings 0 rules.now) }
 {
-    let mut nodes = IndexSet::new(alloc);
+    let mut forests = Vec::new(alloc);
     let mut number = 0;
     let mut rest = rules;
     'rules: while let Some((rule, later)) = rest.split_first() {
-        let forest = rule_forest(alloc, rule)?;
-        add_nodes(alloc, number, &forest.paths, &mut nodes)?;
+        forests.push(RuleForest::new(alloc, number, rule)?)?;
         number += 1;
+        rest = later;
+    }
+    Ok(forests)
+}
+
+/// The nodes of all forests, each once, in the order of the rules and of the documents. Linear in the forests.
+pub(crate) fn all_nodes(
+    alloc: Global,
+    forests: &[RuleForest],
+) -> Result<IndexSet<ForestNode>, NoMemory>
+    ensures { IfOk result (λ s. map placed s.keys ≡ different same_place (flat_map places_of forests.now)) }
+{
+    let mut nodes = IndexSet::new(alloc);
+    let mut rest = forests;
+    'forests: while let Some((forest, later)) = rest.split_first() {
+        forest.add_nodes(&forest.paths, &mut nodes)?;
         rest = later;
     }
     Ok(nodes)
 }
 
 /// Those of the nodes of all forests that have children. Linear in the forests.
-pub(crate) fn all_owners(alloc: Global, rules: &[Rule]) -> Result<IndexSet<ForestNode>, NoMemory>
-    requires few_rules { length rules.now ≤ MOST_RULES }
-    requires forests { HaveFewNodes rules.now }
-    ensures { IfOk result (λ s. map placed s.keys ≡ different same_place (owners rules.now)) }
+pub(crate) fn all_owners(
+    alloc: Global,
+    forests: &[RuleForest],
+) -> Result<IndexSet<ForestNode>, NoMemory>
+    ensures { IfOk result (λ s. map placed s.keys ≡ different same_place (flat_map owners_of forests.now)) }
 {
     let mut owners = IndexSet::new(alloc);
-    let mut number = 0;
-    let mut rest = rules;
-    'rules: while let Some((rule, later)) = rest.split_first() {
-        add_owners(alloc, number, rule, &mut owners)?;
-        number += 1;
+    let mut rest = forests;
+    'forests: while let Some((forest, later)) = rest.split_first() {
+        let paths = forest.with_children()?;
+        forest.add_nodes(&paths, &mut owners)?;
         rest = later;
     }
     Ok(owners)

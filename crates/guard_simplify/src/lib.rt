@@ -7,6 +7,7 @@ mod counting;
 mod forest_nodes;
 mod formula_numbers;
 mod formula_rules;
+mod formulas;
 mod keys;
 mod kinds;
 mod node_numbers;

@@ -8,8 +8,7 @@ ghost use Rattle.guard_simplify.specs.Outcome.{simplified, Gives};
 ghost use Rattle.tree_sem.specs.Nodes.{IsTreeOver};
 ghost use Rattle.guard_simplify.specs.declared.simplified.TheConstants.{MOST_RULES};
 
-use crate::assembly::within_limits;
-use crate::counting::count_all;
+use crate::counting::Counted;
 use crate::simplified::{Simplified, SimplifyFault};
 use guard_sem::{Guard, Rule};
 use std::alloc::Global;
@@ -32,8 +31,13 @@ pub fn simplify(
     ensures sound { IfOk result (λ s. IsSound s.system) }
 {
     let first = atoms.count();
-    let counted = count_all(alloc, first, rules, guards)?;
-    within_limits(alloc, first, rules, &counted)
+    let Some(counted) = Counted::new(alloc, first, rules, guards)? else {
+        return Err(SimplifyFault::TooManyAtoms);
+    };
+    let Some(made) = counted.assembled(alloc)? else {
+        return Err(SimplifyFault::TooManyVisible);
+    };
+    Ok(made)
 }
 
 /// What the system does is what the rules do.

@@ -1,27 +1,28 @@
-use Rattle.std.proofs.Common.{sym, subst, All}
-use Rattle.guard_simplify.specs.Law.{IsOver, IsRuleOver}
-use Rattle.guard_simplify.specs.Outcome.{simplified, Gives}
-use Rattle.guard_simplify.proofs.SystemLemmas.{outcome_same, sound_outcome}
-use Rattle.guard_simplify.proofs.AtomNumberLemmas.{has_atoms, have_few_nodes}
+use Rattle.std.proofs.Common.{Option, length, ok_or, sym, subst, ap, ◌∙◌}
+use Rattle.guard_simplify.specs.declared.simplified.Simplified.{Simplified}
+use Rattle.guard_simplify.specs.declared.simplified.SimplifyFault.TheVariants.{TooManyVisible}
+use Rattle.guard_simplify.specs.Counted.{IsCountedWithin}
+use Rattle.guard_simplify.specs.Outcome.{simplified}
+use Rattle.guard_simplify.proofs.Outcomes.{err_gives, outcome_made, sound_made}
 use Rattle.guard_simplify.proofs.simplification.simplify.Goals as goal
 
-pub count_all-requires-clause-forests : goal.count_all-requires-clause-forests
-count_all-requires-clause-forests c = have_few_nodes c.args.rules.now c.requires.few_nodes
+pub returns-in_err-made-clause-system : goal.returns-in_err-made-clause-system
+returns-in_err-made-clause-system c = err_gives c.from_residual-in_err-made.result (simplified c.args.rules.now c.args.guards.now (length c.args.atoms.now)) c.from_residual-in_err-made.ensures.1
 
-pub within_limits-requires-clause-forests : goal.within_limits-requires-clause-forests
-within_limits-requires-clause-forests c = have_few_nodes c.args.rules.now c.requires.few_nodes
-
-pub within_limits-requires-clause-atoms : goal.within_limits-requires-clause-atoms
-within_limits-requires-clause-atoms c = λ within. has_atoms c.args.rules.now c.args.guards.now c.count-first.result c.in_ok-counted.counted c.in_ok-counted.ensures.counted within
+pub returns-in_default-2-clause-system : goal.returns-in_default-2-clause-system
+returns-in_default-2-clause-system c =
+    let counted' = subst (IsCountedWithin c.args.rules.now c.args.guards.now c.count-first.result) c.in-Some.is c.in_ok-counted.ensures in
+    λ other. outcome_made c.args.rules.now c.args.guards.now (length c.args.atoms.now) c.in-Some.counted counted'.0 (counted'.1 ∙ c.count-first.ensures.count) counted'.2 c.in_ok-made.field-0 c.in_ok-made.ensures
+    ∙ ap (λ (z : Option Simplified). ok_or z TooManyVisible) c.in_default-2.is
 
 pub returns-clause-system : goal.returns-clause-system
 returns-clause-system c =
-    let same = outcome_same c.args.rules.now c.args.guards.now c.count-first.result c.in_ok-counted.counted c.in_ok-counted.ensures.counted in
-    subst (λ n. Gives c.within_limits.result (simplified c.args.rules.now c.args.guards.now n)) c.count-first.ensures.count
-    (subst (λ z. Gives c.within_limits.result z) same c.within_limits.ensures)
+    let counted' = subst (IsCountedWithin c.args.rules.now c.args.guards.now c.count-first.result) c.in-Some.is c.in_ok-counted.ensures in
+    outcome_made c.args.rules.now c.args.guards.now (length c.args.atoms.now) c.in-Some.counted counted'.0 (counted'.1 ∙ c.count-first.ensures.count) counted'.2 c.in_ok-made.field-0 c.in_ok-made.ensures
+    ∙ ap (λ (z : Option Simplified). ok_or z TooManyVisible) c.in-Some-2.is
 
 pub returns-clause-sound : goal.returns-clause-sound
 returns-clause-sound c =
-    let rules_over = subst (λ n. All (IsRuleOver n) c.args.rules.now) (sym c.count-first.ensures.count) c.requires.rules_over in
-    let guards_over = subst (λ n. All (IsOver n) c.args.guards.now) (sym c.count-first.ensures.count) c.requires.guards_over in
-    sound_outcome c.args.rules.now c.args.guards.now c.count-first.result c.in_ok-counted.counted c.in_ok-counted.ensures.counted rules_over guards_over c.requires.few_nodes c.within_limits.result c.within_limits.ensures
+    let counted' = subst (IsCountedWithin c.args.rules.now c.args.guards.now c.count-first.result) c.in-Some.is c.in_ok-counted.ensures in
+    sound_made c.args.rules.now c.args.guards.now (length c.args.atoms.now) c.in-Some.counted counted'.0 (counted'.1 ∙ c.count-first.ensures.count) counted'.2 c.requires.rules_over c.requires.guards_over c.requires.few_nodes
+    c.in-Some-2.made (sym c.in-Some-2.is ∙ c.in_ok-made.ensures)

@@ -4,7 +4,7 @@ use Rattle.guard_sem.specs.Guards.{guards_of}
 use Rattle.guard_sem.specs.declared.rules.Rule.{Rule}
 use Rattle.guard_simplify.specs.Numbered.{AreNumbered}
 use Rattle.guard_simplify.proofs.Pushes.{rule_numbered}
-use Rattle.guard_simplify.proofs.counting.rule_numbers.Goals as goal
+use Rattle.guard_simplify.proofs.formulas.rule_numbers.Goals as goal
 
 pub rules-preserved : goal.rules-preserved
 rules-preserved c =
