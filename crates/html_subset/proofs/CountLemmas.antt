@@ -10,10 +10,10 @@ use Rattle.html_table.specs.declared.elements.Kind.TheVariants as k
 use Rattle.html_table.specs.declared.scopes.Scope.TheVariants as within
 use Rattle.html_subset.specs.declared.faults.PageFault.TheVariants.{TooDeep, TooManyNodes}
 use Rattle.html_subset.specs.declared.faults.TheConstants.{MOST_DEPTH, MOST_PAGE_NODES}
-use Rattle.html_subset.specs.Building.{Root, Document, forest, page, State, is_forest, level, others, open_elements, node_names, bare, with_node, opened, with_implied, with_element, put, start_tag, with_given, root_tag, head_tag, any_start, paragraph_end, end_tag, token, run}
+use Rattle.html_subset.specs.Building.{Document, forest, page, State, is_forest, level, others, open_elements, node_names, bare, with_node, opened, with_implied, with_element, put, start_tag, with_given, root_tag, head_tag, any_start, paragraph_end, end_tag, token, run}
 use Rattle.html_table.specs.Elements as of_element
 use Rattle.html_table.specs.Elements.{kind_of, is_root, is_in_head, is_void, Element, element}
-use Rattle.html_subset.specs.Growth.{Growth, nothing, more, add, size, row_before, row_of}
+use Rattle.html_subset.specs.Growth.{Growth, nothing, more, add, size, row_before}
 use Rattle.html_subset.specs.Labels.{Outcome, ◌>>=◌, labelled}
 use Rattle.html_subset.specs.Pages.{root_label, bare_page, page_tree, page_of}
 use Rattle.html_subset.specs.Reading.{read_page}

@@ -1,8 +1,7 @@
 -- Steps of the machine.
-use Rattle.std.proofs.Common.{◌≡◌, ℕ, List, [], ◌∷◌, None, Ok, Err, refl}
-use Rattle.html_tokens.specs.Tokens.{StartTag}
+use Rattle.std.proofs.Common.{◌≡◌, ℕ, List, [], ◌∷◌, Ok, Err, refl}
 use Rattle.html_subset.specs.Labels.{Outcome, ◌>>=◌}
-use Rattle.html_subset.specs.Machine.{Machine, with_open, with_implied, put}
+use Rattle.html_subset.specs.Machine.{Machine, with_open, with_implied}
 
 same_step : (r : Outcome Machine) → (r >>= λ m. Ok m) ≡ r
 same_step (Ok m) = refl
@@ -23,7 +22,3 @@ same_steps (Err e) f g same = refl
 pub two_implied : (name more : List ℕ) (at : ℕ) (m : Machine) → with_implied (name ∷ more ∷ []) at m ≡ (with_open name at m >>= λ n. with_open more at n)
 unfolding with_implied
 two_implied name more at m = same_steps (with_open name at m) (λ n. with_open more at n >>= λ o. Ok o) (λ n. with_open more at n) (λ n. same_step (with_open more at n))
-
-pub put_nowhere : (t : StartTag) (m : Machine) → put t None m ≡ Ok m
-unfolding put
-put_nowhere t m = refl

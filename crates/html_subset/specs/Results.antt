@@ -2,6 +2,7 @@
 use Rattle.std.specs.Prelude.{◌≡◌, ◌≢◌, List, Result, Ok, Err}
 use Rattle.tp_base.specs.Names.{Named}
 pub use Rattle.tp_base.specs.Names.{IsFront}
+use Rattle.tp_base.specs.Outcomes.{ReadsUnless}
 use Rattle.html_subset.specs.declared.faults.PageFault.{PageFault}
 use Rattle.html_subset.specs.declared.faults.PageFault.TheVariants.{Memory}
 use Rattle.html_subset.specs.Labels.{Outcome}
@@ -13,5 +14,4 @@ Does view (Err e) table step = e ≢ Memory → step ≡ Err (e, table)
 
 -- a call's result, and the names that it leaves, are what reading gives, unless memory ran out
 abbrev pub Reads : {X Y : Type 0} → (X → Y) → Result X PageFault → List Named → List Named × Result Y PageFault → Type 0
-Reads view (Ok x) names read = read ≡ (names, Ok (view x))
-Reads view (Err e) names read = e ≢ Memory → read ≡ (names, Err e)
+Reads = ReadsUnless Memory

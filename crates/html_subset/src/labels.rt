@@ -1,5 +1,5 @@
 //! Labels: the names that a tag gives are entered into the table, and their atoms make a node's label.
-ghost use Rattle.std.specs.Prelude.{◌≡◌, ◌<◌, not, if◌then◌else◌, [], ◌∷◌, ◌++◌, Some, length, take, drop, map, IfOk, IfErr, OnOk};
+ghost use Rattle.std.specs.Prelude.{◌≡◌, ◌<◌, not, if◌then◌else◌, [], ◌∷◌, ◌++◌, Some, length, take, drop, IfOk, OnOk};
 ghost use Rattle.text_bytes.specs.Attributes.{is_among, with_value};
 ghost use Rattle.tp_base.specs.Names.{with_name};
 ghost use Rattle.tp_base.specs.declared.atoms.AtomKind.TheVariants as named;
@@ -7,7 +7,7 @@ ghost use Rattle.html_tokens.specs.Bytes.{lowered};
 ghost use Rattle.html_tokens.specs.Words.{word_len};
 ghost use Rattle.html_subset.specs.Labels as spec;
 ghost use Rattle.html_subset.specs.Building.{node_names};
-ghost use Rattle.html_subset.specs.Builders.{names_in};
+ghost use Rattle.html_subset.specs.Builders.{names_in, Enters, KeepsNames};
 ghost use Rattle.html_subset.specs.Pages.{root_label};
 ghost use Rattle.html_subset.specs.Counting.{with_attribute, name_then, with_attributes, names_then};
 ghost use Rattle.html_subset.specs.Results.{Does, IsFront};
@@ -20,109 +20,9 @@ use html_table::lowered;
 use html_tokens::{Attribute, StartTag, next_attribute, word_len};
 use indexmap::IndexSet;
 use std::alloc::Global;
+use std::mem::replace;
 use text_bytes::{is_blank, is_set_apart, with_value};
 use tp_base::{AtomFault, AtomKind, AtomTable, ClassSet, NoMemory};
-
-// Adds the atom of a name to the label, for a tag at `at`.
-#[tactic(auto, using(crate::proofs::Fronts::front_grown, crate::proofs::Fronts::front_itself))]
-fn add_name(
-    label: &mut Gathered,
-    kind: AtomKind,
-    name: &[u8],
-    at: usize,
-    atoms: &mut AtomTable,
-) -> Result<(), PageFault>
-    ensures does { Does (λ _. (label.new, atoms.new)) result atoms.new
-        (spec.and_one at label.old atoms.old (with_name atoms.old (kind, name.now))) }
-    ensures front { IsFront atoms.old atoms.new }
-{
-    match atoms.intern(kind, name) {
-        Ok(atom) => {
-            label.add(atom)?;
-            Ok(())
-        }
-        Err(AtomFault::TooManyAtoms) => Err(PageFault::TooManyAtoms(at)),
-        Err(AtomFault::Memory) => Err(PageFault::Memory),
-    }
-}
-
-// Adds the class that the text begins with, and lends the text behind it.
-#[tactic(auto)]
-fn add_class<'a>(
-    label: &mut Gathered,
-    text: &'a [u8],
-    at: usize,
-    atoms: &mut AtomTable,
-) -> Result<&'a [u8], PageFault>
-    requires { 0 < word_len text.now }
-    ensures does { Does (λ _. (label.new, atoms.new)) result atoms.new
-        (spec.and_one at label.old atoms.old (with_name atoms.old (named.Class, take (word_len text.now) text.now))) }
-    ensures rest { IfOk result (λ r. r.now ≡ drop (word_len text.now) text.now) }
-    ensures shorter { IfOk result (λ r. length r.now < length text.now) }
-    ensures front { IsFront atoms.old atoms.new }
-{
-    let (class, rest) = text.split_at(word_len(text));
-    add_name(label, AtomKind::Class, class, at, atoms)?;
-    Ok(rest)
-}
-
-// Adds the classes of an attribute's value, which white space parts. Linear in the value.
-#[tactic(auto, using(crate::proofs::ClassSteps::blank, crate::proofs::ClassSteps::goes_on, crate::proofs::ClassSteps::fails, crate::proofs::ClassSteps::ends, html_tokens::proofs::WordLemmas::some_word, crate::proofs::ClassSteps::opened, crate::proofs::Fronts::front_of_front, crate::proofs::Fronts::front_itself))]
-fn add_classes(
-    label: &mut Gathered,
-    value: &[u8],
-    at: usize,
-    atoms: &mut AtomTable,
-) -> Result<(), PageFault>
-    ensures does { Does (λ _. (label.new, atoms.new)) result atoms.new (spec.labelled at (spec.class_names (Some value.now)) label.old atoms.old) }
-    ensures front { IsFront atoms.old atoms.new }
-{
-    let mut rest = value;
-    'classes: while let Some((first, behind)) = rest.split_first() {
-        if is_blank(*first) {
-            rest = behind;
-        } else {
-            rest = add_class(label, rest, at, atoms)?;
-        }
-    }
-    Ok(())
-}
-
-// Adds an id, unless it is empty.
-#[tactic(auto, using(crate::proofs::LabelLemmas::one_name, crate::proofs::LabelLemmas::no_name, crate::proofs::Fronts::front_itself))]
-fn add_id(
-    label: &mut Gathered,
-    id: Option<&[u8]>,
-    at: usize,
-    atoms: &mut AtomTable,
-) -> Result<(), PageFault>
-    ensures does { Does (λ _. (label.new, atoms.new)) result atoms.new (spec.labelled at (spec.id_names (bytes_of id.entry)) label.old atoms.old) }
-    ensures front { IsFront atoms.old atoms.new }
-{
-    match id {
-        None | Some([]) => Ok(()),
-        Some(id) => add_name(label, AtomKind::Ident, id, at, atoms),
-    }
-}
-
-/// Adds the id, and then the classes as they are written.
-#[tactic(auto, using(crate::proofs::LabelLemmas::in_turn, crate::proofs::LabelLemmas::no_name, crate::proofs::Fronts::front_of_front, crate::proofs::Fronts::front_itself))]
-pub(crate) fn add_id_and_classes(
-    label: &mut Gathered,
-    id: Option<&[u8]>,
-    class: Option<&[u8]>,
-    at: usize,
-    atoms: &mut AtomTable,
-) -> Result<(), PageFault>
-    ensures does { Does (λ _. (label.new, atoms.new)) result atoms.new (spec.labelled at (spec.id_names (bytes_of id.entry) ++ spec.class_names (bytes_of class.entry)) label.old atoms.old) }
-    ensures front { IsFront atoms.old atoms.new }
-{
-    add_id(label, id, at, atoms)?;
-    match class {
-        None => Ok(()),
-        Some(value) => add_classes(label, value, at, atoms),
-    }
-}
 
 /// The names of attributes that came before, in lower case.
 #[derive(Drop)]
@@ -149,122 +49,213 @@ impl NamesGiven {
     }
 }
 
-// Adds the two atoms of an attribute, whose name is in lower case.
-#[tactic(auto, using(crate::proofs::LabelLemmas::two_names, crate::proofs::Fronts::front_of_front, crate::proofs::Fronts::front_itself))]
-fn add_both(
-    alloc: Global,
-    label: &mut Gathered,
-    name: &[u8],
-    value: &[u8],
+/// The table of names, and the label of the tag at `at` as far as it was read.
+#[derive(Drop)]
+pub(crate) struct LabelBuilder {
+    pub(crate) alloc: Global,
+    pub(crate) atoms: AtomTable,
+    label: Gathered,
     at: usize,
-    atoms: &mut AtomTable,
-) -> Result<(), PageFault>
-    ensures does { Does (λ _. (label.new, atoms.new)) result atoms.new
-        (spec.labelled at ((named.Attr, name.now) ∷ (named.Attr, with_value name.now (lowered value.now)) ∷ []) label.old atoms.old) }
-    ensures front { IsFront atoms.old atoms.new }
-{
-    add_name(label, AtomKind::Attr, name, at, atoms)?;
-    let value = lowered(alloc, value)?;
-    let pair = with_value(alloc, name, value.as_slice())?;
-    add_name(label, AtomKind::Attr, pair.as_slice(), at, atoms)
 }
 
-// Adds the atoms of an attribute, unless it is set apart or its name came before.
-#[tactic(auto, using(crate::proofs::AttributeLemmas::skips_apart, crate::proofs::AttributeLemmas::names_apart, crate::proofs::AttributeLemmas::skips_known, crate::proofs::AttributeLemmas::names_known, crate::proofs::AttributeLemmas::takes_new, crate::proofs::AttributeLemmas::names_new, crate::proofs::Fronts::front_itself))]
-fn add_attribute(
-    alloc: Global,
-    label: &mut Gathered,
-    given: &mut NamesGiven,
-    attribute: Attribute<'_>,
-    at: usize,
-    atoms: &mut AtomTable,
-) -> Result<(), PageFault>
-    ensures does { Does (λ _. (label.new, atoms.new)) result atoms.new (with_attribute at (names_in given.old) (without_case (attribute_of attribute.entry)) label.old atoms.old) }
-    ensures given { OnOk result (name_then (names_in given.old) (without_case (attribute_of attribute.entry)) ≡ names_in given.new) }
-    ensures front { IsFront atoms.old atoms.new }
-{
-    if is_set_apart(attribute.name) {
-        return Ok(());
+impl LabelBuilder {
+    /// With the names of this table, and no label.
+    pub(crate) fn new(alloc: Global, atoms: AtomTable) -> Self
+        ensures { result.atoms ≡ atoms }
+    {
+        LabelBuilder {
+            alloc,
+            atoms,
+            label: Gathered::new(alloc),
+            at: 0,
+        }
     }
-    let name = lowered(alloc, attribute.name)?;
-    let entered = lowered(alloc, attribute.name)?;
-    let is_new = given.enter(entered)?;
-    if !is_new {
-        return Ok(());
+
+    /// Begins the label of the tag at `at`.
+    pub(crate) fn begin(&mut self, at: usize)
+        ensures label { self.new.label ≡ [] }
+        ensures at { self.new.at ≡ at }
+        ensures atoms { self.new.atoms ≡ self.old.atoms }
+    {
+        self.label = Gathered::new(self.alloc);
+        self.at = at;
     }
-    add_both(alloc, label, name.as_slice(), attribute.value, at, atoms)?;
-    Ok(())
-}
 
-/// Adds the atoms of the attributes in a tag, from behind its name on, that aren't set apart and whose names are new. Linear in
-/// the tag, on average.
-#[tactic(auto, using(crate::proofs::AttributeLemmas::goes_on, crate::proofs::AttributeLemmas::names_go_on, crate::proofs::AttributeLemmas::fails, crate::proofs::AttributeLemmas::ends, crate::proofs::AttributeLemmas::names_end, crate::proofs::Fronts::front_of_front, crate::proofs::Fronts::front_itself))]
-pub(crate) fn add_attributes(
-    alloc: Global,
-    label: &mut Gathered,
-    given: &mut NamesGiven,
-    tag: &[u8],
-    at: usize,
-    atoms: &mut AtomTable,
-) -> Result<(), PageFault>
-    ensures does { Does (λ _. (label.new, atoms.new)) result atoms.new (with_attributes at (names_in given.old) tag.now label.old atoms.old) }
-    ensures given { OnOk result (names_then (names_in given.old) tag.now ≡ names_in given.new) }
-    ensures front { IsFront atoms.old atoms.new }
-{
-    let mut rest = tag;
-    'attributes: while let Some((attribute, behind)) = next_attribute(rest) {
-        add_attribute(alloc, label, given, attribute, at, atoms)?;
-        rest = behind;
+    /// The atoms of the label.
+    pub(crate) fn end(&mut self) -> Gathered
+        ensures label { result ≡ self.old.label }
+        ensures atoms { self.new.atoms ≡ self.old.atoms }
+    {
+        replace(&mut self.label, Gathered::new(self.alloc))
     }
-    Ok(())
-}
 
-// Adds the atom of an element's name.
-#[tactic(auto, using(crate::proofs::LabelLemmas::one_name, crate::proofs::Fronts::front_itself))]
-fn add_element(
-    alloc: Global,
-    label: &mut Gathered,
-    name: &[u8],
-    at: usize,
-    atoms: &mut AtomTable,
-) -> Result<(), PageFault>
-    ensures does { Does (λ _. (label.new, atoms.new)) result atoms.new (spec.labelled at ((named.Element, lowered name.now) ∷ []) label.old atoms.old) }
-    ensures front { IsFront atoms.old atoms.new }
-{
-    let name = lowered(alloc, name)?;
-    add_name(label, AtomKind::Element, name.as_slice(), at, atoms)
-}
+    // Adds the atom of a name.
+    #[tactic(auto, using(crate::proofs::Fronts::front_grown, crate::proofs::Fronts::front_itself))]
+    fn add_name(&mut self, kind: AtomKind, name: &[u8]) -> Result<(), PageFault>
+        ensures does { Does (λ _. (self.new.label, self.new.atoms)) result self.new.atoms
+            (spec.and_one self.old.at self.old.label self.old.atoms (with_name self.old.atoms (kind, name.now))) }
+        ensures keeps { KeepsNames self.old self.new }
+    {
+        match self.atoms.intern(kind, name) {
+            Ok(atom) => {
+                self.label.add(atom)?;
+                Ok(())
+            }
+            Err(AtomFault::TooManyAtoms) => Err(PageFault::TooManyAtoms(self.at)),
+            Err(AtomFault::Memory) => Err(PageFault::Memory),
+        }
+    }
 
-/// The atom of an element of this name, of which there is no tag yet.
-#[tactic(auto, using(crate::proofs::Fronts::front_itself))]
-pub(crate) fn element_label(
-    alloc: Global,
-    name: &[u8],
-    atoms: &mut AtomTable,
-) -> Result<Gathered, PageFault>
-    ensures does { Does (λ l. (l, atoms.new)) result atoms.new (root_label (lowered name.now) atoms.old) }
-    ensures front { IsFront atoms.old atoms.new }
-{
-    let mut label = Gathered::new(alloc);
-    add_element(alloc, &mut label, name, 0, atoms)?;
-    Ok(label)
-}
+    // Adds the class that the text begins with, and lends the text behind it.
+    fn add_class<'t>(&mut self, text: &'t [u8]) -> Result<&'t [u8], PageFault>
+        requires { 0 < word_len text.now }
+        ensures does { Does (λ _. (self.new.label, self.new.atoms)) result self.new.atoms
+            (spec.and_one self.old.at self.old.label self.old.atoms (with_name self.old.atoms (named.Class, take (word_len text.now) text.now))) }
+        ensures rest { IfOk result (λ r. r.now ≡ drop (word_len text.now) text.now) }
+        ensures shorter { IfOk result (λ r. length r.now < length text.now) }
+        ensures keeps { KeepsNames self.old self.new }
+    {
+        let (class, rest) = text.split_at(word_len(text));
+        self.add_name(AtomKind::Class, class)?;
+        Ok(rest)
+    }
 
-/// The label of the node that a tag adds. Linear in the tag, on average, but for one sort of its atoms.
-#[tactic(auto, using(crate::proofs::AttributeLemmas::node_in_turn, crate::proofs::LabelLemmas::first_name, crate::proofs::Fronts::front_of_front))]
-pub(crate) fn node_label(
-    alloc: Global,
-    tag: StartTag<'_>,
-    atoms: &mut AtomTable,
-) -> Result<ClassSet, PageFault>
-    ensures does { Does (λ l. (l, atoms.new)) result atoms.new (spec.labelled tag.entry.at (node_names (start_tag_of tag.entry)) [] atoms.old) }
-    ensures front { IsFront atoms.old atoms.new }
-{
-    let mut label = Gathered::new(alloc);
-    add_element(alloc, &mut label, tag.name, tag.at, atoms)?;
-    add_id_and_classes(&mut label, tag.id, tag.class, tag.at, atoms)?;
-    let mut given = NamesGiven::new(alloc);
-    add_attributes(alloc, &mut label, &mut given, tag.attributes, tag.at, atoms)?;
-    let set = label.into_set()?;
-    Ok(set)
+    // Adds the classes of an attribute's value, which white space parts. Linear in the value.
+    #[tactic(auto, using(crate::proofs::ClassSteps::blank, crate::proofs::ClassSteps::goes_on, crate::proofs::ClassSteps::fails, crate::proofs::ClassSteps::ends, html_tokens::proofs::WordLemmas::some_word, crate::proofs::ClassSteps::opened, crate::proofs::Fronts::front_of_front, crate::proofs::Fronts::front_itself))]
+    fn add_classes(&mut self, value: &[u8]) -> Result<(), PageFault>
+        ensures enters { Enters (spec.class_names (Some value.now)) self.old self.new result }
+        ensures keeps { KeepsNames self.old self.new }
+    {
+        let mut rest = value;
+        'classes: while let Some((first, behind)) = rest.split_first() {
+            if is_blank(*first) {
+                rest = behind;
+            } else {
+                rest = self.add_class(rest)?;
+            }
+        }
+        Ok(())
+    }
+
+    // Adds an id, unless it is empty.
+    #[tactic(auto, using(crate::proofs::LabelLemmas::one_name, crate::proofs::LabelLemmas::no_name, crate::proofs::Fronts::front_itself))]
+    fn add_id(&mut self, id: Option<&[u8]>) -> Result<(), PageFault>
+        ensures enters { Enters (spec.id_names (bytes_of id.entry)) self.old self.new result }
+        ensures keeps { KeepsNames self.old self.new }
+    {
+        match id {
+            None | Some([]) => Ok(()),
+            Some(id) => self.add_name(AtomKind::Ident, id),
+        }
+    }
+
+    /// Adds the id, and then the classes as they are written.
+    #[tactic(auto, using(crate::proofs::LabelLemmas::in_turn, crate::proofs::LabelLemmas::no_name, crate::proofs::Fronts::front_of_front, crate::proofs::Fronts::front_itself))]
+    pub(crate) fn add_id_and_classes(
+        &mut self,
+        id: Option<&[u8]>,
+        class: Option<&[u8]>,
+    ) -> Result<(), PageFault>
+        ensures enters { Enters (spec.id_names (bytes_of id.entry) ++ spec.class_names (bytes_of class.entry)) self.old self.new result }
+        ensures keeps { KeepsNames self.old self.new }
+    {
+        self.add_id(id)?;
+        match class {
+            None => Ok(()),
+            Some(value) => self.add_classes(value),
+        }
+    }
+
+    // Adds the two atoms of an attribute, whose name is in lower case.
+    #[tactic(auto, using(crate::proofs::LabelLemmas::two_names, crate::proofs::Fronts::front_of_front, crate::proofs::Fronts::front_itself))]
+    fn add_both(&mut self, name: &[u8], value: &[u8]) -> Result<(), PageFault>
+        ensures enters { Enters ((named.Attr, name.now) ∷ (named.Attr, with_value name.now (lowered value.now)) ∷ []) self.old self.new result }
+        ensures keeps { KeepsNames self.old self.new }
+    {
+        self.add_name(AtomKind::Attr, name)?;
+        let value = lowered(self.alloc, value)?;
+        let pair = with_value(self.alloc, name, value.as_slice())?;
+        self.add_name(AtomKind::Attr, pair.as_slice())
+    }
+
+    // Adds the atoms of an attribute, unless it is set apart or its name came before.
+    #[tactic(auto, using(crate::proofs::AttributeLemmas::skips_apart, crate::proofs::AttributeLemmas::names_apart, crate::proofs::AttributeLemmas::skips_known, crate::proofs::AttributeLemmas::names_known, crate::proofs::AttributeLemmas::takes_new, crate::proofs::AttributeLemmas::names_new, crate::proofs::Fronts::front_itself))]
+    fn add_attribute(
+        &mut self,
+        given: &mut NamesGiven,
+        attribute: Attribute<'_>,
+    ) -> Result<(), PageFault>
+        ensures does { Does (λ _. (self.new.label, self.new.atoms)) result self.new.atoms
+            (with_attribute self.old.at (names_in given.old) (without_case (attribute_of attribute.entry)) self.old.label self.old.atoms) }
+        ensures given { OnOk result (name_then (names_in given.old) (without_case (attribute_of attribute.entry)) ≡ names_in given.new) }
+        ensures keeps { KeepsNames self.old self.new }
+    {
+        if is_set_apart(attribute.name) {
+            return Ok(());
+        }
+        let name = lowered(self.alloc, attribute.name)?;
+        let entered = lowered(self.alloc, attribute.name)?;
+        let is_new = given.enter(entered)?;
+        if !is_new {
+            return Ok(());
+        }
+        self.add_both(name.as_slice(), attribute.value)?;
+        Ok(())
+    }
+
+    /// Adds the atoms of the attributes in a tag, from behind its name on, that aren't set apart and whose names are new. Linear in
+    /// the tag, on average.
+    #[tactic(auto, using(crate::proofs::AttributeLemmas::goes_on, crate::proofs::AttributeLemmas::names_go_on, crate::proofs::AttributeLemmas::fails, crate::proofs::AttributeLemmas::ends, crate::proofs::AttributeLemmas::names_end, crate::proofs::Fronts::front_of_front, crate::proofs::Fronts::front_itself))]
+    pub(crate) fn add_attributes(
+        &mut self,
+        given: &mut NamesGiven,
+        tag: &[u8],
+    ) -> Result<(), PageFault>
+        ensures does { Does (λ _. (self.new.label, self.new.atoms)) result self.new.atoms (with_attributes self.old.at (names_in given.old) tag.now self.old.label self.old.atoms) }
+        ensures given { OnOk result (names_then (names_in given.old) tag.now ≡ names_in given.new) }
+        ensures keeps { KeepsNames self.old self.new }
+    {
+        let mut rest = tag;
+        'attributes: while let Some((attribute, behind)) = next_attribute(rest) {
+            self.add_attribute(given, attribute)?;
+            rest = behind;
+        }
+        Ok(())
+    }
+
+    // Adds the atom of an element's name.
+    #[tactic(auto, using(crate::proofs::LabelLemmas::one_name, crate::proofs::Fronts::front_itself))]
+    fn add_element(&mut self, name: &[u8]) -> Result<(), PageFault>
+        ensures enters { Enters ((named.Element, lowered name.now) ∷ []) self.old self.new result }
+        ensures keeps { KeepsNames self.old self.new }
+    {
+        let name = lowered(self.alloc, name)?;
+        self.add_name(AtomKind::Element, name.as_slice())
+    }
+
+    /// The atom of an element of this name, of which there is no tag yet.
+    #[tactic(auto, using(crate::proofs::Fronts::front_itself))]
+    pub(crate) fn element_label(&mut self, name: &[u8]) -> Result<Gathered, PageFault>
+        ensures does { Does (λ l. (l, self.new.atoms)) result self.new.atoms (root_label (lowered name.now) self.old.atoms) }
+        ensures front { IsFront self.old.atoms self.new.atoms }
+    {
+        self.begin(0);
+        self.add_element(name)?;
+        Ok(self.end())
+    }
+
+    /// The label of the node that a tag adds. Linear in the tag, on average, but for one sort of its atoms.
+    #[tactic(auto, using(crate::proofs::AttributeLemmas::node_in_turn, crate::proofs::LabelLemmas::first_name, crate::proofs::Fronts::front_of_front))]
+    pub(crate) fn node_label(&mut self, tag: StartTag<'_>) -> Result<ClassSet, PageFault>
+        ensures does { Does (λ l. (l, self.new.atoms)) result self.new.atoms (spec.labelled tag.entry.at (node_names (start_tag_of tag.entry)) [] self.old.atoms) }
+        ensures front { IsFront self.old.atoms self.new.atoms }
+    {
+        self.begin(tag.at);
+        self.add_element(tag.name)?;
+        self.add_id_and_classes(tag.id, tag.class)?;
+        let mut given = NamesGiven::new(self.alloc);
+        self.add_attributes(&mut given, tag.attributes)?;
+        let set = self.end().into_set()?;
+        Ok(set)
+    }
 }

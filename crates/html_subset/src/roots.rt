@@ -9,11 +9,11 @@ ghost use Rattle.html_subset.specs.Results.{Does, IsFront};
 ghost use Rattle.html_tokens.specs.Views.{bytes_of, start_tag_of};
 
 use crate::faults::PageFault;
-use crate::labels::{NamesGiven, add_attributes, add_id_and_classes};
+use crate::labels::{LabelBuilder, NamesGiven};
 use gathered::Gathered;
 use html_tokens::StartTag;
 use std::alloc::Global;
-use tp_base::{AtomTable, ClassSet, NoMemory};
+use tp_base::{ClassSet, NoMemory};
 
 /// html, head or body: the atoms of its label, and whether a tag gave it an id, classes, and other attributes of which names.
 /// The label is sorted and put into the tree once, at the end of the page, so that a tag doesn't pay for those before it.
@@ -49,43 +49,34 @@ impl Root {
     #[tactic(auto, using(crate::proofs::AttributeLemmas::given_in_turn, crate::proofs::AttributeLemmas::others_then, crate::proofs::Fronts::front_of_front))]
     fn take_names(
         &mut self,
-        alloc: Global,
+        labels: &mut LabelBuilder,
         tag: StartTag<'_>,
-        atoms: &mut AtomTable,
     ) -> Result<Gathered, PageFault>
-        ensures does { Does (λ l. (l, atoms.new)) result atoms.new (spec.labelled tag.entry.at (names_besides (root_of self.old) (start_tag_of tag.entry)) [] atoms.old) }
+        ensures does { Does (λ l. (l, labels.new.atoms)) result labels.new.atoms (spec.labelled tag.entry.at (names_besides (root_of self.old) (start_tag_of tag.entry)) [] labels.old.atoms) }
         ensures given { OnOk result (root_of self.new ≡ given_besides (root_of self.old) (start_tag_of tag.entry)) }
-        ensures front { IsFront atoms.old atoms.new }
+        ensures front { IsFront labels.old.atoms labels.new.atoms }
     {
-        let mut names = Gathered::new(alloc);
         let id = unless_given(self.id, tag.id);
         let class = unless_given(self.class, tag.class);
-        add_id_and_classes(&mut names, id, class, tag.at, atoms)?;
-        add_attributes(
-            alloc,
-            &mut names,
-            &mut self.others,
-            tag.attributes,
-            tag.at,
-            atoms,
-        )?;
+        labels.begin(tag.at);
+        labels.add_id_and_classes(id, class)?;
+        labels.add_attributes(&mut self.others, tag.attributes)?;
         self.id = self.id || tag.id.is_some();
         self.class = self.class || tag.class.is_some();
-        Ok(names)
+        Ok(labels.end())
     }
 
     /// Goes on by a tag of its name, which gives what no tag gave before. Linear in the tag, on average, whatever came before
     /// it. After a fault the root is of no use.
     pub(crate) fn take(
         &mut self,
-        alloc: Global,
+        labels: &mut LabelBuilder,
         tag: StartTag<'_>,
-        atoms: &mut AtomTable,
     ) -> Result<(), PageFault>
-        ensures does { Does (λ _. (root_of self.new, atoms.new)) result atoms.new (with_given (start_tag_of tag.entry) (root_of self.old) atoms.old) }
-        ensures front { IsFront atoms.old atoms.new }
+        ensures does { Does (λ _. (root_of self.new, labels.new.atoms)) result labels.new.atoms (with_given (start_tag_of tag.entry) (root_of self.old) labels.old.atoms) }
+        ensures front { IsFront labels.old.atoms labels.new.atoms }
     {
-        let names = self.take_names(alloc, tag, atoms)?;
+        let names = self.take_names(labels, tag)?;
         self.label.append(&names)?;
         Ok(())
     }

@@ -18,10 +18,10 @@ kinds =
     (k.Html, "html")
     ∷ (k.Head, "head")
     ∷ (k.Body, "body")
-    ∷ (k.Link, "base link meta")
-    ∷ (k.Script, "title style script noscript")
+    ∷ (k.HeadVoid, "base link meta")
+    ∷ (k.HeadRaw, "title style script noscript")
     ∷ (k.Void, "area br embed img input source track wbr")
-    ∷ (k.Rule, "hr")
+    ∷ (k.BlockVoid, "hr")
     ∷ (k.Block, "address article aside blockquote center details dialog dir div fieldset figcaption figure footer form h1 h2 h3 h4 h5 h6 header hgroup main nav pre search section summary")
     ∷ (k.Paragraph, "p")
     ∷ (k.List, "ul ol menu")
@@ -61,21 +61,21 @@ is_root t = false
 
 -- what is added to the head as long as the body has not begun
 abbrev pub is_in_head : Kind → Bool
-is_in_head k.Link = true
-is_in_head k.Script = true
+is_in_head k.HeadVoid = true
+is_in_head k.HeadRaw = true
 is_in_head t = false
 
 -- holds nothing
 abbrev pub is_void : Kind → Bool
-is_void k.Link = true
+is_void k.HeadVoid = true
 is_void k.Void = true
-is_void k.Rule = true
+is_void k.BlockVoid = true
 is_void k.Column = true
 is_void t = false
 
 -- ends a paragraph that is open
 abbrev pub ends_paragraph : Kind → Bool
-ends_paragraph k.Rule = true
+ends_paragraph k.BlockVoid = true
 ends_paragraph k.Block = true
 ends_paragraph k.Paragraph = true
 ends_paragraph k.List = true

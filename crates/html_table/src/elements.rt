@@ -13,13 +13,13 @@ pub enum Kind {
     Head,
     Body,
     /// Stands in the head, and holds nothing.
-    Link,
+    HeadVoid,
     /// Stands in the head, and its text is passed over.
-    Script,
+    HeadRaw,
     /// Holds nothing.
     Void,
     /// Holds nothing, and ends a paragraph.
-    Rule,
+    BlockVoid,
     /// Ends a paragraph.
     Block,
     Paragraph,
@@ -43,17 +43,18 @@ pub enum Kind {
     Other,
 }
 
+// The names that stand for something when a tree is built; any other one is `Other`.
 const KINDS: [(&[u8], Kind); 71] = [
     (b"html", Kind::Html),
     (b"head", Kind::Head),
     (b"body", Kind::Body),
-    (b"base", Kind::Link),
-    (b"link", Kind::Link),
-    (b"meta", Kind::Link),
-    (b"title", Kind::Script),
-    (b"style", Kind::Script),
-    (b"script", Kind::Script),
-    (b"noscript", Kind::Script),
+    (b"base", Kind::HeadVoid),
+    (b"link", Kind::HeadVoid),
+    (b"meta", Kind::HeadVoid),
+    (b"title", Kind::HeadRaw),
+    (b"style", Kind::HeadRaw),
+    (b"script", Kind::HeadRaw),
+    (b"noscript", Kind::HeadRaw),
     (b"area", Kind::Void),
     (b"br", Kind::Void),
     (b"embed", Kind::Void),
@@ -62,7 +63,7 @@ const KINDS: [(&[u8], Kind); 71] = [
     (b"source", Kind::Void),
     (b"track", Kind::Void),
     (b"wbr", Kind::Void),
-    (b"hr", Kind::Rule),
+    (b"hr", Kind::BlockVoid),
     (b"address", Kind::Block),
     (b"article", Kind::Block),
     (b"aside", Kind::Block),
@@ -117,7 +118,7 @@ const KINDS: [(&[u8], Kind); 71] = [
     (b"math", Kind::Foreign),
 ];
 
-/// An element that is open: its kind, and its name as it is written.
+/// An element of a tag, or one that is open: its kind, and its name as it is written.
 #[derive(Clone, Copy)]
 pub struct Element<'a> {
     pub kind: Kind,
@@ -149,9 +150,9 @@ fn lookup(table: &[(&[u8], Kind)], name: &[u8]) -> Kind
     Kind::Other
 }
 
-/// The kind of a name, without regard to ASCII case.
+// The kind of a name, without regard to ASCII case.
 #[tactic(auto, unfolding(crate::specs::Elements::kind_of), using(crate::proofs::ElementNames::same_kinds))]
-pub fn kind_of(name: &[u8]) -> Kind
+fn kind_of(name: &[u8]) -> Kind
     ensures { result ≡ spec.kind_of (lowered name.now) }
 {
     lookup(&KINDS, name)
@@ -169,14 +170,17 @@ impl Kind {
     pub fn is_in_head(self) -> bool
         ensures { result ≡ spec.is_in_head self }
     {
-        matches!(self, Kind::Link | Kind::Script)
+        matches!(self, Kind::HeadVoid | Kind::HeadRaw)
     }
 
     /// Holds nothing.
     pub fn is_void(self) -> bool
         ensures { result ≡ spec.is_void self }
     {
-        matches!(self, Kind::Link | Kind::Void | Kind::Rule | Kind::Column)
+        matches!(
+            self,
+            Kind::HeadVoid | Kind::Void | Kind::BlockVoid | Kind::Column
+        )
     }
 
     pub(crate) fn ends_paragraph(self) -> bool
@@ -184,7 +188,7 @@ impl Kind {
     {
         matches!(
             self,
-            Kind::Rule | Kind::Block | Kind::Paragraph | Kind::List | Kind::Terms | Kind::Table
+            Kind::BlockVoid | Kind::Block | Kind::Paragraph | Kind::List | Kind::Terms | Kind::Table
         )
     }
 

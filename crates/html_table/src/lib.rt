@@ -8,7 +8,7 @@ mod open_elements;
 mod scopes;
 mod stack;
 
-pub use elements::{Element, Kind, kind_of};
+pub use elements::{Element, Kind};
 pub use name_places::lowered;
 pub use open_elements::{Implied, Place, behind_paragraph, closed_at_end, is_opened, place_for};
 pub use scopes::Scope;

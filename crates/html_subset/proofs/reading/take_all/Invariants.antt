@@ -9,8 +9,8 @@ abbrev pub invariant-tokens : goal.invariant-tokens
 invariant-tokens l = record {
   within : length l.rest ≤ length l.text;
   stands : Stands l.builder;
-  reads : run (tokens_from l.size 0 l.rest) (machine_of l.builder l.atoms) ≡ run (tokens l.size l.text) (machine_of l.initial.builder l.initial.atoms);
-  front : IsFront l.initial.atoms l.atoms;
+  reads : run (tokens_from l.size 0 l.rest) (machine_of l.builder) ≡ run (tokens l.size l.text) (machine_of l.initial.builder);
+  front : IsFront l.initial.builder.labels.atoms l.builder.labels.atoms;
 }
 
 abbrev pub decreases-tokens : goal.decreases-tokens

@@ -5,9 +5,7 @@ use Rattle.html_subset.proofs.builder.Builder.cut.Goals as goal
 
 pub returns-clause-cut : goal.returns-clause-cut
 unfolding cut
-returns-clause-cut c = λ table.
-    let b = c.args.self.now in
-    rw (c.truncate.ensures, c.go_up.ensures.tree, c.go_up.ensures.at, c.levels_above-levels.ensures) refl
+returns-clause-cut c = rw (c.truncate.ensures, c.go_up.ensures.tree, c.go_up.ensures.at, c.levels_above-levels.ensures) refl
 
 pub returns-clause-stands : goal.returns-clause-stands
 returns-clause-stands c =
