@@ -1,13 +1,14 @@
 -- The pruned text of a sheet is UTF-8: no range that goes begins or ends inside a character.
 use Rattle.std.proofs.Common.{◌≡◌, ℕ, zero, suc, ◌+◌, ◌-◌, ◌≤◌, ◌==◌, nat_eq, nat_lt, Bool, true, false, if◌then◌else◌, List, [], ◌∷◌, ◌++◌, length, take, drop, map, slice_range, Result, Ok, Err, refl, sym, ap, ◌∙◌, subst, arith, length-append, append_assoc}
 use Rattle.std.specs.List.{starts_with, list_all}
-use Rattle.std.specs.Str.{IsUtf8, IsCharBoundary, is_utf8}
-use Rattle.std.specs.Str.Lossy.{utf8_valid_len, valid_len_up_to}
+use Rattle.std.specs.Str.{IsUtf8, IsCharBoundary}
+use Rattle.std.specs.Str.Lossy.{utf8_valid_len}
 use Rattle.std.proofs.Math.Utf8.{encode}
 use Rattle.std.proofs.lemmas.Bool.Decides.{nat_tests}
 use Rattle.std.proofs.lemmas.List.{map-append}
-use Rattle.std.proofs.lemmas.Str.{IsCharBoundary-start, IsCharBoundary-past_char, IsUtf8-nil, IsUtf8-from_is_utf8}
+use Rattle.std.proofs.lemmas.Str.{IsCharBoundary-start, IsCharBoundary-past_char}
 use Rattle.text_bytes.specs.OrderMark.{behind_order_mark}
+use Rattle.text_bytes.proofs.Utf8.{valid_is}
 use Rattle.tp_base.specs.Names.{Named}
 use Rattle.css_read.specs.declared.faults.SheetFault.{SheetFault}
 use Rattle.css_read.specs.declared.faults.SheetFault.TheVariants.{NotUtf8}
@@ -202,30 +203,6 @@ unfolding pruned
 pruned_utf8 text names later sheet flags utf8 read = utf8_left text (cuts text sheet flags) utf8 (cuts_between text names later sheet flags utf8 read)
 
 -- ---- a sheet that was read
-
-valid_by : (bs : List ℕ) (n : ℕ) → valid_len_up_to bs n ≤ n
-valid_by bs zero = omega arith
-valid_by bs (suc n) = by (is_utf8 (take (suc n) bs)) (valid_by bs n)
-  where
-    by : (test : Bool) → valid_len_up_to bs n ≤ n → (if test then suc n else valid_len_up_to bs n) ≤ suc n
-    by true less = omega arith
-    by false less = omega (arith, less)
-
-take_all : (bs : List ℕ) → take (length bs) bs ≡ bs
-take_all [] = refl
-take_all (b ∷ bs) = ap (λ xs. b ∷ xs) (take_all bs)
-
-whole_valid : (bs : List ℕ) (n : ℕ) → valid_len_up_to bs n ≡ n → IsUtf8 (take n bs)
-whole_valid bs zero is = IsUtf8-nil
-whole_valid bs (suc n) is = by (is_utf8 (take (suc n) bs)) refl is (valid_by bs n)
-  where
-    by : (test : Bool) → is_utf8 (take (suc n) bs) ≡ test → (if test then suc n else valid_len_up_to bs n) ≡ suc n → valid_len_up_to bs n ≤ n → IsUtf8 (take (suc n) bs)
-    by true valid is less = IsUtf8-from_is_utf8 (take (suc n) bs) valid
-    by false valid is less = absurd (omega (arith, is, less))
-
-pub valid_is : (text : List ℕ) → utf8_valid_len text ≡ length text → IsUtf8 text
-unfolding utf8_valid_len
-valid_is text is = subst IsUtf8 (take_all text) (whole_valid text (length text) is)
 
 pub record IsAccepted (text : List ℕ) (names later : List Named) (sheet : Sheet) : Type 0 where
   pub utf8 : IsUtf8 text

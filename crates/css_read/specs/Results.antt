@@ -1,10 +1,10 @@
 -- What a call returns, as the definitions see it.
 use Rattle.std.specs.Prelude.{◌≡◌, ◌≢◌, List, Result, Ok, Err}
 use Rattle.tp_base.specs.Names.{Named}
+use Rattle.tp_base.specs.Outcomes.{ReadsUnless}
 use Rattle.css_read.specs.declared.faults.SheetFault.{SheetFault}
 use Rattle.css_read.specs.declared.faults.SheetFault.TheVariants.{Memory}
 
 -- a call's result, and the names that it leaves, are what reading gives, unless memory ran out
 abbrev pub Reads : {X Y : Type 0} → (X → Y) → Result X SheetFault → List Named → List Named × Result Y SheetFault → Type 0
-Reads view (Ok x) names read = read ≡ (names, Ok (view x))
-Reads view (Err e) names read = e ≢ Memory → read ≡ (names, Err e)
+Reads = ReadsUnless Memory

@@ -2,7 +2,7 @@
 ghost use Rattle.std.specs.Prelude.{◌≡◌, ◌≤◌, ◌<◌, ◌+◌, All, length, map, slice_range, IfOk, OnOk};
 ghost use Rattle.text_bytes.specs.Rests.{IsRest};
 ghost use Rattle.sel_text.specs.Results.{IsFront};
-ghost use Rattle.css_read.specs.Drafts.{draft_of};
+ghost use Rattle.css_read.specs.Drafts.{draft_of, IsDraft, ReadsOn};
 ghost use Rattle.css_read.specs.Fronts.{list_len};
 ghost use Rattle.css_read.specs.Order.{AreApart, AreInRules, range_of};
 ghost use Rattle.css_read.specs.Pieces.{pieces};
@@ -20,130 +20,101 @@ use crate::sheets::{Outcome, Range, Ranges, Sheet, SheetItem, SheetItems};
 use bstr::ByteSlice;
 use sel_text::{SelFault, read_selector};
 use std::alloc::Global;
+use std::mem::replace;
 use text_bytes::behind_order_mark;
 use tp_base::AtomTable;
 
-// Reads the selector at a piece of a rule.
-#[tactic(auto, unfolding(crate::specs::Reading::read_item))]
-fn read_item(
-    alloc: Global,
-    text: &[u8],
-    rule: u32,
-    piece: Range,
-    atoms: &mut AtomTable,
-) -> Result<SheetItem, SheetFault>
-    requires from { piece.from ≤ piece.to }
-    requires to { piece.to ≤ length text.now }
-    ensures reads { Reads item_of result atoms.new (spec.read_item text.now rule atoms.old piece) }
-    ensures readable { IfOk result (λ i. IsReadableOutcome atoms.new (item_of i).outcome) }
-    ensures placed { IfOk result (λ i. IsPlaced (length text.now) (item_of i)) }
-    ensures front { IsFront atoms.old atoms.new }
-{
-    let Range { from, to } = piece;
-    let outcome = match read_selector(alloc, text, from, to, atoms) {
-        Ok(selector) => Outcome::Judged(selector),
-        Err(SelFault::Skipped(why, at)) => Outcome::Skipped(why, at),
-        Err(SelFault::TooManyAtoms) => return Err(SheetFault::TooManyAtoms(from)),
-        Err(SelFault::Memory) => return Err(SheetFault::Memory),
-    };
-    Ok(SheetItem {
-        from,
-        to,
-        rule,
-        outcome,
-    })
-}
-
-// Reads the selector at a piece of a rule, if there may be one more.
-#[tactic(auto, unfolding(crate::specs::Reading::add_item), using(sel_text::proofs::Fronts::front_itself))]
-fn add_item(
-    alloc: Global,
-    text: &[u8],
-    rule: u32,
-    piece: Range,
-    items: &mut Vec<SheetItem>,
-    atoms: &mut AtomTable,
-) -> Result<(), SheetFault>
-    requires from { piece.from ≤ piece.to }
-    requires to { piece.to ≤ length text.now }
-    requires placed { ArePlaced (length text.now) items.old.items }
-    requires readable { AllReadable atoms.old (map item_of items.old.items) }
-    ensures reads { Reads (λ _. map item_of items.new.items) result atoms.new (spec.add_item text.now rule (map item_of items.old.items) atoms.old piece) }
-    ensures more { OnOk result (length items.new.items ≡ length items.old.items + 1) }
-    ensures few { OnOk result (length items.new.items ≤ MOST_SELECTORS) }
-    ensures placed { OnOk result (ArePlaced (length text.now) items.new.items) }
-    ensures readable { OnOk result (AllReadable atoms.new (map item_of items.new.items)) }
-    ensures front { IsFront atoms.old atoms.new }
-{
-    if items.len() >= MOST_SELECTORS {
-        return Err(SheetFault::TooManySelectors(piece.from));
-    }
-    let item = read_item(alloc, text, rule, piece, atoms)?;
-    items.push(item)?;
-    Ok(())
-}
-
-// Reads the selectors of a rule's list.
-#[tactic(auto, using(crate::proofs::ItemSteps::begins, crate::proofs::ItemSteps::first_fails, crate::proofs::ItemSteps::goes_on, crate::proofs::ItemSteps::fails, crate::proofs::ItemSteps::ends, sel_text::proofs::Fronts::front_of_front, text_bytes::proofs::Rests::of_rest))]
-fn add_items(
-    alloc: Global,
-    text: &[u8],
-    rule: u32,
-    list: Range,
-    items: &mut Vec<SheetItem>,
-    atoms: &mut AtomTable,
-) -> Result<(), SheetFault>
-    requires from { list.from ≤ list.to }
-    requires to { list.to ≤ length text.now }
-    requires placed { ArePlaced (length text.now) items.old.items }
-    requires readable { AllReadable atoms.old (map item_of items.old.items) }
-    ensures reads { Reads (λ _. map item_of items.new.items) result atoms.new
-        (spec.add_items text.now rule (map item_of items.old.items) atoms.old (pieces list.to (slice_range text.now list.from list.to))) }
-    ensures more { OnOk result (length items.old.items < length items.new.items) }
-    ensures few { OnOk result (length items.new.items ≤ MOST_SELECTORS) }
-    ensures placed { OnOk result (ArePlaced (length text.now) items.new.items) }
-    ensures readable { OnOk result (AllReadable atoms.new (map item_of items.new.items)) }
-    ensures front { IsFront atoms.old atoms.new }
-{
-    let (piece, mut rest) = first_piece(alloc, list.to, &text[list.from..list.to])?;
-    add_item(alloc, text, rule, piece, items, atoms)?;
-    'commas: while let Some((_, behind)) = rest.split_first() {
-        let (piece, left) = first_piece(alloc, list.to, behind)?;
-        add_item(alloc, text, rule, piece, items, atoms)?;
-        rest = left;
-    }
-    Ok(())
-}
-
-/// What was read so far of a sheet.
+/// A sheet that is read, up to a place: its text, the table of names, and what was read of it.
 #[derive(Drop)]
-pub(crate) struct Draft {
+pub(crate) struct Draft<'t> {
+    text: &'t [u8],
+    atoms: AtomTable,
     items: Vec<SheetItem>,
     rules: Vec<Range>,
 }
 
-impl Draft {
+impl<'t> Draft<'t> {
+    // Reads the selector at a piece of a rule.
+    #[tactic(auto, unfolding(crate::specs::Reading::read_item))]
+    fn read_item(&mut self, rule: u32, piece: Range) -> Result<SheetItem, SheetFault>
+        requires from { piece.from ≤ piece.to }
+        requires to { piece.to ≤ length self.old.text.now }
+        ensures reads { Reads item_of result self.new.atoms (spec.read_item self.old.text.now rule self.old.atoms piece) }
+        ensures readable { IfOk result (λ i. IsReadableOutcome self.new.atoms (item_of i).outcome) }
+        ensures placed { IfOk result (λ i. IsPlaced (length self.old.text.now) (item_of i)) }
+        ensures items { self.new.items ≡ self.old.items }
+        ensures rules { self.new.rules ≡ self.old.rules }
+        ensures reads_on { ReadsOn self.old self.new }
+    {
+        let alloc = *self.items.allocator();
+        let Range { from, to } = piece;
+        let outcome = match read_selector(alloc, self.text, from, to, &mut self.atoms) {
+            Ok(selector) => Outcome::Judged(selector),
+            Err(SelFault::Skipped(why, at)) => Outcome::Skipped(why, at),
+            Err(SelFault::TooManyAtoms) => return Err(SheetFault::TooManyAtoms(from)),
+            Err(SelFault::Memory) => return Err(SheetFault::Memory),
+        };
+        Ok(SheetItem {
+            from,
+            to,
+            rule,
+            outcome,
+        })
+    }
+
+    // Reads the selector at a piece of a rule, if there may be one more.
+    #[tactic(auto, unfolding(crate::specs::Reading::add_item), using(sel_text::proofs::Fronts::front_itself))]
+    fn add_item(&mut self, rule: u32, piece: Range) -> Result<(), SheetFault>
+        requires from { piece.from ≤ piece.to }
+        requires to { piece.to ≤ length self.old.text.now }
+        requires draft { IsDraft self.old }
+        ensures reads { Reads (λ _. map item_of self.new.items.items) result self.new.atoms (spec.add_item self.old.text.now rule (map item_of self.old.items.items) self.old.atoms piece) }
+        ensures more { OnOk result (length self.new.items.items ≡ length self.old.items.items + 1) }
+        ensures draft { OnOk result (IsDraft self.new) }
+        ensures rules { self.new.rules ≡ self.old.rules }
+        ensures reads_on { ReadsOn self.old self.new }
+    {
+        if self.items.len() >= MOST_SELECTORS {
+            return Err(SheetFault::TooManySelectors(piece.from));
+        }
+        let item = self.read_item(rule, piece)?;
+        self.items.push(item)?;
+        Ok(())
+    }
+
+    // Reads the selectors of a rule's list.
+    #[tactic(auto, using(crate::proofs::ItemSteps::begins, crate::proofs::ItemSteps::first_fails, crate::proofs::ItemSteps::goes_on, crate::proofs::ItemSteps::fails, crate::proofs::ItemSteps::ends, sel_text::proofs::Fronts::front_of_front, text_bytes::proofs::Rests::of_rest))]
+    fn add_items(&mut self, rule: u32, list: Range) -> Result<(), SheetFault>
+        requires from { list.from ≤ list.to }
+        requires to { list.to ≤ length self.old.text.now }
+        requires draft { IsDraft self.old }
+        ensures reads { Reads (λ _. map item_of self.new.items.items) result self.new.atoms
+            (spec.add_items self.old.text.now rule (map item_of self.old.items.items) self.old.atoms (pieces list.to (slice_range self.old.text.now list.from list.to))) }
+        ensures more { OnOk result (length self.old.items.items < length self.new.items.items) }
+        ensures draft { OnOk result (IsDraft self.new) }
+        ensures rules { self.new.rules ≡ self.old.rules }
+        ensures reads_on { ReadsOn self.old self.new }
+    {
+        let alloc = *self.items.allocator();
+        let text = self.text;
+        let (piece, mut rest) = first_piece(alloc, list.to, &text[list.from..list.to])?;
+        self.add_item(rule, piece)?;
+        'commas: while let Some((_, behind)) = rest.split_first() {
+            let (piece, left) = first_piece(alloc, list.to, behind)?;
+            self.add_item(rule, piece)?;
+            rest = left;
+        }
+        Ok(())
+    }
+
     // Reads the rule that goes from one offset to another, if it is one.
     #[tactic(auto, unfolding(crate::specs::Reading::add_rules, crate::specs::Reading::add_rule), using(sel_text::proofs::Fronts::front_itself))]
-    fn add_front(
-        &mut self,
-        alloc: Global,
-        text: &[u8],
-        front: Front,
-        place: Range,
-        atoms: &mut AtomTable,
-    ) -> Result<(), SheetFault>
-        requires within { place.from + list_len front ≤ length text.now }
-        requires numbered { length self.old.rules.items ≤ length self.old.items.items }
-        requires few { length self.old.items.items ≤ MOST_SELECTORS }
-        requires placed { ArePlaced (length text.now) self.old.items.items }
-        requires readable { AllReadable atoms.old (map item_of self.old.items.items) }
-        ensures reads { Reads (λ _. draft_of self.new) result atoms.new (spec.add_rules text.now (draft_of self.old) atoms.old (rules.rules_at front place.from place.to)) }
-        ensures numbered { OnOk result (length self.new.rules.items ≤ length self.new.items.items) }
-        ensures few { OnOk result (length self.new.items.items ≤ MOST_SELECTORS) }
-        ensures placed { OnOk result (ArePlaced (length text.now) self.new.items.items) }
-        ensures readable { OnOk result (AllReadable atoms.new (map item_of self.new.items.items)) }
-        ensures front { IsFront atoms.old atoms.new }
+    fn add_front(&mut self, front: Front, place: Range) -> Result<(), SheetFault>
+        requires within { place.from + list_len front ≤ length self.old.text.now }
+        requires draft { IsDraft self.old }
+        ensures reads { Reads (λ _. draft_of self.new) result self.new.atoms (spec.add_rules self.old.text.now (draft_of self.old) self.old.atoms (rules.rules_at front place.from place.to)) }
+        ensures draft { OnOk result (IsDraft self.new) }
+        ensures reads_on { ReadsOn self.old self.new }
     {
         let Front::Styles(len) = front else {
             return Ok(());
@@ -153,38 +124,36 @@ impl Draft {
             from: place.from,
             to: place.from + len,
         };
-        add_items(alloc, text, rule, list, &mut self.items, atoms)?;
+        self.add_items(rule, list)?;
         self.rules.push(place)?;
         Ok(())
     }
-}
 
-// Reads the rules of a text.
-#[tactic(auto, using(crate::proofs::RuleSteps::begins, crate::proofs::RuleSteps::goes_on, crate::proofs::RuleSteps::fails, crate::proofs::RuleSteps::ends, sel_text::proofs::Fronts::front_itself, sel_text::proofs::Fronts::front_of_front, text_bytes::proofs::Rests::of_rest))]
-fn add_rules(alloc: Global, text: &[u8], atoms: &mut AtomTable) -> Result<Draft, SheetFault>
-    ensures reads { Reads draft_of result atoms.new (spec.add_rules text.now spec.empty_sheet atoms.old (rules.rules_of text.now)) }
-    ensures few { IfOk result (λ d. length d.items.items ≤ MOST_SELECTORS) }
-    ensures placed { IfOk result (λ d. ArePlaced (length text.now) d.items.items) }
-    ensures readable { IfOk result (λ d. AllReadable atoms.new (map item_of d.items.items)) }
-    ensures front { IsFront atoms.old atoms.new }
-{
-    let mut draft = Draft {
-        items: Vec::new(alloc),
-        rules: Vec::new(alloc),
-    };
-    let mut depth = 0;
-    let mut rest = behind_order_mark(text);
-    'rules: while !rest.is_empty() {
-        let (front, behind) = next_front(alloc, depth > 0, rest)?;
-        let place = Range {
-            from: text.len() - rest.len(),
-            to: text.len() - behind.len(),
-        };
-        draft.add_front(alloc, text, front, place, atoms)?;
-        depth = depth_after(depth, front);
-        rest = behind;
+    // Reads the rules of the text.
+    #[tactic(auto, using(crate::proofs::RuleSteps::begins, crate::proofs::RuleSteps::goes_on, crate::proofs::RuleSteps::fails, crate::proofs::RuleSteps::ends, sel_text::proofs::Fronts::front_itself, sel_text::proofs::Fronts::front_of_front, text_bytes::proofs::Rests::of_rest))]
+    fn add_rules(&mut self) -> Result<(), SheetFault>
+        requires none { draft_of self.old ≡ spec.empty_sheet }
+        requires draft { IsDraft self.old }
+        ensures reads { Reads (λ _. draft_of self.new) result self.new.atoms (spec.add_rules self.old.text.now spec.empty_sheet self.old.atoms (rules.rules_of self.old.text.now)) }
+        ensures draft { OnOk result (IsDraft self.new) }
+        ensures reads_on { ReadsOn self.old self.new }
+    {
+        let alloc = *self.items.allocator();
+        let text = self.text;
+        let mut depth = 0;
+        let mut rest = behind_order_mark(text);
+        'rules: while !rest.is_empty() {
+            let (front, behind) = next_front(alloc, depth > 0, rest)?;
+            let place = Range {
+                from: text.len() - rest.len(),
+                to: text.len() - behind.len(),
+            };
+            self.add_front(front, place)?;
+            depth = depth_after(depth, front);
+            rest = behind;
+        }
+        Ok(())
     }
-    Ok(draft)
 }
 
 /// Reads a sheet. A byte order mark at its front is passed over. The names that were read before a refusal stay in
@@ -204,9 +173,23 @@ pub fn read_sheet(alloc: Global, text: &[u8], atoms: &mut AtomTable) -> Result<S
     if let Err(e) = text.to_str() {
         return Err(SheetFault::NotUtf8(e.valid_up_to()));
     }
-    let draft = add_rules(alloc, text, atoms)?;
-    Ok(Sheet {
-        items: SheetItems::new(draft.items),
-        rules: Ranges::new(draft.rules),
-    })
+    let mut draft = Draft {
+        text,
+        atoms: replace(atoms, AtomTable::new(alloc)),
+        items: Vec::new(alloc),
+        rules: Vec::new(alloc),
+    };
+    match draft.add_rules() {
+        Ok(()) => {
+            *atoms = draft.atoms;
+            Ok(Sheet {
+                items: SheetItems::new(draft.items),
+                rules: Ranges::new(draft.rules),
+            })
+        }
+        Err(fault) => {
+            *atoms = draft.atoms;
+            Err(fault)
+        }
+    }
 }

@@ -1,7 +1,7 @@
 use Rattle.std.proofs.Common.{arith}
 use Rattle.css_read.proofs.SkipPlaces.{skipped_at}
-use Rattle.css_read.proofs.reading.read_item.Goals.{in-Ok, in-Err-Skipped}
-use Rattle.css_read.proofs.reading.read_item.Goals as goal
+use Rattle.css_read.proofs.reading.Draft.read_item.Goals.{in-Ok, in-Err-Skipped}
+use Rattle.css_read.proofs.reading.Draft.read_item.Goals as goal
 
 pub returns-clause-placed : goal.returns-clause-placed
 returns-clause-placed c =
