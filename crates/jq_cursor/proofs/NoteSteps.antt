@@ -10,7 +10,7 @@ use denote.Bor.{Bor}
 use Rattle.std.specs.Global.{Global}
 use Rattle.tp_base.proofs.Truths.{and_false}
 use Rattle.jq_words.specs.declared.brackets.Bracket.{Bracket}
-use Rattle.jq_words.specs.Words.{Word, is_mark, is_mark_kind}
+use Rattle.jq_words.specs.Words.{Word, Rest, is_mark, is_mark_kind}
 use Rattle.jq_words.specs.Brackets.{is_empty, is_innermost, opened_by, closed_by, closes_outer, brackets_behind, ends_argument}
 use Rattle.jq_words.specs.Results.{IsRest}
 use Rattle.jq_words.proofs.Rests.{itself, of_rest, behind_first}
@@ -205,14 +205,14 @@ pub opens : (all : List Word) (os : List Open) (ws : List Word) (w : Word) (b : 
 opens all os ws w b here closed semicolon comma opened on =
     now_open all os (record { bracket = b; list = None }) ws (λ bs n. ap (span bs n) here ∙ open_span w (drop 1 ws) b closed opened semicolon comma bs n) tt on
 
-pub opens_call : (all : List Word) (os : List Open) (ws : List Word) (w : Word) (b : Bracket) (p : Box Pending Global) → ws ≡ w ∷ drop 1 ws → closed_by w ≡ None
-    → is_mark (codes ";") w ≡ false → is_mark (codes ",") w ≡ false → opened_by w ≡ Some b → p.value ≡ record { list = ws; commas = 0 } → IsRest all ws → length ws ≤ 18446744073709551615 → Holds all os ws
-    → Holds all (os ++ record { bracket = b; list = Some p } ∷ []) (drop 1 ws)
-opens_call all os ws w b p here closed semicolon comma opened is part few on =
-    now_open all os (record { bracket = b; list = Some p }) ws
-    (λ bs n. ap (span bs n) here ∙ open_span w (drop 1 ws) b closed opened semicolon comma bs n) (
+pub opens_call : (all : List Word) (os : List Open) (r : Rest) (w : Word) (b : Bracket) (p : Box Pending Global) → r.words ≡ w ∷ drop 1 r.words → closed_by w ≡ None
+    → is_mark (codes ";") w ≡ false → is_mark (codes ",") w ≡ false → opened_by w ≡ Some b → p.value ≡ record { list = r; commas = 0 } → IsRest all r.words
+    → length r.words ≤ 18446744073709551615 → Holds all os r.words → Holds all (os ++ record { bracket = b; list = Some p } ∷ []) (drop 1 r.words)
+opens_call all os r w b p here closed semicolon comma opened is part few on =
+    now_open all os (record { bracket = b; list = Some p }) r.words
+    (λ bs n. ap (span bs n) here ∙ open_span w (drop 1 r.words) b closed opened semicolon comma bs n) (
       rw (ap (λ (x : Pending). x.list) is) part,
-      first_passed p.value.commas ws w here (ap (λ (x : Pending). x.commas) is) few,
+      first_passed p.value.commas r.words w here (ap (λ (x : Pending). x.commas) is) few,
       rw (ap (λ (x : Pending). x.list) is, ap (λ (x : Pending). x.commas) is) refl,
     ) on
 
@@ -304,7 +304,7 @@ none_left (o ∷ os) rest none is = let never : ⊥ = omega (arith, none) in abs
 -- ---- what is noted
 
 abbrev Noted : Type 0
-Noted = Arguments (List Word)
+Noted = Arguments Rest
 
 abbrev pub Known : List Word → List (ℕ × Noted) → Type 0
 Known all es = (at : ℕ) (list : Noted) → lookup (nat_eq at) es ≡ Some list → IsNote all at list
@@ -324,11 +324,11 @@ pub found : (all ws : List Word) (w : Word) (es : List (ℕ × Noted)) (r : Opti
 found all ws w es None known part here is = tt
 found all ws w es (Some l) known part here is = sym (noted all ws w es l.now known part here (sym is))
 
-is_noted : (all : List Word) (p : Pending) (v : Word) (list : Noted) (whole : Bool) (behind : List Word) → Ascends all → Ends all (Some p) whole behind → p.list ≡ v ∷ drop 1 p.list
-    → ((left : List Bracket) → is_empty left ≡ whole → extent_of list ≡ extent_from (drop 1 p.list) (span_at p.commas left behind)) → IsNote all v.at list
+is_noted : (all : List Word) (p : Pending) (v : Word) (list : Noted) (whole : Bool) (behind : List Word) → Ascends all → Ends all (Some p) whole behind → p.list.words ≡ v ∷ drop 1 p.list.words
+    → ((left : List Bracket) → is_empty left ≡ whole → extent_of list ≡ extent_from (drop 1 p.list.words) (span_at p.commas left behind)) → IsNote all v.at list
 is_noted all p v list whole behind sorted ends here given ws w part there same =
-    ap (λ xs. extent (drop 1 xs)) (same_rest all ws p.list w v sorted part ends.0 there here same)
-    ∙ from_span (drop 1 p.list) (span_at p.commas ends.2 behind) ends.4 ∙ sym (given ends.2 ends.3)
+    ap (λ xs. extent (drop 1 xs)) (same_rest all ws p.list.words w v sorted part ends.0 there here same)
+    ∙ from_span (drop 1 p.list.words) (span_at p.commas ends.2 behind) ends.4 ∙ sym (given ends.2 ends.3)
 
 one_or : (b : Bool) (all : List Word) (at : ℕ) (mine list : Noted) (other : Option Noted) → (b ≡ true → IsNote all at mine) → (other ≡ Some list → IsNote all at list)
     → cond b (Some mine) other ≡ Some list → IsNote all at list
@@ -336,8 +336,8 @@ one_or true all at mine list other here there found = let same : mine ≡ list =
 one_or false all at mine list other here there found = there found
 
 pub one_noted : (all : List Word) (old new : List (ℕ × Noted)) (p : Pending) (v : Word) (note : Noted) (whole : Bool) (behind : List Word) → Ascends all → Known all old
-    → Ends all (Some p) whole behind → p.list ≡ v ∷ drop 1 p.list
-    → ((left : List Bracket) → is_empty left ≡ whole → extent_of note ≡ extent_from (drop 1 p.list) (span_at p.commas left behind))
+    → Ends all (Some p) whole behind → p.list.words ≡ v ∷ drop 1 p.list.words
+    → ((left : List Bracket) → is_empty left ≡ whole → extent_of note ≡ extent_from (drop 1 p.list.words) (span_at p.commas left behind))
     → ((at : ℕ) → lookup (nat_eq at) new ≡ cond (nat_eq v.at at) (Some note) (lookup (nat_eq at) old)) → (at : ℕ) (list : Noted) → lookup (nat_eq at) new ≡ Some list → IsNote all at list
 one_noted all old new p v note whole behind sorted known ends here given updates at list found =
     one_or (nat_eq v.at at) all at note list (lookup (nat_eq at) old) (λ same. rw (sym (eqb-true v.at at same)) (is_noted all p v note whole behind sorted ends here given)) (known at list)

@@ -43,7 +43,7 @@ fn and_comma(open_brackets: &OpenBrackets, word: &Word<'_>, commas: usize) -> us
 // Whether no argument begins with these words.
 #[tactic(auto, unfolding(jq_words::specs::Brackets::ends_argument, jq_words::specs::Brackets::closes_outer))]
 fn is_bare(words: &Words<'_>) -> bool
-    ensures { spans.is_bare words.now ≡ result }
+    ensures { spans.is_bare words.now.words ≡ result }
 {
     match words.first() {
         None => true,
@@ -59,7 +59,7 @@ pub(crate) fn ended<'a>(
     behind: &Words<'a>,
 ) -> ArgumentList<'a>
     requires { commas < usize.MAX }
-    ensures { (left : List Bracket) → brackets.is_empty left ≡ whole → extent_of result ≡ spans.extent_from inside.now (spans.span_at commas left behind.now) }
+    ensures { (left : List Bracket) → brackets.is_empty left ≡ whole → extent_of result ≡ spans.extent_from inside.now.words (spans.span_at commas left behind.now.words) }
 {
     let count = if is_bare(inside) { 0 } else { commas + 1 };
     Arguments {
@@ -75,8 +75,8 @@ pub(crate) fn read_list<'a>(
     alloc: Global,
     words: &Words<'a>,
 ) -> Result<ArgumentList<'a>, ScriptFault>
-    requires { spans.CanCount 0 words.now }
-    ensures gives { IfOk result (λ l. extent_of l ≡ spec.extent words.now) }
+    requires { spans.CanCount 0 words.now.words }
+    ensures gives { IfOk result (λ l. extent_of l ≡ spec.extent words.now.words) }
     ensures only_memory { IfErr result (λ e. e ≡ Memory) }
 {
     let mut open_brackets = OpenBrackets::none(alloc);

@@ -4,7 +4,7 @@ ghost use Rattle.jq_words.specs.Words as words;
 ghost use Rattle.jq_words.specs.FreeLists as lists;
 ghost use Rattle.jq_words.specs.Views.{rules_of};
 ghost use Rattle.jq_words.specs.CallViews.{row_from};
-ghost use Rattle.jq_words.specs.Results.{Finds, Leaves, IsRest, IsBehind};
+ghost use Rattle.jq_words.specs.Results.{Finds, Leaves, InFile, IsRest, IsBehind};
 ghost use Rattle.jq_words.specs.declared.faults.ScriptFault.TheVariants.{Memory};
 ghost use Rattle.jq_cursor.specs.Lists as spec;
 ghost use Rattle.jq_cursor.specs.ListViews.{extent_of};
@@ -15,7 +15,7 @@ use jq_words::{Row, Rules, ScriptFault, Words, begins, end, free, want, want_nam
 use std::alloc::Global;
 use std::marker::Model;
 
-/// The words of a file from a place on. A contract sees the list of them.
+/// The words of a file from a place on. A contract sees the list of them, and the file's size in bytes.
 #[derive(Drop)]
 pub struct Cursor<'l, 'a> {
     words: Words<'a>,
@@ -23,15 +23,14 @@ pub struct Cursor<'l, 'a> {
 }
 
 impl<'l, 'a> Model for Cursor<'l, 'a> {
-    ghost use Rattle.std.specs.Prelude.{List};
-    ghost use Rattle.jq_words.specs.Words.{Word};
+    ghost use Rattle.jq_words.specs.Words.{Rest};
     ghost use Rattle.jq_words.specs.Results.{IsRest};
 
-    ghost Value = { List Word };
+    ghost Value = { Rest };
 
     ghost view = { λ c. c.words };
 
-    ghost invariant = { λ c. IsRest c.lists.now c.words };
+    ghost invariant = { λ c. IsRest c.lists.now.words c.words.words };
 }
 
 /// The arguments of a call, with the place behind them.
@@ -69,8 +68,8 @@ impl<'l, 'a> Cursor<'l, 'a> {
     /// Passes the first word. Constant.
     #[tactic(auto, using(jq_words::proofs::Rests::is_rest, jq_words::proofs::Rests::of_rest))]
     pub fn pass(&mut self)
-        ensures passed { self.new ≡ drop 1 self.old }
-        ensures rest { IsBehind self.old self.new }
+        ensures passed { self.new ≡ words.past 1 self.old }
+        ensures rest { InFile IsBehind self.old self.new }
     {
         self.words.pass();
     }
@@ -78,82 +77,77 @@ impl<'l, 'a> Cursor<'l, 'a> {
     /// Passes so many words. Linear in their number.
     #[tactic(auto, using(jq_words::proofs::Rests::of_rest))]
     pub fn pass_all(&mut self, count: usize)
-        ensures passed { self.new ≡ drop count self.old }
-        ensures rest { IsRest self.old self.new }
-        ensures behind { 0 < count → IsBehind self.old self.new }
+        ensures passed { self.new ≡ words.past count self.old }
+        ensures rest { InFile IsRest self.old self.new }
+        ensures behind { 0 < count → InFile IsBehind self.old self.new }
     {
         self.words.pass_all(count);
     }
 
     /// Passes a mark that is wanted. Constant. After a refusal the place is as it was.
     #[tactic(auto, using(crate::proofs::PlaceSteps::kept))]
-    pub fn want(&mut self, size: usize, spelling: &[u8]) -> Result<(), ScriptFault>
-        ensures gives { Leaves self.new result (words.want size spelling.now self.old) }
-        ensures rest { OnOk result (IsBehind self.old self.new) }
+    pub fn want(&mut self, spelling: &[u8]) -> Result<(), ScriptFault>
+        ensures gives { Leaves self.new.words result (words.want self.old.size spelling.now self.old.words) }
+        ensures rest { OnOk result (InFile IsBehind self.old self.new) }
     {
         let mut rest = self.words.again();
-        want(size, spelling, &mut rest)?;
+        want(spelling, &mut rest)?;
         self.words = rest;
         Ok(())
     }
 
     /// Passes an opening bracket that is wanted, where so many may still be opened. Constant. After a refusal the place is as it was.
     #[tactic(auto, using(crate::proofs::PlaceSteps::kept))]
-    pub fn want_open(
-        &mut self,
-        size: usize,
-        room: usize,
-        spelling: &[u8],
-    ) -> Result<(), ScriptFault>
-        ensures gives { Leaves self.new result (words.want_open size room spelling.now self.old) }
-        ensures rest { OnOk result (IsBehind self.old self.new) }
+    pub fn want_open(&mut self, room: usize, spelling: &[u8]) -> Result<(), ScriptFault>
+        ensures gives { Leaves self.new.words result (words.want_open self.old.size room spelling.now self.old.words) }
+        ensures rest { OnOk result (InFile IsBehind self.old self.new) }
         ensures opened { OnOk result (0 < room) }
     {
         let mut rest = self.words.again();
-        want_open(size, room, spelling, &mut rest)?;
+        want_open(room, spelling, &mut rest)?;
         self.words = rest;
         Ok(())
     }
 
     /// Passes a name that is wanted, whichever it is. Constant. After a refusal the place is as it was.
     #[tactic(auto, using(crate::proofs::PlaceSteps::kept))]
-    pub fn want_name(&mut self, size: usize) -> Result<&'a [u8], ScriptFault>
-        ensures gives { Finds (λ n. n.now) self.new result (words.want_name size self.old) }
-        ensures rest { OnOk result (IsBehind self.old self.new) }
+    pub fn want_name(&mut self) -> Result<&'a [u8], ScriptFault>
+        ensures gives { Finds (λ n. n.now) self.new.words result (words.want_name self.old.size self.old.words) }
+        ensures rest { OnOk result (InFile IsBehind self.old self.new) }
     {
         let mut rest = self.words.again();
-        let name = want_name(size, &mut rest)?;
+        let name = want_name(&mut rest)?;
         self.words = rest;
         Ok(name)
     }
 
     /// Passes the end of a statement. Constant. After a refusal the place is as it was.
     #[tactic(auto, using(jq_words::proofs::Rests::of_rest))]
-    pub fn end(&mut self, size: usize) -> Result<(), ScriptFault>
-        ensures gives { Leaves self.new result (words.end size self.old) }
-        ensures rest { OnOk result (IsRest self.old self.new) }
+    pub fn end(&mut self) -> Result<(), ScriptFault>
+        ensures gives { Leaves self.new.words result (words.end self.old.size self.old.words) }
+        ensures rest { OnOk result (InFile IsRest self.old self.new) }
     {
         let mut rest = self.words.again();
-        end(size, &mut rest)?;
+        end(&mut rest)?;
         self.words = rest;
         Ok(())
     }
 
     /// Passes a list of any expressions. Linear in it but for look-ups. After a refusal the place is as it was.
     #[tactic(auto, using(crate::proofs::PlaceSteps::kept))]
-    pub fn free(&mut self, alloc: Global, size: usize, rules: Rules<'_>) -> Result<(), ScriptFault>
-        ensures gives { Leaves self.new result (lists.free size (rules_of rules.entry) self.old) }
-        ensures rest { OnOk result (IsBehind self.old self.new) }
+    pub fn free(&mut self, alloc: Global, rules: Rules<'_>) -> Result<(), ScriptFault>
+        ensures gives { Leaves self.new.words result (lists.free self.old.size (rules_of rules.entry) self.old.words) }
+        ensures rest { OnOk result (InFile IsBehind self.old self.new) }
     {
         let mut rest = self.words.again();
-        free(alloc, size, rules, &mut rest)?;
+        free(alloc, rules, &mut rest)?;
         self.words = rest;
         Ok(())
     }
 
     /// The arguments behind the first word, which is a call's bracket. Constant on average: they were noted when the file was begun.
     pub fn enclosed(&self, alloc: Global) -> Result<Enclosed<'l, 'a>, ScriptFault>
-        ensures gives { IfOk result (λ e. extent_of e ≡ spec.extent (drop 1 self.now)) }
+        ensures gives { IfOk result (λ e. extent_of e ≡ spec.extent (drop 1 self.now.words)) }
         ensures only_memory { IfErr result (λ e. e ≡ Memory) }
     {
         match self.lists.get(&self.words) {
@@ -168,7 +162,7 @@ impl<'l, 'a> Cursor<'l, 'a> {
     // A list of arguments behind the first word, with its place.
     #[tactic(auto, using(crate::proofs::NoteSteps::behind_part))]
     fn with_place(&self, list: &ArgumentList<'a>) -> Enclosed<'l, 'a>
-        requires { extent_of list.now ≡ spec.extent (drop 1 self.now) }
+        requires { extent_of list.now ≡ spec.extent (drop 1 self.now.words) }
         ensures { extent_of result ≡ extent_of list.now }
     {
         Arguments {

@@ -11,10 +11,10 @@ pub const JQUERY: [&[u8]; 2] = [b"$", b"jQuery"];
 /// The names of what holds the page.
 pub const PAGES: [&[u8]; 2] = [b"document", b"window"];
 
-/// Whether J stands first. Constant.
+/// Whether `$` or `jQuery` stands first, which comments here and above call J. Constant.
 #[tactic(auto, using(crate::proofs::KeywordTables::same_jquery))]
 pub fn begins_jquery(words: &Words<'_>) -> bool
-    ensures { first_is (is_name_among jquery) words.now ≡ result }
+    ensures { first_is (is_name_among jquery) words.now.words ≡ result }
 {
     begins_name_among(words, &JQUERY)
 }
@@ -22,7 +22,7 @@ pub fn begins_jquery(words: &Words<'_>) -> bool
 /// Whether J is called. Constant.
 #[tactic(auto, using(jq_words::proofs::FitSteps::fits_no, jq_words::proofs::FitSteps::fits_then, jq_words::proofs::FitSteps::fits_one))]
 pub fn is_jquery_call(words: &Words<'_>) -> bool
-    ensures { fits (is_name_among jquery ∷ is_mark (codes "(") ∷ []) words.now ≡ result }
+    ensures { fits (is_name_among jquery ∷ is_mark (codes "(") ∷ []) words.now.words ≡ result }
 {
     if !begins_jquery(words) {
         return false;
@@ -33,7 +33,7 @@ pub fn is_jquery_call(words: &Words<'_>) -> bool
 /// The spelling of the first word; none where there is no word. Constant.
 #[tactic(auto, unfolding(jq_words::specs::Words::spelled))]
 pub fn spelled<'a>(words: &Words<'a>) -> &'a [u8]
-    ensures bytes { result.now ≡ spelled words.now }
+    ensures bytes { result.now ≡ spelled words.now.words }
     ensures utf8 { IsUtf8 result.now }
 {
     match words.first() {

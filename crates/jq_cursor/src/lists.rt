@@ -20,7 +20,8 @@ use js_scan::Token;
 use std::alloc::Global;
 use std::marker::Model;
 
-/// The words of a file, with how far the arguments of its calls reach. A contract sees the list of the words.
+/// The words of a file, with how far the arguments of its calls reach. A contract sees the list of the words, and the file's
+/// size in bytes.
 #[derive(Drop)]
 pub struct Lists<'a> {
     all: Words<'a>,
@@ -28,17 +29,17 @@ pub struct Lists<'a> {
 }
 
 impl<'a> Model for Lists<'a> {
-    ghost use Rattle.std.specs.Prelude.{List, ◌≡◌, ℕ, Some, nat_eq};
+    ghost use Rattle.std.specs.Prelude.{◌≡◌, ℕ, Some, nat_eq};
     ghost use Rattle.std.specs.Map.{lookup};
-    ghost use Rattle.jq_words.specs.Words.{Word};
+    ghost use Rattle.jq_words.specs.Words.{Rest};
     ghost use Rattle.jq_cursor.specs.declared.argument_lists.Arguments.{Arguments};
     ghost use Rattle.jq_cursor.specs.Notes.{Ascends, IsNote};
 
-    ghost Value = { List Word };
+    ghost Value = { Rest };
 
     ghost view = { λ l. l.all };
 
-    ghost invariant = { λ l. Ascends l.all × ((at : ℕ) (list : Arguments (List Word)) → lookup (nat_eq at) l.notes.entries ≡ Some list → IsNote l.all at list) };
+    ghost invariant = { λ l. Ascends l.all.words × ((at : ℕ) (list : Arguments Rest) → lookup (nat_eq at) l.notes.entries ≡ Some list → IsNote l.all.words at list) };
 }
 
 impl<'a> Lists<'a> {
@@ -47,7 +48,7 @@ impl<'a> Lists<'a> {
     pub fn new(alloc: Global, text: &'a [u8], tokens: &'a [Token]) -> Result<Self, ScriptFault>
         requires in_order { InOrder 0 (length text.now) tokens.now }
         requires text { AreTexts text.now tokens.now }
-        ensures gives { IfOk result (λ l. l ≡ spec.words text.now tokens.now) }
+        ensures gives { IfOk result (λ l. l ≡ spec.file text.now tokens.now) }
         ensures only_memory { IfErr result (λ e. e ≡ Memory) }
     {
         let mut lists = Lists {
@@ -68,9 +69,9 @@ impl<'a> Lists<'a> {
     /// The arguments behind the first of the last words, where they were noted. Constant on average.
     #[tactic(auto, using(crate::proofs::NoteSteps::noted))]
     pub(crate) fn get(&self, words: &Words<'_>) -> Option<&ArgumentList<'a>>
-        requires { IsRest self.now words.now }
-        ensures few { length words.now ≤ usize.MAX }
-        ensures noted { IfSome result (λ l. extent_of l.now ≡ extent (drop 1 words.now)) }
+        requires { IsRest self.now.words words.now.words }
+        ensures few { length words.now.words ≤ usize.MAX }
+        ensures noted { IfSome result (λ l. extent_of l.now ≡ extent (drop 1 words.now.words)) }
     {
         let word = words.first()?;
         self.notes.get(&word.at())
@@ -101,10 +102,10 @@ impl<'a> Lists<'a> {
         names_call: bool,
         words: &Words<'a>,
     ) -> Result<(), ScriptFault>
-        requires part { IsRest self.old words.now }
-        requires holds { Holds self.old opened.old.items words.now }
+        requires part { IsRest self.old.words words.now.words }
+        requires holds { Holds self.old.words opened.old.items words.now.words }
         ensures kept { OnOk result (self.new ≡ self.old) }
-        ensures holds { OnOk result (Holds self.old opened.new.items (drop 1 words.now)) }
+        ensures holds { OnOk result (Holds self.old.words opened.new.items (drop 1 words.now.words)) }
         ensures only_memory { IfErr result (λ e. e ≡ Memory) }
     {
         let Some(word) = words.first() else {
@@ -148,11 +149,11 @@ impl<'a> Lists<'a> {
         word: &Word<'_>,
         words: &Words<'a>,
     ) -> Result<(), ScriptFault>
-        requires first { words.now ≡ word.now ∷ drop 1 words.now }
+        requires first { words.now.words ≡ word.now ∷ drop 1 words.now.words }
         requires closes { brackets.closed_by word.now ≡ Some bracket }
-        requires holds { Holds self.old opened.old.items words.now }
+        requires holds { Holds self.old.words opened.old.items words.now.words }
         ensures kept { OnOk result (self.new ≡ self.old) }
-        ensures holds { OnOk result (Holds self.old opened.new.items (drop 1 words.now)) }
+        ensures holds { OnOk result (Holds self.old.words opened.new.items (drop 1 words.now.words)) }
         ensures only_memory { IfErr result (λ e. e ≡ Memory) }
     {
         let Some(last) = pop(opened) else {
@@ -174,12 +175,12 @@ impl<'a> Lists<'a> {
         word: &Word<'_>,
         words: &Words<'a>,
     ) -> Result<(), ScriptFault>
-        requires first { words.now ≡ word.now ∷ drop 1 words.now }
+        requires first { words.now.words ≡ word.now ∷ drop 1 words.now.words }
         requires closes { brackets.closed_by word.now ≡ None }
         requires is { is_mark (codes ";") word.now ≡ true }
-        requires holds { Holds self.old opened.old.items words.now }
+        requires holds { Holds self.old.words opened.old.items words.now.words }
         ensures kept { OnOk result (self.new ≡ self.old) }
-        ensures holds { OnOk result (Holds self.old opened.new.items (drop 1 words.now)) }
+        ensures holds { OnOk result (Holds self.old.words opened.new.items (drop 1 words.now.words)) }
         ensures only_memory { IfErr result (λ e. e ≡ Memory) }
     {
         let Some(last) = pop(opened) else {
@@ -202,12 +203,12 @@ impl<'a> Lists<'a> {
         word: &Word<'_>,
         words: &Words<'a>,
     ) -> Result<(), ScriptFault>
-        requires first { words.now ≡ word.now ∷ drop 1 words.now }
+        requires first { words.now.words ≡ word.now ∷ drop 1 words.now.words }
         requires closes { brackets.closed_by word.now ≡ None }
         requires other { is_mark (codes ";") word.now ≡ false }
         requires is { is_mark (codes ",") word.now ≡ true }
-        requires holds { Holds self.now opened.old.items words.now }
-        ensures holds { OnOk result (Holds self.now opened.new.items (drop 1 words.now)) }
+        requires holds { Holds self.now.words opened.old.items words.now.words }
+        ensures holds { OnOk result (Holds self.now.words opened.new.items (drop 1 words.now.words)) }
         ensures only_memory { IfErr result (λ e. e ≡ Memory) }
     {
         let Some(last) = pop(opened) else {
@@ -222,8 +223,8 @@ impl<'a> Lists<'a> {
     // The file's end ends the arguments in all brackets that are open.
     #[tactic(auto, using(crate::proofs::NoteSteps::over_last, crate::proofs::NoteSteps::all_over))]
     fn finish(&mut self, opened: &mut Vec<Open<'a>>, words: &Words<'a>) -> Result<(), ScriptFault>
-        requires over { words.now ≡ [] }
-        requires holds { Holds self.old opened.old.items words.now }
+        requires over { words.now.words ≡ [] }
+        requires holds { Holds self.old.words opened.old.items words.now.words }
         ensures kept { OnOk result (self.new ≡ self.old) }
         ensures only_memory { IfErr result (λ e. e ≡ Memory) }
     {
@@ -237,7 +238,7 @@ impl<'a> Lists<'a> {
     // The arguments in all brackets that are open end before some words.
     #[tactic(auto, using(crate::proofs::NoteSteps::one_less_ends, crate::proofs::NoteSteps::last_ends, crate::proofs::NoteSteps::fewer))]
     fn end_all(&mut self, opened: &mut Vec<Open<'a>>, words: &Words<'a>) -> Result<(), ScriptFault>
-        requires { AllEnd self.old opened.old.items words.now }
+        requires { AllEnd self.old.words opened.old.items words.now.words }
         ensures kept { OnOk result (self.new ≡ self.old) }
         ensures none { OnOk result (opened.new.items ≡ []) }
         ensures only_memory { IfErr result (λ e. e ≡ Memory) }
@@ -256,7 +257,7 @@ impl<'a> Lists<'a> {
         whole: bool,
         behind: &Words<'a>,
     ) -> Result<(), ScriptFault>
-        requires { Ends self.old (pending_in list) whole behind.now }
+        requires { Ends self.old.words (pending_in list) whole behind.now.words }
         ensures kept { OnOk result (self.new ≡ self.old) }
         ensures only_memory { IfErr result (λ e. e ≡ Memory) }
     {

@@ -1,7 +1,7 @@
 //! Arguments as words, and those that are Texts.
-ghost use Rattle.std.specs.Prelude.{OnOk};
+ghost use Rattle.std.specs.Prelude.{◌≡◌, IfOk, OnOk};
 ghost use Rattle.jq_words.specs.Words.{place};
-ghost use Rattle.jq_words.specs.Results.{Finds, Turns, IsBehind};
+ghost use Rattle.jq_words.specs.Results.{Finds, Turns, InFile, IsBehind};
 ghost use Rattle.jq_cursor.specs.TextArguments as spec;
 
 use crate::cursors::Cursor;
@@ -12,15 +12,15 @@ use std::alloc::Global;
 #[tactic(auto, unfolding(crate::specs::TextArguments::some_argument), using(jq_words::proofs::ArgumentSteps::none_given, jq_words::proofs::ArgumentSteps::some_given, jq_words::proofs::Rests::itself))]
 pub fn some_argument<'a>(
     alloc: Global,
-    size: usize,
     words: &mut Cursor<'_, 'a>,
 ) -> Result<Words<'a>, ScriptFault>
-    ensures gives { Finds (λ w. w) words.new result (spec.some_argument size words.old) }
-    ensures rest { OnOk result (IsBehind words.old words.new) }
+    ensures gives { Finds (λ w. w.words) words.new.words result (spec.some_argument words.old.size words.old.words) }
+    ensures size { IfOk result (λ w. w.size ≡ words.old.size) }
+    ensures rest { OnOk result (InFile IsBehind words.old words.new) }
 {
     let count = argument_len(alloc, true, words.words())?;
     if count == 0 {
-        return Err(ScriptFault::UnknownForm(place(size, words.words())));
+        return Err(ScriptFault::UnknownForm(place(words.words())));
     }
     let given = words.words().front(count);
     words.pass_all(count);
@@ -29,21 +29,17 @@ pub fn some_argument<'a>(
 
 /// Passes Texts that are an argument, and gives their letters. Linear in the argument.
 #[tactic(auto, unfolding(crate::specs::TextArguments::text_argument))]
-pub fn text_argument(
-    alloc: Global,
-    size: usize,
-    words: &mut Cursor<'_, '_>,
-) -> Result<Vec<u8>, ScriptFault>
-    ensures gives { Turns (λ l. l.items) (place size words.old) words.new result (spec.text_argument size words.old) }
-    ensures rest { OnOk result (IsBehind words.old words.new) }
+pub fn text_argument(alloc: Global, words: &mut Cursor<'_, '_>) -> Result<Vec<u8>, ScriptFault>
+    ensures gives { Turns (λ l. l.items) (place words.old.size words.old.words) words.new.words result (spec.text_argument words.old.size words.old.words) }
+    ensures rest { OnOk result (InFile IsBehind words.old words.new) }
 {
     let count = argument_len(alloc, true, words.words())?;
     let given = words.words().front(count);
     if given.first().is_none() {
-        return Err(ScriptFault::UnknownForm(place(size, words.words())));
+        return Err(ScriptFault::UnknownForm(place(words.words())));
     }
     let Some(letters) = joined_texts(alloc, &given)? else {
-        return Err(ScriptFault::ComplexArgument(place(size, words.words())));
+        return Err(ScriptFault::ComplexArgument(place(words.words())));
     };
     words.pass_all(count);
     Ok(letters)

@@ -1,7 +1,7 @@
 //! The parts of statements that are lists of any expressions.
-ghost use Rattle.std.specs.Prelude.{false, length, OnOk};
+ghost use Rattle.std.specs.Prelude.{false, OnOk};
 ghost use Rattle.jq_words.specs.FreeLists.{free};
-ghost use Rattle.jq_words.specs.Results.{Leaves, IsRest, IsBehind};
+ghost use Rattle.jq_words.specs.Results.{Leaves, InFile, IsRest, IsBehind};
 ghost use Rattle.jq_forms.specs.ListParts as spec;
 ghost use Rattle.jq_forms.specs.Readers.{rules_from};
 
@@ -18,8 +18,8 @@ pub fn list_in(
     room: usize,
     words: &mut Cursor<'_, '_>,
 ) -> Result<(), ScriptFault>
-    ensures gives { Leaves words.new result (free (length reader.entry.text.now) (rules_from reader.entry has_this braces room) words.old) }
-    ensures rest { OnOk result (IsBehind words.old words.new) }
+    ensures gives { Leaves words.new.words result (free words.old.size (rules_from reader.entry has_this braces room) words.old.words) }
+    ensures rest { OnOk result (InFile IsBehind words.old words.new) }
 {
     let rules = Rules {
         exact: reader.exact,
@@ -28,45 +28,45 @@ pub fn list_in(
         braces,
         room,
     };
-    words.free(reader.alloc, reader.text.len(), rules)
+    words.free(reader.alloc, rules)
 }
 
 /// A list, as a statement. Linear in it but for look-ups.
-#[tactic(auto, unfolding(crate::specs::ListParts::list_statement), using(jq_words::proofs::Rests::behind_rest))]
+#[tactic(auto, unfolding(crate::specs::ListParts::list_statement), using(jq_words::proofs::Files::behind_rest))]
 pub fn list_statement(
     reader: Reader<'_>,
     has_this: bool,
     room: usize,
     words: &mut Cursor<'_, '_>,
 ) -> Result<(), ScriptFault>
-    ensures gives { Leaves words.new result (spec.list_statement (length reader.entry.text.now) (rules_from reader.entry has_this false room) words.old) }
-    ensures rest { OnOk result (IsBehind words.old words.new) }
+    ensures gives { Leaves words.new.words result (spec.list_statement words.old.size (rules_from reader.entry has_this false room) words.old.words) }
+    ensures rest { OnOk result (InFile IsBehind words.old words.new) }
 {
     list_in(reader, has_this, false, room, words)?;
-    words.end(reader.text.len())?;
+    words.end()?;
     Ok(())
 }
 
 /// Behind `return`. Linear in what is returned but for look-ups.
-#[tactic(auto, unfolding(crate::specs::ListParts::returned), using(jq_words::proofs::Rests::is_rest))]
+#[tactic(auto, unfolding(crate::specs::ListParts::returned), using(jq_words::proofs::Files::is_rest))]
 pub fn returned(
     reader: Reader<'_>,
     has_this: bool,
     room: usize,
     words: &mut Cursor<'_, '_>,
 ) -> Result<(), ScriptFault>
-    ensures gives { Leaves words.new result (spec.returned (length reader.entry.text.now) (rules_from reader.entry has_this false room) words.old) }
-    ensures rest { OnOk result (IsRest words.old words.new) }
+    ensures gives { Leaves words.new.words result (spec.returned words.old.size (rules_from reader.entry has_this false room) words.old.words) }
+    ensures rest { OnOk result (InFile IsRest words.old words.new) }
 {
     if end_fits(words.words()) {
-        return words.end(reader.text.len());
+        return words.end();
     }
     list_statement(reader, has_this, room, words)?;
     Ok(())
 }
 
 /// A name, which may be bound to a chain, that gets another value; no chain may. Linear in the value but for look-ups.
-#[tactic(auto, unfolding(crate::specs::ListParts::set), using(jq_words::proofs::Rests::two_passed, jq_words::proofs::Rests::passed_rest, jq_words::proofs::Rests::is_rest))]
+#[tactic(auto, unfolding(crate::specs::ListParts::set), using(jq_words::proofs::Rests::two_passed, jq_words::proofs::Files::passed_rest, jq_words::proofs::Files::is_rest))]
 pub fn set(
     reader: Reader<'_>,
     bound: bool,
@@ -74,11 +74,11 @@ pub fn set(
     room: usize,
     words: &mut Cursor<'_, '_>,
 ) -> Result<(), ScriptFault>
-    ensures gives { Leaves words.new result (spec.set (length reader.entry.text.now) bound (rules_from reader.entry has_this false room) words.old) }
-    ensures rest { OnOk result (IsBehind words.old words.new) }
+    ensures gives { Leaves words.new.words result (spec.set words.old.size bound (rules_from reader.entry has_this false room) words.old.words) }
+    ensures rest { OnOk result (InFile IsBehind words.old words.new) }
 {
     if bound {
-        return Err(ScriptFault::UnknownForm(place(reader.text.len(), words.words())));
+        return Err(ScriptFault::UnknownForm(place(words.words())));
     }
     words.pass();
     if begins_setting(words.words()) {
@@ -87,38 +87,38 @@ pub fn set(
         return Ok(());
     }
     words.pass();
-    words.end(reader.text.len())?;
+    words.end()?;
     Ok(())
 }
 
 /// Passes `if` and its condition. Linear in it but for look-ups.
-#[tactic(auto, unfolding(crate::specs::ListParts::condition), using(jq_words::proofs::Rests::passed, jq_words::proofs::Rests::behind_behind))]
+#[tactic(auto, unfolding(crate::specs::ListParts::condition), using(jq_words::proofs::Files::passed, jq_words::proofs::Files::behind_behind))]
 pub fn condition(
     reader: Reader<'_>,
     has_this: bool,
     room: usize,
     words: &mut Cursor<'_, '_>,
 ) -> Result<(), ScriptFault>
-    ensures gives { Leaves words.new result (spec.condition (length reader.entry.text.now) (rules_from reader.entry has_this false room) words.old) }
-    ensures rest { OnOk result (IsBehind words.old words.new) }
+    ensures gives { Leaves words.new.words result (spec.condition words.old.size (rules_from reader.entry has_this false room) words.old.words) }
+    ensures rest { OnOk result (InFile IsBehind words.old words.new) }
 {
     words.pass();
-    words.want_open(reader.text.len(), room, b"(")?;
+    words.want_open(room, b"(")?;
     list_in(reader, has_this, false, room - 1, words)?;
-    words.want(reader.text.len(), b")")?;
+    words.want(b")")?;
     Ok(())
 }
 
 // Passes a list, unless a closing bracket stands there.
-#[tactic(auto, unfolding(crate::specs::ListParts::given), using(jq_words::proofs::Rests::itself, jq_words::proofs::Rests::is_rest))]
+#[tactic(auto, unfolding(crate::specs::ListParts::given), using(jq_words::proofs::Files::itself, jq_words::proofs::Files::is_rest))]
 fn given(
     reader: Reader<'_>,
     has_this: bool,
     room: usize,
     words: &mut Cursor<'_, '_>,
 ) -> Result<(), ScriptFault>
-    ensures gives { Leaves words.new result (spec.given (length reader.entry.text.now) (rules_from reader.entry has_this false room) words.old) }
-    ensures rest { OnOk result (IsRest words.old words.new) }
+    ensures gives { Leaves words.new.words result (spec.given words.old.size (rules_from reader.entry has_this false room) words.old.words) }
+    ensures rest { OnOk result (InFile IsRest words.old words.new) }
 {
     if begins(words.words(), b")") {
         return Ok(());
@@ -135,17 +135,17 @@ pub fn called_with(
     room: usize,
     words: &mut Cursor<'_, '_>,
 ) -> Result<(), ScriptFault>
-    ensures gives { Leaves words.new result (spec.called_with (length reader.entry.text.now) (rules_from reader.entry has_this false room) words.old) }
-    ensures rest { OnOk result (IsBehind words.old words.new) }
+    ensures gives { Leaves words.new.words result (spec.called_with words.old.size (rules_from reader.entry has_this false room) words.old.words) }
+    ensures rest { OnOk result (InFile IsBehind words.old words.new) }
 {
-    words.want_open(reader.text.len(), room, b"(")?;
+    words.want_open(room, b"(")?;
     given(reader, has_this, room - 1, words)?;
-    words.want(reader.text.len(), b")")?;
+    words.want(b")")?;
     Ok(())
 }
 
 /// Passes a comma and a list, where a comma stands. Linear in it but for look-ups.
-#[tactic(auto, unfolding(crate::specs::ListParts::and_list), using(jq_words::proofs::Rests::itself, jq_words::proofs::Rests::passed_behind))]
+#[tactic(auto, unfolding(crate::specs::ListParts::and_list), using(jq_words::proofs::Files::itself, jq_words::proofs::Files::passed_behind))]
 pub fn and_list(
     reader: Reader<'_>,
     has_this: bool,
@@ -153,8 +153,8 @@ pub fn and_list(
     room: usize,
     words: &mut Cursor<'_, '_>,
 ) -> Result<(), ScriptFault>
-    ensures gives { Leaves words.new result (spec.and_list (length reader.entry.text.now) (rules_from reader.entry has_this braces room) words.old) }
-    ensures rest { OnOk result (IsRest words.old words.new) }
+    ensures gives { Leaves words.new.words result (spec.and_list words.old.size (rules_from reader.entry has_this braces room) words.old.words) }
+    ensures rest { OnOk result (InFile IsRest words.old words.new) }
 {
     if !begins(words.words(), b",") {
         return Ok(());

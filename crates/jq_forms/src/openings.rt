@@ -8,6 +8,7 @@ use crate::forms::StatementForm;
 use jq_cursor::{JQUERY, begins_jquery, is_jquery_call};
 use jq_words::{Words, begins, begins_any_name, begins_name, begins_name_among};
 
+// The words that begin a declaration, those that call a function later, and what stands behind a name that gets a value.
 const DECLARING: [&[u8]; 3] = [b"var", b"let", b"const"];
 
 const TIMERS: [&[u8]; 2] = [b"setTimeout", b"setInterval"];
@@ -19,7 +20,7 @@ const STEPPING: [&[u8]; 2] = [b"++", b"--"];
 // Whether one of these names is called.
 #[tactic(auto, using(jq_words::proofs::FitSteps::fits_no, jq_words::proofs::FitSteps::fits_then, jq_words::proofs::FitSteps::fits_one))]
 fn is_call_of(words: &Words<'_>, names: &[&[u8]]) -> bool
-    ensures { fits (is_name_among (map (λ k. k.now) names.now) ∷ is_mark (codes "(") ∷ []) words.now ≡ result }
+    ensures { fits (is_name_among (map (λ k. k.now) names.now) ∷ is_mark (codes "(") ∷ []) words.now.words ≡ result }
 {
     if !begins_name_among(words, names) {
         return false;
@@ -29,21 +30,21 @@ fn is_call_of(words: &Words<'_>, names: &[&[u8]]) -> bool
 
 #[tactic(auto, using(crate::proofs::Tables::same_timers))]
 fn is_timer(words: &Words<'_>) -> bool
-    ensures { fits (is_name_among spec.timers ∷ is_mark (codes "(") ∷ []) words.now ≡ result }
+    ensures { fits (is_name_among spec.timers ∷ is_mark (codes "(") ∷ []) words.now.words ≡ result }
 {
     is_call_of(words, &TIMERS)
 }
 
 #[tactic(auto, using(crate::proofs::Tables::same_declaring))]
 fn is_declaration(words: &Words<'_>) -> bool
-    ensures { first_is (is_name_among spec.declaring) words.now ≡ result }
+    ensures { first_is (is_name_among spec.declaring) words.now.words ≡ result }
 {
     begins_name_among(words, &DECLARING)
 }
 
 #[tactic(auto, using(jq_words::proofs::FitSteps::fits_no_two, jq_words::proofs::FitSteps::fits_then_two, jq_words::proofs::FitSteps::fits_one))]
 fn is_start(words: &Words<'_>) -> bool
-    ensures { fits (is_name_among jquery ∷ is_mark (codes "(") ∷ is_name (codes "function") ∷ []) words.now ≡ result }
+    ensures { fits (is_name_among jquery ∷ is_mark (codes "(") ∷ is_name (codes "function") ∷ []) words.now.words ≡ result }
 {
     if !is_jquery_call(words) {
         return false;
@@ -53,7 +54,7 @@ fn is_start(words: &Words<'_>) -> bool
 
 #[tactic(auto, using(jq_words::proofs::FitSteps::fits_no, jq_words::proofs::FitSteps::fits_then, jq_words::proofs::FitSteps::fits_one))]
 fn is_document_ready(words: &Words<'_>) -> bool
-    ensures { fits (is_name (codes "document") ∷ is_mark (codes ")") ∷ is_mark (codes ".") ∷ is_name (codes "ready") ∷ []) words.now ≡ result }
+    ensures { fits (is_name (codes "document") ∷ is_mark (codes ")") ∷ is_mark (codes ".") ∷ is_name (codes "ready") ∷ []) words.now.words ≡ result }
 {
     if !begins_name(words, b"document") {
         return false;
@@ -71,7 +72,7 @@ fn is_document_ready(words: &Words<'_>) -> bool
 
 #[tactic(auto, using(jq_words::proofs::FitSteps::fits_no_two, jq_words::proofs::FitSteps::fits_then_two))]
 fn is_ready(words: &Words<'_>) -> bool
-    ensures { fits (is_name_among jquery ∷ is_mark (codes "(") ∷ is_name (codes "document") ∷ is_mark (codes ")") ∷ is_mark (codes ".") ∷ is_name (codes "ready") ∷ []) words.now ≡ result }
+    ensures { fits (is_name_among jquery ∷ is_mark (codes "(") ∷ is_name (codes "document") ∷ is_mark (codes ")") ∷ is_mark (codes ".") ∷ is_name (codes "ready") ∷ []) words.now.words ≡ result }
 {
     if !is_jquery_call(words) {
         return false;
@@ -81,7 +82,7 @@ fn is_ready(words: &Words<'_>) -> bool
 
 #[tactic(auto, using(jq_words::proofs::FitSteps::fits_no, jq_words::proofs::FitSteps::fits_then, jq_words::proofs::FitSteps::fits_one))]
 fn is_foreign(words: &Words<'_>) -> bool
-    ensures { fits (is_name_among jquery ∷ is_mark (codes ".") ∷ is_any_name ∷ []) words.now ≡ result }
+    ensures { fits (is_name_among jquery ∷ is_mark (codes ".") ∷ is_any_name ∷ []) words.now.words ≡ result }
 {
     if !begins_jquery(words) {
         return false;
@@ -95,7 +96,7 @@ fn is_foreign(words: &Words<'_>) -> bool
 
 #[tactic(auto, unfolding(jq_words::specs::Words::first_is), using(jq_cursor::proofs::KeywordTables::same_jquery, crate::proofs::Tables::same_timers))]
 fn begins_own_name(words: &Words<'_>) -> bool
-    ensures { first_is spec.is_own_name words.now ≡ result }
+    ensures { first_is spec.is_own_name words.now.words ≡ result }
 {
     match words.first() {
         None => false,
@@ -107,7 +108,7 @@ fn begins_own_name(words: &Words<'_>) -> bool
 
 #[tactic(auto, unfolding(jq_words::specs::Words::first_is), using(crate::proofs::Tables::same_setting))]
 pub(crate) fn begins_setting(words: &Words<'_>) -> bool
-    ensures { first_is (is_mark_among spec.setting) words.now ≡ result }
+    ensures { first_is (is_mark_among spec.setting) words.now.words ≡ result }
 {
     match words.first() {
         None => false,
@@ -117,7 +118,7 @@ pub(crate) fn begins_setting(words: &Words<'_>) -> bool
 
 #[tactic(auto, unfolding(jq_words::specs::Words::first_is), using(crate::proofs::Tables::same_setting, crate::proofs::Tables::same_stepping))]
 fn begins_new_value(words: &Words<'_>) -> bool
-    ensures { first_is (λ w. is_mark_among spec.setting w || is_mark_among spec.stepping w) words.now ≡ result }
+    ensures { first_is (λ w. is_mark_among spec.setting w || is_mark_among spec.stepping w) words.now.words ≡ result }
 {
     match words.first() {
         None => false,
@@ -127,7 +128,7 @@ fn begins_new_value(words: &Words<'_>) -> bool
 
 #[tactic(auto, using(jq_words::proofs::FitSteps::fits_no, jq_words::proofs::FitSteps::fits_then, jq_words::proofs::FitSteps::fits_one))]
 fn is_set(words: &Words<'_>) -> bool
-    ensures { fits (spec.is_own_name ∷ (λ w. is_mark_among spec.setting w || is_mark_among spec.stepping w) ∷ []) words.now ≡ result }
+    ensures { fits (spec.is_own_name ∷ (λ w. is_mark_among spec.setting w || is_mark_among spec.stepping w) ∷ []) words.now.words ≡ result }
 {
     if !begins_own_name(words) {
         return false;
@@ -137,7 +138,7 @@ fn is_set(words: &Words<'_>) -> bool
 
 #[tactic(auto, using(jq_words::proofs::FitSteps::fits_no, jq_words::proofs::FitSteps::fits_then, jq_words::proofs::FitSteps::fits_one))]
 fn is_name_with_dot(words: &Words<'_>) -> bool
-    ensures { fits (spec.is_own_name ∷ is_mark (codes ".") ∷ []) words.now ≡ result }
+    ensures { fits (spec.is_own_name ∷ is_mark (codes ".") ∷ []) words.now.words ≡ result }
 {
     if !begins_own_name(words) {
         return false;
@@ -147,7 +148,7 @@ fn is_name_with_dot(words: &Words<'_>) -> bool
 
 #[tactic(auto, using(jq_words::proofs::FitSteps::fits_no, jq_words::proofs::FitSteps::fits_then, jq_words::proofs::FitSteps::fits_one))]
 fn is_once(words: &Words<'_>) -> bool
-    ensures { fits (is_mark (codes "(") ∷ is_name (codes "function") ∷ []) words.now ≡ result }
+    ensures { fits (is_mark (codes "(") ∷ is_name (codes "function") ∷ []) words.now.words ≡ result }
 {
     if !begins(words, b"(") {
         return false;
@@ -158,7 +159,7 @@ fn is_once(words: &Words<'_>) -> bool
 /// What a statement is, whose first word may be a name that is bound to a chain. Constant.
 #[tactic(auto, unfolding(crate::specs::Openings::form_of))]
 pub fn form_of(bound: bool, words: &Words<'_>) -> StatementForm
-    ensures { spec.form_of bound words.now ≡ result }
+    ensures { spec.form_of bound words.now.words ≡ result }
 {
     if begins(words, b";") {
         return StatementForm::Empty;

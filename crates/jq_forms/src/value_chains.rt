@@ -13,7 +13,7 @@ use std::alloc::Global;
 /// The calls that read a value without an argument.
 pub const READ_BARE: [&[u8]; 2] = [b"val", b"text"];
 
-/// The calls that read a value by one argument.
+/// The calls that read a value without an argument, or by one that is no object.
 pub const READ_ONE: [&[u8]; 2] = [b"css", b"data"];
 
 /// The calls that read a value where one argument is given, and give one where there are two.
@@ -22,7 +22,7 @@ pub const READ_SINGLE: [&[u8]; 1] = [b"attr"];
 // Whether a call reads a value with so many arguments, which begin with these words.
 #[tactic(auto, using(crate::proofs::ValueSteps::same_bare, crate::proofs::ValueSteps::same_one, crate::proofs::ValueSteps::same_single))]
 fn reads_with(name: &[u8], count: usize, inside: &Words<'_>) -> bool
-    ensures { spec.reads_with name.now count inside.now ≡ result }
+    ensures { spec.reads_with name.now count inside.now.words ≡ result }
 {
     (is_one_of(&READ_BARE, name) && count == 0)
         || (is_one_of(&READ_SINGLE, name) && count == 1)
@@ -31,7 +31,7 @@ fn reads_with(name: &[u8], count: usize, inside: &Words<'_>) -> bool
 
 // The words behind a list and its closing bracket, where it is closed.
 fn behind_list<'l, 'a>(enclosed: &Enclosed<'l, 'a>) -> Option<Cursor<'l, 'a>>
-    ensures some { IfSome result (λ c. spec.behind_extent (extent_of enclosed.now) ≡ c) }
+    ensures some { IfSome result (λ c. spec.behind_extent (extent_of enclosed.now) ≡ c.words) }
     ensures none { IfNone result (spec.behind_extent (extent_of enclosed.now) ≡ []) }
 {
     if !enclosed.whole || !begins(enclosed.behind.words(), b")") {
@@ -45,7 +45,7 @@ fn behind_list<'l, 'a>(enclosed: &Enclosed<'l, 'a>) -> Option<Cursor<'l, 'a>>
 // Whether a name is called.
 #[tactic(auto, using(jq_words::proofs::FitSteps::fits_no, jq_words::proofs::FitSteps::fits_then, jq_words::proofs::FitSteps::fits_one))]
 fn begins_call(words: &Words<'_>) -> bool
-    ensures { fits (is_any_name ∷ is_mark (codes "(") ∷ []) words.now ≡ result }
+    ensures { fits (is_any_name ∷ is_mark (codes "(") ∷ []) words.now.words ≡ result }
 {
     if !begins_any_name(words) {
         return false;
@@ -56,7 +56,7 @@ fn begins_call(words: &Words<'_>) -> bool
 // Whether a `.` and a name stand first.
 #[tactic(auto, using(jq_words::proofs::FitSteps::fits_no, jq_words::proofs::FitSteps::fits_then, jq_words::proofs::FitSteps::fits_one))]
 fn begins_member(words: &Words<'_>) -> bool
-    ensures { fits (is_mark (codes ".") ∷ is_any_name ∷ []) words.now ≡ result }
+    ensures { fits (is_mark (codes ".") ∷ is_any_name ∷ []) words.now.words ≡ result }
 {
     if !begins(words, b".") {
         return false;
@@ -78,9 +78,9 @@ fn chain_call<'l, 'a>(
     exact: bool,
     words: &Cursor<'l, 'a>,
 ) -> Result<Option<Enclosed<'l, 'a>>, ScriptFault>
-    ensures call { IfOk result (λ r. IfSome r (λ e. spec.is_chain_call exact words.now ≡ true)) }
-    ensures arguments { IfOk result (λ r. IfSome r (λ e. extent_of e ≡ extent (drop 1 (drop 1 words.now)))) }
-    ensures other { IfOk result (λ r. IfNone r (spec.is_chain_call exact words.now ≡ false)) }
+    ensures call { IfOk result (λ r. IfSome r (λ e. spec.is_chain_call exact words.now.words ≡ true)) }
+    ensures arguments { IfOk result (λ r. IfSome r (λ e. extent_of e ≡ extent (drop 1 (drop 1 words.now.words)))) }
+    ensures other { IfOk result (λ r. IfNone r (spec.is_chain_call exact words.now.words ≡ false)) }
     ensures only_memory { IfErr result (λ e. e ≡ Memory) }
 {
     let name = spelled(words.words());
@@ -99,7 +99,7 @@ fn chain_call<'l, 'a>(
 // Whether the calls of a value, each with its `.`, are those of a chain.
 #[tactic(auto, using(crate::proofs::ValueSteps::goes_on, crate::proofs::ValueSteps::ends, crate::proofs::ValueSteps::fails, crate::proofs::ValueSteps::over, crate::proofs::ValueSteps::shorter))]
 fn are_chain_calls(alloc: Global, exact: bool, words: Cursor<'_, '_>) -> Result<bool, ScriptFault>
-    ensures gives { IfOk result (λ b. spec.are_chain_calls exact 0 words.entry ≡ b) }
+    ensures gives { IfOk result (λ b. spec.are_chain_calls exact 0 words.entry.words ≡ b) }
     ensures only_memory { IfErr result (λ e. e ≡ Memory) }
 {
     let mut rest = words;
@@ -119,7 +119,7 @@ fn are_chain_calls(alloc: Global, exact: bool, words: Cursor<'_, '_>) -> Result<
 // Whether a value that begins with J and a bracket is a chain.
 #[tactic(auto, using(crate::proofs::ValueSteps::behind_it, crate::proofs::ValueSteps::none_behind))]
 fn is_jquery_chain(alloc: Global, exact: bool, words: &Cursor<'_, '_>) -> Result<bool, ScriptFault>
-    ensures gives { IfOk result (λ b. spec.are_chain_calls exact 0 (spec.behind_list (drop 1 (drop 1 words.now))) ≡ b) }
+    ensures gives { IfOk result (λ b. spec.are_chain_calls exact 0 (spec.behind_list (drop 1 (drop 1 words.now.words))) ≡ b) }
     ensures only_memory { IfErr result (λ e. e ≡ Memory) }
 {
     let mut list = words.again();
@@ -134,7 +134,7 @@ fn is_jquery_chain(alloc: Global, exact: bool, words: &Cursor<'_, '_>) -> Result
 // Whether a name stands first, which may be bound to a chain, and isn't J.
 #[tactic(auto, using(jq_cursor::proofs::KeywordTables::same_jquery, crate::proofs::ValueSteps::no_first, crate::proofs::ValueSteps::other_first, crate::proofs::ValueSteps::jquery_first, crate::proofs::ValueSteps::bound_first))]
 fn begins_bound(bound: bool, words: &Words<'_>) -> bool
-    ensures { spec.begins_bound bound words.now ≡ result }
+    ensures { spec.begins_bound bound words.now.words ≡ result }
 {
     let Some(word) = words.first() else {
         return false;
@@ -157,7 +157,7 @@ pub fn is_chain(
     bound: bool,
     words: &Cursor<'_, '_>,
 ) -> Result<bool, ScriptFault>
-    ensures gives { IfOk result (λ b. spec.is_chain exact bound words.now ≡ b) }
+    ensures gives { IfOk result (λ b. spec.is_chain exact bound words.now.words ≡ b) }
     ensures only_memory { IfErr result (λ e. e ≡ Memory) }
 {
     if is_jquery_call(words.words()) {

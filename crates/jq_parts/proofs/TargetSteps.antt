@@ -1,10 +1,11 @@
 -- A word before a closing bracket, and no more.
-use Rattle.std.proofs.Common.{◌≡◌, ℕ, Bool, true, false, ◌&&◌, if◌then◌else◌, List, [], ◌∷◌, drop, bytes_eq, Err, refl, sym, ap, ◌∙◌, codes}
+use Rattle.std.proofs.Common.{◌≡◌, ℕ, Bool, true, false, ◌&&◌, if◌then◌else◌, List, [], ◌∷◌, drop, bytes_eq, Option, Some, None, Err, refl, sym, ap, ◌∙◌, codes}
 use Rattle.std.proofs.lemmas.Slice.Eq.{bytes_eq-Decides}
+use Rattle.std.specs.Prelude.{IfNone}
 use Rattle.tp_base.proofs.Truths.{and_false}
 use Rattle.jq_words.specs.declared.faults.ScriptFault.TheVariants.{ComplexArgument}
-use Rattle.jq_words.specs.Words.{Word, is_mark, is_name, is_name_kind, is_any_name, is_among, is_name_among, is_form, is_one, place, spelled}
-use Rattle.jq_words.proofs.FitSteps.{no_form, form}
+use Rattle.jq_words.specs.Words.{Word, is_mark, is_name, is_name_kind, is_any_name, is_among, is_name_among, fits, is_form, is_one, place, spelled}
+use Rattle.jq_words.proofs.FitSteps.{no_form, form, form_then_two}
 use Rattle.jq_cursor.specs.Keywords.{jquery, pages, is_name_besides}
 use Rattle.jq_parts.specs.Scopes.{Scope}
 use Rattle.jq_parts.specs.Arguments.{named_target, bare_target, wrapped_target, wrapped_this, other_target}
@@ -24,6 +25,14 @@ closed p w c [] here behind is = cc
 closed p w c (v ∷ []) here behind is = cc
 closed p w c (v ∷ x ∷ y ∷ ws) here behind is = cc
 closed p w c (v ∷ x ∷ []) here behind is = let same : x ≡ c = cc in let first : v ≡ w = cc in rw (same, first) (all_of (p w) (is_mark (codes ")") c) is)
+
+-- no word is alone in the brackets of J
+pub no_wrapped : {X : Type 0} (r : Option X) (ws inside : List Word) → fits (is_name_among jquery ∷ is_mark (codes "(") ∷ []) ws ≡ true → inside ≡ drop 1 (drop 1 ws)
+    → IfNone r ((p : Word → Bool) → is_form (p ∷ is_mark (codes ")") ∷ []) inside ≡ false)
+    → IfNone r ((p : Word → Bool) → is_form (is_name_among jquery ∷ is_mark (codes "(") ∷ p ∷ is_mark (codes ")") ∷ []) ws ≡ false)
+no_wrapped None ws inside starts here none = λ p.
+    form_then_two (is_name_among jquery) (is_mark (codes "(")) (p ∷ is_mark (codes ")") ∷ []) ws starts ∙ ap (is_form (p ∷ is_mark (codes ")") ∷ [])) (sym here) ∙ none p
+no_wrapped (Some x) ws inside starts here none = tt
 
 pub none_closed : (p : Word → Bool) (ws : List Word) → ws ≡ [] → is_form (p ∷ is_mark (codes ")") ∷ []) ws ≡ false
 unfolding is_form

@@ -1,5 +1,5 @@
 //! Arguments that are markup.
-ghost use Rattle.std.specs.Prelude.{◌≡◌, ◌≤◌, length, option_map, IfOk, IfErr, OnOk};
+ghost use Rattle.std.specs.Prelude.{◌≡◌, ◌≤◌, option_map, IfOk, IfErr, OnOk};
 ghost use Rattle.sel_text.specs.Results.{IsFront};
 ghost use Rattle.jq_words.specs.Words.{place};
 ghost use Rattle.jq_words.specs.Results.{Finds};
@@ -17,7 +17,7 @@ use tree_sem::Forest;
 // The letters of markup in the brackets of J, where that is all there is.
 #[tactic(auto, unfolding(crate::specs::Arguments::wrapped))]
 fn wrapped(alloc: Global, words: &Words<'_>) -> Result<Option<Vec<u8>>, ScriptFault>
-    ensures gives { IfOk result (λ v. spec.wrapped words.now ≡ option_map (λ l. l.items) v) }
+    ensures gives { IfOk result (λ v. spec.wrapped words.now.words ≡ option_map (λ l. l.items) v) }
     ensures only_memory { IfErr result (λ e. e ≡ Memory) }
 {
     if !is_jquery_call(words) {
@@ -39,21 +39,16 @@ fn wrapped_forest(
     words: &Words<'_>,
     grown: &mut Grown,
 ) -> Result<Forest, ScriptFault>
-    ensures gives { Finds (λ f. f.tops) (grown_of grown.new) result (spec.wrapped_forest (length reader.entry.text.now) room words.now (grown_of grown.old) (spec.wrapped words.now)) }
+    ensures gives { Finds (λ f. f.tops) (grown_of grown.new) result (spec.wrapped_forest words.now.size room words.now.words (grown_of grown.old) (spec.wrapped words.now.words)) }
     ensures few { OnOk result (grown.new.nodes ≤ MOST_FOREST_NODES) }
     ensures front { IsFront grown.old.atoms grown.new.atoms }
 {
     let Some(letters) = wrapped(reader.alloc, words)? else {
-        return Err(ScriptFault::UnknownForm(place(reader.text.len(), words)));
+        return Err(ScriptFault::UnknownForm(place(words)));
     };
     let mut inside = words.behind();
-    want_open(reader.text.len(), room, b"(", &mut inside)?;
-    forest(
-        reader.alloc,
-        place(reader.text.len(), &inside),
-        &letters,
-        grown,
-    )
+    want_open(room, b"(", &mut inside)?;
+    forest(reader.alloc, place(&inside), &letters, grown)
 }
 
 /// The trees of an argument that is markup, where so many brackets may still be opened. Linear in it but for look-ups.
@@ -64,20 +59,15 @@ pub fn markup_argument(
     words: &Words<'_>,
     grown: &mut Grown,
 ) -> Result<Forest, ScriptFault>
-    ensures gives { Finds (λ f. f.tops) (grown_of grown.new) result (spec.markup_argument (length reader.entry.text.now) room words.now (grown_of grown.old)) }
+    ensures gives { Finds (λ f. f.tops) (grown_of grown.new) result (spec.markup_argument words.now.size room words.now.words (grown_of grown.old)) }
     ensures few { OnOk result (grown.new.nodes ≤ MOST_FOREST_NODES) }
     ensures front { IsFront grown.old.atoms grown.new.atoms }
 {
     if let Some(letters) = joined_texts(reader.alloc, words)? {
-        return forest(
-            reader.alloc,
-            place(reader.text.len(), words),
-            &letters,
-            grown,
-        );
+        return forest(reader.alloc, place(words), &letters, grown);
     }
     if !begins_jquery(words) {
-        return Err(ScriptFault::DynamicMarkup(place(reader.text.len(), words)));
+        return Err(ScriptFault::DynamicMarkup(place(words)));
     }
     wrapped_forest(reader, room, words, grown)
 }

@@ -1,11 +1,11 @@
 //! The calls of a chain: whether one may stand behind a value, and what the value is with it.
-ghost use Rattle.std.specs.Prelude.{◌≡◌, [], ◌∷◌, length, map, option_map, IfOk, IfErr, OnOk};
+ghost use Rattle.std.specs.Prelude.{◌≡◌, [], ◌∷◌, map, option_map, IfOk, IfErr, OnOk};
 ghost use Rattle.sel_text.specs.Selectors.{simple};
 ghost use Rattle.sel_text.specs.Views.{selector_of};
 ghost use Rattle.jq_stmts.specs.Sharp.{first};
 ghost use Rattle.jq_stmts.specs.Views as sem;
 ghost use Rattle.jq_words.specs.CallViews.{form_of, row_from};
-ghost use Rattle.jq_words.specs.Results.{Gives, Finds, IsBehind};
+ghost use Rattle.jq_words.specs.Results.{Gives, Finds, InFile, IsBehind};
 ghost use Rattle.jq_words.specs.declared.faults.ScriptFault.TheVariants.{Memory};
 ghost use Rattle.jq_parts.specs.Calls as spec;
 ghost use Rattle.jq_chains.specs.MarkedCalls.{marked_of};
@@ -51,7 +51,7 @@ pub fn with_call(alloc: Global, reached: Value, call: MarkedCall) -> Result<Valu
     }
 }
 
-/// The call of a form that makes a set, by a list of compounds or by going back.
+/// The call of a form that makes a set, by a list of compounds. For any other form, which nobody asks for, it is `end`.
 pub fn made(form: Form, compounds: Vec<Compound>) -> Result<MarkedCall, NoMemory>
     ensures { IfOk result (λ c. marked_of c ≡ spec.made (form_of form) (sem.atoms_of compounds.items)) }
 {
@@ -156,11 +156,11 @@ fn call_name(
     reached: &Value,
     words: &mut Cursor<'_, '_>,
 ) -> Result<(Row<'static>, usize), ScriptFault>
-    ensures gives { Finds (λ k. (row_from k.0, k.1)) words.new result (spec.call_name reader.entry.exact (length reader.entry.text.now) (value_of reached.now) words.old) }
-    ensures rest { OnOk result (IsBehind words.old words.new) }
+    ensures gives { Finds (λ k. (row_from k.0, k.1)) words.new.words result (spec.call_name reader.entry.exact words.old.size (value_of reached.now) words.old.words) }
+    ensures rest { OnOk result (InFile IsBehind words.old words.new) }
 {
     let Some(word) = words.words().first() else {
-        return Err(ScriptFault::UnknownForm(reader.text.len()));
+        return Err(ScriptFault::UnknownForm(words.words().size()));
     };
     if !word.is_any_name() {
         return Err(ScriptFault::UnknownForm(word.at()));
@@ -176,17 +176,17 @@ fn call_name(
 }
 
 /// Passes `.` and the name of a call.
-#[tactic(auto, unfolding(crate::specs::Calls::dot_name), using(jq_words::proofs::Rests::behind_behind))]
+#[tactic(auto, unfolding(crate::specs::Calls::dot_name), using(jq_words::proofs::Files::behind_behind))]
 pub fn dot_name(
     reader: Reader<'_>,
     reached: &Value,
     words: &mut Cursor<'_, '_>,
 ) -> Result<(Row<'static>, usize), ScriptFault>
-    ensures gives { Finds (λ k. (row_from k.0, k.1)) words.new result (spec.dot_name reader.entry.exact (length reader.entry.text.now) (value_of reached.now) words.old) }
-    ensures rest { OnOk result (IsBehind words.old words.new) }
+    ensures gives { Finds (λ k. (row_from k.0, k.1)) words.new.words result (spec.dot_name reader.entry.exact words.old.size (value_of reached.now) words.old.words) }
+    ensures rest { OnOk result (InFile IsBehind words.old words.new) }
 {
     if is_placed(reached) {
-        return Err(ScriptFault::UnknownForm(place(reader.text.len(), words.words())));
+        return Err(ScriptFault::UnknownForm(place(words.words())));
     }
     words.pass();
     let name = call_name(reader, reached, words)?;
@@ -202,13 +202,13 @@ pub fn admitted(
     at: usize,
     words: &Cursor<'_, '_>,
 ) -> Result<usize, ScriptFault>
-    ensures { Gives (λ n. n) result (spec.admitted (length reader.entry.text.now) (value_of reached.now) (row_from row.now) at words.now) }
+    ensures { Gives (λ n. n) result (spec.admitted words.now.size (value_of reached.now) (row_from row.now) at words.now.words) }
 {
     if !may_stand(row.form, reached) {
         return Err(ScriptFault::UnknownForm(at));
     }
     if !begins(words.words(), b"(") {
-        return Err(ScriptFault::UnknownForm(place(reader.text.len(), words.words())));
+        return Err(ScriptFault::UnknownForm(place(words.words())));
     }
     let enclosed = words.enclosed(reader.alloc)?;
     if !counts(row, &enclosed) {
@@ -219,15 +219,11 @@ pub fn admitted(
 
 /// Whether markup of a chain that is over was placed.
 #[tactic(auto, unfolding(crate::specs::Calls::ended))]
-pub fn ended(
-    reader: Reader<'_>,
-    reached: Value,
-    words: &Cursor<'_, '_>,
-) -> Result<Value, ScriptFault>
-    ensures { Gives value_of result (spec.ended (length reader.entry.text.now) (value_of reached) words.now) }
+pub fn ended(reached: Value, words: &Cursor<'_, '_>) -> Result<Value, ScriptFault>
+    ensures { Gives value_of result (spec.ended words.now.size (value_of reached) words.now.words) }
 {
     match reached {
-        Value::Markup(_) => Err(ScriptFault::UnknownForm(place(reader.text.len(), words.words()))),
+        Value::Markup(_) => Err(ScriptFault::UnknownForm(place(words.words()))),
         other => Ok(other),
     }
 }

@@ -1,6 +1,6 @@
 //! The parameters of a function.
 ghost use Rattle.std.specs.Prelude.{◌≡◌, [], ◌∷◌, ◌++◌, OnOk, IfErr};
-ghost use Rattle.jq_words.specs.Results.{Leaves, IsRest, IsBehind};
+ghost use Rattle.jq_words.specs.Results.{Leaves, InFile, IsRest, IsBehind};
 ghost use Rattle.jq_words.specs.declared.faults.ScriptFault.TheVariants.{Memory};
 ghost use Rattle.jq_parts.specs.Parameters as spec;
 ghost use Rattle.jq_parts.specs.Views.{declarations_of};
@@ -22,18 +22,17 @@ fn hide<'a>(name: &'a [u8], declarations: &mut Declarations<'a>) -> Result<(), S
 }
 
 // Further parameters, each behind a comma.
-#[tactic(auto, using(crate::proofs::ParameterSteps::goes_on, crate::proofs::ParameterSteps::fails, crate::proofs::ParameterSteps::ends, jq_words::proofs::Rests::itself, jq_words::proofs::Rests::behind_first, jq_words::proofs::Rests::is_rest, jq_words::proofs::Rests::of_rest))]
+#[tactic(auto, using(crate::proofs::ParameterSteps::goes_on, crate::proofs::ParameterSteps::fails, crate::proofs::ParameterSteps::ends, jq_words::proofs::Files::itself, jq_words::proofs::Files::behind_first, jq_words::proofs::Files::is_rest, jq_words::proofs::Files::of_rest))]
 fn more_parameters<'a>(
-    size: usize,
     declarations: &mut Declarations<'a>,
     words: &mut Cursor<'_, 'a>,
 ) -> Result<(), ScriptFault>
-    ensures gives { Leaves (declarations_of declarations.new, words.new) result (spec.more_parameters size (declarations_of declarations.old) words.old) }
-    ensures rest { OnOk result (IsRest words.old words.new) }
+    ensures gives { Leaves (declarations_of declarations.new, words.new.words) result (spec.more_parameters words.old.size (declarations_of declarations.old) words.old.words) }
+    ensures rest { OnOk result (InFile IsRest words.old words.new) }
 {
     'names: while begins(words.words(), b",") {
         words.pass();
-        let name = words.want_name(size)?;
+        let name = words.want_name()?;
         hide(name, declarations)?;
     }
     Ok(())
@@ -41,24 +40,23 @@ fn more_parameters<'a>(
 
 /// Passes parameters in brackets, of which so many may still be opened: each hides what its name was bound to. Linear in them but for
 /// look-ups.
-#[tactic(auto, unfolding(crate::specs::Parameters::parameters, crate::specs::Parameters::named_parameters), using(jq_words::proofs::Rests::passed, jq_words::proofs::Rests::behind_behind, jq_words::proofs::Rests::behind_rest))]
+#[tactic(auto, unfolding(crate::specs::Parameters::parameters, crate::specs::Parameters::named_parameters), using(jq_words::proofs::Files::passed, jq_words::proofs::Files::behind_behind, jq_words::proofs::Files::behind_rest))]
 pub fn parameters<'a>(
-    size: usize,
     room: usize,
     declarations: &mut Declarations<'a>,
     words: &mut Cursor<'_, 'a>,
 ) -> Result<(), ScriptFault>
-    ensures gives { Leaves (declarations_of declarations.new, words.new) result (spec.parameters size room (declarations_of declarations.old) words.old) }
-    ensures rest { OnOk result (IsBehind words.old words.new) }
+    ensures gives { Leaves (declarations_of declarations.new, words.new.words) result (spec.parameters words.old.size room (declarations_of declarations.old) words.old.words) }
+    ensures rest { OnOk result (InFile IsBehind words.old words.new) }
 {
-    words.want_open(size, room, b"(")?;
+    words.want_open(room, b"(")?;
     if begins(words.words(), b")") {
         words.pass();
         return Ok(());
     }
-    let name = words.want_name(size)?;
+    let name = words.want_name()?;
     hide(name, declarations)?;
-    more_parameters(size, declarations, words)?;
-    words.want(size, b")")?;
+    more_parameters(declarations, words)?;
+    words.want(b")")?;
     Ok(())
 }

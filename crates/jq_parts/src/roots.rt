@@ -1,7 +1,7 @@
 //! What a chain begins with.
-ghost use Rattle.std.specs.Prelude.{◌≤◌, length, OnOk};
+ghost use Rattle.std.specs.Prelude.{◌≤◌, OnOk};
 ghost use Rattle.sel_text.specs.Results.{IsFront};
-ghost use Rattle.jq_words.specs.Results.{Gives, Finds, Turns, IsBehind};
+ghost use Rattle.jq_words.specs.Results.{Gives, Finds, Turns, InFile, IsBehind};
 ghost use Rattle.jq_words.specs.declared.faults.TheConstants.{MOST_FOREST_NODES};
 ghost use Rattle.jq_parts.specs.Roots as spec;
 ghost use Rattle.jq_parts.specs.Views.{value_of};
@@ -16,15 +16,10 @@ use std::alloc::Global;
 
 // `this`, document or window, or a bound name. A look-up, and a copy where its value is markup.
 #[tactic(auto, using(crate::proofs::RootSteps::no_root, crate::proofs::RootSteps::this_root, crate::proofs::RootSteps::this_refused, crate::proofs::RootSteps::page_root, crate::proofs::RootSteps::name_root, crate::proofs::RootSteps::other_root))]
-fn named_root(
-    alloc: Global,
-    size: usize,
-    scope: &Scope<'_>,
-    words: &Words<'_>,
-) -> Result<Value, ScriptFault>
-    ensures { Gives value_of result (spec.named_root size (scope_of scope.now) words.now) }
+fn named_root(alloc: Global, scope: &Scope<'_>, words: &Words<'_>) -> Result<Value, ScriptFault>
+    ensures { Gives value_of result (spec.named_root words.now.size (scope_of scope.now) words.now.words) }
 {
-    let at = place(size, words);
+    let at = place(words);
     let Some(word) = only(words) else {
         return Err(ScriptFault::ComplexArgument(at));
     };
@@ -71,14 +66,13 @@ pub fn jquery_argument(
     words: &Words<'_>,
     grown: &mut Grown,
 ) -> Result<Value, ScriptFault>
-    ensures gives { Finds value_of (grown_of grown.new) result (spec.jquery_argument (length reader.entry.text.now) (scope_of scope.now) words.now (grown_of grown.old)) }
+    ensures gives { Finds value_of (grown_of grown.new) result (spec.jquery_argument words.now.size (scope_of scope.now) words.now.words (grown_of grown.old)) }
     ensures few { grown.old.nodes ≤ MOST_FOREST_NODES → OnOk result (grown.new.nodes ≤ MOST_FOREST_NODES) }
     ensures front { IsFront grown.old.atoms grown.new.atoms }
 {
-    let size = reader.text.len();
     match joined_texts(reader.alloc, words)? {
-        Some(letters) => lettered_root(reader.alloc, place(size, words), &letters, grown),
-        None => named_root(reader.alloc, size, scope, words),
+        Some(letters) => lettered_root(reader.alloc, place(words), &letters, grown),
+        None => named_root(reader.alloc, scope, words),
     }
 }
 
@@ -91,21 +85,20 @@ fn wrapped_root(
     grown: &mut Grown,
     words: &mut Cursor<'_, '_>,
 ) -> Result<Value, ScriptFault>
-    ensures gives { Turns value_of (grown_of grown.new) words.new result (spec.wrapped_root (length reader.entry.text.now) room (scope_of scope.now) (grown_of grown.old) words.old) }
+    ensures gives { Turns value_of (grown_of grown.new) words.new.words result (spec.wrapped_root words.old.size room (scope_of scope.now) (grown_of grown.old) words.old.words) }
     ensures few { grown.old.nodes ≤ MOST_FOREST_NODES → OnOk result (grown.new.nodes ≤ MOST_FOREST_NODES) }
-    ensures rest { OnOk result (IsBehind words.old words.new) }
+    ensures rest { OnOk result (InFile IsBehind words.old words.new) }
     ensures front { IsFront grown.old.atoms grown.new.atoms }
 {
-    let size = reader.text.len();
-    words.want_open(size, room, b"(")?;
+    words.want_open(room, b"(")?;
     let count = argument_len(reader.alloc, false, words.words())?;
     let given = words.words().front(count);
     if given.first().is_none() {
-        return Err(ScriptFault::UnknownForm(place(size, words.words())));
+        return Err(ScriptFault::UnknownForm(place(words.words())));
     }
     let value = jquery_argument(reader, scope, &given, grown)?;
     words.pass_all(count);
-    words.want(size, b")")?;
+    words.want(b")")?;
     Ok(value)
 }
 
@@ -118,9 +111,9 @@ pub fn root(
     grown: &mut Grown,
     words: &mut Cursor<'_, '_>,
 ) -> Result<Value, ScriptFault>
-    ensures gives { Turns value_of (grown_of grown.new) words.new result (spec.root (length reader.entry.text.now) room (scope_of scope.now) (grown_of grown.old) words.old) }
+    ensures gives { Turns value_of (grown_of grown.new) words.new.words result (spec.root words.old.size room (scope_of scope.now) (grown_of grown.old) words.old.words) }
     ensures few { grown.old.nodes ≤ MOST_FOREST_NODES → OnOk result (grown.new.nodes ≤ MOST_FOREST_NODES) }
-    ensures rest { OnOk result (IsBehind words.old words.new) }
+    ensures rest { OnOk result (InFile IsBehind words.old words.new) }
     ensures front { IsFront grown.old.atoms grown.new.atoms }
 {
     if is_jquery_call(words.words()) {
@@ -131,7 +124,7 @@ pub fn root(
         reader.alloc,
         scope,
         spelled(words.words()),
-        place(reader.text.len(), words.words()),
+        place(words.words()),
     )?;
     words.pass();
     Ok(value)

@@ -1,5 +1,5 @@
 //! The chain on which markup is placed.
-ghost use Rattle.std.specs.Prelude.{◌≡◌, [], ◌∷◌, Bool, false, codes, drop, length, IfSome, IfNone, IsUtf8};
+ghost use Rattle.std.specs.Prelude.{◌≡◌, [], ◌∷◌, Bool, false, codes, drop, IfSome, IfNone, IsUtf8};
 ghost use Rattle.sel_text.specs.Results.{IsFront};
 ghost use Rattle.jq_words.specs.Words.{Word, is_mark, is_name_among, is_form, spelled};
 ghost use Rattle.jq_words.specs.Results.{Gives, Finds};
@@ -57,9 +57,9 @@ fn named_target(
 // The word that stands before a closing bracket, where these two are all.
 #[tactic(auto, using(crate::proofs::TargetSteps::closed, crate::proofs::TargetSteps::none_closed, crate::proofs::TargetSteps::other_closed, crate::proofs::TargetSteps::more_closed))]
 fn closed_word<'a>(words: &Words<'a>) -> Option<Word<'a>>
-    ensures first { IfSome result (λ w. words.now ≡ w ∷ drop 1 words.now) }
-    ensures some { IfSome result (λ w. (p : Word → Bool) → is_form (p ∷ is_mark (codes ")") ∷ []) words.now ≡ p w) }
-    ensures none { IfNone result ((p : Word → Bool) → is_form (p ∷ is_mark (codes ")") ∷ []) words.now ≡ false) }
+    ensures first { IfSome result (λ w. words.now.words ≡ w ∷ drop 1 words.now.words) }
+    ensures some { IfSome result (λ w. (p : Word → Bool) → is_form (p ∷ is_mark (codes ")") ∷ []) words.now.words ≡ p w) }
+    ensures none { IfNone result ((p : Word → Bool) → is_form (p ∷ is_mark (codes ")") ∷ []) words.now.words ≡ false) }
 {
     let Some(word) = words.first() else {
         return None;
@@ -76,9 +76,9 @@ fn closed_word<'a>(words: &Words<'a>) -> Option<Word<'a>>
 // The word in the brackets of J, where that is all there is.
 #[tactic(auto, using(jq_words::proofs::FitSteps::form_then_two, jq_words::proofs::FitSteps::form_no_two))]
 fn wrapped_word<'a>(words: &Words<'a>) -> Option<Word<'a>>
-    ensures first { IfSome result (λ w. drop 1 (drop 1 words.now) ≡ w ∷ drop 1 (drop 1 (drop 1 words.now))) }
-    ensures some { IfSome result (λ w. (p : Word → Bool) → is_form (is_name_among jquery ∷ is_mark (codes "(") ∷ p ∷ is_mark (codes ")") ∷ []) words.now ≡ p w) }
-    ensures none { IfNone result ((p : Word → Bool) → is_form (is_name_among jquery ∷ is_mark (codes "(") ∷ p ∷ is_mark (codes ")") ∷ []) words.now ≡ false) }
+    ensures first { IfSome result (λ w. drop 1 (drop 1 words.now.words) ≡ w ∷ drop 1 (drop 1 (drop 1 words.now.words))) }
+    ensures some { IfSome result (λ w. (p : Word → Bool) → is_form (is_name_among jquery ∷ is_mark (codes "(") ∷ p ∷ is_mark (codes ")") ∷ []) words.now.words ≡ p w) }
+    ensures none { IfNone result ((p : Word → Bool) → is_form (is_name_among jquery ∷ is_mark (codes "(") ∷ p ∷ is_mark (codes ")") ∷ []) words.now.words ≡ false) }
 {
     if !is_jquery_call(words) {
         return None;
@@ -95,38 +95,30 @@ fn wrapped_target(
     at: usize,
     words: &Words<'_>,
 ) -> Result<SharedChain, ScriptFault>
-    ensures { Gives shared_of result (spec.wrapped_target (length reader.entry.text.now) room (scope_of scope.now) at words.now) }
+    ensures { Gives shared_of result (spec.wrapped_target words.now.size room (scope_of scope.now) at words.now.words) }
 {
     let mut inside = words.again();
     if is_apart(&scope.declarations, spelled(&words.behind())) {
         return Err(ScriptFault::ComplexArgument(at));
     }
-    let size = reader.text.len();
-    want_open(size, room, b"(", &mut inside)?;
-    named_target(
-        reader.alloc,
-        scope,
-        at,
-        spelled(&inside),
-        place(size, &inside),
-    )
+    want_open(room, b"(", &mut inside)?;
+    named_target(reader.alloc, scope, at, spelled(&inside), place(&inside))
 }
 
 // `this` in the brackets of J.
 #[tactic(auto, unfolding(crate::specs::Arguments::wrapped_this))]
 fn wrapped_this(
     alloc: Global,
-    size: usize,
     room: usize,
     scope: &Scope<'_>,
     words: &Words<'_>,
 ) -> Result<SharedChain, ScriptFault>
-    ensures { Gives shared_of result (spec.wrapped_this size room (scope_of scope.now) words.now) }
+    ensures { Gives shared_of result (spec.wrapped_this words.now.size room (scope_of scope.now) words.now.words) }
 {
     let mut inside = words.again();
-    want_open(size, room, b"(", &mut inside)?;
+    want_open(room, b"(", &mut inside)?;
     if !scope.has_this {
-        return Err(ScriptFault::ThisOutside(place(size, &inside)));
+        return Err(ScriptFault::ThisOutside(place(&inside)));
     }
     Ok(this_chain(alloc)?)
 }
@@ -139,7 +131,7 @@ fn bare_target(
     at: usize,
     words: &Words<'_>,
 ) -> Result<SharedChain, ScriptFault>
-    ensures { Gives shared_of result (spec.bare_target (scope_of scope.now) at words.now) }
+    ensures { Gives shared_of result (spec.bare_target (scope_of scope.now) at words.now.words) }
 {
     let Some(word) = only(words) else {
         return Err(ScriptFault::ComplexArgument(at));
@@ -161,20 +153,14 @@ fn other_target(
     scope: &Scope<'_>,
     words: &Words<'_>,
 ) -> Result<SharedChain, ScriptFault>
-    ensures { Gives shared_of result (spec.other_target (length reader.entry.text.now) room (scope_of scope.now) words.now) }
+    ensures { Gives shared_of result (spec.other_target words.now.size room (scope_of scope.now) words.now.words) }
 {
-    let at = place(reader.text.len(), words);
+    let at = place(words);
     let Some(word) = wrapped_word(words) else {
         return bare_target(reader.alloc, scope, at, words);
     };
     if word.is_name(b"this") {
-        return wrapped_this(
-            reader.alloc,
-            reader.text.len(),
-            room,
-            scope,
-            &words.behind(),
-        );
+        return wrapped_this(reader.alloc, room, scope, &words.behind());
     }
     if !word.is_any_name() {
         return Err(ScriptFault::ComplexArgument(at));
@@ -195,17 +181,12 @@ pub fn target(
     words: &Words<'_>,
     atoms: &mut AtomTable,
 ) -> Result<SharedChain, ScriptFault>
-    ensures gives { Finds shared_of atoms.new result (spec.target (length reader.entry.text.now) room (scope_of scope.now) words.now atoms.old) }
+    ensures gives { Finds shared_of atoms.new result (spec.target words.now.size room (scope_of scope.now) words.now.words atoms.old) }
     ensures front { IsFront atoms.old atoms.new }
 {
     let Some(letters) = joined_texts(reader.alloc, words)? else {
         return other_target(reader, room, scope, words);
     };
-    let list = selectors(
-        reader.alloc,
-        place(reader.text.len(), words),
-        &letters,
-        atoms,
-    )?;
+    let list = selectors(reader.alloc, place(words), &letters, atoms)?;
     Ok(matched(reader.alloc, list)?)
 }

@@ -10,7 +10,7 @@ use Rattle.jq_words.proofs.Rests.{of_rest, is_rest, shorter}
 use Rattle.jq_read.specs.States.{Context, State, size}
 use Rattle.jq_read.specs.Statements.{Blocks, form_at, is_branch, statement_as, statement, closes, sequence, braces, no_block, block}
 use Rattle.jq_read.specs.declared.sequences.Between.{Between}
-use Rattle.jq_read.specs.Sequences.{begin, behind_condition, goes_else, behind_statement, behind_else, and_between, is_over, turn, at_file_end}
+use Rattle.jq_read.specs.Sequences.{begin, goes_else, behind_statement, and_between, is_over, turn, at_file_end}
 
 -- ---- outcomes
 

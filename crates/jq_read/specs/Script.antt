@@ -1,7 +1,7 @@
 -- A script: the statements of a file.
 --     exact_script     as it is read exactly
 --     script           without the calls that are sharper than what is judged in their place
-use Rattle.std.specs.Prelude.{ℕ, Bool, true, false, List, [], Result, Ok, Err}
+use Rattle.std.specs.Prelude.{ℕ, Bool, true, false, List, [], length, Result, Ok, Err}
 use Rattle.tp_base.specs.Names.{Named}
 use Rattle.js_scan.specs.declared.token.ScanFault.{ScanFault}
 use Rattle.js_scan.specs.declared.token.ScanFault.TheVariants as scan
@@ -22,7 +22,7 @@ from_scan (Err scan.Memory) = Err Memory
 from_scan (Err e) = Err (Scan e)
 
 abbrev pub at_top : Bool → List ℕ → List Word → Context
-at_top exact text ws = record { exact = exact; text = text; declared = declared_in ws; handlers = []; has_this = false }
+at_top exact text ws = record { exact = exact; text = text; size = length text; declared = declared_in ws; handlers = []; has_this = false }
 
 abbrev pub nothing_read : List Named → State
 nothing_read names = record { grown = grown names 0; statements = []; declarations = [] }

@@ -1,11 +1,11 @@
 //! The arguments of a call that takes no function.
-ghost use Rattle.std.specs.Prelude.{◌≡◌, true, length, Some, None, Ok, IfOk, IfErr, OnOk};
+ghost use Rattle.std.specs.Prelude.{◌≡◌, true, Some, None, Ok, IfOk, IfErr, OnOk};
 ghost use Rattle.sel_text.specs.Results.{IsFront};
 ghost use Rattle.jq_stmts.specs.Sharp.{plain, first};
 ghost use Rattle.jq_stmts.specs.Statements.{back};
 ghost use Rattle.jq_stmts.specs.Views as sem;
 ghost use Rattle.jq_words.specs.CallViews.{form_of};
-ghost use Rattle.jq_words.specs.Results.{Turns, IsRest};
+ghost use Rattle.jq_words.specs.Results.{Turns, InFile, IsRest};
 ghost use Rattle.jq_words.specs.declared.faults.ScriptFault.TheVariants.{Memory};
 ghost use Rattle.jq_parts.specs.ScopeViews.{effect_of};
 ghost use Rattle.jq_read.specs.CallArguments as spec;
@@ -32,22 +32,22 @@ use tp_base::{AtomTable, ClassSet};
 use tree_sem::{Action, Forest, Trees};
 
 // A list of compounds, or no argument where there may be none.
-#[tactic(auto, unfolding(crate::specs::CallArguments::compounds_argument), using(sel_text::proofs::Fronts::front_itself, jq_words::proofs::Rests::itself, jq_words::proofs::Rests::is_rest))]
+#[tactic(auto, unfolding(crate::specs::CallArguments::compounds_argument), using(sel_text::proofs::Fronts::front_itself, jq_words::proofs::Files::itself, jq_words::proofs::Files::is_rest))]
 fn compounds_argument(
     reader: Reader<'_>,
     none: bool,
     atoms: &mut AtomTable,
     words: &mut Cursor<'_, '_>,
 ) -> Result<Vec<Compound>, ScriptFault>
-    ensures gives { Turns (λ v. sem.atoms_of v.items) atoms.new words.new result (spec.compounds_argument (length reader.entry.text.now) none atoms.old words.old) }
-    ensures rest { OnOk result (IsRest words.old words.new) }
+    ensures gives { Turns (λ v. sem.atoms_of v.items) atoms.new words.new.words result (spec.compounds_argument words.old.size none atoms.old words.old.words) }
+    ensures rest { OnOk result (InFile IsRest words.old words.new) }
     ensures front { IsFront atoms.old atoms.new }
 {
     if none {
         return Ok(Vec::new(reader.alloc));
     }
-    let at = place(reader.text.len(), words.words());
-    let letters = text_argument(reader.alloc, reader.text.len(), words)?;
+    let at = place(words.words());
+    let letters = text_argument(reader.alloc, words)?;
     let found = compounds(reader.alloc, at, &letters, atoms)?;
     Ok(found)
 }
@@ -60,7 +60,7 @@ pub(crate) fn move_arguments(
     none: bool,
     reached: Value,
 ) -> Result<Done, ScriptFault>
-    ensures gives { Turns done_of (state_of reading.new) reading.new.words result (spec.move_arguments (context_of reading.old) (form_of form) none (value_of reached) (state_of reading.old) reading.old.words) }
+    ensures gives { Turns done_of (state_of reading.new) reading.new.words.words result (spec.move_arguments (context_of reading.old) (form_of form) none (value_of reached) (state_of reading.old) reading.old.words.words) }
     ensures goes_on { GoesOn IsRest reading.old reading.new result }
 {
     let reader = reading.reader;
@@ -88,17 +88,17 @@ pub(crate) fn take_first(alloc: Global, reached: Value) -> Result<Done, ScriptFa
 }
 
 /// The argument of a call that unites sets.
-#[tactic(auto, unfolding(crate::specs::CallArguments::unite_arguments), using(sel_text::proofs::Fronts::front_itself, jq_words::proofs::Rests::is_rest))]
+#[tactic(auto, unfolding(crate::specs::CallArguments::unite_arguments), using(sel_text::proofs::Fronts::front_itself, jq_words::proofs::Files::is_rest))]
 pub(crate) fn unite_arguments(
     reading: &mut Reading<'_, '_>,
     reached: Value,
 ) -> Result<Done, ScriptFault>
-    ensures gives { Turns done_of (state_of reading.new) reading.new.words result (spec.unite_arguments (context_of reading.old) (value_of reached) (state_of reading.old) reading.old.words) }
+    ensures gives { Turns done_of (state_of reading.new) reading.new.words.words result (spec.unite_arguments (context_of reading.old) (value_of reached) (state_of reading.old) reading.old.words.words) }
     ensures goes_on { GoesOn IsRest reading.old reading.new result }
 {
     let reader = reading.reader;
-    let at = place(reader.text.len(), reading.words.words());
-    let letters = text_argument(reader.alloc, reader.text.len(), &mut reading.words)?;
+    let at = place(reading.words.words());
+    let letters = text_argument(reader.alloc, &mut reading.words)?;
     let found = selectors(reader.alloc, at, &letters, &mut reading.grown.atoms)?;
     let call = MarkedCall::plain(Call::Add(Selectors::new(found)?));
     let reached = with_call(reader.alloc, reached, call)?;
@@ -121,18 +121,18 @@ fn acting(reached: Value, action: Action) -> Result<Done, ScriptFault>
 }
 
 /// Classes, and then a list where there is a comma.
-#[tactic(auto, unfolding(crate::specs::CallArguments::class_arguments), using(sel_text::proofs::Fronts::front_itself, jq_words::proofs::Rests::behind_rest, jq_words::proofs::Rests::is_rest, jq_words::proofs::Rests::of_rest))]
+#[tactic(auto, unfolding(crate::specs::CallArguments::class_arguments), using(sel_text::proofs::Fronts::front_itself, jq_words::proofs::Files::behind_rest, jq_words::proofs::Files::is_rest, jq_words::proofs::Files::of_rest))]
 pub(crate) fn class_arguments(
     reading: &mut Reading<'_, '_>,
     room: usize,
     reached: Value,
 ) -> Result<Done, ScriptFault>
-    ensures gives { Turns done_of (state_of reading.new) reading.new.words result (spec.class_arguments (context_of reading.old) room (value_of reached) (state_of reading.old) reading.old.words) }
+    ensures gives { Turns done_of (state_of reading.new) reading.new.words.words result (spec.class_arguments (context_of reading.old) room (value_of reached) (state_of reading.old) reading.old.words.words) }
     ensures goes_on { GoesOn IsRest reading.old reading.new result }
 {
     let reader = reading.reader;
-    let at = place(reader.text.len(), reading.words.words());
-    let letters = text_argument(reader.alloc, reader.text.len(), &mut reading.words)?;
+    let at = place(reading.words.words());
+    let letters = text_argument(reader.alloc, &mut reading.words)?;
     let classes = class_set(reader.alloc, at, &letters, &mut reading.grown.atoms)?;
     and_list(
         reader,
@@ -146,14 +146,14 @@ pub(crate) fn class_arguments(
 }
 
 // The value that an attribute of this name gets, behind the comma.
-#[tactic(auto, unfolding(crate::specs::CallArguments::value_argument), using(sel_text::proofs::Fronts::front_itself, sel_text::proofs::Fronts::front_of_front, jq_words::proofs::Rests::passed_behind))]
+#[tactic(auto, unfolding(crate::specs::CallArguments::value_argument), using(sel_text::proofs::Fronts::front_itself, sel_text::proofs::Fronts::front_of_front, jq_words::proofs::Files::passed_behind))]
 fn value_argument(
     reading: &mut Reading<'_, '_>,
     reached: Value,
     name: &[u8],
     at: usize,
 ) -> Result<Done, ScriptFault>
-    ensures gives { Turns done_of (state_of reading.new) reading.new.words result (spec.value_argument (context_of reading.old) (value_of reached) (state_of reading.old) name.now at reading.old.words) }
+    ensures gives { Turns done_of (state_of reading.new) reading.new.words.words result (spec.value_argument (context_of reading.old) (value_of reached) (state_of reading.old) name.now at reading.old.words.words) }
     ensures goes_on { GoesOn IsRest reading.old reading.new result }
 {
     let reader = reading.reader;
@@ -163,8 +163,8 @@ fn value_argument(
     let mut set = ClassSet::new(reader.alloc);
     add_attribute(reader.alloc, at, name, &mut set, &mut reading.grown.atoms)?;
     reading.words.pass();
-    let value_at = place(reader.text.len(), reading.words.words());
-    let value = text_argument(reader.alloc, reader.text.len(), &mut reading.words)?;
+    let value_at = place(reading.words.words());
+    let value = text_argument(reader.alloc, &mut reading.words)?;
     let text = with_value(reader.alloc, name, &value)?;
     add_attribute(
         reader.alloc,
@@ -178,17 +178,17 @@ fn value_argument(
 }
 
 /// An attribute that is read, or that gets a value.
-#[tactic(auto, unfolding(crate::specs::CallArguments::attribute_arguments), using(sel_text::proofs::Fronts::front_itself, jq_words::proofs::Rests::behind_rest, jq_words::proofs::Rests::is_rest, jq_words::proofs::Rests::of_rest))]
+#[tactic(auto, unfolding(crate::specs::CallArguments::attribute_arguments), using(sel_text::proofs::Fronts::front_itself, jq_words::proofs::Files::behind_rest, jq_words::proofs::Files::is_rest, jq_words::proofs::Files::of_rest))]
 pub(crate) fn attribute_arguments(
     reading: &mut Reading<'_, '_>,
     reached: Value,
 ) -> Result<Done, ScriptFault>
-    ensures gives { Turns done_of (state_of reading.new) reading.new.words result (spec.attribute_arguments (context_of reading.old) (value_of reached) (state_of reading.old) reading.old.words) }
+    ensures gives { Turns done_of (state_of reading.new) reading.new.words.words result (spec.attribute_arguments (context_of reading.old) (value_of reached) (state_of reading.old) reading.old.words.words) }
     ensures goes_on { GoesOn IsRest reading.old reading.new result }
 {
     let reader = reading.reader;
-    let at = place(reader.text.len(), reading.words.words());
-    let name = text_argument(reader.alloc, reader.text.len(), &mut reading.words)?;
+    let at = place(reading.words.words());
+    let name = text_argument(reader.alloc, &mut reading.words)?;
     if begins(reading.words.words(), b",") {
         let done = value_argument(reading, reached, &name, at)?;
         return Ok(done);
@@ -207,18 +207,18 @@ fn added(beside: bool, forest: Forest) -> Action
 }
 
 /// Markup that is added.
-#[tactic(auto, unfolding(crate::specs::CallArguments::grow_arguments), using(sel_text::proofs::Fronts::front_itself, jq_words::proofs::Rests::is_rest))]
+#[tactic(auto, unfolding(crate::specs::CallArguments::grow_arguments), using(sel_text::proofs::Fronts::front_itself, jq_words::proofs::Files::is_rest))]
 pub(crate) fn grow_arguments(
     reading: &mut Reading<'_, '_>,
     room: usize,
     beside: bool,
     reached: Value,
 ) -> Result<Done, ScriptFault>
-    ensures gives { Turns done_of (state_of reading.new) reading.new.words result (spec.grow_arguments (context_of reading.old) room beside (value_of reached) (state_of reading.old) reading.old.words) }
+    ensures gives { Turns done_of (state_of reading.new) reading.new.words.words result (spec.grow_arguments (context_of reading.old) room beside (value_of reached) (state_of reading.old) reading.old.words.words) }
     ensures goes_on { GoesOn IsRest reading.old reading.new result }
 {
     let reader = reading.reader;
-    let given = some_argument(reader.alloc, reader.text.len(), &mut reading.words)?;
+    let given = some_argument(reader.alloc, &mut reading.words)?;
     let forest = markup_argument(reader, room, &given, &mut reading.grown)?;
     let done = acting(reached, added(beside, forest))?;
     Ok(done)
@@ -235,17 +235,17 @@ fn trees_in(reader: Reader<'_>, reached: Value) -> Trees
 }
 
 /// Where the root's markup is placed, which ends the chain.
-#[tactic(auto, unfolding(crate::specs::CallArguments::place_arguments), using(sel_text::proofs::Fronts::front_itself, jq_words::proofs::Rests::is_rest))]
+#[tactic(auto, unfolding(crate::specs::CallArguments::place_arguments), using(sel_text::proofs::Fronts::front_itself, jq_words::proofs::Files::is_rest))]
 pub(crate) fn place_arguments(
     reading: &mut Reading<'_, '_>,
     room: usize,
     reached: Value,
 ) -> Result<Done, ScriptFault>
-    ensures gives { Turns done_of (state_of reading.new) reading.new.words result (spec.place_arguments (context_of reading.old) room (value_of reached) (state_of reading.old) reading.old.words) }
+    ensures gives { Turns done_of (state_of reading.new) reading.new.words.words result (spec.place_arguments (context_of reading.old) room (value_of reached) (state_of reading.old) reading.old.words.words) }
     ensures goes_on { GoesOn IsRest reading.old reading.new result }
 {
     let reader = reading.reader;
-    let given = some_argument(reader.alloc, reader.text.len(), &mut reading.words)?;
+    let given = some_argument(reader.alloc, &mut reading.words)?;
     let chain = target(
         reader,
         room,

@@ -17,26 +17,20 @@ use jq_words::{ScriptFault, begins_name, place};
 
 /// The parameters and the block of a function, which may be a handler. Its declarations are seen in it alone.
 #[cycle(grammar)]
-#[tactic(auto, unfolding(crate::specs::Functions::function_body), using(sel_text::proofs::Fronts::front_itself, jq_words::proofs::Rests::behind_behind, jq_parts::proofs::HandlerSteps::back))]
+#[tactic(auto, unfolding(crate::specs::Functions::function_body), using(sel_text::proofs::Fronts::front_itself, jq_words::proofs::Files::behind_behind, jq_parts::proofs::HandlerSteps::back))]
 pub(crate) fn function_body(
     reading: &mut Reading<'_, '_>,
     handler: Option<Handler>,
     room: usize,
 ) -> Result<(), ScriptFault>
-    ensures gives { Leaves (state_of reading.new, reading.new.words) result (functions.function_body (spec.block room 0) room (functions.in_handler (context_of reading.old) (option_map handler_of handler)) (state_of reading.old) reading.old.words) }
+    ensures gives { Leaves (state_of reading.new, reading.new.words.words) result (functions.function_body (spec.block room 0) room (functions.in_handler (context_of reading.old) (option_map handler_of handler)) (state_of reading.old) reading.old.words.words) }
     ensures goes_on { GoesOn IsBehind reading.old reading.new result }
 {
-    let size = reading.reader.text.len();
     let seen = count_seen(&reading.scope);
     let outer = reading.scope.handlers.len();
     let had_this = reading.scope.has_this;
     enter(handler, &mut reading.scope)?;
-    parameters(
-        size,
-        room,
-        &mut reading.scope.declarations,
-        &mut reading.words,
-    )?;
+    parameters(room, &mut reading.scope.declarations, &mut reading.words)?;
     block(reading, room)?;
     leave(seen, outer, had_this, &mut reading.scope);
     Ok(())
@@ -50,10 +44,10 @@ pub(crate) fn function(
     handler: Option<Handler>,
     room: usize,
 ) -> Result<(), ScriptFault>
-    ensures gives { Leaves (state_of reading.new, reading.new.words) result (functions.function (spec.block room 0) room (functions.in_handler (context_of reading.old) (option_map handler_of handler)) (state_of reading.old) reading.old.words) }
+    ensures gives { Leaves (state_of reading.new, reading.new.words.words) result (functions.function (spec.block room 0) room (functions.in_handler (context_of reading.old) (option_map handler_of handler)) (state_of reading.old) reading.old.words.words) }
     ensures goes_on { GoesOn IsBehind reading.old reading.new result }
 {
-    want_function(reading.reader.text.len(), &mut reading.words)?;
+    want_function(&mut reading.words)?;
     pass_name(&mut reading.words);
     function_body(reading, handler, room)?;
     Ok(())
@@ -61,13 +55,12 @@ pub(crate) fn function(
 
 /// Behind `function`, with its name.
 #[cycle(grammar)]
-#[tactic(auto, unfolding(crate::specs::Statements::named_function), using(sel_text::proofs::Fronts::front_itself, jq_words::proofs::Rests::behind_behind))]
+#[tactic(auto, unfolding(crate::specs::Statements::named_function), using(sel_text::proofs::Fronts::front_itself, jq_words::proofs::Files::behind_behind))]
 pub(crate) fn named_function(reading: &mut Reading<'_, '_>, room: usize) -> Result<(), ScriptFault>
-    ensures gives { Leaves (state_of reading.new, reading.new.words) result (spec.named_function (spec.block room) room (context_of reading.old) (state_of reading.old) reading.old.words) }
+    ensures gives { Leaves (state_of reading.new, reading.new.words.words) result (spec.named_function (spec.block room) room (context_of reading.old) (state_of reading.old) reading.old.words.words) }
     ensures goes_on { GoesOn IsBehind reading.old reading.new result }
 {
-    let size = reading.reader.text.len();
-    reading.words.want_name(size)?;
+    reading.words.want_name()?;
     function_body(reading, None, room)?;
     Ok(())
 }
@@ -92,12 +85,12 @@ pub(crate) fn handed(
     reached: &Value,
     room: usize,
 ) -> Result<(), ScriptFault>
-    ensures gives { Leaves (state_of reading.new, reading.new.words) result (functions.handed lists (spec.block room 0) room (context_of reading.old) (elements_in (value_of reached.now)) (state_of reading.old) reading.old.words) }
+    ensures gives { Leaves (state_of reading.new, reading.new.words.words) result (functions.handed lists (spec.block room 0) room (context_of reading.old) (elements_in (value_of reached.now)) (state_of reading.old) reading.old.words.words) }
     ensures goes_on { GoesOn IsBehind reading.old reading.new result }
 {
     let reader = reading.reader;
     if begins_name(reading.words.words(), b"function") {
-        let at = place(reader.text.len(), reading.words.words());
+        let at = place(reading.words.words());
         let handler = handler_at(at, reached)?;
         function(reading, handler, room)?;
         return Ok(());
@@ -116,26 +109,24 @@ pub(crate) fn handed(
 #[cycle(grammar)]
 #[tactic(auto, unfolding(crate::specs::Statements::bracketed), using(sel_text::proofs::Fronts::front_itself, crate::proofs::SequenceSteps::deeper))]
 pub(crate) fn bracketed(reading: &mut Reading<'_, '_>, room: usize) -> Result<(), ScriptFault>
-    ensures gives { Leaves (state_of reading.new, reading.new.words) result (spec.bracketed (spec.block room) room (context_of reading.old) (state_of reading.old) reading.old.words) }
+    ensures gives { Leaves (state_of reading.new, reading.new.words.words) result (spec.bracketed (spec.block room) room (context_of reading.old) (state_of reading.old) reading.old.words.words) }
     ensures goes_on { GoesOn IsBehind reading.old reading.new result }
 {
-    let size = reading.reader.text.len();
-    reading.words.want_open(size, room, b"(")?;
+    reading.words.want_open(room, b"(")?;
     function(reading, None, room - 1)?;
-    reading.words.want(size, b")")?;
+    reading.words.want(b")")?;
     Ok(())
 }
 
 /// Behind J: a function in brackets.
 #[cycle(grammar)]
-#[tactic(auto, unfolding(crate::specs::Statements::start), using(sel_text::proofs::Fronts::front_itself, jq_words::proofs::Rests::behind_rest))]
+#[tactic(auto, unfolding(crate::specs::Statements::start), using(sel_text::proofs::Fronts::front_itself, jq_words::proofs::Files::behind_rest))]
 pub(crate) fn start(reading: &mut Reading<'_, '_>, room: usize) -> Result<(), ScriptFault>
-    ensures gives { Leaves (state_of reading.new, reading.new.words) result (spec.start (spec.block room) room (context_of reading.old) (state_of reading.old) reading.old.words) }
+    ensures gives { Leaves (state_of reading.new, reading.new.words.words) result (spec.start (spec.block room) room (context_of reading.old) (state_of reading.old) reading.old.words.words) }
     ensures goes_on { GoesOn IsBehind reading.old reading.new result }
 {
-    let size = reading.reader.text.len();
     bracketed(reading, room)?;
-    reading.words.end(size)?;
+    reading.words.end()?;
     Ok(())
 }
 
@@ -143,14 +134,14 @@ pub(crate) fn start(reading: &mut Reading<'_, '_>, room: usize) -> Result<(), Sc
 #[cycle(grammar)]
 #[tactic(auto, unfolding(crate::specs::Statements::once), using(sel_text::proofs::Fronts::front_itself))]
 pub(crate) fn once(reading: &mut Reading<'_, '_>, room: usize) -> Result<(), ScriptFault>
-    ensures gives { Leaves (state_of reading.new, reading.new.words) result (spec.once (spec.block room) room (context_of reading.old) (state_of reading.old) reading.old.words) }
+    ensures gives { Leaves (state_of reading.new, reading.new.words.words) result (spec.once (spec.block room) room (context_of reading.old) (state_of reading.old) reading.old.words.words) }
     ensures goes_on { GoesOn IsBehind reading.old reading.new result }
 {
     let reader = reading.reader;
     let has_this = reading.scope.has_this;
     bracketed(reading, room)?;
     called_with(reader, has_this, room, &mut reading.words)?;
-    reading.words.end(reader.text.len())?;
+    reading.words.end()?;
     Ok(())
 }
 
@@ -158,15 +149,15 @@ pub(crate) fn once(reading: &mut Reading<'_, '_>, room: usize) -> Result<(), Scr
 #[cycle(grammar)]
 #[tactic(auto, unfolding(crate::specs::Statements::timer), using(sel_text::proofs::Fronts::front_itself, crate::proofs::SequenceSteps::deeper))]
 pub(crate) fn timer(reading: &mut Reading<'_, '_>, room: usize) -> Result<(), ScriptFault>
-    ensures gives { Leaves (state_of reading.new, reading.new.words) result (spec.timer (spec.block room) room (context_of reading.old) (state_of reading.old) reading.old.words) }
+    ensures gives { Leaves (state_of reading.new, reading.new.words.words) result (spec.timer (spec.block room) room (context_of reading.old) (state_of reading.old) reading.old.words.words) }
     ensures goes_on { GoesOn IsBehind reading.old reading.new result }
 {
     let reader = reading.reader;
     let has_this = reading.scope.has_this;
-    reading.words.want_open(reader.text.len(), room, b"(")?;
+    reading.words.want_open(room, b"(")?;
     handed(reading, false, &Value::Everywhere, room - 1)?;
     and_list(reader, has_this, false, room - 1, &mut reading.words)?;
-    reading.words.want(reader.text.len(), b")")?;
-    reading.words.end(reader.text.len())?;
+    reading.words.want(b")")?;
+    reading.words.end()?;
     Ok(())
 }

@@ -15,21 +15,21 @@ use jq_words::ScriptFault;
 
 /// Whether the first word is a name that is bound to a chain.
 pub(crate) fn is_bound_here(reading: &Reading<'_, '_>) -> bool
-    ensures { is_some (bound (spelled reading.now.words) (declarations_of reading.now.scope.declarations)) ≡ result }
+    ensures { is_some (bound (spelled reading.now.words.words) (declarations_of reading.now.scope.declarations)) ≡ result }
 {
     is_bound(&reading.scope.declarations, spelled(reading.words.words()))
 }
 
 /// What a statement is.
 pub(crate) fn form_here(reading: &Reading<'_, '_>) -> StatementForm
-    ensures { openings.form_of (is_some (bound (spelled reading.now.words) (declarations_of reading.now.scope.declarations))) reading.now.words ≡ result }
+    ensures { openings.form_of (is_some (bound (spelled reading.now.words.words) (declarations_of reading.now.scope.declarations))) reading.now.words.words ≡ result }
 {
     form_of(is_bound_here(reading), reading.words.words())
 }
 
 /// Whether a declared value is a chain.
 pub(crate) fn is_chain_here(reading: &Reading<'_, '_>) -> Result<bool, ScriptFault>
-    ensures gives { IfOk result (λ b. values.is_chain reading.now.reader.exact (is_some (bound (spelled reading.now.words) (declarations_of reading.now.scope.declarations))) reading.now.words ≡ b) }
+    ensures gives { IfOk result (λ b. values.is_chain reading.now.reader.exact (is_some (bound (spelled reading.now.words.words) (declarations_of reading.now.scope.declarations))) reading.now.words.words ≡ b) }
     ensures only_memory { IfErr result (λ e. e ≡ Memory) }
 {
     let bound = is_bound_here(reading);

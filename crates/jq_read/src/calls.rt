@@ -1,5 +1,5 @@
 //! What calls listen to, and what they do.
-ghost use Rattle.std.specs.Prelude.{◌≡◌, length, OnOk};
+ghost use Rattle.std.specs.Prelude.{◌≡◌, OnOk};
 ghost use Rattle.sel_text.specs.Results.{IsFront};
 ghost use Rattle.jq_words.specs.Results.{Leaves, Turns, IsRest, IsBehind};
 ghost use Rattle.jq_parts.specs.Views.{value_of};
@@ -37,13 +37,13 @@ pub(crate) fn and_stated(
 }
 
 // Passes the second list of `on`, where there is one, and its comma; gives the elements that are listened to.
-#[tactic(auto, unfolding(crate::specs::Chains::listened), using(sel_text::proofs::Fronts::front_itself, jq_words::proofs::Rests::itself, jq_words::proofs::Rests::is_rest, jq_words::proofs::Rests::behind_behind))]
+#[tactic(auto, unfolding(crate::specs::Chains::listened), using(sel_text::proofs::Fronts::front_itself, jq_words::proofs::Files::itself, jq_words::proofs::Files::is_rest, jq_words::proofs::Files::behind_behind))]
 fn listened(
     reading: &mut Reading<'_, '_>,
     reached: &Value,
     narrowed: bool,
 ) -> Result<Value, ScriptFault>
-    ensures gives { Turns value_of (state_of reading.new) reading.new.words result (spec.listened (length reading.old.reader.text.now) (value_of reached.now) narrowed (state_of reading.old) reading.old.words) }
+    ensures gives { Turns value_of (state_of reading.new) reading.new.words.words result (spec.listened reading.old.words.size (value_of reached.now) narrowed (state_of reading.old) reading.old.words.words) }
     ensures goes_on { GoesOn IsRest reading.old reading.new result }
 {
     if !narrowed {
@@ -51,27 +51,27 @@ fn listened(
         return Ok(copy);
     }
     let reader = reading.reader;
-    let at = place(reader.text.len(), reading.words.words());
-    let letters = text_argument(reader.alloc, reader.text.len(), &mut reading.words)?;
+    let at = place(reading.words.words());
+    let letters = text_argument(reader.alloc, &mut reading.words)?;
     let found = compounds(reader.alloc, at, &letters, &mut reading.grown.atoms)?;
-    reading.words.want(reader.text.len(), b",")?;
+    reading.words.want(b",")?;
     let elements = below(reader.alloc, reached, found)?;
     Ok(elements)
 }
 
 /// Passes all that stands before the function of `on`; gives the elements that are listened to.
-#[tactic(auto, unfolding(crate::specs::Chains::listening), using(sel_text::proofs::Fronts::front_itself, jq_words::proofs::Rests::is_rest, jq_words::proofs::Rests::behind_behind, jq_words::proofs::Rests::behind_rest))]
+#[tactic(auto, unfolding(crate::specs::Chains::listening), using(sel_text::proofs::Fronts::front_itself, jq_words::proofs::Files::is_rest, jq_words::proofs::Files::behind_behind, jq_words::proofs::Files::behind_rest))]
 pub(crate) fn listening(
     reading: &mut Reading<'_, '_>,
     reached: &Value,
     narrowed: bool,
 ) -> Result<Value, ScriptFault>
-    ensures gives { Turns value_of (state_of reading.new) reading.new.words result (spec.listening (length reading.old.reader.text.now) (value_of reached.now) narrowed (state_of reading.old) reading.old.words) }
+    ensures gives { Turns value_of (state_of reading.new) reading.new.words.words result (spec.listening reading.old.words.size (value_of reached.now) narrowed (state_of reading.old) reading.old.words.words) }
     ensures goes_on { GoesOn IsBehind reading.old reading.new result }
 {
     let reader = reading.reader;
-    text_argument(reader.alloc, reader.text.len(), &mut reading.words)?;
-    reading.words.want(reader.text.len(), b",")?;
+    text_argument(reader.alloc, &mut reading.words)?;
+    reading.words.want(b",")?;
     let elements = listened(reading, reached, narrowed)?;
     Ok(elements)
 }

@@ -37,7 +37,7 @@ fn is_left_out(fewest: usize, count: usize) -> bool
 
 /// So many functions, or lists too where they may stand, with commas between them.
 #[cycle(grammar)]
-#[tactic(auto, using(sel_text::proofs::Fronts::front_itself, sel_text::proofs::Fronts::front_of_front, crate::proofs::SeveralSteps::goes_on, crate::proofs::SeveralSteps::fails, crate::proofs::SeveralSteps::comma_fails, crate::proofs::SeveralSteps::ends, jq_words::proofs::Rests::itself, jq_words::proofs::Rests::is_rest, jq_words::proofs::Rests::of_rest))]
+#[tactic(auto, using(sel_text::proofs::Fronts::front_itself, sel_text::proofs::Fronts::front_of_front, crate::proofs::SeveralSteps::goes_on, crate::proofs::SeveralSteps::fails, crate::proofs::SeveralSteps::comma_fails, crate::proofs::SeveralSteps::ends, jq_words::proofs::Files::itself, jq_words::proofs::Files::is_rest, jq_words::proofs::Files::of_rest))]
 pub(crate) fn several(
     reading: &mut Reading<'_, '_>,
     lists: bool,
@@ -45,29 +45,28 @@ pub(crate) fn several(
     count: usize,
     room: usize,
 ) -> Result<(), ScriptFault>
-    ensures gives { Leaves (state_of reading.new, reading.new.words) result (spec.several lists (statements.block room 0) room (context_of reading.old) (elements_in (value_of reached.now)) count (state_of reading.old) reading.old.words) }
+    ensures gives { Leaves (state_of reading.new, reading.new.words.words) result (spec.several lists (statements.block room 0) room (context_of reading.old) (elements_in (value_of reached.now)) count (state_of reading.old) reading.old.words.words) }
     ensures goes_on { GoesOn IsRest reading.old reading.new result }
 {
-    let size = reading.reader.text.len();
     let mut left = count;
     'arguments: while left > 0 {
         left -= 1;
         handed(reading, lists, reached, room)?;
-        pass_comma(size, left, &mut reading.words)?;
+        pass_comma(left, &mut reading.words)?;
     }
     Ok(())
 }
 
 /// Events, and a function; or events, compounds and a function.
 #[cycle(grammar)]
-#[tactic(auto, unfolding(crate::specs::Chains::listen_arguments), using(sel_text::proofs::Fronts::front_itself, sel_text::proofs::Fronts::front_of_front, jq_words::proofs::Rests::behind_behind))]
+#[tactic(auto, unfolding(crate::specs::Chains::listen_arguments), using(sel_text::proofs::Fronts::front_itself, sel_text::proofs::Fronts::front_of_front, jq_words::proofs::Files::behind_behind))]
 pub(crate) fn listen_arguments(
     reading: &mut Reading<'_, '_>,
     reached: &Value,
     narrowed: bool,
     room: usize,
 ) -> Result<(), ScriptFault>
-    ensures gives { Leaves (state_of reading.new, reading.new.words) result (spec.listen_arguments (statements.block room 0) room (context_of reading.old) (value_of reached.now) narrowed (state_of reading.old) reading.old.words) }
+    ensures gives { Leaves (state_of reading.new, reading.new.words.words) result (spec.listen_arguments (statements.block room 0) room (context_of reading.old) (value_of reached.now) narrowed (state_of reading.old) reading.old.words.words) }
     ensures goes_on { GoesOn IsBehind reading.old reading.new result }
 {
     let elements = listening(reading, reached, narrowed)?;
@@ -77,7 +76,7 @@ pub(crate) fn listen_arguments(
 
 /// The arguments of a call, of which there are so many, behind its opening bracket.
 #[cycle(grammar)]
-#[tactic(auto, unfolding(crate::specs::Chains::arguments_of), using(sel_text::proofs::Fronts::front_itself, jq_words::proofs::Rests::itself, jq_words::proofs::Rests::is_rest))]
+#[tactic(auto, unfolding(crate::specs::Chains::arguments_of), using(sel_text::proofs::Fronts::front_itself, jq_words::proofs::Files::itself, jq_words::proofs::Files::is_rest))]
 pub(crate) fn call_arguments(
     reading: &mut Reading<'_, '_>,
     reached: Value,
@@ -85,7 +84,7 @@ pub(crate) fn call_arguments(
     count: usize,
     room: usize,
 ) -> Result<Done, ScriptFault>
-    ensures gives { Turns done_of (state_of reading.new) reading.new.words result (spec.arguments_of (statements.block room 0) room (context_of reading.old) (value_of reached) (row_from row.entry) count (state_of reading.old) reading.old.words) }
+    ensures gives { Turns done_of (state_of reading.new) reading.new.words.words result (spec.arguments_of (statements.block room 0) room (context_of reading.old) (value_of reached) (row_from row.entry) count (state_of reading.old) reading.old.words.words) }
     ensures goes_on { GoesOn IsRest reading.old reading.new result }
 {
     match row.form {
@@ -138,44 +137,43 @@ pub(crate) fn call(
     reached: Value,
     room: usize,
 ) -> Result<Value, ScriptFault>
-    ensures gives { Turns value_of (state_of reading.new) reading.new.words result (spec.call (statements.block room 1) room (context_of reading.old) (value_of reached) (state_of reading.old) reading.old.words) }
+    ensures gives { Turns value_of (state_of reading.new) reading.new.words.words result (spec.call (statements.block room 1) room (context_of reading.old) (value_of reached) (state_of reading.old) reading.old.words.words) }
     ensures goes_on { GoesOn IsBehind reading.old reading.new result }
 {
     let reader = reading.reader;
     let (row, at) = dot_name(reader, &reached, &mut reading.words)?;
     let count = admitted(reader, &reached, &row, at, &reading.words)?;
-    reading.words.want_open(reader.text.len(), room, b"(")?;
+    reading.words.want_open(room, b"(")?;
     let done = call_arguments(reading, reached, row, count, room - 1)?;
-    reading.words.want(reader.text.len(), b")")?;
+    reading.words.want(b")")?;
     and_stated(reading, at, done.effect)?;
     Ok(done.reached)
 }
 
 /// The calls behind a root, each with its `.`.
 #[cycle(grammar)]
-#[tactic(auto, using(sel_text::proofs::Fronts::front_itself, sel_text::proofs::Fronts::front_of_front, crate::proofs::ChainSteps::goes_on, crate::proofs::ChainSteps::fails, crate::proofs::ChainSteps::ends, jq_words::proofs::Rests::itself, jq_words::proofs::Rests::is_rest, jq_words::proofs::Rests::of_rest))]
+#[tactic(auto, using(sel_text::proofs::Fronts::front_itself, sel_text::proofs::Fronts::front_of_front, crate::proofs::ChainSteps::goes_on, crate::proofs::ChainSteps::fails, crate::proofs::ChainSteps::ends, jq_words::proofs::Files::itself, jq_words::proofs::Files::is_rest, jq_words::proofs::Files::of_rest))]
 pub(crate) fn calls(
     reading: &mut Reading<'_, '_>,
     reached: Value,
     room: usize,
 ) -> Result<Value, ScriptFault>
-    ensures gives { Turns value_of (state_of reading.new) reading.new.words result (spec.calls (statements.block room 1) room (context_of reading.old) (value_of reached) (state_of reading.old) 0 reading.old.words) }
+    ensures gives { Turns value_of (state_of reading.new) reading.new.words.words result (spec.calls (statements.block room 1) room (context_of reading.old) (value_of reached) (state_of reading.old) 0 reading.old.words.words) }
     ensures goes_on { GoesOn IsRest reading.old reading.new result }
 {
-    let reader = reading.reader;
     let mut so_far = reached;
     'calls: while begins(reading.words.words(), b".") {
         so_far = call(reading, so_far, room)?;
     }
-    let whole = ended(reader, so_far, &reading.words)?;
+    let whole = ended(so_far, &reading.words)?;
     Ok(whole)
 }
 
 /// A root and its calls.
 #[cycle(grammar)]
-#[tactic(auto, unfolding(crate::specs::Chains::chain), using(sel_text::proofs::Fronts::front_itself, sel_text::proofs::Fronts::front_of_front, jq_words::proofs::Rests::behind_rest))]
+#[tactic(auto, unfolding(crate::specs::Chains::chain), using(sel_text::proofs::Fronts::front_itself, sel_text::proofs::Fronts::front_of_front, jq_words::proofs::Files::behind_rest))]
 pub(crate) fn chain(reading: &mut Reading<'_, '_>, room: usize) -> Result<Value, ScriptFault>
-    ensures gives { Turns value_of (state_of reading.new) reading.new.words result (spec.chain (statements.block room 1) room (context_of reading.old) (state_of reading.old) reading.old.words) }
+    ensures gives { Turns value_of (state_of reading.new) reading.new.words.words result (spec.chain (statements.block room 1) room (context_of reading.old) (state_of reading.old) reading.old.words.words) }
     ensures goes_on { GoesOn IsBehind reading.old reading.new result }
 {
     let value = root(

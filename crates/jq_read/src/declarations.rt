@@ -92,9 +92,9 @@ fn declare<'a>(
 
 // The value behind a name that is declared, where there is one: the chain, if it is one.
 #[cycle(grammar)]
-#[tactic(auto, unfolding(crate::specs::Statements::value_behind, crate::specs::Statements::declared_value), using(sel_text::proofs::Fronts::front_itself, jq_words::proofs::Rests::itself, jq_words::proofs::Rests::passed_behind))]
+#[tactic(auto, unfolding(crate::specs::Statements::value_behind, crate::specs::Statements::declared_value), using(sel_text::proofs::Fronts::front_itself, jq_words::proofs::Files::itself, jq_words::proofs::Files::passed_behind))]
 fn value_behind(reading: &mut Reading<'_, '_>, room: usize) -> Result<Option<Value>, ScriptFault>
-    ensures gives { Turns (option_map value_of) (state_of reading.new) reading.new.words result (spec.value_behind (spec.block room) room (context_of reading.old) (state_of reading.old) reading.old.words) }
+    ensures gives { Turns (option_map value_of) (state_of reading.new) reading.new.words.words result (spec.value_behind (spec.block room) room (context_of reading.old) (state_of reading.old) reading.old.words.words) }
     ensures goes_on { GoesOn IsRest reading.old reading.new result }
 {
     let reader = reading.reader;
@@ -122,13 +122,12 @@ fn value_behind(reading: &mut Reading<'_, '_>, room: usize) -> Result<Option<Val
 
 // A name, and its value where there is one.
 #[cycle(grammar)]
-#[tactic(auto, unfolding(crate::specs::Statements::one), using(sel_text::proofs::Fronts::front_itself, sel_text::proofs::Fronts::front_of_front, jq_words::proofs::Rests::behind_rest))]
+#[tactic(auto, unfolding(crate::specs::Statements::one), using(sel_text::proofs::Fronts::front_itself, sel_text::proofs::Fronts::front_of_front, jq_words::proofs::Files::behind_rest))]
 fn one(reading: &mut Reading<'_, '_>, room: usize) -> Result<(), ScriptFault>
-    ensures gives { Leaves (state_of reading.new, reading.new.words) result (spec.one (spec.block room) room (context_of reading.old) (state_of reading.old) reading.old.words) }
+    ensures gives { Leaves (state_of reading.new, reading.new.words.words) result (spec.one (spec.block room) room (context_of reading.old) (state_of reading.old) reading.old.words.words) }
     ensures goes_on { GoesOn IsBehind reading.old reading.new result }
 {
-    let size = reading.reader.text.len();
-    let name = reading.words.want_name(size)?;
+    let name = reading.words.want_name()?;
     let value = value_behind(reading, room)?;
     declare(reading, name, value)?;
     Ok(())
@@ -136,9 +135,9 @@ fn one(reading: &mut Reading<'_, '_>, room: usize) -> Result<(), ScriptFault>
 
 // Further ones, each behind a comma.
 #[cycle(grammar)]
-#[tactic(auto, using(sel_text::proofs::Fronts::front_itself, sel_text::proofs::Fronts::front_of_front, crate::proofs::DeclarationSteps::goes_on, crate::proofs::DeclarationSteps::fails, crate::proofs::DeclarationSteps::ends, jq_words::proofs::Rests::itself, jq_words::proofs::Rests::is_rest, jq_words::proofs::Rests::of_rest))]
+#[tactic(auto, using(sel_text::proofs::Fronts::front_itself, sel_text::proofs::Fronts::front_of_front, crate::proofs::DeclarationSteps::goes_on, crate::proofs::DeclarationSteps::fails, crate::proofs::DeclarationSteps::ends, jq_words::proofs::Files::itself, jq_words::proofs::Files::is_rest, jq_words::proofs::Files::of_rest))]
 fn more_ones(reading: &mut Reading<'_, '_>, room: usize) -> Result<(), ScriptFault>
-    ensures gives { Leaves (state_of reading.new, reading.new.words) result (spec.more_ones (spec.block room) room (context_of reading.old) (state_of reading.old) 0 reading.old.words) }
+    ensures gives { Leaves (state_of reading.new, reading.new.words.words) result (spec.more_ones (spec.block room) room (context_of reading.old) (state_of reading.old) 0 reading.old.words.words) }
     ensures goes_on { GoesOn IsRest reading.old reading.new result }
 {
     'ones: while begins(reading.words.words(), b",") {
@@ -152,12 +151,11 @@ fn more_ones(reading: &mut Reading<'_, '_>, room: usize) -> Result<(), ScriptFau
 #[cycle(grammar)]
 #[tactic(auto, unfolding(crate::specs::Statements::declaration), using(sel_text::proofs::Fronts::front_itself, sel_text::proofs::Fronts::front_of_front))]
 pub(crate) fn declaration(reading: &mut Reading<'_, '_>, room: usize) -> Result<(), ScriptFault>
-    ensures gives { Leaves (state_of reading.new, reading.new.words) result (spec.declaration (spec.block room) room (context_of reading.old) (state_of reading.old) reading.old.words) }
+    ensures gives { Leaves (state_of reading.new, reading.new.words.words) result (spec.declaration (spec.block room) room (context_of reading.old) (state_of reading.old) reading.old.words.words) }
     ensures goes_on { GoesOn IsBehind reading.old reading.new result }
 {
-    let size = reading.reader.text.len();
     one(reading, room)?;
     more_ones(reading, room)?;
-    reading.words.end(size)?;
+    reading.words.end()?;
     Ok(())
 }

@@ -63,7 +63,8 @@ fn read_words<'r>(
     atoms: &mut AtomTable,
 ) -> Result<Vec<ExactStmt>, ScriptFault>
     requires in_limit { length text.now ≤ MOST_BYTES }
-    ensures reads { Finds (λ v. exacts_of v.items) atoms.new result (spec.script_of exact text.now lists.now atoms.old) }
+    requires of_file { lists.now.size ≡ length text.now }
+    ensures reads { Finds (λ v. exacts_of v.items) atoms.new result (spec.script_of exact text.now lists.now.words atoms.old) }
     ensures front { IsFront atoms.old atoms.new }
 {
     let words = Cursor::new(lists);

@@ -1,5 +1,5 @@
 //! Statements, by their forms.
-ghost use Rattle.std.specs.Prelude.{◌≡◌, ◌≢◌, length, drop};
+ghost use Rattle.std.specs.Prelude.{◌≡◌, ◌≢◌, drop};
 ghost use Rattle.jq_words.specs.Words.{place, spelled};
 ghost use Rattle.jq_words.specs.Results.{Leaves, IsBehind};
 ghost use Rattle.jq_words.specs.declared.faults.ScriptFault.TheVariants.{Memory, UnknownCall};
@@ -18,39 +18,38 @@ use jq_words::{ScriptFault, letters, place};
 
 // Why a call of jQuery's own is refused.
 fn foreign(reading: &Reading<'_, '_>) -> ScriptFault
-    ensures { result ≢ Memory → result ≡ UnknownCall (spelled (drop 2 reading.now.words)) (place (length reading.now.reader.text.now) (drop 2 reading.now.words)) }
+    ensures { result ≢ Memory → result ≡ UnknownCall (spelled (drop 2 reading.now.words.words)) (place reading.now.words.size (drop 2 reading.now.words.words)) }
 {
     let reader = reading.reader;
     let mut rest = reading.words.again();
     rest.pass_all(2);
     match letters(reader.alloc, spelled(rest.words())) {
-        Ok(name) => ScriptFault::UnknownCall(name, place(reader.text.len(), rest.words())),
+        Ok(name) => ScriptFault::UnknownCall(name, place(rest.words())),
         Err(e) => e,
     }
 }
 
 // A chain, as a statement.
 #[cycle(grammar)]
-#[tactic(auto, unfolding(crate::specs::Statements::chain_statement), using(sel_text::proofs::Fronts::front_itself, jq_words::proofs::Rests::behind_rest))]
+#[tactic(auto, unfolding(crate::specs::Statements::chain_statement), using(sel_text::proofs::Fronts::front_itself, jq_words::proofs::Files::behind_rest))]
 fn chain_statement(reading: &mut Reading<'_, '_>, room: usize) -> Result<(), ScriptFault>
-    ensures gives { Leaves (state_of reading.new, reading.new.words) result (spec.chain_statement (spec.block room) room (context_of reading.old) (state_of reading.old) reading.old.words) }
+    ensures gives { Leaves (state_of reading.new, reading.new.words.words) result (spec.chain_statement (spec.block room) room (context_of reading.old) (state_of reading.old) reading.old.words.words) }
     ensures goes_on { GoesOn IsBehind reading.old reading.new result }
 {
-    let size = reading.reader.text.len();
     chain(reading, room)?;
-    reading.words.end(size)?;
+    reading.words.end()?;
     Ok(())
 }
 
 /// A statement of a form; of a branch, its condition.
 #[cycle(grammar)]
-#[tactic(auto, unfolding(crate::specs::Statements::statement_as, crate::specs::Statements::ready), using(sel_text::proofs::Fronts::front_itself, jq_words::proofs::Rests::passed, jq_words::proofs::Rests::behind_behind, jq_words::proofs::Rests::behind_rest, jq_words::proofs::Rests::on_ok_behind))]
+#[tactic(auto, unfolding(crate::specs::Statements::statement_as, crate::specs::Statements::ready), using(sel_text::proofs::Fronts::front_itself, jq_words::proofs::Files::passed, jq_words::proofs::Files::behind_behind, jq_words::proofs::Files::behind_rest, jq_words::proofs::Files::on_ok_behind))]
 pub(crate) fn statement(
     reading: &mut Reading<'_, '_>,
     form: StatementForm,
     room: usize,
 ) -> Result<(), ScriptFault>
-    ensures gives { Leaves (state_of reading.new, reading.new.words) result (spec.statement_as form (spec.block room) room (context_of reading.old) (state_of reading.old) reading.old.words) }
+    ensures gives { Leaves (state_of reading.new, reading.new.words.words) result (spec.statement_as form (spec.block room) room (context_of reading.old) (state_of reading.old) reading.old.words.words) }
     ensures goes_on { GoesOn IsBehind reading.old reading.new result }
 {
     let reader = reading.reader;
@@ -80,7 +79,7 @@ pub(crate) fn statement(
             start(reading, room)
         }
         StatementForm::Ready => {
-            pass_document(reader.text.len(), room, &mut reading.words)?;
+            pass_document(room, &mut reading.words)?;
             start(reading, room)
         }
         StatementForm::Chain => chain_statement(reading, room),

@@ -1,5 +1,6 @@
 pub mod ArgumentSteps
 pub mod CallTable
+pub mod Files
 pub mod FitSteps
 pub mod ListSteps
 pub mod ListTables

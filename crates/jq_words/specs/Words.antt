@@ -1,10 +1,12 @@
 -- The words of a script: its tokens, each with its spelling, its place, and whether a line ends before it.
---     words           all of a file
+--     Rest            those from a place on, with the size of the file
+--     words, file     all of a file
 --     is_mark, is_name, is_text, ..   what a word is
 --     fits            the first words are these
 --     Outcome         what is read, or the first fault
-use Rattle.std.specs.Prelude.{ℕ, ◌==◌, ◌&&◌, ◌||◌, Bool, true, false, if◌then◌else◌, slice_range, List, [], ◌∷◌, drop, codes, bytes_eq, Result, Ok, Err}
+use Rattle.std.specs.Prelude.{ℕ, ◌==◌, ◌&&◌, ◌||◌, Bool, true, false, if◌then◌else◌, slice_range, List, [], ◌∷◌, length, take, drop, codes, bytes_eq, Result, Ok, Err}
 use Rattle.std.specs.List.{list_any}
+pub use Rattle.tp_base.specs.Outcomes.{◌>>=◌}
 use Rattle.js_scan.specs.declared.token.Token.{Token}
 use Rattle.js_scan.specs.declared.token.TokenKind.{TokenKind}
 use Rattle.js_scan.specs.declared.token.TokenKind.TheVariants.{Name, Number, Text, Mark}
@@ -27,6 +29,22 @@ words_behind text end (t ∷ ts) =
 
 unfoldable pub words : List ℕ → List Token → List Word
 words text ts = words_behind text 0 ts
+
+-- The words of a file from a place on, and the file's size in bytes.
+pub record Rest : Type 0 where
+  pub words : List Word
+  pub size : ℕ
+
+-- a whole file
+abbrev pub file : List ℕ → List Token → Rest
+file text ts = record { words = words text ts; size = length text }
+
+-- behind so many words, and so many words alone
+abbrev pub past : ℕ → Rest → Rest
+past n r = record { words = drop n r.words; size = r.size }
+
+abbrev pub front : ℕ → Rest → Rest
+front n r = record { words = take n r.words; size = r.size }
 
 -- ---- what a word is
 
@@ -124,11 +142,6 @@ place size (w ∷ ws) = w.at
 
 abbrev pub Outcome : Type 0 → Type 0
 Outcome A = Result A ScriptFault
-
-infixl 10 ◌>>=◌
-abbrev pub ◌>>=◌ : {A B : Type 0} → Outcome A → (A → Outcome B) → Outcome B
-(Ok x) >>= f = f x
-(Err e) >>= f = Err e
 
 -- the first word fits no form
 abbrev pub unexpected : {A : Type 0} → ℕ → List Word → Outcome A

@@ -127,7 +127,7 @@ fn ends_argument(others: bool, open_brackets: &OpenBrackets, word: &Word<'_>) ->
 /// How many words the next argument has; where there are others, a comma ends it.
 #[tactic(auto, using(crate::proofs::ArgumentSteps::goes_on, crate::proofs::ArgumentSteps::over, crate::proofs::ArgumentSteps::ends, crate::proofs::ArgumentSteps::none_counted, crate::proofs::ArgumentSteps::one_fits, crate::proofs::ArgumentSteps::one_counted))]
 pub fn argument_len(alloc: Global, others: bool, words: &Words<'_>) -> Result<usize, ScriptFault>
-    ensures gives { IfOk result (λ n. n ≡ spec.argument_len others [] words.now) }
+    ensures gives { IfOk result (λ n. n ≡ spec.argument_len others [] words.now.words) }
     ensures only_memory { IfErr result (λ e. e ≡ Memory) }
 {
     let mut open_brackets = OpenBrackets::none(alloc);

@@ -11,7 +11,7 @@ use std::alloc::Global;
 // The name that stands behind `function`, where the words begin so.
 #[tactic(auto, using(crate::proofs::NameSteps::no_function, crate::proofs::NameSteps::no_second, crate::proofs::NameSteps::no_name, crate::proofs::NameSteps::behind))]
 fn behind_function<'a>(words: &Words<'a>) -> Option<&'a [u8]>
-    ensures { spec.behind_function words.now ≡ listed result }
+    ensures { spec.behind_function words.now.words ≡ listed result }
 {
     if !begins_name(words, b"function") {
         return None;
@@ -28,7 +28,7 @@ fn behind_function<'a>(words: &Words<'a>) -> Option<&'a [u8]>
 // The name that stands before `=` and `function`, where the words begin so.
 #[tactic(auto, using(crate::proofs::NameSteps::none_before, crate::proofs::NameSteps::other_before, crate::proofs::NameSteps::other_mark, crate::proofs::NameSteps::other_function, crate::proofs::NameSteps::before))]
 fn before_function<'a>(words: &Words<'a>) -> Option<&'a [u8]>
-    ensures { spec.before_function words.now ≡ listed result }
+    ensures { spec.before_function words.now.words ≡ listed result }
 {
     let Some(name) = words.first() else {
         return None;
@@ -61,7 +61,7 @@ fn note<'a>(found: &mut Vec<&'a [u8]>, name: Option<&'a [u8]>) -> Result<(), Scr
 /// The names of the functions that some words declare.
 #[tactic(auto, using(crate::proofs::NameSteps::one_more, crate::proofs::NameSteps::ends))]
 pub fn declared_in<'a>(alloc: Global, words: &Words<'a>) -> Result<Vec<&'a [u8]>, ScriptFault>
-    ensures gives { IfOk result (λ v. map (λ k. k.now) v.items ≡ spec.declared_in words.now) }
+    ensures gives { IfOk result (λ v. map (λ k. k.now) v.items ≡ spec.declared_in words.now.words) }
     ensures only_memory { IfErr result (λ e. e ≡ Memory) }
 {
     let mut found = Vec::new(alloc);

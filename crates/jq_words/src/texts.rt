@@ -11,7 +11,7 @@ use text_bytes::blank_len;
 /// Whether Texts joined and then a closing bracket stand behind the first word.
 #[tactic(auto, using(crate::proofs::TextSteps::no_word, crate::proofs::TextSteps::one_word, crate::proofs::TextSteps::no_text, crate::proofs::TextSteps::closed, crate::proofs::TextSteps::joined, crate::proofs::TextSteps::not_joined))]
 pub fn holds_texts_behind(words: &Words<'_>) -> bool
-    ensures { result ≡ spec.holds_texts (drop 1 words.now) }
+    ensures { result ≡ spec.holds_texts (drop 1 words.now.words) }
 {
     let mut rest = words.again();
     rest.pass();
@@ -37,7 +37,7 @@ pub fn holds_texts_behind(words: &Words<'_>) -> bool
 /// The letters of words that are nothing but Texts, joined.
 #[tactic(auto, using(crate::proofs::TextSteps::begins, crate::proofs::TextSteps::no_texts, crate::proofs::TextSteps::other_first, crate::proofs::TextSteps::last_text, crate::proofs::TextSteps::other_second, crate::proofs::TextSteps::one_joined, crate::proofs::TextSteps::none_behind))]
 pub fn joined_texts(alloc: Global, words: &Words<'_>) -> Result<Option<Vec<u8>>, ScriptFault>
-    ensures gives { IfOk result (λ v. spec.texts words.now ≡ option_map (λ l. l.items) v) }
+    ensures gives { IfOk result (λ v. spec.texts words.now.words ≡ option_map (λ l. l.items) v) }
     ensures only_memory { IfErr result (λ e. e ≡ Memory) }
 {
     let mut letters = Vec::new(alloc);
@@ -79,7 +79,7 @@ pub fn is_markup(letters: &[u8]) -> bool
 /// The letters of Texts joined, before a closing bracket that is the last word.
 #[tactic(auto, using(crate::proofs::TextSteps::begins_closed, crate::proofs::TextSteps::none_closed, crate::proofs::TextSteps::one_closed, crate::proofs::TextSteps::no_text_closed, crate::proofs::TextSteps::joined_closed, crate::proofs::TextSteps::last_closed, crate::proofs::TextSteps::open_closed, crate::proofs::TextSteps::more_closed, crate::proofs::TextSteps::none_behind))]
 pub fn closed_texts(alloc: Global, words: &Words<'_>) -> Result<Option<Vec<u8>>, ScriptFault>
-    ensures gives { IfOk result (λ v. spec.closed_texts words.now ≡ option_map (λ l. l.items) v) }
+    ensures gives { IfOk result (λ v. spec.closed_texts words.now.words ≡ option_map (λ l. l.items) v) }
     ensures only_memory { IfErr result (λ e. e ≡ Memory) }
 {
     let mut letters = Vec::new(alloc);

@@ -1,9 +1,9 @@
 //! The words of a script: its tokens, with their spelling and with the ends of lines between them.
-ghost use Rattle.std.specs.Prelude.{◌≡◌, ◌≤◌, ◌<◌, ◌+◌, ◌==◌, not, true, false, [], ◌∷◌, length, map, take, drop, codes, Ok, Err, IfOk, IfErr, IfSome, IfNone, OnOk, IsTrue, IsUtf8};
+ghost use Rattle.std.specs.Prelude.{◌≡◌, ◌≤◌, ◌<◌, ◌+◌, ◌==◌, not, true, false, [], ◌∷◌, length, map, drop, codes, Ok, Err, IfOk, IfErr, IfSome, IfNone, OnOk, IsTrue, IsUtf8};
 ghost use Rattle.jq_words.specs.Words as spec;
 ghost use Rattle.js_scan.specs.Tokens.{InOrder};
 ghost use Rattle.js_scan.specs.Utf8.{AreTexts};
-ghost use Rattle.jq_words.specs.Results.{Finds, Leaves, IsRest, IsBehind};
+ghost use Rattle.jq_words.specs.Results.{Finds, Leaves, InFile, IsRest, IsBehind};
 
 use crate::faults::ScriptFault;
 use js_scan::{Letters, Token, TokenKind};
@@ -159,7 +159,7 @@ impl<'a> Word<'a> {
     }
 }
 
-/// The words from a place on. A contract sees the list of them.
+/// The words from a place on. A contract sees the list of them, and the file's size in bytes.
 #[derive(Drop)]
 pub struct Words<'a> {
     text: &'a [u8],
@@ -169,14 +169,14 @@ pub struct Words<'a> {
 }
 
 impl<'a> Model for Words<'a> {
-    ghost use Rattle.std.specs.Prelude.{◌≤◌, List, length};
+    ghost use Rattle.std.specs.Prelude.{◌≤◌, length};
     ghost use Rattle.js_scan.specs.Tokens.{InOrder};
     ghost use Rattle.js_scan.specs.Utf8.{AreTexts};
-    ghost use Rattle.jq_words.specs.Words.{Word, words_behind};
+    ghost use Rattle.jq_words.specs.Words.{Rest, words_behind};
 
-    ghost Value = { List Word };
+    ghost Value = { Rest };
 
-    ghost view = { λ w. words_behind w.text.now w.end w.tokens.now };
+    ghost view = { λ w. record { words = words_behind w.text.now w.end w.tokens.now; size = length w.text.now } };
 
     ghost invariant = { λ w. InOrder w.end (length w.text.now) w.tokens.now × AreTexts w.text.now w.tokens.now };
 }
@@ -187,7 +187,7 @@ impl<'a> Words<'a> {
     pub fn new(text: &'a [u8], tokens: &'a [Token]) -> Self
         requires in_order { InOrder 0 (length text.now) tokens.now }
         requires text { AreTexts text.now tokens.now }
-        ensures { result ≡ spec.words text.now tokens.now }
+        ensures { result ≡ spec.file text.now tokens.now }
     {
         Words {
             text,
@@ -207,9 +207,16 @@ impl<'a> Words<'a> {
         }
     }
 
+    /// The file's size in bytes. Constant.
+    pub fn size(&self) -> usize
+        ensures { result ≡ self.now.size }
+    {
+        self.text.len()
+    }
+
     /// The words behind the first, to look ahead.
     pub fn behind(&self) -> Words<'a>
-        ensures { result ≡ drop 1 self.now }
+        ensures { result ≡ spec.past 1 self.now }
     {
         let mut rest = self.again();
         rest.pass();
@@ -219,7 +226,7 @@ impl<'a> Words<'a> {
     /// The first of the words, so many of them.
     #[tactic(auto, using(crate::proofs::Orders::front_in_order, crate::proofs::Orders::front_texts, crate::proofs::Orders::front_words, crate::proofs::Orders::all_words))]
     pub fn front(&self, count: usize) -> Words<'a>
-        ensures { result ≡ take count self.now }
+        ensures { result ≡ spec.front count self.now }
     {
         if self.tokens.len() <= count {
             return self.again();
@@ -233,11 +240,11 @@ impl<'a> Words<'a> {
     }
 
     /// Passes so many words.
-    #[tactic(auto, using(crate::proofs::Rests::itself, crate::proofs::Rests::of_rest, crate::proofs::Rests::behind_first, crate::proofs::Rests::one_more_dropped, crate::proofs::Rests::some_dropped))]
+    #[tactic(auto, using(crate::proofs::Files::itself, crate::proofs::Files::of_rest, crate::proofs::Files::is_rest, crate::proofs::Files::one_more_passed, crate::proofs::Files::some_passed))]
     pub fn pass_all(&mut self, count: usize)
-        ensures passed { self.new ≡ drop count self.old }
-        ensures rest { IsRest self.old self.new }
-        ensures behind { 0 < count → IsBehind self.old self.new }
+        ensures passed { self.new ≡ spec.past count self.old }
+        ensures rest { InFile IsRest self.old self.new }
+        ensures behind { 0 < count → InFile IsBehind self.old self.new }
     {
         for i in 0..count {
             self.pass();
@@ -247,9 +254,9 @@ impl<'a> Words<'a> {
     /// The first word. Words can be counted.
     #[tactic(auto, unfolding(crate::specs::Words::words_behind), using(crate::proofs::Orders::first_within, crate::proofs::Orders::as_many))]
     pub fn first(&self) -> Option<Word<'a>>
-        ensures some { IfSome result (λ w. self.now ≡ w ∷ drop 1 self.now) }
-        ensures none { IfNone result (self.now ≡ []) }
-        ensures few { length self.now ≤ usize.MAX }
+        ensures some { IfSome result (λ w. self.now.words ≡ w ∷ drop 1 self.now.words) }
+        ensures none { IfNone result (self.now.words ≡ []) }
+        ensures few { length self.now.words ≤ usize.MAX }
     {
         match self.tokens.split_first() {
             None => None,
@@ -265,8 +272,8 @@ impl<'a> Words<'a> {
     /// Goes on behind the first word.
     #[tactic(auto, unfolding(crate::specs::Words::words_behind), using(crate::proofs::Rests::passed))]
     pub fn pass(&mut self)
-        ensures passed { self.new ≡ drop 1 self.old }
-        ensures rest { IsBehind self.old self.new }
+        ensures passed { self.new ≡ spec.past 1 self.old }
+        ensures rest { InFile IsBehind self.old self.new }
     {
         if let Some((token, behind)) = self.tokens.split_first() {
             self.end = token.to;
@@ -278,8 +285,8 @@ impl<'a> Words<'a> {
 /// Whether the first word is this mark.
 #[tactic(auto, unfolding(crate::specs::Words::first_is))]
 pub fn begins(words: &Words<'_>, spelling: &[u8]) -> bool
-    ensures gives { result ≡ spec.begins spelling.now words.now }
-    ensures some { IsTrue result → 0 < length words.now }
+    ensures gives { result ≡ spec.begins spelling.now words.now.words }
+    ensures some { IsTrue result → 0 < length words.now.words }
 {
     match words.first() {
         None => false,
@@ -290,8 +297,8 @@ pub fn begins(words: &Words<'_>, spelling: &[u8]) -> bool
 /// Whether the first word is this name.
 #[tactic(auto, unfolding(crate::specs::Words::first_is))]
 pub fn begins_name(words: &Words<'_>, spelling: &[u8]) -> bool
-    ensures gives { result ≡ spec.begins_name spelling.now words.now }
-    ensures some { IsTrue result → 0 < length words.now }
+    ensures gives { result ≡ spec.begins_name spelling.now words.now.words }
+    ensures some { IsTrue result → 0 < length words.now.words }
 {
     match words.first() {
         None => false,
@@ -302,7 +309,7 @@ pub fn begins_name(words: &Words<'_>, spelling: &[u8]) -> bool
 /// Whether the first word is one of these names.
 #[tactic(auto, unfolding(crate::specs::Words::first_is))]
 pub fn begins_name_among(words: &Words<'_>, names: &[&[u8]]) -> bool
-    ensures { spec.first_is (spec.is_name_among (map (λ k. k.now) names.now)) words.now ≡ result }
+    ensures { spec.first_is (spec.is_name_among (map (λ k. k.now) names.now)) words.now.words ≡ result }
 {
     match words.first() {
         None => false,
@@ -313,7 +320,7 @@ pub fn begins_name_among(words: &Words<'_>, names: &[&[u8]]) -> bool
 /// Whether the first word is a name. Constant.
 #[tactic(auto, unfolding(crate::specs::Words::first_is))]
 pub fn begins_any_name(words: &Words<'_>) -> bool
-    ensures { result ≡ spec.first_is spec.is_any_name words.now }
+    ensures { result ≡ spec.first_is spec.is_any_name words.now.words }
 {
     match words.first() {
         None => false,
@@ -324,8 +331,8 @@ pub fn begins_any_name(words: &Words<'_>) -> bool
 /// The word, where it is one alone.
 #[tactic(auto, using(crate::proofs::FitSteps::one_word, crate::proofs::FitSteps::no_word, crate::proofs::FitSteps::two_words))]
 pub fn only<'a>(words: &Words<'a>) -> Option<Word<'a>>
-    ensures some { IfSome result (λ w. words.now ≡ w ∷ []) }
-    ensures none { IfNone result (spec.is_one words.now ≡ false) }
+    ensures some { IfSome result (λ w. words.now.words ≡ w ∷ []) }
+    ensures none { IfNone result (spec.is_one words.now.words ≡ false) }
 {
     let Some(word) = words.first() else {
         return None;
@@ -338,45 +345,40 @@ pub fn only<'a>(words: &Words<'a>) -> Option<Word<'a>>
 
 /// The offset of the first word, or the file's length.
 #[tactic(auto, unfolding(crate::specs::Words::place))]
-pub fn place(size: usize, words: &Words<'_>) -> usize
-    ensures { result ≡ spec.place size words.now }
+pub fn place(words: &Words<'_>) -> usize
+    ensures { result ≡ spec.place words.now.size words.now.words }
 {
     match words.first() {
-        None => size,
+        None => words.size(),
         Some(word) => word.at(),
     }
 }
 
 /// Passes a mark that is wanted.
-#[tactic(auto, unfolding(crate::specs::Words::want), using(crate::proofs::Rests::itself, crate::proofs::Rests::passed))]
-pub fn want(size: usize, spelling: &[u8], words: &mut Words<'_>) -> Result<(), ScriptFault>
-    ensures gives { Leaves words.new result (spec.want size spelling.now words.old) }
-    ensures rest { OnOk result (IsBehind words.old words.new) }
+#[tactic(auto, unfolding(crate::specs::Words::want))]
+pub fn want(spelling: &[u8], words: &mut Words<'_>) -> Result<(), ScriptFault>
+    ensures gives { Leaves words.new.words result (spec.want words.old.size spelling.now words.old.words) }
+    ensures rest { OnOk result (InFile IsBehind words.old words.new) }
 {
     if !begins(words, spelling) {
-        return Err(ScriptFault::UnknownForm(place(size, words)));
+        return Err(ScriptFault::UnknownForm(place(words)));
     }
     words.pass();
     Ok(())
 }
 
 /// Passes an opening bracket that is wanted, where so many may still be opened.
-#[tactic(auto, unfolding(crate::specs::Words::want_open), using(crate::proofs::Rests::itself, crate::proofs::Rests::passed))]
-pub fn want_open(
-    size: usize,
-    room: usize,
-    spelling: &[u8],
-    words: &mut Words<'_>,
-) -> Result<(), ScriptFault>
-    ensures gives { Leaves words.new result (spec.want_open size room spelling.now words.old) }
-    ensures rest { OnOk result (IsBehind words.old words.new) }
+#[tactic(auto, unfolding(crate::specs::Words::want_open))]
+pub fn want_open(room: usize, spelling: &[u8], words: &mut Words<'_>) -> Result<(), ScriptFault>
+    ensures gives { Leaves words.new.words result (spec.want_open words.old.size room spelling.now words.old.words) }
+    ensures rest { OnOk result (InFile IsBehind words.old words.new) }
     ensures opened { OnOk result (0 < room) }
 {
     if !begins(words, spelling) {
-        return Err(ScriptFault::UnknownForm(place(size, words)));
+        return Err(ScriptFault::UnknownForm(place(words)));
     }
     if room == 0 {
-        return Err(ScriptFault::TooDeep(place(size, words)));
+        return Err(ScriptFault::TooDeep(place(words)));
     }
     words.pass();
     Ok(())
@@ -385,7 +387,7 @@ pub fn want_open(
 /// Whether a statement may be over before these words.
 #[tactic(auto, unfolding(crate::specs::Words::end_fits))]
 pub fn end_fits(words: &Words<'_>) -> bool
-    ensures { result ≡ spec.end_fits words.now }
+    ensures { result ≡ spec.end_fits words.now.words }
 {
     match words.first() {
         None => true,
@@ -394,10 +396,10 @@ pub fn end_fits(words: &Words<'_>) -> bool
 }
 
 /// Passes the end of a statement.
-#[tactic(auto, unfolding(crate::specs::Words::end), using(crate::proofs::Rests::itself, crate::proofs::Rests::behind_first))]
-pub fn end(size: usize, words: &mut Words<'_>) -> Result<(), ScriptFault>
-    ensures gives { Leaves words.new result (spec.end size words.old) }
-    ensures rest { OnOk result (IsRest words.old words.new) }
+#[tactic(auto, unfolding(crate::specs::Words::end), using(crate::proofs::Files::itself, crate::proofs::Files::is_rest))]
+pub fn end(words: &mut Words<'_>) -> Result<(), ScriptFault>
+    ensures gives { Leaves words.new.words result (spec.end words.old.size words.old.words) }
+    ensures rest { OnOk result (InFile IsRest words.old words.new) }
 {
     if begins(words, b";") {
         words.pass();
@@ -406,17 +408,17 @@ pub fn end(size: usize, words: &mut Words<'_>) -> Result<(), ScriptFault>
     if end_fits(words) {
         return Ok(());
     }
-    Err(ScriptFault::UnknownForm(place(size, words)))
+    Err(ScriptFault::UnknownForm(place(words)))
 }
 
 /// Passes a name that is wanted, whichever it is.
-#[tactic(auto, unfolding(crate::specs::Words::want_name), using(crate::proofs::Rests::passed))]
-pub fn want_name<'a>(size: usize, words: &mut Words<'a>) -> Result<&'a [u8], ScriptFault>
-    ensures gives { Finds (λ n. n.now) words.new result (spec.want_name size words.old) }
-    ensures rest { OnOk result (IsBehind words.old words.new) }
+#[tactic(auto, unfolding(crate::specs::Words::want_name))]
+pub fn want_name<'a>(words: &mut Words<'a>) -> Result<&'a [u8], ScriptFault>
+    ensures gives { Finds (λ n. n.now) words.new.words result (spec.want_name words.old.size words.old.words) }
+    ensures rest { OnOk result (InFile IsBehind words.old words.new) }
 {
     let Some(word) = words.first() else {
-        return Err(ScriptFault::UnknownForm(size));
+        return Err(ScriptFault::UnknownForm(words.size()));
     };
     if !word.is_any_name() {
         return Err(ScriptFault::UnknownForm(word.at()));

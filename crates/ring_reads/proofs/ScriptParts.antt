@@ -11,7 +11,7 @@ use Rattle.sel_text.specs.Bytes.{in_name, begins_name, name_len, behind_gap}
 use Rattle.sel_text.specs.Grammar.{Word, any_part, first_part, name_at}
 use Rattle.sel_text.specs.Lists.{behind_unit, from_comma, first_piece, more_pieces, pieces, read_pieces, read_strict_list}
 use Rattle.sel_text.specs.Readable.{IsName}
-use Rattle.sel_text.specs.Reading.{Ending, then_read, table_name, atom_of, atoms_of, compounds_of, selector_or, read_syntax, read_piece}
+use Rattle.sel_text.specs.Reading.{Ending, then_read, table_name, atom_of, atoms_of, compounds_of, read_syntax, read_piece}
 use Rattle.sel_text.specs.Reading as one
 use Rattle.sel_text.specs.Syntax.{Syntax, part, whole_part, first_item, item_at, nothing, with_item, syntax_from, syntax_of}
 use Rattle.sel_text.specs.declared.selectors.Compound.{Compound}

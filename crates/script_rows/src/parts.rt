@@ -69,15 +69,14 @@ fn answer(
     words: Cursor<'_, '_>,
 ) -> Result<String, ScriptFault> {
     let alloc = reader.alloc;
-    let size = reader.text.len();
     match case {
-        OfParts::List => list(alloc, size, words),
+        OfParts::List => list(alloc, words),
         OfParts::Begun => begun(reader, scope, words),
-        OfParts::Argument => argument(alloc, size, words),
+        OfParts::Argument => argument(alloc, words),
         OfParts::Grown => grown(reader, words.words()),
         OfParts::Aimed => aimed(reader, scope, words.words()),
         OfParts::Chained => chained(alloc, scope, &words),
-        OfParts::Hidden => hidden(alloc, size, words),
+        OfParts::Hidden => hidden(alloc, words),
     }
 }
 
@@ -103,10 +102,10 @@ fn scope<'a>(alloc: Global) -> Result<Scope<'a>, ScriptFault> {
 }
 
 // The arguments of a call, whose name stands first: how many there are, whether they are whole, and where they end.
-fn list(alloc: Global, size: usize, mut words: Cursor<'_, '_>) -> Result<String, ScriptFault> {
+fn list(alloc: Global, mut words: Cursor<'_, '_>) -> Result<String, ScriptFault> {
     words.pass();
     let list = words.enclosed(alloc)?;
-    let at = place(size, list.behind.words());
+    let at = place(list.behind.words());
     Ok(format!(in alloc; "{} {} {at}", list.count, list.whole)?)
 }
 
@@ -140,13 +139,13 @@ fn begun(
     let mut grown = nothing_grown(reader.alloc);
     let value = root(reader, 1, scope, &mut grown, &mut words)?;
     let kind = copied_kind(&value)?;
-    let at = place(reader.text.len(), words.words());
+    let at = place(words.words());
     Ok(format!(in reader.alloc; "{kind} {} {at}", grown.nodes)?)
 }
 
 // The letters of an argument.
-fn argument(alloc: Global, size: usize, mut words: Cursor<'_, '_>) -> Result<String, ScriptFault> {
-    let letters = text_argument(alloc, size, &mut words)?;
+fn argument(alloc: Global, mut words: Cursor<'_, '_>) -> Result<String, ScriptFault> {
+    let letters = text_argument(alloc, &mut words)?;
     lettered(alloc, Some(letters))
 }
 
@@ -202,18 +201,17 @@ fn chained(
 }
 
 fn behind_parameters<'a>(
-    size: usize,
     declarations: &mut Declarations<'a>,
     mut words: Cursor<'_, 'a>,
 ) -> Result<(usize, bool), ScriptFault> {
-    parameters(size, 1, declarations, &mut words)?;
+    parameters(1, declarations, &mut words)?;
     let bound = is_bound(declarations, b"a");
     Ok((declarations.len(), bound))
 }
 
 // How many declarations are seen behind parameters, and whether `a` is still bound.
-fn hidden(alloc: Global, size: usize, words: Cursor<'_, '_>) -> Result<String, ScriptFault> {
+fn hidden(alloc: Global, words: Cursor<'_, '_>) -> Result<String, ScriptFault> {
     let mut scope = scope(alloc)?;
-    let (count, bound) = behind_parameters(size, &mut scope.declarations, words)?;
+    let (count, bound) = behind_parameters(&mut scope.declarations, words)?;
     Ok(format!(in alloc; "{count} {bound}")?)
 }

@@ -32,17 +32,12 @@ pub(crate) fn tokens_of(alloc: Global, text: &[u8]) -> Result<Vec<Token>, Script
 pub(crate) fn of_words(alloc: Global, case: OfWords, text: &[u8]) -> Result<String, ScriptFault> {
     let tokens = tokens_of(alloc, text)?;
     let words = Words::new(text, &tokens);
-    answer(alloc, case, text.len(), words)
+    answer(alloc, case, words)
 }
 
-fn answer(
-    alloc: Global,
-    case: OfWords,
-    size: usize,
-    words: Words<'_>,
-) -> Result<String, ScriptFault> {
+fn answer(alloc: Global, case: OfWords, words: Words<'_>) -> Result<String, ScriptFault> {
     match case {
-        OfWords::BehindList => behind_list(alloc, size, words),
+        OfWords::BehindList => behind_list(alloc, words),
         OfWords::Joined => joined(alloc, &words),
         OfWords::Closed => closed(alloc, &words),
         OfWords::Declared => declared(alloc, &words),
@@ -62,7 +57,7 @@ pub(crate) fn lettered(alloc: Global, letters: Option<Vec<u8>>) -> Result<String
 }
 
 // Where the words behind a list of expressions stand.
-fn behind_list(alloc: Global, size: usize, mut words: Words<'_>) -> Result<String, ScriptFault> {
+fn behind_list(alloc: Global, mut words: Words<'_>) -> Result<String, ScriptFault> {
     let rules = Rules {
         exact: false,
         declared: &[],
@@ -70,8 +65,8 @@ fn behind_list(alloc: Global, size: usize, mut words: Words<'_>) -> Result<Strin
         braces: false,
         room: 2,
     };
-    free(alloc, size, rules, &mut words)?;
-    Ok(format!(in alloc; "{}", place(size, &words))?)
+    free(alloc, rules, &mut words)?;
+    Ok(format!(in alloc; "{}", place(&words))?)
 }
 
 // The letters of strings joined.

@@ -80,19 +80,19 @@ decreases-sequences::sequence l = 32 * l.room + 10
 abbrev pub invariant-sequences::sequence-statements : goal.invariant-sequences::sequence-statements
 invariant-sequences::sequence-statements l = record {
   goes_on : GoesOn IsRest l.fn.reading l.reading (Ok (tt {0}));
-  counted : AreCounted l.between l.reading.words;
-  reads : ReadsOn l.in_block (block l.room) l.room (context_of l.fn.reading) l.between (state_of l.reading) l.reading.words
-      (sequence l.in_block (block l.room) l.room (context_of l.fn.reading) (state_of l.fn.reading) 0 l.fn.reading.words);
+  counted : AreCounted l.between l.reading.words.words;
+  reads : ReadsOn l.in_block (block l.room) l.room (context_of l.fn.reading) l.between (state_of l.reading) l.reading.words.words
+      (sequence l.in_block (block l.room) l.room (context_of l.fn.reading) (state_of l.fn.reading) 0 l.fn.reading.words.words);
 }
 
 abbrev pub decreases-sequences::sequence-statements : goal.decreases-sequences::sequence-statements
-decreases-sequences::sequence-statements l = length l.reading.words
+decreases-sequences::sequence-statements l = length l.reading.words.words
 
 abbrev pub invariant-chains::several-arguments : goal.invariant-chains::several-arguments
 invariant-chains::several-arguments l = record {
   goes_on : GoesOn IsRest l.fn.reading l.reading (Ok (tt {0}));
-  reads : several l.lists (block l.room 0) l.room (context_of l.fn.reading) (elements_in (value_of l.reached)) l.left (state_of l.reading) l.reading.words
-      ≡ several l.lists (block l.room 0) l.room (context_of l.fn.reading) (elements_in (value_of l.reached)) l.count (state_of l.fn.reading) l.fn.reading.words;
+  reads : several l.lists (block l.room 0) l.room (context_of l.fn.reading) (elements_in (value_of l.reached)) l.left (state_of l.reading) l.reading.words.words
+      ≡ several l.lists (block l.room 0) l.room (context_of l.fn.reading) (elements_in (value_of l.reached)) l.count (state_of l.fn.reading) l.fn.reading.words.words;
 }
 
 abbrev pub decreases-chains::several-arguments : goal.decreases-chains::several-arguments
@@ -101,19 +101,19 @@ decreases-chains::several-arguments l = l.left
 abbrev pub invariant-chains::calls-calls : goal.invariant-chains::calls-calls
 invariant-chains::calls-calls l = record {
   goes_on : GoesOn IsRest l.fn.reading l.reading (Ok (tt {0}));
-  reads : calls (block l.room 1) l.room (context_of l.fn.reading) (value_of l.so_far) (state_of l.reading) 0 l.reading.words
-      ≡ calls (block l.room 1) l.room (context_of l.fn.reading) (value_of l.fn.reached) (state_of l.fn.reading) 0 l.fn.reading.words;
+  reads : calls (block l.room 1) l.room (context_of l.fn.reading) (value_of l.so_far) (state_of l.reading) 0 l.reading.words.words
+      ≡ calls (block l.room 1) l.room (context_of l.fn.reading) (value_of l.fn.reached) (state_of l.fn.reading) 0 l.fn.reading.words.words;
 }
 
 abbrev pub decreases-chains::calls-calls : goal.decreases-chains::calls-calls
-decreases-chains::calls-calls l = length l.reading.words
+decreases-chains::calls-calls l = length l.reading.words.words
 
 abbrev pub invariant-declarations::more_ones-ones : goal.invariant-declarations::more_ones-ones
 invariant-declarations::more_ones-ones l = record {
   goes_on : GoesOn IsRest l.fn.reading l.reading (Ok (tt {0}));
-  reads : more_ones (block l.room) l.room (context_of l.fn.reading) (state_of l.reading) 0 l.reading.words
-      ≡ more_ones (block l.room) l.room (context_of l.fn.reading) (state_of l.fn.reading) 0 l.fn.reading.words;
+  reads : more_ones (block l.room) l.room (context_of l.fn.reading) (state_of l.reading) 0 l.reading.words.words
+      ≡ more_ones (block l.room) l.room (context_of l.fn.reading) (state_of l.fn.reading) 0 l.fn.reading.words.words;
 }
 
 abbrev pub decreases-declarations::more_ones-ones : goal.decreases-declarations::more_ones-ones
-decreases-declarations::more_ones-ones l = length l.reading.words
+decreases-declarations::more_ones-ones l = length l.reading.words.words

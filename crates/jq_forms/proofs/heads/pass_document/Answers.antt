@@ -1,4 +1,4 @@
-use Rattle.jq_words.proofs.Rests.{behind_behind, behind_rest}
+use Rattle.jq_words.proofs.Files.{behind_behind, behind_rest}
 use Rattle.jq_forms.proofs.heads.pass_document.Goals as goal
 
 pub returns-clause-rest : goal.returns-clause-rest

@@ -1,4 +1,4 @@
-use Rattle.jq_words.proofs.Rests.{is_rest, behind_behind}
+use Rattle.jq_words.proofs.Files.{is_rest, behind_behind}
 use Rattle.jq_forms.proofs.list_parts.and_list.Goals as goal
 
 pub returns-clause-rest : goal.returns-clause-rest

@@ -1,4 +1,4 @@
-use Rattle.jq_words.proofs.Rests.{behind_behind, rest_behind}
+use Rattle.jq_words.proofs.Files.{behind_behind, rest_behind}
 use Rattle.jq_forms.proofs.list_parts.called_with.Goals as goal
 
 pub returns-clause-rest : goal.returns-clause-rest

@@ -1,4 +1,4 @@
-use Rattle.jq_words.proofs.Rests.{behind_behind}
+use Rattle.jq_words.proofs.Files.{behind_behind}
 use Rattle.jq_forms.proofs.list_parts.set.Goals as goal
 
 pub returns-then-begins_setting-clause-rest : goal.returns-then-begins_setting-clause-rest

@@ -1,4 +1,4 @@
-use Rattle.jq_words.proofs.Rests.{behind_behind, rest_behind}
+use Rattle.jq_words.proofs.Files.{behind_behind, rest_behind}
 use Rattle.jq_parts.proofs.parameter_lists.parameters.Goals as goal
 
 pub returns-then-begins-clause-rest : goal.returns-then-begins-clause-rest

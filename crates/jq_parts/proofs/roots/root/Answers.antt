@@ -1,4 +1,4 @@
-use Rattle.jq_words.proofs.Rests.{on_ok_behind}
+use Rattle.jq_words.proofs.Files.{on_ok_behind}
 use Rattle.jq_parts.proofs.roots.root.Goals as goal
 
 pub returns-then-is_jquery_call-clause-rest : goal.returns-then-is_jquery_call-clause-rest

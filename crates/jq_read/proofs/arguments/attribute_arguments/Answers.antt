@@ -1,4 +1,4 @@
-use Rattle.jq_words.proofs.Rests.{is_rest, behind_rest}
+use Rattle.jq_words.proofs.Files.{is_rest, behind_rest}
 use Rattle.jq_read.proofs.GoingOn.{with_words}
 use Rattle.jq_read.proofs.arguments.attribute_arguments.Goals as goal
 

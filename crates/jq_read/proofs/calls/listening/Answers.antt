@@ -1,4 +1,4 @@
-use Rattle.jq_words.proofs.Rests.{behind_behind, behind_rest}
+use Rattle.jq_words.proofs.Files.{behind_behind, behind_rest}
 use Rattle.jq_read.proofs.GoingOn.{with_words}
 use Rattle.jq_read.proofs.calls.listening.Goals as goal
 

@@ -5,9 +5,9 @@ use Rattle.jq_words.proofs.brackets.argument_len.Given as goal
 
 abbrev pub invariant-words : goal.invariant-words
 invariant-words l = record {
-  counted : AreCounted l.count l.rest;
-  same : l.count + argument_len l.others l.open_brackets l.rest ≡ argument_len l.others [] l.words;
+  counted : AreCounted l.count l.rest.words;
+  same : l.count + argument_len l.others l.open_brackets l.rest.words ≡ argument_len l.others [] l.words.words;
 }
 
 abbrev pub decreases-words : goal.decreases-words
-decreases-words l = length l.rest
+decreases-words l = length l.rest.words

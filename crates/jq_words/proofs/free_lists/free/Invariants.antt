@@ -6,9 +6,10 @@ use Rattle.jq_words.proofs.free_lists.free.Given as goal
 
 abbrev pub invariant-words : goal.invariant-words
 invariant-words l = record {
-  began : Began l.fn.words l.before l.words;
-  reads : free_from l.size (rules_of l.rules) l.open_brackets l.before l.words ≡ free l.size (rules_of l.rules) l.fn.words;
+  began : Began l.fn.words.words l.before l.words.words;
+  size : l.words.size ≡ l.fn.words.size;
+  reads : free_from l.fn.words.size (rules_of l.rules) l.open_brackets l.before l.words.words ≡ free l.fn.words.size (rules_of l.rules) l.fn.words.words;
 }
 
 abbrev pub decreases-words : goal.decreases-words
-decreases-words l = length l.words
+decreases-words l = length l.words.words

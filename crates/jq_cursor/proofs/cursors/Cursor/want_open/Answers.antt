@@ -2,4 +2,4 @@ use Rattle.jq_cursor.proofs.PlaceSteps.{kept}
 use Rattle.jq_cursor.proofs.cursors.Cursor.want_open.Goals as goal
 
 pub invariant_of-self : goal.invariant_of-self
-invariant_of-self c = kept _ _ _ c.self.invariant (rw c.again-rest.ensures at c.in_ok-want_open.ensures.rest)
+invariant_of-self c = kept _ _ _ c.self.invariant (rw c.again-rest.ensures at c.in_ok-want_open.ensures.rest.left)

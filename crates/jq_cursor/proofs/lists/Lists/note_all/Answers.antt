@@ -13,6 +13,6 @@ words-init c = record {
 pub words-preserved : goal.words-preserved
 words-preserved c = record {
   kept = c.in_ok-pass.ensures.kept ∙ c.words.invariant.kept;
-  part = rw c.in_ok-pass.ensures.kept (of_rest _ _ _ c.words.invariant.part (is_rest _ _ c.pass-in-Some.ensures.rest));
+  part = rw c.in_ok-pass.ensures.kept (of_rest _ _ _ c.words.invariant.part (is_rest _ _ c.pass-in-Some.ensures.rest.left));
   holds = rw (c.in_ok-pass.ensures.kept, c.pass-in-Some.ensures.passed) c.in_ok-pass.ensures.holds;
 }

@@ -6,9 +6,9 @@ use Rattle.jq_cursor.proofs.lists.Lists.note_all.Given as goal
 abbrev pub invariant-words : goal.invariant-words
 invariant-words l = record {
   kept : l.self ≡ l.fn.self;
-  part : IsRest l.self l.rest;
-  holds : Holds l.self l.opened.items l.rest;
+  part : IsRest l.self.words l.rest.words;
+  holds : Holds l.self.words l.opened.items l.rest.words;
 }
 
 abbrev pub decreases-words : goal.decreases-words
-decreases-words l = length l.rest
+decreases-words l = length l.rest.words
