@@ -7,6 +7,7 @@ ghost use Rattle.html_tokens.specs.Bytes.{lowered};
 
 use crate::bytes::{ends_tag_name, is_same_name};
 
+// The elements whose content is text up to their end tag.
 const RAW: [&[u8]; 9] = [
     b"script",
     b"style",

@@ -1,15 +1,15 @@
 -- What is selected exactly is selected by the statement that is judged in its place.
-use Rattle.std.proofs.Common.{◌≡◌, ◌⊎◌, ℕ, zero, suc, List, [], ◌∷◌, ◌++◌, map, reverse, Option, Some, None, IsSomeAnd, slice_get, Contains, refl, sym, ap, ◌∙◌, subst, inl, inr, append-nil}
+use Rattle.std.proofs.Common.{◌≡◌, ◌⊎◌, ℕ, zero, suc, List, [], ◌∷◌, ◌++◌, map, reverse, Option, Some, None, IsSomeAnd, slice_get, refl, sym, ap, ◌∙◌, subst, inl, inr, append-nil}
 use mathlib.Core.List.{reverse_aux}
-use Rattle.tree_sem.specs.Nodes.{IsNode, HasAtoms}
-use Rattle.tree_sem.specs.Trees.{LabelTree, node_at}
+use Rattle.tree_sem.specs.Nodes.{IsNode}
+use Rattle.tree_sem.specs.Trees.{LabelTree}
 use Rattle.tree_sem.specs.declared.actions.Event.{Event}
 use Rattle.tree_sem.specs.declared.actions.Event.TheVariants.{Step, Take, Cut}
 use Rattle.tree_sem.proofs.NodeLemmas.{HasAtoms-none}
 use Rattle.sel_text.specs.Selectors.{Selector}
 use Rattle.jq_sem.specs.Statements as script
 use Rattle.jq_sem.specs.Statements.{IsMade, InRoot, InCalls, SelectedUnder}
-use Rattle.jq_stmts.specs.Statements.{Root, matched, Call, find, children, parent, parents, filter, has, around, near, add, back}
+use Rattle.jq_stmts.specs.Statements.{Root, Call, back}
 use Rattle.jq_sem.specs.Events.{IsLegalEvent, after_event, AreLegalEvents}
 use Rattle.jq_sem.specs.Reachability.{after_step}
 use Rattle.jq_stmts.specs.Sharp.{ExactCall, plain, closest, siblings, first, ExactChain, ExactStatement, wide_call, wide_chain, wides}

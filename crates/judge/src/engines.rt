@@ -13,9 +13,8 @@ use crate::closing::{close_by_diagrams, close_by_table};
 use crate::grounds::{Ground, Question};
 use class_adding::Closed;
 use need_table::PlainSummaries;
-use proof_maker::Rules;
 use saturation::SharedSummaries;
-use simple_core::{GainFault, Summaries};
+use simple_core::{AllGivers, GainFault, Summaries};
 use tp_base::NoMemory;
 use usage_report::Answer;
 
@@ -31,7 +30,7 @@ fn by_closed_page<S: Summaries>(
     requires known { (q : Pair) → Asked question.now.made.now.system question.now.page.now q → S.known sums.now q }
     ensures { IfOk result (λ v. AreSaid question.now.made.now.system question.now.page.now question.now.limits.now closed.now.labels.label question.now.made.now.seen (map answer_of v.items)) }
 {
-    let rules = Rules::of(question.alloc, &question.made.system)?;
+    let rules = AllGivers::of(question.alloc, &question.made.system)?;
     let ground = Ground {
         alloc: question.alloc,
         page: question.page,

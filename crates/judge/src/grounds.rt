@@ -2,8 +2,7 @@
 use class_adding::Closed;
 use guard_simplify::Simplified;
 use limits::Limits;
-use proof_maker::Rules;
-use simple_core::System;
+use simple_core::{AllGivers, System};
 use std::alloc::Global;
 use tree_sem::Tree;
 
@@ -22,7 +21,7 @@ pub(crate) struct Ground<'a> {
     pub(crate) alloc: Global,
     pub(crate) page: &'a Tree,
     pub(crate) system: &'a System,
-    pub(crate) rules: &'a Rules,
+    pub(crate) rules: &'a AllGivers,
     pub(crate) closed: &'a Closed,
     pub(crate) limits: &'a Limits,
 }

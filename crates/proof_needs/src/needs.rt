@@ -41,7 +41,9 @@ pub struct Draft {
     pub triple: Option<usize>,
 }
 
-/// The atoms that are needed, and of the first of them what was looked at.
+/// The atoms that are needed, in the order in which they were wanted (`wants`), and for each of the first of them what was looked at
+/// (`drafts`). `nodes` are the page's nodes that have some; `triples` are the children that are added, with a tie for each at the same
+/// place of `ties`.
 #[derive(Drop)]
 pub struct Needs {
     pub target: Atom,

@@ -144,7 +144,7 @@ impl Equations {
     }
 }
 
-/// Whether a diagram is the one that holds for every label. Constant.
+/// Whether a diagram is the one that holds for every label. A no costs time alone. Constant.
 pub(crate) fn is_whole(d: &Diagrams, f: Ref) -> bool
     requires { IsIn d.now.branches f }
     ensures whole { result ≡ true → tree_at d.now.branches f ≡ leaf true }

@@ -1,5 +1,5 @@
 -- Cells that are of an arena.
-use Rattle.std.proofs.Common.{◌≡◌, ℕ, Bool, true, false, ◌==◌, ◌&&◌, if◌then◌else◌, List, sym, subst}
+use Rattle.std.proofs.Common.{◌≡◌, Bool, true, false, if◌then◌else◌, List, sym, subst}
 use Rattle.class_diagrams.specs.References.{Reference, leaf_reference}
 use Rattle.class_diagrams.specs.Trees.{Tree}
 use Rattle.class_diagrams.specs.Arena.{IsIn}

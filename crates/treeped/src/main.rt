@@ -59,6 +59,7 @@ fn exit_code(status: Status) -> ExitCode
 // are no words then.
 fn words(alloc: Global, given: io::Result<env::Args>) -> io::Result<Vec<String>>
     ensures words { IfOk given (λ args. IfOk result (λ words. words.items ≡ drop 1 (into_iter_items args))) }
+    ensures only_memory { IfOk given (λ _. IfErr result (λ e. error_kind e ≡ ErrorKind.OutOfMemory)) }
     ensures not_utf8 { IfErr given (λ e. error_kind e ≡ ErrorKind.InvalidData → IfOk result (λ words. words.items ≡ [])) }
     ensures err { IfErr given (λ e. error_kind e ≢ ErrorKind.InvalidData → result ≡ Err e) }
 {

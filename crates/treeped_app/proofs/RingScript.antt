@@ -88,7 +88,7 @@ root_read m size nodes scope names bs p q r s rest is =
 -- ---- a call
 
 abbrev pub context : Bool → List ℕ → List (List ℕ) → Context
-context exact text declared = record { exact = exact; text = text; declared = declared; handlers = []; has_this = false }
+context exact text declared = record { exact = exact; text = text; size = length text; declared = declared; handlers = []; has_this = false }
 
 abbrev pub state : List Named → ℕ → List ExactStatement → State
 state names nodes ss = record { grown = grown names nodes; statements = ss; declarations = [] }

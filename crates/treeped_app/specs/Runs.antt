@@ -7,6 +7,7 @@
 --     Ends r end                 what the run comes to: what its mode writes, with its status, or why there is nothing
 use Rattle.std.specs.Prelude.{◌≡◌, ◌⊎◌, ℕ, ◌<◌, ◌≤◌, if◌then◌else◌, List, [], ◌∷◌, ◌++◌, length, map, take, All, Contains, Option, Some, None, IfSome, Result, Ok, Err}
 use Rattle.tp_base.specs.Names.{Named}
+pub use Rattle.tp_base.specs.Outcomes.{◌>>=◌}
 use Rattle.tp_io.specs.Files.{Load}
 use Rattle.tp_io.specs.Sinks.{Adds, AddsPrefix, Rose}
 use Rattle.tp_base.specs.declared.places.TheConstants.{MOST_BYTES}
@@ -51,11 +52,6 @@ statements_in m text names = if reads_exactly m then exact_script text names els
 abbrev pub read_script_as : Option ℕ → List ℕ → Outcome (List ExactStatement × List Named) → Result (List ExactStatement × List Named) Stop
 read_script_as page text (Ok r) = Ok r
 read_script_as page text (Err e) = Err (script_stop page text e)
-
-infixl 10 ◌>>=◌
-abbrev pub ◌>>=◌ : {A B E : Type 0} → Result A E → (A → Result B E) → Result B E
-(Ok x) >>= f = f x
-(Err e) >>= f = Err e
 
 -- the page, the sheet and the script are read in this order, with one list of names that is new for each page
 unfoldable pub read_inputs : Mode → Option ℕ → Texts → Result Inputs Stop

@@ -1,7 +1,7 @@
-use Rattle.std.proofs.Common.{true, sym}
+use Rattle.std.proofs.Common.{true}
 use Rattle.jq_stmts.specs.SharpViews.{exacts_of}
 use Rattle.jq_sem.proofs.SetLemmas.{on_ok}
-use Rattle.jq_exact.specs.Settling.{IsUnfolded, settled_by}
+use Rattle.jq_exact.specs.Settling.{settled_by}
 use Rattle.usage_report.specs.Answers.{used}
 use Rattle.jq_exact.proofs.OrderedLemmas.{valid_ordered}
 use Rattle.jq_exact.proofs.SettlingLemmas.{not_asked, asked}
