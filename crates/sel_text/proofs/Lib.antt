@@ -6,7 +6,6 @@ pub mod Fronts
 pub mod Steps
 pub mod SameReading
 pub mod Runs
-pub mod Endings
 pub mod ByteRuns
 pub mod Commas
 pub mod AttributeText

@@ -1,5 +1,5 @@
 -- What is read is readable: its text reads as itself.
-use Rattle.std.proofs.Common.{◌≡◌, ◌⊎◌, inl, inr, ℕ, zero, suc, ◌+◌, ◌-◌, ◌<◌, ◌≤◌, Bool, true, false, ◌==◌, ◌&&◌, nat_lt, if◌then◌else◌, List, [], ◌∷◌, ◌++◌, length, take, drop, map, Option, None, Some, Ok, Err, All, slice_get, option_map, refl, sym, ap, subst, ◌∙◌, arith, length-append}
+use Rattle.std.proofs.Common.{◌≡◌, ◌⊎◌, inl, inr, ℕ, zero, suc, ◌+◌, ◌-◌, ◌<◌, ◌≤◌, Bool, true, false, ◌==◌, ◌&&◌, nat_lt, if◌then◌else◌, List, [], ◌∷◌, ◌++◌, length, take, drop, map, Option, None, Some, Result, Ok, Err, IfOk, All, slice_get, option_map, refl, sym, ap, subst, ◌∙◌, arith, length-append}
 use Rattle.std.proofs.lemmas.Bool.{cases_lt, lt-ltb, le-ltb}
 use Rattle.std.specs.Char.{to_ascii_lowercase}
 use Rattle.tp_base.specs.Names.{Named, with_name}
@@ -25,7 +25,7 @@ use Rattle.sel_text.proofs.SameReading.{same_reading}
 use Rattle.std.proofs.lemmas.List.{take-append-drop}
 use Rattle.std.proofs.lemmas.List.Elements.{All-weaker, All-append, All-cons, All-nil}
 use Rattle.std.proofs.lemmas.Option.{slice_get_within, same_Some}
-use Rattle.sel_text.specs.Results.{IsFront}
+use Rattle.sel_text.specs.Results.{IsFront, Reads}
 use Rattle.sel_text.specs.Views.{selector_of}
 use Rattle.sel_text.specs.declared.selectors.Selector.{Selector}
 use Rattle.sel_text.specs.Readable.{asked_name}
@@ -372,6 +372,11 @@ unfolding AreParts
 piece_readable drops to text before names s is =
     run_readable drops to (empty_draft before) 0 (behind_gap true 0 text) names s
     (record { finished = tt; last = tt; paired = refl; fresh = λ no. refl; few = λ yes. absurd cc }) (same_reading drops to text before ∙ is)
+
+pub read_readable : (r : Result Selector SelFault) (names : List Named) (drops : Bool) (to : ℕ) (text : List ℕ) (before : List Named)
+    → Reads selector_of r names (read_piece drops to text before) → IfOk r (λ s. IsReadable names (selector_of s))
+read_readable (Ok s) names drops to text before reads = piece_readable drops to text before names (selector_of s) reads
+read_readable (Err e) names drops to text before reads = tt
 
 -- ---- in a longer table
 

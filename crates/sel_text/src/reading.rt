@@ -1,13 +1,12 @@
 //! Reading a selector, from left to right.
-ghost use Rattle.std.specs.Prelude.{List, ◌≡◌, ◌≢◌, ◌≤◌, ◌<◌, ◌+◌, ◌-◌, [], ◌∷◌, ◌++◌, length, take, map, IfOk, OnOk, IfErr, IfSome, option_map};
-ghost use Rattle.tp_base.specs.Names.{Named, with_name};
+ghost use Rattle.std.specs.Prelude.{◌≡◌, ◌≤◌, ◌<◌, length, IfOk, OnOk, IfErr, IfSome, option_map};
 ghost use Rattle.text_bytes.specs.Rests.{IsRest};
 ghost use Rattle.sel_text.specs.Grammar as grammar;
 ghost use Rattle.sel_text.specs.Machine as machine;
 ghost use Rattle.sel_text.specs.Reading as spec;
 ghost use Rattle.sel_text.specs.Readable.{IsReadable};
 ghost use Rattle.sel_text.specs.Results.{Gives, Reads, IsFront, word_of, begun_of, left_of, IsShorter};
-ghost use Rattle.sel_text.specs.Drafts.{draft_of, IsPaired};
+ghost use Rattle.sel_text.specs.Drafts.{draft_of, IsPaired, Enters, ReadsOn};
 ghost use Rattle.sel_text.specs.Views.{selector_of};
 
 use crate::bytes::behind_gap;
@@ -19,10 +18,14 @@ use std::mem::replace;
 use text_bytes::with_value;
 use tp_base::{Atom, AtomKind, AtomTable};
 
-/// What was read so far: the finished compounds, each with the join on its right, the atoms of the last one, and
-/// whether it has a part.
+/// A selector that is read, up to a place of its text, which ends at the offset `to`: the table of names, the finished
+/// compounds, each with the join on its right, the atoms of the last one, and whether it has a part. Pseudo parts are
+/// dropped, or there are none.
 #[derive(Drop)]
 pub(crate) struct Draft {
+    drops: bool,
+    to: usize,
+    names: AtomTable,
     parts: Vec<Compound>,
     joins: Vec<Join>,
     atoms: Vec<Atom>,
@@ -36,9 +39,7 @@ fn enter(
     name: &[u8],
     atoms: &mut AtomTable,
 ) -> Result<Atom, SelFault>
-    ensures gives { Gives (λ a. (a, atoms.new)) result (machine.entered (with_name atoms.old (kind, spec.spelled kind name.now))) }
-    ensures same { IfErr result (λ e. e ≢ SelFault.Memory → atoms.new ≡ atoms.old) }
-    ensures front { IsFront atoms.old atoms.new }
+    ensures { Enters atoms.old (kind, spec.spelled kind name.now) atoms.new result }
 {
     match kind {
         AtomKind::Element | AtomKind::Attr => {
@@ -53,9 +54,7 @@ fn enter(
 // Enters a word.
 #[tactic(auto, using(crate::proofs::Fronts::front_itself))]
 fn enter_word(alloc: Global, word: Word<'_>, atoms: &mut AtomTable) -> Result<Atom, SelFault>
-    ensures gives { Gives (λ a. (a, atoms.new)) result (machine.entered (with_name atoms.old (spec.table_name (word_of word.entry)))) }
-    ensures same { IfErr result (λ e. e ≢ SelFault.Memory → atoms.new ≡ atoms.old) }
-    ensures front { IsFront atoms.old atoms.new }
+    ensures { Enters atoms.old (spec.table_name (word_of word.entry)) atoms.new result }
 {
     match word {
         Word::Named(kind, name) => enter(alloc, kind, name, atoms),
@@ -67,39 +66,24 @@ fn enter_word(alloc: Global, word: Word<'_>, atoms: &mut AtomTable) -> Result<At
     }
 }
 
-#[tactic(auto, using(crate::proofs::Fronts::front_itself))]
+#[tactic(auto, using(crate::proofs::Fronts::front_itself, crate::proofs::Fronts::front_grown))]
 fn intern(kind: AtomKind, name: &[u8], atoms: &mut AtomTable) -> Result<Atom, SelFault>
-    ensures gives { Gives (λ a. (a, atoms.new)) result (machine.entered (with_name atoms.old (kind, name.now))) }
-    ensures same { IfErr result (λ e. e ≢ SelFault.Memory → atoms.new ≡ atoms.old) }
-    ensures front { IsFront atoms.old atoms.new }
+    ensures { Enters atoms.old (kind, name.now) atoms.new result }
 {
     let atom = atoms.intern(kind, name)?;
     Ok(atom)
 }
 
 impl Draft {
-    fn new(alloc: Global) -> Self
-        ensures { (names : List Named) → draft_of result names ≡ machine.empty_draft names }
-    {
-        Draft {
-            parts: Vec::new(alloc),
-            joins: Vec::new(alloc),
-            atoms: Vec::new(alloc),
-            started: false,
-        }
-    }
-
     // One part more.
     #[tactic(auto, unfolding(crate::specs::Machine::with_word), using(crate::proofs::Fronts::front_itself))]
-    fn add_word(&mut self, word: Option<Word<'_>>, atoms: &mut AtomTable) -> Result<(), SelFault>
-        requires paired { IsPaired self.old }
-        ensures gives { Gives (λ _. draft_of self.new atoms.new) result (machine.with_word (draft_of self.old atoms.old) (option_map word_of word.entry)) }
-        ensures same { IfErr result (λ e. e ≢ SelFault.Memory → atoms.new ≡ atoms.old) }
-        ensures front { IsFront atoms.old atoms.new }
-        ensures paired { OnOk result (IsPaired self.new) }
+    fn add_word(&mut self, word: Option<Word<'_>>) -> Result<(), SelFault>
+        requires { IsPaired self.old }
+        ensures gives { Gives (λ _. draft_of self.new) result (machine.with_word (draft_of self.old) (option_map word_of word.entry)) }
+        ensures reads_on { ReadsOn self.old self.new result }
     {
         if let Some(word) = word {
-            let atom = enter_word(*self.parts.allocator(), word, atoms)?;
+            let atom = enter_word(*self.parts.allocator(), word, &mut self.names)?;
             self.atoms.push(atom)?;
         }
         self.started = true;
@@ -107,12 +91,12 @@ impl Draft {
     }
 
     // The compound ends, and a join follows it.
-    #[tactic(auto, unfolding(crate::specs::Machine::with_join))]
+    #[tactic(auto, unfolding(crate::specs::Machine::with_join), using(crate::proofs::Fronts::front_itself))]
     fn add_join(&mut self, join: Join) -> Result<(), SelFault>
-        requires paired { IsPaired self.old }
-        ensures joined { OnOk result ((names : List Named) → draft_of self.new names ≡ machine.with_join (draft_of self.old names) join) }
+        requires { IsPaired self.old }
+        ensures joined { OnOk result (draft_of self.new ≡ machine.with_join (draft_of self.old) join) }
         ensures memory { IfErr result (λ e. e ≡ SelFault.Memory) }
-        ensures paired { OnOk result (IsPaired self.new) }
+        ensures reads_on { ReadsOn self.old self.new result }
     {
         let atoms = replace(&mut self.atoms, Vec::new(*self.parts.allocator()));
         self.parts.push(Compound {
@@ -127,74 +111,54 @@ impl Draft {
     #[tactic(auto, unfolding(crate::specs::Machine::with_part), using(text_bytes::proofs::Rests::of_rest, crate::proofs::Fronts::front_itself))]
     fn read_part<'a>(
         &mut self,
-        to: usize,
         part: Option<Begun<'a>>,
         text: &'a [u8],
-        atoms: &mut AtomTable,
     ) -> Result<&'a [u8], SelFault>
-        requires within { length text.now ≤ to }
+        requires within { length text.now ≤ self.old.to }
         requires rest { IfSome part (λ b. IsRest text.now (left_of b)) }
         requires shorter { IfSome part (IsShorter text.now) }
         requires paired { IsPaired self.old }
-        ensures gives { Gives (λ r. (draft_of self.new atoms.new, r.now)) result
-            (machine.with_part to (draft_of self.old atoms.old) (option_map begun_of part.entry) text.now) }
+        ensures gives { Gives (λ r. (draft_of self.new, r.now)) result
+            (machine.with_part self.old.to (draft_of self.old) (option_map begun_of part.entry) text.now) }
         ensures rest { IfOk result (λ r. IsRest text.now r.now) }
         ensures shorter { IfOk result (λ r. length r.now < length text.now) }
-        ensures same { IfErr result (λ e. e ≢ SelFault.Memory → atoms.new ≡ atoms.old) }
-        ensures front { IsFront atoms.old atoms.new }
-        ensures paired { OnOk result (IsPaired self.new) }
+        ensures reads_on { ReadsOn self.old self.new result }
     {
-        let begun = part.ok_or(left_at(to, text, text))?;
-        let (word, rest) = part_of(to, begun, text)?;
-        self.add_word(word, atoms)?;
+        let begun = part.ok_or(left_at(self.to, text, text))?;
+        let (word, rest) = part_of(self.to, begun, text)?;
+        self.add_word(word)?;
         Ok(rest)
     }
 
     // The first part of a compound, of which there may be only so many.
     #[tactic(auto, unfolding(crate::specs::Machine::first_step), using(crate::proofs::Fronts::front_itself))]
-    fn first_step<'a>(
-        &mut self,
-        drops: bool,
-        to: usize,
-        text: &'a [u8],
-        atoms: &mut AtomTable,
-    ) -> Result<&'a [u8], SelFault>
-        requires within { length text.now ≤ to }
+    fn first_step<'a>(&mut self, text: &'a [u8]) -> Result<&'a [u8], SelFault>
+        requires within { length text.now ≤ self.old.to }
         requires paired { IsPaired self.old }
-        ensures gives { Gives (λ r. (draft_of self.new atoms.new, r.now)) result (machine.first_step drops to (draft_of self.old atoms.old) text.now) }
+        ensures gives { Gives (λ r. (draft_of self.new, r.now)) result (machine.first_step self.old.drops self.old.to (draft_of self.old) text.now) }
         ensures rest { IfOk result (λ r. IsRest text.now r.now) }
         ensures shorter { IfOk result (λ r. length r.now < length text.now) }
-        ensures same { IfErr result (λ e. e ≢ SelFault.Memory → atoms.new ≡ atoms.old) }
-        ensures front { IsFront atoms.old atoms.new }
-        ensures paired { OnOk result (IsPaired self.new) }
+        ensures reads_on { ReadsOn self.old self.new result }
     {
-        let part = first_part(drops, text).ok_or(left_at(to, text, text))?;
+        let part = first_part(self.drops, text).ok_or(left_at(self.to, text, text))?;
         if self.parts.len() >= MOST_PARTS {
-            return Err(SelFault::Skipped(Skip::Long, to - text.len()));
+            return Err(SelFault::Skipped(Skip::Long, self.to - text.len()));
         }
-        self.read_part(to, Some(part), text, atoms)
+        self.read_part(Some(part), text)
     }
 
     // Behind a part: a join, a further part, or the end.
     #[tactic(auto, using(crate::proofs::Fronts::front_itself, text_bytes::proofs::Rests::of_rest, crate::proofs::Steps::at_join, crate::proofs::Steps::at_end, crate::proofs::Steps::at_part, crate::proofs::Steps::at_fault))]
-    fn later_step<'a>(
-        &mut self,
-        drops: bool,
-        to: usize,
-        text: &'a [u8],
-        atoms: &mut AtomTable,
-    ) -> Result<&'a [u8], SelFault>
-        requires within { length text.now ≤ to }
+    fn later_step<'a>(&mut self, text: &'a [u8]) -> Result<&'a [u8], SelFault>
+        requires within { length text.now ≤ self.old.to }
         requires some { 0 < length text.now }
         requires paired { IsPaired self.old }
-        ensures gives { Gives (λ r. (draft_of self.new atoms.new, r.now)) result (machine.later_step drops to (draft_of self.old atoms.old) text.now) }
+        ensures gives { Gives (λ r. (draft_of self.new, r.now)) result (machine.later_step self.old.drops self.old.to (draft_of self.old) text.now) }
         ensures rest { IfOk result (λ r. IsRest text.now r.now) }
         ensures shorter { IfOk result (λ r. length r.now < length text.now) }
-        ensures same { IfErr result (λ e. e ≢ SelFault.Memory → atoms.new ≡ atoms.old) }
-        ensures front { IsFront atoms.old atoms.new }
-        ensures paired { OnOk result (IsPaired self.new) }
+        ensures reads_on { ReadsOn self.old self.new result }
     {
-        let (join, rest) = join_at(to, text)?;
+        let (join, rest) = join_at(self.to, text)?;
         if let Some(join) = join {
             self.add_join(join)?;
             return Ok(rest);
@@ -202,58 +166,67 @@ impl Draft {
         if rest.is_empty() {
             return Ok(rest);
         }
-        self.read_part(to, any_part(drops, rest), rest, atoms)
+        self.read_part(any_part(self.drops, rest), rest)
     }
 
     // One part or join more: the text behind it.
     #[tactic(auto, unfolding(crate::specs::Machine::step))]
-    fn step<'a>(
-        &mut self,
-        drops: bool,
-        to: usize,
-        text: &'a [u8],
-        atoms: &mut AtomTable,
-    ) -> Result<&'a [u8], SelFault>
-        requires within { length text.now ≤ to }
+    fn step<'a>(&mut self, text: &'a [u8]) -> Result<&'a [u8], SelFault>
+        requires within { length text.now ≤ self.old.to }
         requires some { 0 < length text.now }
         requires paired { IsPaired self.old }
-        ensures gives { Gives (λ r. (draft_of self.new atoms.new, r.now)) result (machine.step drops to (draft_of self.old atoms.old) text.now) }
+        ensures gives { Gives (λ r. (draft_of self.new, r.now)) result (machine.step self.old.drops self.old.to (draft_of self.old) text.now) }
         ensures rest { IfOk result (λ r. IsRest text.now r.now) }
         ensures shorter { IfOk result (λ r. length r.now < length text.now) }
-        ensures same { IfErr result (λ e. e ≢ SelFault.Memory → atoms.new ≡ atoms.old) }
-        ensures front { IsFront atoms.old atoms.new }
-        ensures paired { OnOk result (IsPaired self.new) }
+        ensures reads_on { ReadsOn self.old self.new result }
     {
         if self.started {
-            self.later_step(drops, to, text, atoms)
+            self.later_step(text)
         } else {
-            self.first_step(drops, to, text, atoms)
+            self.first_step(text)
         }
     }
 
     // The selector, where a compound isn't wanted any more.
     #[tactic(auto, unfolding(crate::specs::Machine::finished))]
-    fn finish(self, to: usize) -> Result<Selector, SelFault>
-        requires { IsPaired self }
-        ensures { Gives selector_of result (machine.finished to (draft_of self [])) }
+    fn finish(&mut self) -> Result<Selector, SelFault>
+        requires { IsPaired self.old }
+        ensures gives { Gives selector_of result (machine.finished self.old.to (draft_of self.old)) }
+        ensures names { self.new.names ≡ self.old.names }
     {
         if !self.started {
-            return Err(SelFault::Skipped(Skip::Bad, to));
+            return Err(SelFault::Skipped(Skip::Bad, self.to));
         }
-        let mut parts = self.parts;
+        let alloc = *self.parts.allocator();
+        let mut parts = replace(&mut self.parts, Vec::new(alloc));
         parts.push(Compound {
-            atoms: Atoms::new(self.atoms),
+            atoms: Atoms::new(replace(&mut self.atoms, Vec::new(alloc))),
         })?;
         Ok(Selector {
             parts: Compounds::new(parts),
-            joins: Joins::new(self.joins),
+            joins: Joins::new(replace(&mut self.joins, Vec::new(alloc))),
         })
+    }
+
+    // The selector of a text.
+    #[tactic(auto, using(crate::proofs::Runs::begins, crate::proofs::Runs::goes_on, crate::proofs::Runs::fails, crate::proofs::Runs::ends, crate::proofs::Fronts::front_itself, crate::proofs::Fronts::front_of_front))]
+    fn read(&mut self, text: &[u8]) -> Result<Selector, SelFault>
+        requires within { length text.now ≤ self.old.to }
+        requires none { draft_of self.old ≡ machine.empty_draft self.old.names }
+        ensures reads { Reads selector_of result self.new.names (spec.read_piece self.old.drops self.old.to text.now self.old.names) }
+        ensures front { IsFront self.old.names self.new.names }
+    {
+        let mut rest = behind_gap(true, text);
+        'items: while !rest.is_empty() {
+            rest = self.step(rest)?;
+        }
+        self.finish()
     }
 }
 
 /// A selector that white space and comments may surround, up to the offset `to`. Pseudo parts are dropped, or there
 /// are none. Linear in the text.
-#[tactic(auto, unfolding(crate::specs::Reading::read_piece), using(text_bytes::proofs::Rests::of_rest, crate::proofs::Runs::goes_on, crate::proofs::Runs::fails, crate::proofs::Runs::ends, crate::proofs::Fronts::front_of_front))]
+#[tactic(auto, using(crate::proofs::Sound::read_readable))]
 pub(crate) fn read_piece(
     alloc: Global,
     drops: bool,
@@ -266,12 +239,18 @@ pub(crate) fn read_piece(
     ensures readable { IfOk result (λ s. IsReadable atoms.new (selector_of s)) }
     ensures front { IsFront atoms.old atoms.new }
 {
-    let mut draft = Draft::new(alloc);
-    let mut rest = behind_gap(true, text);
-    'items: while !rest.is_empty() {
-        rest = draft.step(drops, to, rest, atoms)?;
-    }
-    draft.finish(to)
+    let mut draft = Draft {
+        drops,
+        to,
+        names: replace(atoms, AtomTable::new(alloc)),
+        parts: Vec::new(alloc),
+        joins: Vec::new(alloc),
+        atoms: Vec::new(alloc),
+        started: false,
+    };
+    let found = draft.read(text);
+    *atoms = draft.names;
+    found
 }
 
 /// Reads the judged form of the selector that stands between two offsets of a text, for a sheet: some pseudo parts
