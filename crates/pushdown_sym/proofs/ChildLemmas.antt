@@ -1,14 +1,16 @@
 -- The children that links look at, and their terms.
-use Rattle.std.proofs.Common.{◌≡◌, ◌≢◌, ℕ, ◌+◌, ◌<◌, ◌==◌, true, false, not, List, [], ◌∷◌, ◌++◌, map, fold, take, length, get_or, All, Contains, Result, refl, sym, ap, subst, ◌∙◌, append-nil}
+use Rattle.std.proofs.Common.{◌≡◌, ◌≢◌, ℕ, ◌+◌, ◌<◌, ◌==◌, true, false, not, List, [], ◌∷◌, ◌++◌, map, fold, take, length, get_or, All, Contains, Result, refl, sym, ap, subst, ◌∙◌, inl, inr, append-nil}
 use Rattle.std.specs.List.{filter, flat_map}
 use Rattle.std.specs.List.Sorted.{IsStrictlyIncreasing}
+use Rattle.std.proofs.lemmas.Bool.{cases_Bool}
 use Rattle.std.proofs.lemmas.List.{take_more, map-append}
-use Rattle.std.proofs.lemmas.List.Concat.{flat_map-append, flat_map_single}
+use Rattle.std.proofs.lemmas.List.Elements.{All-contains, Contains-get_or}
+use Rattle.std.proofs.lemmas.List.Concat.{flat_map-append}
 use Rattle.std.proofs.lemmas.List.Sums.{fold-append}
 use Rattle.tree_sem.proofs.NodeLemmas.{map-Contains}
 use Rattle.tp_base.proofs.Rising.{All-from_Contains}
 use Rattle.tp_base.proofs.Lists.{flat_map-Contains}
-use Rattle.simple_core.proofs.Members.{filter-Contains}
+use Rattle.simple_core.proofs.Members.{filter-Contains, Contains-filter}
 use Rattle.class_diagrams.specs.References.{Reference, leaf_reference}
 use Rattle.class_diagrams.specs.declared.faults.DiagramFault.{DiagramFault}
 use Rattle.class_diagrams.specs.Trees.{Tree, tand}
@@ -19,18 +21,18 @@ use Rattle.simple_core.specs.declared.rules.Link.{Link}
 use Rattle.simple_core.specs.declared.rules.Spawn.{Spawn}
 use Rattle.simple_core.specs.declared.system.System.{System}
 use Rattle.pushdown_sym.specs.declared.gathering.Child.{Child}
-use Rattle.pushdown_sym.specs.CellMap.{Entries, place_in, trees_in, is_false}
+use Rattle.pushdown_sym.specs.CellMap.{Entries, place_in, trees_in, is_false, may_have}
 use Rattle.pushdown_sym.specs.Terms.{Term, down_term}
 use Rattle.pushdown_sym.specs.Adding.{AreIn, Adds, of_down}
 use Rattle.simple_core.specs.Givers.{places_from, places_in}
 use Rattle.pushdown_sym.specs.Givers.{of_place, AreMakers}
-use Rattle.pushdown_sym.specs.Children.{child_by, children_by, children_of, stands, standing_by, standing_each, standing_of, with_child, different, term_of}
+use Rattle.pushdown_sym.specs.Children.{child_by, children_by, children_of, stands, standing_by, standing_each, standing_of, with_child, different, beneath, DoServe, term_of, terms_by}
 use Rattle.pushdown_sym.proofs.AddLemmas.{cells_same}
 use Rattle.pushdown_sym.proofs.GiverLemmas.{filtered_places}
-use Rattle.pushdown_sym.proofs.LinkLemmas.{filtered_flat}
+use Rattle.pushdown_sym.proofs.LinkLemmas.{filtered_one, filtered_flat}
 use Rattle.pushdown_sym.proofs.DifferentLemmas.{fold_is, firsts_among, different_add}
 use Rattle.pushdown_sym.proofs.PlaceLemmas.{enough_places}
-use Rattle.pushdown_sym.proofs.StandingLemmas.{standing_add, standing_are, none_standing}
+use Rattle.pushdown_sym.proofs.StandingLemmas.{standing_add, beneath_add, standing_are, none_standing}
 
 -- ### one more, in a loop
 
@@ -54,25 +56,44 @@ child_in ts s cells a inside c there =
     let spawn = map-Contains (child_by cells of.0) s.child c of.2 in
     subst (λ (d : Child). IsIn ts d.diagram) (sym spawn.2) (inside spawn.0.kind of.0.from)
 
-pub different_in : (ts : List Tree) (s : System) (cells : Entries) (a : ℕ) (children : List Child) → AreIn ts cells → children ≡ different (standing_of s cells a)
-    → All (λ c. IsIn ts c.diagram) children
-different_in ts s cells a children inside are =
-    All-from_Contains (λ (c : Child). IsIn ts c.diagram) children (λ c there.
+pub serving_in : (ts : List Tree) (s : System) (cells : Entries) (j a : ℕ) (children : List Child) → AreIn ts cells → DoServe s cells j a children
+    → All (λ c. IsIn ts c.diagram) (beneath cells j children)
+serving_in ts s cells j a children inside serve =
+    All-from_Contains (λ (c : Child). IsIn ts c.diagram) (beneath cells j children) (λ c there.
+    let listed : Contains (different (standing_of s cells a)) c =
+    (filter-Contains (λ (d : Child). may_have cells j d.needs) (different (standing_of s cells a)) c (subst (λ (cs : List Child). Contains cs c) serve there)).0 in
     child_in ts s cells a inside c (filter-Contains stands (children_of s cells a) c
-    (firsts_among [] (standing_of s cells a) c (subst (λ (cs : List Child). Contains cs c) (are ∙ fold_is [] (standing_of s cells a)) there))).0)
+    (firsts_among [] (standing_of s cells a) c (subst (λ (cs : List Child). Contains cs c) (fold_is [] (standing_of s cells a)) listed))).0)
+
+-- those that a node of the kind may have
+pub each_in : (ts : List Tree) (cells : Entries) (j : ℕ) (children : List Child) (i : ℕ) (c : Child) → All (λ (d : Child). IsIn ts d.diagram) (beneath cells j children)
+    → i < length children → c ≡ get_or children i c → may_have cells j c.needs ≡ true → IsIn ts c.diagram
+each_in ts cells j children i c all less item may =
+    let listed : Contains children c = subst (λ (d : Child). Contains children d) (sym item) (Contains-get_or children i c less) in
+    All-contains (λ (d : Child). IsIn ts d.diagram) (beneath cells j children) c all (Contains-filter (λ (d : Child). may_have cells j d.needs) children c listed may)
+
+-- ### the terms of a child that there may be
+
+pub none_by : (ts : List Tree) (cells : Entries) (j : ℕ) (c : Child) → is_false (place_in cells j c.needs) ≡ true → terms_by ts cells j c ≡ []
+none_by ts cells j c none = rw none refl
+
+pub one_by : (ts : List Tree) (cells : Entries) (j : ℕ) (c : Child) → is_false (place_in cells j c.needs) ≡ false → terms_by ts cells j c ≡ term_of ts cells j c ∷ []
+one_by ts cells j c some = rw some refl
 
 -- ### the terms of a child stay
 
-pub term_stays : (ts : List Tree) (cells : Entries) (j : ℕ) (children : List Child) → AreIn ts cells → All (λ c. IsIn ts c.diagram) children
-    → (us : List Tree) (i : ℕ) (c : Child) → i < length children → c ≡ get_or children i c → StartsWith ts us → term_of us cells j c ∷ [] ≡ term_of ts cells j c ∷ []
-term_stays ts cells j children inside all us i c less item stays =
-    let now = cells_same ts us cells stays inside in
-    let within : IsIn ts c.diagram = subst (λ (d : Child). IsIn ts d.diagram) (sym item) (all i c less) in
-    let diagram = tree_at-further ts us c.diagram stays within in
-    λ n. record {
-      tree = tand (now n j c.needs) (tcompose (diagram n) (now n j));
-      before = now n j c.needs ∷ inner_results (diagram n) (now n j);
-    } ∷ []
+pub term_stays : (ts : List Tree) (cells : Entries) (j : ℕ) (children : List Child) → AreIn ts cells → All (λ c. IsIn ts c.diagram) (beneath cells j children)
+    → (us : List Tree) (i : ℕ) (c : Child) → i < length children → c ≡ get_or children i c → StartsWith ts us → terms_by us cells j c ≡ terms_by ts cells j c
+term_stays ts cells j children inside all us i c less item stays = elim (cases_Bool (may_have cells j c.needs)) [
+  | inl may ↦ rw may (
+      let now = cells_same ts us cells stays inside in
+      let diagram = tree_at-further ts us c.diagram stays (each_in ts cells j children i c all less item may) in
+      λ n. record {
+        tree = tand (now n j c.needs) (tcompose (diagram n) (now n j));
+        before = now n j c.needs ∷ inner_results (diagram n) (now n j);
+      } ∷ [])
+  | inr none ↦ rw none refl
+]
 
 -- ### the terms of the different children are those of all links
 
@@ -96,18 +117,20 @@ terms_are ts s cells j a =
     ∙ sym (filtered_flat (λ (l : Link). l.to == a) (λ l. map (down_term (trees_in ts cells) j l) s.child) s.down)
 
 pub children_add : (s : System) (cells : Entries) (j a : ℕ) (c d : Arena) (g : Reference) (r : Result Reference DiagramFault) (children : List Child)
-    → IsArena c → AreIn c.branches cells → IsIn c.branches g → children ≡ different (standing_of s cells a)
-    → Adds c d g (flat_map (λ (x : Child). term_of c.branches cells j x ∷ []) children) r
+    → IsArena c → AreIn c.branches cells → IsIn c.branches g → DoServe s cells j a children
+    → Adds c d g (flat_map (terms_by c.branches cells j) children) r
     → Adds c d g (flat_map (of_down s.child (trees_in c.branches cells) j a) s.down) r
-children_add s cells j a c d g r children arena inside within are adds =
+children_add s cells j a c d g r children arena inside within serve adds =
     subst (λ (ts : List Term). Adds c d g ts r) (terms_are c.branches s cells j a)
     (standing_add c d cells j g arena (children_of s cells a) r
     (different_add c d cells j arena inside g within (standing_of s cells a) r
-    (subst (λ (ts : List Term). Adds c d g ts r) (flat_map_single (term_of c.branches cells j) children ∙ ap (map (term_of c.branches cells j)) are) adds)))
+    (beneath_add c d cells j g arena (different (standing_of s cells a)) r
+    (subst (λ (ts : List Term). Adds c d g ts r)
+    (filtered_one (λ (x : Child). may_have cells j x.needs) (term_of c.branches cells j) children ∙ ap (map (term_of c.branches cells j)) serve) adds))))
 
 -- ### those that stand
 
-stands_no : (p : Reference) → p ≡ leaf_reference false → not (is_false p) ≡ true → ⊥
+pub stands_no : (p : Reference) → p ≡ leaf_reference false → not (is_false p) ≡ true → ⊥
 stands_no p none passes = let wrong : false ≡ true = ap (λ q. not (is_false q)) (sym none) ∙ passes in cc
 
 -- what the links at the places look at is what those that give the atom look at

@@ -26,7 +26,7 @@ use Rattle.pushdown_sym.specs.Adding.{AreIn, Adds}
 use Rattle.pushdown_sym.specs.Children.{same_child, with_child, different, term_of}
 use Rattle.pushdown_sym.proofs.AddLemmas.{covered_behind}
 
-same_child-true : (c d : Child) → same_child c d ≡ true → c ≡ d
+pub same_child-true : (c d : Child) → same_child c d ≡ true → c ≡ d
 same_child-true c d same =
     let whole : (eqb c.needs d.needs && eqb (number_of c.diagram) (number_of d.diagram)) ≡ true = same in
     let both = and_parts (eqb c.needs d.needs) (eqb (number_of c.diagram) (number_of d.diagram)) whole in

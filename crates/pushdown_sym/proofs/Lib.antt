@@ -14,3 +14,5 @@ mod Rows
 mod GiverLemmas
 mod PlaceLemmas
 mod StandingLemmas
+mod DoorLemmas
+mod NoteLemmas

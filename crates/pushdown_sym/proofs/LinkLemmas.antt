@@ -11,7 +11,7 @@ use Rattle.class_diagrams.specs.Trees.{Tree, leaf, branch, tand, tor, variable, 
 use Rattle.class_diagrams.specs.Arena.{tree_at, IsIn, Arena, IsArena}
 use Rattle.class_diagrams.proofs.ArenaLemmas.{tree_at-further}
 use Rattle.diagram_ops.specs.Steps.{Calculates}
-use Rattle.diagram_ops.specs.Compositions.{tcompose, atoms_of}
+use Rattle.diagram_ops.specs.Compositions.{atoms_of}
 use Rattle.diagram_ops.proofs.HeldLemmas.{AreCovered}
 use Rattle.diagram_ops.proofs.StepLemmas.{brings_itself, brings_part, calculates_last, calculates_failed, calculates_same_error}
 use Rattle.simple_core.specs.declared.rules.Local.{Local}
@@ -53,7 +53,7 @@ module _ (a b : Arena) (sofar : Reference) (l : Link) (sofar_in : IsIn a.branche
       (brings_part a b (variable l.from ∷ []) (disjunctions (tree_at a.branches sofar) (up_term l ∷ [])) up_covered first.brings)
       same second
 
--- ### a child that there is not
+-- ### false terms
 
 pub tor-false : (t : Tree) → tor t (leaf false) ≡ t
 unfolding tor
@@ -61,23 +61,9 @@ tor-false (leaf true) = refl
 tor-false (leaf false) = refl
 tor-false (branch a l h) = refl
 
-tand-false : (t : Tree) → tand (leaf false) t ≡ leaf false
+pub tand-false : (t : Tree) → tand (leaf false) t ≡ leaf false
 unfolding tand
 tand-false t = refl
-
-pub no_child : (a : Arena) (cells : Entries) (j : ℕ) (c : Child) (sofar : Reference) → IsArena a → IsIn a.branches sofar → trees_in a.branches cells j c.needs ≡ leaf false
-    → Adds a a sofar (term_of a.branches cells j c ∷ []) (Ok sofar)
-no_child a cells j c sofar arena within none = record {
-  answer = (
-    within,
-    sym (ap (λ t. tor (tree_at a.branches sofar) (tand t (tcompose (tree_at a.branches c.diagram) (trees_in a.branches cells j)))) none
-        ∙ ap (tor (tree_at a.branches sofar)) (tand-false (tcompose (tree_at a.branches c.diagram) (trees_in a.branches cells j)))
-        ∙ tor-false (tree_at a.branches sofar)),
-  );
-  brings = brings_itself a (disjunctions (tree_at a.branches sofar) (term_of a.branches cells j c ∷ [])) arena;
-}
-
--- ### links from children
 
 -- ### atoms with their diagrams
 
@@ -108,7 +94,7 @@ child_there a b cells j c sofar there by r there_is by_is adds =
 
 -- ### all terms
 
-filtered_one : {X Y : Type 0} (q : X → Bool) (g : X → Y) (xs : List X) → flat_map (λ x. if q x then g x ∷ [] else []) xs ≡ map g (filter q xs)
+pub filtered_one : {X Y : Type 0} (q : X → Bool) (g : X → Y) (xs : List X) → flat_map (λ x. if q x then g x ∷ [] else []) xs ≡ map g (filter q xs)
 filtered_one q g [] = refl
 filtered_one q g (x ∷ xs) = elim (cases_Bool (q x)) [
   | inl passes ↦ rw passes (ap (λ ys. g x ∷ ys) (filtered_one q g xs))

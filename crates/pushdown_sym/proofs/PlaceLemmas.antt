@@ -3,7 +3,7 @@
 --     makers_more       the places of the rules by kind, with one rule more
 --     listed_more       the places of some kinds, with one kind more
 --     once_has          the same places in order
-use Rattle.std.proofs.Common.{◌≡◌, eqb, nat_cmp, ℕ, zero, suc, ◌+◌, ◌<◌, ◌≤◌, Bool, true, false, ◌==◌, if◌then◌else◌, nat_eq, List, [], ◌∷◌, ◌++◌, filter, take, length, get_or, slice_get, Some, None, Option, option_map, unwrap_or, Contains, refl, sym, ap, subst, ◌∙◌, arith, inl, inr}
+use Rattle.std.proofs.Common.{◌≡◌, eqb, nat_cmp, ℕ, suc, ◌+◌, ◌<◌, ◌≤◌, Bool, true, false, ◌==◌, if◌then◌else◌, nat_eq, List, [], ◌∷◌, ◌++◌, filter, take, length, get_or, slice_get, Some, None, Option, option_map, unwrap_or, Contains, refl, sym, ap, subst, ◌∙◌, arith, inl, inr}
 use Rattle.std.specs.List.{flat_map}
 use Rattle.std.specs.List.Sorted.{IsStrictlyIncreasing}
 use Rattle.std.specs.List.Retain.{IsFiltered, DiffersFromLast}
@@ -16,7 +16,7 @@ use Rattle.std.proofs.lemmas.List.Sorted.{Contains-permutation}
 use Rattle.std.proofs.lemmas.Map.Keys.{IsStrictlyIncreasing-dedup}
 use Rattle.std.proofs.lemmas.Option.{slice_get-get_or}
 use Rattle.std.proofs.lemmas.List.Kept.{IsStrictlyIncreasing-filter, Contains-dedup_nat}
-use Rattle.tp_base.proofs.Rising.{Contains-here, Contains-behind, Contains-cons, Contains-none, All-from_Contains, rises_cons, same_members}
+use Rattle.tp_base.proofs.Rising.{Contains-cons, Contains-none, All-from_Contains, rises_cons, same_members}
 use Rattle.simple_core.specs.declared.rules.Spawn.{Spawn}
 use Rattle.simple_core.specs.Givers.{places_from}
 use Rattle.simple_core.proofs.Members.{filter-Contains, Contains-filter}

@@ -1,4 +1,4 @@
--- Terms of the children that stand give what those of all give.
+-- Terms of the children that stand, and of those that a node of the kind may have, give what those of all give.
 use Rattle.std.proofs.Common.{◌≡◌, ◌==◌, ℕ, Bool, true, false, List, [], ◌∷◌, ◌++◌, map, filter, Result, refl, sym, ap, subst, ◌∙◌, inl, inr}
 use Rattle.std.specs.List.{flat_map}
 use Rattle.std.proofs.lemmas.Bool.{cases_Bool, not-false}
@@ -14,12 +14,12 @@ use Rattle.simple_core.specs.declared.rules.Link.{Link}
 use Rattle.simple_core.specs.declared.rules.Spawn.{Spawn}
 use Rattle.simple_core.specs.declared.system.System.{System}
 use Rattle.pushdown_sym.specs.declared.gathering.Child.{Child}
-use Rattle.pushdown_sym.specs.CellMap.{Entries, trees_in, is_false}
+use Rattle.pushdown_sym.specs.CellMap.{Entries, place_in, trees_in, is_false, may_have}
 use Rattle.pushdown_sym.specs.Terms.{Term, disjunction, disjunctions}
 use Rattle.pushdown_sym.specs.Adding.{Adds}
-use Rattle.pushdown_sym.specs.Children.{child_by, children_by, stands, standing_by, standing_each, standing_of, term_of}
+use Rattle.pushdown_sym.specs.Children.{child_by, children_by, stands, standing_by, standing_each, standing_of, beneath, term_of}
 use Rattle.pushdown_sym.proofs.AddLemmas.{covered_behind}
-use Rattle.pushdown_sym.proofs.LinkLemmas.{tor-false}
+use Rattle.pushdown_sym.proofs.LinkLemmas.{tor-false, tand-false}
 use Rattle.pushdown_sym.proofs.MapLemmas.{false_is}
 
 -- ### terms that are false
@@ -72,9 +72,23 @@ module _ (a b : Arena) (cells : Entries) (j : ℕ) (start : Reference) (arena : 
       calculates_last a a b (disjunctions t (map f (filter stands cs))) (disjunctions t (map f cs)) (disjunction t (map f (filter stands cs))) (disjunction t (map f cs)) r
       (covered-filter f stands false_term t cs) (brings_itself a (disjunctions t (map f cs)) arena) (disjunction-filter f stands false_term t cs) adds
 
+  no_term : (c : Child) → may_have cells j c.needs ≡ false → (term_of a.branches cells j c).tree ≡ leaf false
+  no_term c fails =
+      let now = trees_in a.branches cells j in
+      let none : place_in cells j c.needs ≡ leaf_reference false = false_is (place_in cells j c.needs) (not-false (is_false (place_in cells j c.needs)) fails) in
+      ap (λ p. tand (tree_at a.branches p) (tcompose (tree_at a.branches c.diagram) now)) none ∙ tand-false (tcompose (tree_at a.branches c.diagram) now)
+
+  pub beneath_add : (cs : List Child) (r : Result Reference DiagramFault) → Adds a b start (map (term_of a.branches cells j) (beneath cells j cs)) r → Adds a b start (map (term_of a.branches cells j) cs) r
+  beneath_add cs r adds =
+      let f = term_of a.branches cells j in
+      let passes : Child → Bool = λ c. may_have cells j c.needs in
+      let t = tree_at a.branches start in
+      calculates_last a a b (disjunctions t (map f (filter passes cs))) (disjunctions t (map f cs)) (disjunction t (map f (filter passes cs))) (disjunction t (map f cs)) r
+      (covered-filter f passes no_term t cs) (brings_itself a (disjunctions t (map f cs)) arena) (disjunction-filter f passes no_term t cs) adds
+
 -- ### found link by link
 
-filter-flat_map : {X Y : Type 0} (p : Y → Bool) (f g : X → List Y) → ((x : X) → filter p (f x) ≡ g x) → (xs : List X) → filter p (flat_map f xs) ≡ flat_map g xs
+pub filter-flat_map : {X Y : Type 0} (p : Y → Bool) (f g : X → List Y) → ((x : X) → filter p (f x) ≡ g x) → (xs : List X) → filter p (flat_map f xs) ≡ flat_map g xs
 filter-flat_map p f g same [] = refl
 filter-flat_map p f g same (x ∷ xs) = filter-append p (f x) (flat_map f xs) ∙ (λ n. same x n ++ filter-flat_map p f g same xs n)
 

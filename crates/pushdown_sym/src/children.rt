@@ -1,15 +1,14 @@
 //! What a node gets from its children.
-ghost use Rattle.std.specs.Prelude.{◌≡◌, false, [], ◌∷◌, All, map, IfOk};
+ghost use Rattle.std.specs.Prelude.{◌≡◌, true, [], ◌∷◌, All, map, IfOk};
 ghost use Rattle.std.specs.List.{flat_map};
 ghost use Rattle.std.specs.List.Sorted.{IsStrictlyIncreasing};
 ghost use Rattle.class_diagrams.specs.Arena.{tree_at, IsIn, IsArena};
 ghost use Rattle.diagram_ops.specs.Compositions.{atoms_of};
-ghost use Rattle.pushdown_sym.specs.declared.gathering.Child.{Child};
-ghost use Rattle.pushdown_sym.specs.CellMap.{place_in};
+ghost use Rattle.pushdown_sym.specs.CellMap.{place_in, may_have};
 ghost use Rattle.pushdown_sym.specs.Adding.{AreIn, Adds, paired, child_term};
-ghost use Rattle.pushdown_sym.specs.Children.{term_of};
+ghost use Rattle.pushdown_sym.specs.Children.{terms_by, beneath};
 
-use crate::cells::Cells;
+use crate::cells::{Cells, is_false};
 use crate::gathering::Child;
 use class_diagrams::{DiagramFault, Diagrams, Ref};
 use diagram_ops::{compose, support};
@@ -73,7 +72,7 @@ fn seen_by(
     with_diagrams(alloc, now, kind, &atoms)
 }
 
-// The disjunction so far and the term of one child, by links from it.
+// The disjunction so far and the term of one child, by links from it, if a node of the kind may have its atom.
 fn add_one(
     alloc: Global,
     d: &mut Diagrams,
@@ -83,13 +82,13 @@ fn add_one(
     sofar: Ref,
 ) -> Result<Ref, DiagramFault>
     requires inside { AreIn d.old.branches now.now }
-    requires child { IsIn d.old.branches child.diagram }
+    requires child { may_have now.now kind child.needs ≡ true → IsIn d.old.branches child.diagram }
     requires sofar { IsIn d.old.branches sofar }
     requires arena { IsArena d.old }
-    ensures { Adds d.old d.new sofar (term_of d.old.branches now.now kind child ∷ []) result }
+    ensures { Adds d.old d.new sofar (terms_by d.old.branches now.now kind child) result }
 {
     let there = now.get(kind, child.needs);
-    if d.same(there, Diagrams::leaf(false)) {
+    if is_false(there) {
         return Ok(sofar);
     }
     match seen_by(alloc, d, now, kind, child.diagram) {
@@ -98,7 +97,7 @@ fn add_one(
     }
 }
 
-/// The disjunction so far and the terms of these children.
+/// The disjunction so far and the terms of these children, of which those count whose atom a node of the kind may have.
 pub(crate) fn add_children(
     alloc: Global,
     d: &mut Diagrams,
@@ -108,10 +107,10 @@ pub(crate) fn add_children(
     start: Ref,
 ) -> Result<Ref, DiagramFault>
     requires inside { AreIn d.old.branches now.now }
-    requires children { All (λ c. IsIn d.old.branches c.diagram) children.now }
+    requires children { All (λ c. IsIn d.old.branches c.diagram) (beneath now.now kind children.now) }
     requires start { IsIn d.old.branches start }
     requires arena { IsArena d.old }
-    ensures { Adds d.old d.new start (flat_map (λ (c : Child). term_of d.old.branches now.now kind c ∷ []) children.now) result }
+    ensures { Adds d.old d.new start (flat_map (terms_by d.old.branches now.now kind) children.now) result }
 {
     let mut sofar = start;
     for i in 0..children.len() {

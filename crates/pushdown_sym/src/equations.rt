@@ -5,7 +5,8 @@ ghost use Rattle.class_diagrams.specs.Trees.{leaf};
 ghost use Rattle.class_diagrams.specs.Arena.{tree_at, IsIn, IsArena, StartsWith};
 ghost use Rattle.diagram_ops.specs.Steps.{held_with_all, AreAmong, Calculates};
 ghost use Rattle.pushdown_sym.specs.Adding.{AreIn, next_in, results_in};
-ghost use Rattle.pushdown_sym.specs.Children.{standing_of, different};
+ghost use Rattle.pushdown_sym.specs.Children.{standing_of, different, DoServe};
+ghost use Rattle.pushdown_sym.specs.Givers.{AreDoors, HaveDoors};
 ghost use Rattle.simple_core.specs.Systems.{IsSound};
 ghost use Rattle.pushdown_sym.specs.Rounds.{cell};
 ghost use Rattle.pushdown_sym.specs.Laws.{Tells};
@@ -13,6 +14,7 @@ ghost use Rattle.simple_core.specs.Givers.{places_from};
 
 use crate::cells::Cells;
 use crate::children::add_children;
+use crate::doors::Doors;
 use crate::gathering::{Child, Children};
 use crate::links::add_ups;
 use crate::locals::add_locals;
@@ -57,8 +59,8 @@ impl Equations {
 
     /// The cell of a kind and an atom in the round behind `now`. Of the rules that give the atom: a conjunction for each
     /// atom that a local one needs, for each link from a child a look at each kind of child that may have its left side, and
-    /// a composition for each different pair of a child's diagram and the atom that makes the child. `Round` looks once for
-    /// all kinds. A cell that holds for every label stays, and costs nothing.
+    /// a composition for each different pair of a child's diagram and the atom that makes the child. `Round` looks at
+    /// fewer. A cell that holds for every label stays, and costs nothing.
     pub fn next_cell(
         &self,
         d: &mut Diagrams,
@@ -124,7 +126,60 @@ impl Equations {
         )
     }
 
-    /// The cell, where these are the different children.
+    /// For each kind the spawn rules that its nodes may use.
+    pub(crate) fn doors(&self, alloc: Global, now: &Cells) -> Result<Doors, NoMemory>
+        ensures { IfOk result (HaveDoors self.now.child now.now) }
+    {
+        Doors::of_spawns(alloc, self.system.child.items(), now)
+    }
+
+    // The children that serve for a cell, where a node of the kind may use the spawn rules at these places alone.
+    fn children_through(
+        &self,
+        alloc: Global,
+        now: &Cells,
+        cell: (u32, Atom),
+        doors: &[usize],
+    ) -> Result<Children, NoMemory>
+        requires { AreDoors self.now.child now.now cell.0 doors.now }
+        ensures { IfOk result (DoServe self.now now.now cell.0 cell.1) }
+    {
+        let places = self.givers.downs.of(cell.1);
+        Children::through(
+            alloc,
+            now,
+            self.system.down.items(),
+            places,
+            self.system.child.items(),
+            doors,
+        )
+    }
+
+    /// The cell, where a node of the kind may use the spawn rules at these places alone. Besides the compositions, a look at
+    /// each of these rules for each link from a child that gives the atom. A cell that holds for every label costs nothing.
+    pub(crate) fn next_through(
+        &self,
+        alloc: Global,
+        d: &mut Diagrams,
+        now: &Cells,
+        cell: (u32, Atom),
+        doors: &[usize],
+    ) -> Result<Ref, DiagramFault>
+        requires inside { AreIn d.old.branches now.now }
+        requires doors { AreDoors self.now.child now.now cell.0 doors.now }
+        ensures { Calculates d.old d.new (results_in self.now d.old now.now cell.0 cell.1) (next_in self.now d.old now.now cell.0 cell.1) result }
+    {
+        let start = now.get(cell.0, cell.1);
+        if is_whole(d, start) {
+            return Ok(start);
+        }
+        match self.children_through(alloc, now, (cell.0, cell.1), doors) {
+            Ok(children) => self.next_by(alloc, d, now, cell, children.items()),
+            Err(_) => Err(DiagramFault::Memory),
+        }
+    }
+
+    /// The cell, where these children serve for it.
     pub(crate) fn next_by(
         &self,
         alloc: Global,
@@ -135,7 +190,7 @@ impl Equations {
     ) -> Result<Ref, DiagramFault>
         requires inside { AreIn d.old.branches now.now }
         requires arena { IsArena d.old }
-        requires children { children.now ≡ different (standing_of self.now now.now cell.1) }
+        requires children { DoServe self.now now.now cell.0 cell.1 children.now }
         ensures { Calculates d.old d.new (results_in self.now d.old now.now cell.0 cell.1) (next_in self.now d.old now.now cell.0 cell.1) result }
     {
         let locals = self.givers.locals.of(cell.1);
@@ -167,7 +222,7 @@ fn next_of(
     requires arena { IsArena d.old }
     requires locals { givers.0.now ≡ places_from (λ r. r.gives == cell.1) 0 system.now.local }
     requires ups { givers.1.now ≡ places_from (λ l. l.to == cell.1) 0 system.now.up }
-    requires children { children.now ≡ different (standing_of system.now now.now cell.1) }
+    requires children { DoServe system.now now.now cell.0 cell.1 children.now }
     ensures { Calculates d.old d.new (results_in system.now d.old now.now cell.0 cell.1) (next_in system.now d.old now.now cell.0 cell.1) result }
 {
     let (kind, atom) = cell;

@@ -3,6 +3,7 @@
 
 mod cells;
 mod children;
+mod doors;
 mod equations;
 mod gathering;
 mod laws;

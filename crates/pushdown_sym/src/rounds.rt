@@ -11,6 +11,7 @@ ghost use Rattle.pushdown_sym.specs.Adding.{AreIn, next_in, results_in};
 ghost use Rattle.pushdown_sym.specs.Children.{standing_of, different, kept_in, AreKept};
 
 use crate::cells::Cells;
+use crate::doors::{Doors, are_few};
 use crate::equations::{Equations, is_whole};
 use crate::gathering::{Child, Children};
 use class_diagrams::{DiagramFault, Diagrams, Ref};
@@ -87,12 +88,14 @@ impl Kept {
     }
 }
 
-/// The equations of a system and the cells of one round. What the links that give an atom look at is found once for all
-/// kinds. A contract sees the system and the cells.
+/// The equations of a system and the cells of one round. For each kind it is known which spawn rules its nodes may use; where
+/// they are many, what the links that give an atom look at is found once for all these kinds. A contract sees the system and
+/// the cells.
 #[derive(Drop)]
 pub struct Round<'e, 'c> {
     equations: &'e Equations,
     cells: &'c Cells,
+    doors: Doors,
     kept: Kept,
 }
 
@@ -100,24 +103,31 @@ impl<'e, 'c> Model for Round<'e, 'c> {
     ghost use Rattle.simple_core.specs.declared.system.System.{System};
     ghost use Rattle.pushdown_sym.specs.CellMap.{Entries};
     ghost use Rattle.pushdown_sym.specs.Children.{AreKept};
+    ghost use Rattle.pushdown_sym.specs.Givers.{HaveDoors};
 
     ghost Value = { System × Entries };
 
     ghost view = { λ r. (r.equations.now, r.cells.now) };
 
-    ghost invariant = { λ r. AreKept r.equations.now r.cells.now r.kept };
+    ghost invariant = { λ r. HaveDoors r.equations.now.child r.cells.now r.doors × AreKept r.equations.now r.cells.now r.kept };
 }
 
 impl<'e, 'c> Round<'e, 'c> {
-    /// The cells of a round. Nothing is calculated yet.
-    pub fn new(alloc: Global, equations: &'e Equations, cells: &'c Cells) -> Round<'e, 'c>
-        ensures { result ≡ (equations.now, cells.now) }
+    /// The cells of a round. Nothing is calculated yet; for each spawn rule a look at each kind that may have the atom that
+    /// it needs.
+    pub fn new(
+        alloc: Global,
+        equations: &'e Equations,
+        cells: &'c Cells,
+    ) -> Result<Round<'e, 'c>, NoMemory>
+        ensures { IfOk result (λ r. r ≡ (equations.now, cells.now)) }
     {
-        Round {
+        Ok(Round {
             equations,
             cells,
+            doors: equations.doors(alloc, cells)?,
             kept: Kept::new(alloc),
-        }
+        })
     }
 
     /// The diagram of a cell.
@@ -127,10 +137,12 @@ impl<'e, 'c> Round<'e, 'c> {
         self.cells.get(kind, atom)
     }
 
-    /// The cell of a kind and an atom in the round behind this one, as `Equations::next_cell` gives it. Once for each atom,
-    /// each link that gives it costs a look at each kind of child that may have its left side; and then each cell a
-    /// composition for each different pair of a child's diagram and the atom that makes the child. A cell that holds for every
-    /// label stays, and costs nothing.
+    /// The cell of a kind and an atom in the round behind this one, as `Equations::next_cell` gives it. Where a node of the
+    /// kind may use a few spawn rules alone, each link that gives the atom costs a look at each of them. For all other kinds
+    /// together, each link that gives an atom costs a look at each kind of child that may have its left side, and each cell a
+    /// look at each different pair of a child's diagram and the atom that makes the child. In both ways a cell costs a
+    /// composition for each of these pairs whose atom a node of the kind may have. A cell that holds for every label stays,
+    /// and costs nothing.
     pub fn next_cell(
         &mut self,
         d: &mut Diagrams,
@@ -151,14 +163,23 @@ impl<'e, 'c> Round<'e, 'c> {
         ensures limit { d.new.limit ≡ d.old.limit }
         ensures arena { IsArena d.new }
     {
-        next_kept(
-            self.cells.allocator(),
-            self.equations,
-            self.cells,
-            &mut self.kept,
-            d,
-            (kind, atom),
-        )
+        self.next(d, (kind, atom))
+    }
+
+    // The cell, by the few spawn rules that its kind may use, or by what is kept for all kinds.
+    fn next(&mut self, d: &mut Diagrams, cell: (u32, Atom)) -> Result<Ref, DiagramFault>
+        requires { AreIn d.old.branches self.old.1 }
+        ensures same { self.new ≡ self.old }
+        ensures next { Calculates d.old d.new (results_in self.old.0 d.old self.old.1 cell.0 cell.1) (next_in self.old.0 d.old self.old.1 cell.0 cell.1) result }
+    {
+        let alloc = self.cells.allocator();
+        let doors = self.doors.of(cell.0);
+        if are_few(doors) {
+            return self
+                .equations
+                .next_through(alloc, d, self.cells, cell, doors);
+        }
+        next_kept(alloc, self.equations, self.cells, &mut self.kept, d, cell)
     }
 }
 

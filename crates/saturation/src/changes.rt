@@ -50,7 +50,7 @@ fn one_round(
     ensures full { (k : ℕ) → IsSound equations.now → All (λ c. Contains (given_atoms equations.now) c.1) todo.now → Tells equations.now d.old.branches now.now k
         → IsErrOf result DiagramFault.Full → IsFullIn equations.now k d.old }
 {
-    let mut round = Round::new(alloc, equations, now);
+    let mut round = Round::new(alloc, equations, now)?;
     let mut changes = Vec::new(alloc);
     for name in todo {
         one_cell(&mut round, d, *name, &mut changes)?;

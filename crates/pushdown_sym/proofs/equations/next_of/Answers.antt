@@ -6,7 +6,7 @@ use Rattle.pushdown_sym.specs.Adding.{of_local, of_up}
 use Rattle.pushdown_sym.proofs.GiverLemmas.{of_local-none, of_up-none, adds_given}
 use Rattle.class_diagrams.proofs.BranchLemmas.{StartsWith-further}
 use Rattle.pushdown_sym.proofs.AddLemmas.{cells_in}
-use Rattle.pushdown_sym.proofs.ChildLemmas.{different_in, children_add}
+use Rattle.pushdown_sym.proofs.ChildLemmas.{serving_in, children_add}
 use Rattle.pushdown_sym.proofs.LinkLemmas.{locals_failed, ups_failed, all_added}
 use Rattle.pushdown_sym.proofs.equations.next_of.Goals as goal
 
@@ -34,7 +34,7 @@ returns-in_err-by_ups c =
 
 pub add_children-requires-clause-children : goal.add_children-requires-clause-children
 add_children-requires-clause-children c =
-    different_in c.add_ups.new.d.branches c.args.system.now c.args.now.now c.args.cell.1 c.args.children.now
+    serving_in c.add_ups.new.d.branches c.args.system.now c.args.now.now c.args.cell.0 c.args.cell.1 c.args.children.now
     (cells_in c.args.d.now.branches c.add_ups.new.d.branches c.args.now.now
     (StartsWith-further c.args.d.now.branches c.add_locals.new.d.branches c.add_ups.new.d.branches c.in_ok-by_locals.ensures.brings.stays c.in_ok-by_ups.ensures.brings.stays) c.requires.inside)
     c.requires.children

@@ -2,6 +2,7 @@ use Rattle.std.proofs.Common.{[], unwrap_or, sym, ap, ◌∙◌, subst}
 use Rattle.class_diagrams.specs.Arena.{IsIn}
 use Rattle.diagram_ops.proofs.StepLemmas.{brings_itself}
 use Rattle.pushdown_sym.specs.Adding.{results_in}
+use Rattle.pushdown_sym.specs.Children.{beneath}
 use Rattle.pushdown_sym.proofs.AddLemmas.{whole_stays}
 use Rattle.pushdown_sym.proofs.rounds.next_kept.Goals as goal
 
@@ -9,7 +10,7 @@ pub is_whole-requires : goal.is_whole-requires
 is_whole-requires c = subst (IsIn c.args.d.now.branches) (sym c.get-start.ensures) (c.requires.inside c.args.cell.0 c.args.cell.1)
 
 pub next_by-requires-clause-children : goal.next_by-requires-clause-children
-next_by-requires-clause-children c = c.of.ensures ∙ ap (λ o. unwrap_or o []) c.in-Ok.ensures.there
+next_by-requires-clause-children c = ap (beneath c.args.now.now c.args.cell.0) (c.of.ensures ∙ ap (λ o. unwrap_or o []) c.in-Ok.ensures.there)
 
 pub returns-then-is_whole-clause-next : goal.returns-then-is_whole-clause-next
 returns-then-is_whole-clause-next c =

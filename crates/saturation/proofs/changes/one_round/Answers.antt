@@ -12,7 +12,7 @@ use Rattle.saturation.proofs.RoundLemmas.{step_none, full_of}
 use Rattle.saturation.proofs.changes.one_round.Goals as goal
 
 pub loop-name-init : goal.loop-name-init
-loop-name-init c = (c.new-round.ensures, StartsWith-itself c.args.d.now.branches, λ k sound given tells. step_none c.args.equations.now k c.args.d.now c.new-changes.result.items c.new-changes.ensures.items c.requires.arena)
+loop-name-init c = (c.in_ok-round.ensures, StartsWith-itself c.args.d.now.branches, λ k sound given tells. step_none c.args.equations.now k c.args.d.now c.new-changes.result.items c.new-changes.ensures.items c.requires.arena)
 
 pub one_cell-requires-clause-kind : goal.one_cell-requires-clause-kind
 one_cell-requires-clause-kind c =
@@ -26,7 +26,7 @@ one_cell-requires-clause-inside c =
 
 pub returns-in_err-one_cell-clause-full : goal.returns-in_err-one_cell-clause-full
 returns-in_err-one_cell-clause-full c k sound given tells full =
-    full_of c.args.equations.now k c.args.d.now c.one_cell.new.d (take c.loop-name.name-index c.args.todo.now ++ c.name-item.result ∷ []) c.one_cell.new.changes.items c.from_residual.result c.in_err-one_cell.field-0.0 c.from_residual.ensures.1 full
+    full_of c.args.equations.now k c.args.d.now c.one_cell.new.d (take c.loop-name.name-index c.args.todo.now ++ c.name-item.result ∷ []) c.one_cell.new.changes.items c.from_residual-in_err-one_cell.result c.in_err-one_cell.field-0.0 c.from_residual-in_err-one_cell.ensures.1 full
     ((subst (λ (p : System × Entries). Steps p.0 p.1 c.loop-name.d c.one_cell.new.d c.name-item.result c.loop-name.changes.items c.one_cell.new.changes.items (Err c.in_err-one_cell.field-0.0)) c.loop-name.invariant.0 c.in_err-one_cell.ensures.step) k c.args.d.now (take c.loop-name.name-index c.args.todo.now) sound
     (subst (λ (x : CellName). Contains (given_atoms c.args.equations.now) x.1) (sym c.name-item.is) (given c.loop-name.name-index c.name-item.result c.loop-name-test.true))
     (λ j a less. tree_at-further c.args.d.now.branches c.loop-name.d.branches (place_in c.args.now.now j a) c.loop-name.invariant.1 (c.requires.inside j a) ∙ tells j a less)

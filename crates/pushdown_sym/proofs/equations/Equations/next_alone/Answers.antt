@@ -1,7 +1,8 @@
-use Rattle.std.proofs.Common.{sym, subst}
+use Rattle.std.proofs.Common.{sym, ap, subst, ◌∙◌}
 use Rattle.class_diagrams.specs.Arena.{IsIn}
 use Rattle.diagram_ops.proofs.StepLemmas.{brings_itself}
 use Rattle.pushdown_sym.specs.Adding.{results_in}
+use Rattle.pushdown_sym.specs.Children.{beneath}
 use Rattle.pushdown_sym.proofs.AddLemmas.{whole_stays}
 use Rattle.pushdown_sym.proofs.equations.Equations.next_alone.Goals as goal
 
@@ -14,3 +15,6 @@ returns-then-is_whole c =
 
 pub returns-in-Err : goal.returns-in-Err
 returns-in-Err c = record { answer = tt; brings = brings_itself c.args.d.now (results_in c.args.self.now c.args.d.now c.args.now.now c.args.kind c.args.atom) c.is_whole.ensures.arena }
+
+pub next_by-requires-clause-children : goal.next_by-requires-clause-children
+next_by-requires-clause-children c = ap (beneath c.args.now.now c.args.kind) (c.items.ensures ∙ c.in-Ok.ensures)

@@ -1,0 +1,88 @@
+//! For each kind the spawn rules that its nodes may use.
+ghost use Rattle.std.specs.Prelude.{◌≡◌, ◌==◌, ◌≤◌, ◌<◌, [], ◌∷◌, true, false, length, Contains, IfOk, OnOk};
+ghost use Rattle.std.specs.List.{list_any};
+ghost use Rattle.simple_core.specs.Givers.{places_in};
+ghost use Rattle.pushdown_sym.specs.Givers.{a_few, HaveDoors, IsNoted};
+
+use crate::cells::Cells;
+use multimap::Multimap;
+use simple_core::Spawn;
+use std::alloc::Global;
+use std::marker::Model;
+use tp_base::NoMemory;
+
+// Where a kind has so many places at most, all of them are noted; the same number as in the contracts.
+const A_FEW: usize = 8;
+
+/// For each kind the places, in a list of spawn rules, of those that a node of the kind may use, in order. Where they are
+/// more than a few, the first ones alone.
+#[derive(Drop)]
+pub(crate) struct Doors {
+    rows: Multimap<u32, usize>,
+}
+
+impl Model for Doors {
+    ghost use Rattle.std.specs.Prelude.{List, ℕ};
+
+    ghost Value = { List (ℕ × List ℕ) };
+
+    ghost view = { λ d. d.rows };
+}
+
+/// Whether these are all places of their kind.
+pub(crate) fn are_few(row: &[usize]) -> bool
+    ensures few { result ≡ true → length row.now ≤ a_few }
+    ensures many { result ≡ false → a_few < length row.now }
+{
+    row.len() <= A_FEW
+}
+
+// Whether a place is still to be noted in a row.
+fn has_room(row: &[usize], place: usize) -> bool
+    ensures new { result ≡ true → list_any (λ n. n == place) row.now ≡ false }
+    ensures old { result ≡ false → length row.now ≤ a_few → list_any (λ n. n == place) row.now ≡ true }
+{
+    are_few(row) && !row.contains(&place)
+}
+
+// Notes a place for a kind.
+fn note(rows: &mut Multimap<u32, usize>, kind: u32, place: usize) -> Result<(), NoMemory>
+    ensures { OnOk result (IsNoted (kind ∷ []) place (places_in rows.old) (places_in rows.new)) }
+{
+    if has_room(rows.of(kind), place) {
+        rows.push(kind, place)?;
+    }
+    Ok(())
+}
+
+// Notes a place for each of these kinds.
+fn note_each(rows: &mut Multimap<u32, usize>, kinds: &[u32], place: usize) -> Result<(), NoMemory>
+    ensures { OnOk result (IsNoted kinds.now place (places_in rows.old) (places_in rows.new)) }
+{
+    for i in 0..kinds.len() {
+        let kind = kinds[i];
+        note(rows, kind, place)?;
+    }
+    Ok(())
+}
+
+impl Doors {
+    /// For each spawn rule a look at the kinds that may have what it needs.
+    pub(crate) fn of_spawns(alloc: Global, spawns: &[Spawn], now: &Cells) -> Result<Self, NoMemory>
+        ensures { IfOk result (HaveDoors spawns.now now.now) }
+    {
+        let mut rows = Multimap::new(alloc);
+        for i in 0..spawns.len() {
+            let spawn = spawns[i];
+            note_each(&mut rows, now.kinds_with(spawn.needs), i)?;
+        }
+        Ok(Doors { rows })
+    }
+
+    /// The places of a kind.
+    pub(crate) fn of(&self, kind: u32) -> &[usize]
+        ensures { result.now ≡ places_in self.now kind }
+    {
+        self.rows.of(kind)
+    }
+}
