@@ -22,7 +22,7 @@ use Rattle.simple_core.proofs.LabelLemmas.{before, local, up, down, next_label-g
 use Rattle.simple_core.proofs.RoundLemmas.{set_of-is, grown-rises, grown-one_more, grown-later}
 use Rattle.simple_core.proofs.RestLemmas.{AtRest, at_rest, first_is, first_one}
 use Rattle.simple_core.proofs.PairLemmas.{not_more}
-use Rattle.need_table.specs.declared.entries.First.{First}
+use Rattle.simple_core.specs.declared.summaries.First.{First}
 use Rattle.need_table.specs.declared.entries.Entry.{Entry}
 use Rattle.need_table.specs.Tables.{pair_of, labels, IsDone, IsTable, AllDone}
 

@@ -17,7 +17,7 @@ use Rattle.simple_core.specs.Pairs.{Pair, Asks, Needed, AreDifferent, HasMore}
 use Rattle.simple_core.proofs.Members.{Among, among_all, filter-Contains, Contains-filter}
 use Rattle.simple_core.proofs.RoundLemmas.{set_of-is, is-set_of, set_of-rises, grown-rises, grown-later}
 use Rattle.simple_core.proofs.PairLemmas.{different_push, one_more}
-use Rattle.need_table.specs.declared.entries.First.{First}
+use Rattle.simple_core.specs.declared.summaries.First.{First}
 use Rattle.need_table.specs.declared.entries.Entry.{Entry}
 use Rattle.need_table.specs.Tables.{pair_of, fresh_of, labels, AreInOrder, IsDone, IsHeard, IsAskedAt, IsUpTo, IsTable, IsKept, IsMore, NotedAt, IsUntouched, AreNeeded}
 use Rattle.need_table.specs.Agendas.{IsKnown, IsAppended}

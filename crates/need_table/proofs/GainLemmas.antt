@@ -24,7 +24,7 @@ use Rattle.simple_core.proofs.RoundLemmas.{set_of-is, is-set_of, labels_below-is
 use Rattle.simple_core.proofs.RestLemmas.{first_is, first_one}
 use Rattle.rule_index.specs.Asking.{IsMore, AreMet, AsksAnew}
 use Rattle.rule_index.proofs.IndexLemmas.{union_of-same}
-use Rattle.need_table.specs.declared.entries.First.{First}
+use Rattle.simple_core.specs.declared.summaries.First.{First}
 use Rattle.need_table.specs.declared.entries.Entry.{Entry}
 use Rattle.need_table.specs.Tables.{pair_of, atoms_within, fresh_of, labels, replaced, AreInOrder, IsHeard, IsAskedAt, IsTable}
 use Rattle.need_table.specs.Agendas.{IsKnown, AreKnown}

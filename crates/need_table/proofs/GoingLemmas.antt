@@ -15,7 +15,7 @@ use Rattle.simple_core.specs.Pairs.{Pair, Asks, AreDifferent}
 use Rattle.simple_core.proofs.Members.{among_all}
 use Rattle.simple_core.proofs.RoundLemmas.{grown-rises, grown-later, grown-one_more}
 use Rattle.simple_core.proofs.RestLemmas.{labels_below-alike, first_is}
-use Rattle.need_table.specs.declared.entries.First.{First}
+use Rattle.simple_core.specs.declared.summaries.First.{First}
 use Rattle.need_table.specs.declared.entries.Entry.{Entry}
 use Rattle.need_table.specs.declared.agenda.Agenda.{Agenda}
 use Rattle.need_table.specs.Rows.{row_in, IsRicher, IsEmptyBelow, IsDue}

@@ -11,7 +11,7 @@ use Rattle.tree_sem.proofs.NodeLemmas.{Contains-map, map-Contains}
 use Rattle.simple_core.specs.Labels.{set_of}
 use Rattle.simple_core.proofs.Members.{among_all, filter-Contains, Contains-filter}
 use Rattle.simple_core.proofs.RoundLemmas.{set_of-is, is-set_of, set_of-rises}
-use Rattle.need_table.specs.declared.entries.First.{First}
+use Rattle.simple_core.specs.declared.summaries.First.{First}
 use Rattle.need_table.specs.Tables.{atoms_within, AreInOrder, IsPlaceFrom}
 
 -- ---- lists by their places

@@ -6,7 +6,7 @@ use Rattle.pair_table.specs.Hashes.{hash_of}
 use Rattle.pair_table.specs.Rows.{places_in, AreFound}
 use Rattle.pair_table.proofs.RowLemmas.{found_none}
 use Rattle.simple_core.specs.Pairs.{Pair}
-use Rattle.need_table.specs.declared.entries.First.{First}
+use Rattle.simple_core.specs.declared.summaries.First.{First}
 use Rattle.need_table.specs.declared.entries.Entry.{Entry}
 use Rattle.need_table.specs.Tables.{pair_of, rested, raised, IsNotAt, IsNoted, IsUntouched}
 use Rattle.need_table.proofs.FillLemmas.{set-alike, more_itself}

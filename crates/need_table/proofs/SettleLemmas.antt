@@ -1,19 +1,22 @@
 -- From a table that is worked out to one at rest.
 use Rattle.std.proofs.Common.{◌≡◌, ◌≢◌, ℕ, zero, suc, eqb, ◌+◌, ◌<◌, ◌≤◌, List, [], ◌∷◌, ◌++◌, map, length, set, take, drop, get_or, Option, Some, None, slice_get, IsSomeAnd, IfSome, Contains, refl, sym, ap, ◌∙◌, inl, inr, arith, subst}
+use Rattle.std.specs.List.{filter}
 use Rattle.std.proofs.lemmas.Bool.{both_ways, eq-eqb, eqb-true, cases_Bool}
 use Rattle.std.proofs.lemmas.List.{length-map}
 use Rattle.std.proofs.lemmas.Option.{get_or_from_slice_get}
-use Rattle.tp_base.proofs.ClassLemmas.{same_members}
+use Rattle.tp_base.specs.Classes.{has_class}
+use Rattle.tp_base.proofs.ClassLemmas.{same_members, has_class-Contains, Contains-has_class}
 use Rattle.tp_base.proofs.Rising.{Contains-here, Contains-behind, Contains-cons, Contains-none}
 use Rattle.tp_base.proofs.Lists.{Contains-at, at_map}
 use Rattle.tree_sem.proofs.NodeLemmas.{Contains-map, map-Contains}
+use Rattle.simple_core.specs.Firsts.{AreFirsts}
 use Rattle.simple_core.specs.Labels.{set_of}
 use Rattle.simple_core.specs.Rounds.{grown, IsRest, IsFirst}
-use Rattle.simple_core.proofs.Members.{among_all}
+use Rattle.simple_core.proofs.Members.{among_all, filter-Contains, Contains-filter}
 use Rattle.simple_core.proofs.RoundLemmas.{set_of-is, is-set_of, set_of-rises, grown-rises, grown-later}
 use Rattle.simple_core.specs.declared.system.System.{System}
 use Rattle.simple_core.specs.Pairs.{Pair}
-use Rattle.need_table.specs.declared.entries.First.{First}
+use Rattle.simple_core.specs.declared.summaries.First.{First}
 use Rattle.need_table.specs.declared.entries.Entry.{Entry}
 use Rattle.need_table.specs.declared.agenda.Agenda.{Agenda}
 use Rattle.need_table.specs.Rows.{row_in}
@@ -210,6 +213,30 @@ first_known s pairs entries i q x a r table rest at read is =
       subst (λ (z : Pair). IsFirst (labels s z) a r) e.2 (first_in_rest s e.0 a r (table.up_to e.0 there) (rest e.0 there) round),
       λ fits. round_bound s pairs entries e.0 a r table rest fits there round,
     )
+
+-- the visible ones among the firsts of an entry at rest
+visible_in_rest : (s : System) (e : Entry) → IsUpTo s e → e.rounds ≡ None → AreFirsts s.visible (labels s (pair_of e)) (filter (λ f. has_class f.atom s.visible) e.firsts.items)
+visible_in_rest s e up none =
+    let is_visible = λ (f : First). has_class f.atom s.visible in
+    record {
+      right = λ f there.
+          let both = filter-Contains is_visible e.firsts.items f there in
+          (Contains-has_class f.atom s.visible both.1, (up.right f both.0).1);
+      whole = λ a k visible there.
+          let f = up.whole k a (subst (λ o. IsDone o k) (sym none) tt) there in
+          (f.0, Contains-filter is_visible e.firsts.items f.0 f.1 (has_class-Contains f.0.atom s.visible (subst (Contains s.visible) (sym f.2) visible)), f.2);
+    }
+
+pub visible_known : (s : System) (pairs : ℕ) (entries : List Entry) (i : ℕ) (q : Pair) (x : Entry) (kept : List First) → IsTable s pairs entries → AllRest entries
+    → slice_get (map pair_of entries) i ≡ Some q → x ≡ get_or entries i x → kept ≡ filter (λ f. has_class f.atom s.visible) x.firsts.items → AreFirsts s.visible (labels s q) kept
+visible_known s pairs entries i q x kept table rest at read is =
+    let e = at_map pair_of entries i q at in
+    let here : x ≡ e.0 = read ∙ get_or_from_slice_get entries i e.0 x e.1 in
+    let there = Contains-at entries i e.0 e.1 in
+    let is_visible = λ (f : First). has_class f.atom s.visible in
+    let same : kept ≡ filter is_visible e.0.firsts.items = is ∙ ap (λ (z : Entry). filter is_visible z.firsts.items) here in
+    subst (λ (z : List First). AreFirsts s.visible (labels s q) z) (sym same)
+    (subst (λ (z : Pair). AreFirsts s.visible (labels s z) (filter is_visible e.0.firsts.items)) e.2 (visible_in_rest s e.0 (table.up_to e.0 there) (rest e.0 there)))
 
 -- the table after a refusal
 pub as_before : (old new cut : List Entry) (n : ℕ) → AllRest old → IsMore old new → n ≡ length old → cut ≡ take n new → cut ≡ old

@@ -5,7 +5,7 @@ use Rattle.std.specs.Global.{Vec}
 use Rattle.simple_core.specs.declared.system.System.{System}
 use Rattle.simple_core.specs.Pairs.{Pair, Asks}
 use Rattle.simple_core.proofs.RoundLemmas.{grown-rises}
-use Rattle.need_table.specs.declared.entries.First.{First}
+use Rattle.simple_core.specs.declared.summaries.First.{First}
 use Rattle.need_table.specs.declared.entries.Entry.{Entry}
 use Rattle.need_table.specs.declared.agenda.Agenda.{Agenda}
 use Rattle.need_table.specs.Rows.{row_in, IsRicher, IsDue}

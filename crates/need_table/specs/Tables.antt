@@ -8,7 +8,7 @@ use Rattle.simple_core.specs.Systems.{IsSound}
 use Rattle.simple_core.specs.Labels.{set_of}
 use Rattle.simple_core.specs.Rounds.{grown, IsFirst}
 use Rattle.simple_core.specs.Pairs.{Pair, Asks, Needed, AreDifferent}
-use Rattle.need_table.specs.declared.entries.First.{First}
+use Rattle.simple_core.specs.declared.summaries.First.{First}
 use Rattle.need_table.specs.declared.entries.Entry.{Entry}
 
 abbrev pub pair_of : Entry → Pair

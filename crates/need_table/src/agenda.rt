@@ -1,12 +1,13 @@
 //! What is to be done, while the table is filled.
 ghost use Rattle.std.specs.Prelude.{◌≡◌, ◌≤◌, ◌<◌, ◌-◌, ◌+◌, ◌^◌, ℕ, [], Contains, length, Some, slice_get, IfSome, IsSomeAnd, OnOk};
-ghost use Rattle.need_table.specs.declared.entries.First.{First};
+ghost use Rattle.simple_core.specs.declared.summaries.First.{First};
 ghost use Rattle.need_table.specs.declared.entries.Entry.{Entry};
 ghost use Rattle.need_table.specs.Tables.{replaced, AreInOrder, AreOrdered};
 ghost use Rattle.need_table.specs.Rows.{row_in, IsRicher, AreSameBelow, IsDue};
 
-use crate::entries::{Entry, First, place_from};
+use crate::entries::{Entry, place_from};
 use crate::rows::Rows;
+use simple_core::First;
 use std::alloc::Global;
 use tp_base::NoMemory;
 

@@ -1,15 +1,17 @@
 //! Questions to the table.
 ghost use Rattle.std.specs.Prelude.{◌≡◌, ◌<◌, ℕ, List, map, length, Contains, IfOk, OnOk, OnErr, IfSome};
+ghost use Rattle.std.specs.List.{filter};
+ghost use Rattle.tp_base.specs.Classes.{has_class};
 ghost use Rattle.simple_core.specs.Labels.{set_of};
 ghost use Rattle.simple_core.specs.Rounds.{IsRest};
 ghost use Rattle.simple_core.specs.Pairs.{Pair, Needed, HasMore};
 ghost use Rattle.need_table.specs.Tables.{pair_of, IsTable, IsMore, AreNeeded, AllRest, round_in};
 
-use crate::entries::{Entry, First};
+use crate::entries::Entry;
 use crate::entry_table::Table;
 use crate::settling::fill;
 use rule_index::IndexedSystem;
-use simple_core::GainFault;
+use simple_core::{First, GainFault};
 use std::alloc::Global;
 use tp_base::{Atom, ClassSet, NoMemory};
 
@@ -36,6 +38,25 @@ pub(crate) fn first_of(entry: &Entry, atom: Atom) -> Option<u64>
         return None;
     }
     round_of(&entry.firsts, atom)
+}
+
+/// Those whose atom is visible, with a search of the visible atoms for each.
+pub(crate) fn visible_firsts(
+    alloc: Global,
+    firsts: &[First],
+    visible: &ClassSet,
+) -> Result<Vec<First>, NoMemory>
+    ensures { IfOk result (λ v. v.items ≡ filter (λ f. has_class f.atom visible.now) firsts.now) }
+{
+    let mut kept = Vec::new(alloc);
+    let mut rest = firsts;
+    'firsts: while let Some((first, others)) = rest.split_first() {
+        if visible.has(first.atom) {
+            kept.push(*first)?;
+        }
+        rest = others;
+    }
+    Ok(kept)
 }
 
 // The label of a pair that is there already.

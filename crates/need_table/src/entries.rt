@@ -2,22 +2,16 @@
 ghost use Rattle.std.specs.Prelude.{◌≡◌, ◌↔◌, ◌≤◌, ◌<◌, ◌+◌, ◌^◌, map, take, drop, length, Some, Contains, IfOk, OnOk, IsTrue};
 ghost use Rattle.tp_base.specs.Classes.{union_of};
 ghost use Rattle.simple_core.specs.Labels.{set_of};
-ghost use Rattle.need_table.specs.declared.entries.First.{First};
+ghost use Rattle.simple_core.specs.declared.summaries.First.{First};
 ghost use Rattle.need_table.specs.Tables.{atoms_within, fresh_of, AreInOrder, IsPlaceFrom};
 
 use gathered::Gathered;
+use simple_core::First;
 use std::alloc::Global;
-use tp_base::{Atom, ClassSet, NoMemory};
+use tp_base::{ClassSet, NoMemory};
 
 // So many atoms are put into a label one by one, and so many of the last firsts are looked at before the others.
 const A_FEW: usize = 8;
-
-/// An atom, and the first round in which the label has it.
-#[derive(Clone, Copy, Debug, PartialEq, Eq)]
-pub(crate) struct First {
-    pub(crate) atom: Atom,
-    pub(crate) round: u64,
-}
 
 /// A pair. `label` is its last label, and `firsts` has the atoms of this in the order of their first rounds. `rounds` is the last
 /// round for which it was worked out, and `None` where it has come to rest; `children` has the places of the pairs that its label

@@ -3,9 +3,10 @@ ghost use Rattle.std.specs.Prelude.{◌≡◌, ◌↔◌, ◌+◌, ◌≤◌, �
 ghost use Rattle.need_table.specs.declared.entries.Entry.{Entry};
 ghost use Rattle.need_table.specs.Tables.{pair_of, rested, raised, replaced, IsNotAt, IsNoted, IsUntouched};
 
-use crate::entries::{Entry, First, grow, is_at};
+use crate::entries::{Entry, grow, is_at};
 use multimap::Multimap;
 use pair_table::{hash_of, same_atoms};
+use simple_core::First;
 use std::alloc::Global;
 use std::marker::Model;
 use tp_base::{ClassSet, NoMemory};

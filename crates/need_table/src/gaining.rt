@@ -10,11 +10,12 @@ ghost use Rattle.need_table.specs.Agendas.{AreKnown, IsGoing};
 ghost use Rattle.need_table.specs.Turns.{given_at, given_above, IsAsked, IsGained};
 
 use crate::agenda::{Agenda, listen_anew, tell};
-use crate::entries::{Entry, First, fresh, within};
+use crate::entries::{Entry, fresh, within};
 use crate::entry_table::Table;
 use crate::filling::{Asked, asked_places};
 use gathered::Gathered;
 use rule_index::IndexedSystem;
+use simple_core::First;
 use std::alloc::Global;
 use tp_base::{ClassSet, NoMemory};
 

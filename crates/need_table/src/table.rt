@@ -1,14 +1,15 @@
 //! Summaries in a table of pairs, with a limit on them.
 ghost use Rattle.std.specs.Prelude.{◌≡◌, ◌↔◌, ◌<◌, ◌^◌, ◌∷◌, [], List, length, None, Contains, All, IfOk, OnOk, OnErr, IfSome, IsSome, IsErrOf};
 ghost use Rattle.simple_core.specs.Systems.{IsSound};
+ghost use Rattle.simple_core.specs.Firsts.{AreFirsts};
 ghost use Rattle.simple_core.specs.Pairs.{Pair};
 ghost use Rattle.simple_core.specs.Rounds.{grown, IsRest, IsFirst};
 ghost use Rattle.simple_core.specs.Knowledge.{KeepsAsking, TellsAfter, IsToldBy, KeepsRoom};
 
-use crate::asking::{ask, first_of};
+use crate::asking::{ask, first_of, visible_firsts};
 use crate::entry_table::Table;
 use rule_index::IndexedSystem;
-use simple_core::{GainFault, Summaries, System};
+use simple_core::{First, GainFault, Summaries, System};
 use std::alloc::Global;
 use std::marker::Model;
 use tp_base::{Atom, ClassSet, NoMemory};
@@ -28,6 +29,7 @@ struct Question {
 /// it asks new pairs, it waits for them and is made again, which costs a step for each round so far besides.
 /// A pair is found by a number that is worked out of its atoms, so that a look for its entry is linear in these, on average. The
 /// first round of an atom at an entry costs a search of the label, and where the label has it, a look at the atoms that came before.
+/// All visible atoms of a pair cost a look for its entry, and a search of the visible atoms for each atom of its label.
 #[derive(Drop)]
 pub struct PlainSummaries<'a> {
     system: IndexedSystem<'a>,
@@ -124,5 +126,12 @@ impl<'a> Summaries for PlainSummaries<'a> {
 
     fn first_at(&self, entry: usize, _kind: u32, _parent: &ClassSet, atom: Atom) -> Option<u64> {
         first_of(self.table.entry(entry), atom)
+    }
+
+    fn firsts(&self, alloc: Global, kind: u32, parent: &ClassSet) -> Result<Vec<First>, NoMemory> {
+        let place = self.entry(kind, parent);
+        let entry = self.table.entry(place);
+        let firsts = visible_firsts(alloc, &entry.firsts, self.system.visible())?;
+        Ok(firsts)
     }
 }

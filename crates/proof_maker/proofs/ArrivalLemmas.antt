@@ -1,88 +1,33 @@
 -- What comes to an added node, each with its first round.
---     arrivals_next, arrivals_whole      the visible atoms, one after the other
 --     sorted_arrivals                    in the order of their rounds
 --     begun_next, begun_cut              those that are there by a round are the first of them
 --     arrived_by                         and they are the visible part of the label
-use Rattle.std.proofs.Common.{◌≡◌, ◌↔◌, ◌⊎◌, ℕ, suc, ◌+◌, ◌<◌, ◌≤◌, List, [], ◌∷◌, ◌++◌, length, take, drop, get_or, slice_get, Option, Some, None, Result, Ok, Err, IfOk, Contains, inl, inr, refl, sym, ap, ◌∙◌, subst, arith}
+use Rattle.std.proofs.Common.{◌≡◌, ◌↔◌, ℕ, suc, ◌+◌, ◌<◌, ◌≤◌, List, [], ◌∷◌, ◌++◌, length, take, drop, get_or, Result, Ok, Err, IfOk, Contains, inl, inr, refl, sym, ◌∙◌, subst, arith}
 use Rattle.std.specs.List.Sorted.{IsStrictlyIncreasing, IsPermutation}
 use Rattle.std.proofs.lemmas.Bool.{cases_lt}
 use Rattle.std.proofs.lemmas.List.{take_more, take_all, take-append-drop, length-take-le, get_or-take, get_or_read}
 use Rattle.std.proofs.lemmas.List.Sorted.{Contains-permutation, IsPermutation-sym}
 use Rattle.std.proofs.lemmas.List.Elements.{Contains-append_cases, Contains-append_left, Contains-append_right}
-use Rattle.tp_base.proofs.Lists.{take_suc}
 use Rattle.tp_base.specs.Classes.{union_of, cut_to}
 use Rattle.tp_base.proofs.Rising.{All-from_Contains, Contains-here, Contains-cons, Contains-none}
 use Rattle.tp_base.proofs.ClassLemmas.{Contains-union_of, IsStrictlyIncreasing-union_of, Contains-cut_to, IsStrictlyIncreasing-cut_to, same_members}
-use Rattle.simple_core.specs.Rounds.{IsFirst}
+use Rattle.simple_core.specs.declared.summaries.First.{First}
+use Rattle.simple_core.specs.Firsts.{AreFirsts}
 use Rattle.simple_core.proofs.Members.{Among}
 use Rattle.simple_core.proofs.RestLemmas.{first_is}
-use Rattle.proof_maker.specs.declared.arrivals.Arrival.{Arrival}
-use Rattle.proof_maker.specs.Arrivals.{AreFirsts, AreArrivals, AreByRounds, CameBy, with_first}
+use Rattle.proof_maker.specs.Arrivals.{AreArrivals, AreByRounds, CameBy}
 
 pub last_of : {X : Type 0} (x y : X) → Contains (x ∷ []) y → y ≡ x
 last_of x y is = elim ((Contains-cons y x []).0 is) [ inl here ↦ here | inr none ↦ absurd (Contains-none y none) ]
 
--- ### the visible atoms
-
-pub arrivals_start : (visible : List ℕ) (labels : ℕ → List ℕ) (items : List Arrival) → items ≡ [] → AreFirsts (take 0 visible) labels items
-arrivals_start visible labels items none = record {
-  right = λ c there. absurd (Contains-none c (subst (λ (z : List Arrival). Contains z c) none there));
-  whole = λ a k there came. absurd (Contains-none a there);
-}
-
-module _ (visible : List ℕ) (labels : ℕ → List ℕ) (items : List Arrival) (i a : ℕ) (at : slice_get visible i ≡ Some a) (before : AreFirsts (take i visible) labels items) where
-  longer : take (i + 1) visible ≡ take i visible ++ a ∷ []
-  longer = let next : i + 1 ≡ suc i = omega arith in ap (λ n. take n visible) next ∙ take_suc visible i a at
-
-  kept : (b : ℕ) → Contains (take i visible) b → Contains (take (i + 1) visible) b
-  kept b there = subst (λ (z : List ℕ). Contains z b) (sym longer) (Contains-append_left (take i visible) (a ∷ []) b there)
-
-  cases : (b : ℕ) → Contains (take (i + 1) visible) b → Contains (take i visible) b ⊎ (b ≡ a)
-  cases b there = elim (Contains-append_cases (take i visible) (a ∷ []) b (subst (λ (z : List ℕ). Contains z b) longer there)) [
-    | inl old ↦ inl old
-    | inr new ↦ inr (last_of a b new)
-  ]
-
-  itself : Contains (take (i + 1) visible) a
-  itself = subst (λ (z : List ℕ). Contains z a) (sym longer) (Contains-append_right (take i visible) (a ∷ []) a (Contains-here a a [] refl))
-
-  arrivals_one : (o : Option ℕ) → IsFirst labels a o → AreFirsts (take (i + 1) visible) labels (with_first items a o)
-  arrivals_one None never = record {
-    right = λ c there. let r = before.right c there in (kept c.atom r.0, r.1);
-    whole = λ b k there came. elim (cases b there) [
-      | inl old ↦ before.whole b k old came
-      | inr new ↦ absurd (never k (subst (Contains (labels k)) new came))
-    ];
-  }
-  arrivals_one (Some r) first = record {
-    right = λ c there. elim (Contains-append_cases items (record { atom = a; round = r } ∷ []) c there) [
-      | inl old ↦ let x = before.right c old in (kept c.atom x.0, x.1)
-      | inr new ↦
-          let is : c ≡ record { atom = a; round = r } = last_of (record { atom = a; round = r }) c new in
-          subst (λ (z : Arrival). Contains (take (i + 1) visible) z.atom × IsFirst labels z.atom (Some z.round)) (sym is) (itself, first)
-    ];
-    whole = λ b k there came. elim (cases b there) [
-      | inl old ↦ let x = before.whole b k old came in (x.0, Contains-append_left items (record { atom = a; round = r } ∷ []) x.0 x.1, x.2)
-      | inr new ↦ (record { atom = a; round = r }, Contains-append_right items (record { atom = a; round = r } ∷ []) (record { atom = a; round = r }) (Contains-here (record { atom = a; round = r }) (record { atom = a; round = r }) [] refl), sym new)
-    ];
-  }
-
-  pub arrivals_next : (o : Option ℕ) (items' : List Arrival) → IsFirst labels a o → items' ≡ with_first items a o → AreFirsts (take (i + 1) visible) labels items'
-  arrivals_next o items' first is = subst (λ (z : List Arrival). AreFirsts (take (i + 1) visible) labels z) (sym is) (arrivals_one o first)
-
-pub arrivals_whole : (visible : List ℕ) (labels : ℕ → List ℕ) (items : List Arrival) (i : ℕ) → length visible ≤ i → AreFirsts (take i visible) labels items → AreFirsts visible labels items
-arrivals_whole visible labels items i past is = subst (λ (z : List ℕ). AreFirsts z labels items) (take_all i visible past) is
-
--- ### those that are there by a round
-
 -- these atoms are there by the round
-abbrev pub AreBegun : List Arrival → ℕ → List ℕ → Type 0
+abbrev pub AreBegun : List First → ℕ → List ℕ → Type 0
 AreBegun items k atoms = (a : ℕ) → Contains atoms a ↔ CameBy items k a
 
-pub begun_start : (items : List Arrival) (k : ℕ) (atoms : List ℕ) → atoms ≡ [] → AreBegun (take 0 items) k atoms
+pub begun_start : (items : List First) (k : ℕ) (atoms : List ℕ) → atoms ≡ [] → AreBegun (take 0 items) k atoms
 begun_start items k atoms none = λ a. (λ there. absurd (Contains-none a (subst (λ (z : List ℕ). Contains z a) none there)), λ is. absurd (Contains-none is.0 is.1))
 
-module _ (xs : List Arrival) (c : Arrival) (k : ℕ) (atoms : List ℕ) (low : c.round ≤ k) (before : AreBegun xs k atoms) where
+module _ (xs : List First) (c : First) (k : ℕ) (atoms : List ℕ) (low : c.round ≤ k) (before : AreBegun xs k atoms) where
   begun_one : AreBegun (xs ++ c ∷ []) k (atoms ++ c.atom ∷ [])
   begun_one = λ a. (
     λ there. elim (Contains-append_cases atoms (c.atom ∷ []) a there) [
@@ -93,36 +38,36 @@ module _ (xs : List Arrival) (c : Arrival) (k : ℕ) (atoms : List ℕ) (low : c
       | inl old ↦ Contains-append_left atoms (c.atom ∷ []) a ((before a).1 (is.0, old, is.2, is.3))
       | inr new ↦
           let one : is.0 ≡ c = last_of c is.0 new in
-          let same : c.atom ≡ a = subst (λ (z : Arrival). z.atom ≡ a) one is.2 in
+          let same : c.atom ≡ a = subst (λ (z : First). z.atom ≡ a) one is.2 in
           Contains-append_right atoms (c.atom ∷ []) a (Contains-here a c.atom [] (sym same))
     ],
   )
 
-module _ (items : List Arrival) (i k : ℕ) (c : Arrival) (atoms : List ℕ) (less : i < length items) (here : c ≡ get_or items i c) (before : AreBegun (take i items) k atoms) where
+module _ (items : List First) (i k : ℕ) (c : First) (atoms : List ℕ) (less : i < length items) (here : c ≡ get_or items i c) (before : AreBegun (take i items) k atoms) where
   pub begun_next : (atoms' : List ℕ) → c.round ≤ k → atoms' ≡ atoms ++ c.atom ∷ [] → AreBegun (take (i + 1) items) k atoms'
   begun_next atoms' low is =
       let longer : take (i + 1) items ≡ take i items ++ c ∷ [] = take_more items i c less ∙ (λ n. take i items ++ sym here n ∷ []) in
-      subst (λ (z : List ℕ). AreBegun (take (i + 1) items) k z) (sym is) (subst (λ (z : List Arrival). AreBegun z k (atoms ++ c.atom ∷ [])) (sym longer) (begun_one (take i items) c k atoms low before))
+      subst (λ (z : List ℕ). AreBegun (take (i + 1) items) k z) (sym is) (subst (λ (z : List First). AreBegun z k (atoms ++ c.atom ∷ [])) (sym longer) (begun_one (take i items) c k atoms low before))
 
   -- the next of a list by rounds is later, and so are all behind it
   pub begun_cut : AreByRounds items → k < c.round → AreBegun items k atoms
   begun_cut order high = λ a. (
-    λ there. let is = (before a).0 there in (is.0, subst (λ (z : List Arrival). Contains z is.0) (take-append-drop i items) (Contains-append_left (take i items) (drop i items) is.0 is.1), is.2, is.3),
+    λ there. let is = (before a).0 there in (is.0, subst (λ (z : List First). Contains z is.0) (take-append-drop i items) (Contains-append_left (take i items) (drop i items) is.0 is.1), is.2, is.3),
     λ is. elim (cases_lt is.1.0 i) [
       | inl lt ↦ (before a).1 (is.0, (is.1.0, subst (λ n. is.1.0 < n) (sym (length-take-le i items (omega (arith, less)))) lt, get_or-take i items is.1.0 is.0 lt ∙ is.1.2), is.2, is.3)
       | inr ge ↦
           let first : c ≡ get_or items i is.0 = get_or_read items i c less here is.0 in
           let le : (get_or items i is.0).round ≤ (get_or items is.1.0 is.0).round = order i is.1.0 is.0 ge is.1.1 in
-          let le' : c.round ≤ is.0.round = subst (λ (z : Arrival). z.round ≤ is.0.round) (sym first) (subst (λ (z : Arrival). (get_or items i is.0).round ≤ z.round) is.1.2 le) in
+          let le' : c.round ≤ is.0.round = subst (λ (z : First). z.round ≤ is.0.round) (sym first) (subst (λ (z : First). (get_or items i is.0).round ≤ z.round) is.1.2 le) in
           absurd (omega (arith, le', is.3, high))
     ],
   )
 
-pub begun_all : (items : List Arrival) (i k : ℕ) (atoms : List ℕ) → length items ≤ i → AreBegun (take i items) k atoms → AreBegun items k atoms
-begun_all items i k atoms past is = subst (λ (z : List Arrival). AreBegun z k atoms) (take_all i items past) is
+pub begun_all : (items : List First) (i k : ℕ) (atoms : List ℕ) → length items ≤ i → AreBegun (take i items) k atoms → AreBegun items k atoms
+begun_all items i k atoms past is = subst (λ (z : List First). AreBegun z k atoms) (take_all i items past) is
 
 -- the same of the set that they make
-pub begun_set : {E : Type 0} (items : List Arrival) (k : ℕ) (atoms : List ℕ) (r : Result (List ℕ) E) → AreBegun items k atoms → IfOk r (λ l. (a : ℕ) → Contains l a ↔ Contains atoms a) → IfOk r (λ l. AreBegun items k l)
+pub begun_set : {E : Type 0} (items : List First) (k : ℕ) (atoms : List ℕ) (r : Result (List ℕ) E) → AreBegun items k atoms → IfOk r (λ l. (a : ℕ) → Contains l a ↔ Contains atoms a) → IfOk r (λ l. AreBegun items k l)
 begun_set items k atoms (Ok l) begun same = λ a. (λ there. (begun a).0 ((same a).0 there), λ is. (same a).1 ((begun a).1 is))
 begun_set items k atoms (Err e) begun same = tt
 
@@ -138,7 +83,7 @@ union_atoms atoms (Ok l) is = λ a. (
 union_atoms atoms (Err e) is = tt
 
 -- in another order
-pub sorted_arrivals : {E : Type 0} (visible : List ℕ) (labels : ℕ → List ℕ) (items : List Arrival) (r : Result (List Arrival) E) → AreFirsts visible labels items → IfOk r (IsPermutation items) → IfOk r AreByRounds → IfOk r (AreArrivals visible labels)
+pub sorted_arrivals : {E : Type 0} (visible : List ℕ) (labels : ℕ → List ℕ) (items : List First) (r : Result (List First) E) → AreFirsts visible labels items → IfOk r (IsPermutation items) → IfOk r AreByRounds → IfOk r (AreArrivals visible labels)
 sorted_arrivals visible labels items (Ok sorted) firsts same order = record {
   firsts = record {
     right = λ c there. firsts.right c (Contains-permutation sorted items c (IsPermutation-sym items sorted same) there);
@@ -149,7 +94,7 @@ sorted_arrivals visible labels items (Ok sorted) firsts same order = record {
 sorted_arrivals visible labels items (Err e) firsts same order = tt
 
 -- the label of those that came is the visible part
-module _ (visible : List ℕ) (labels : ℕ → List ℕ) (one : (k : ℕ) → Among (labels k) (labels (suc k))) (items : List Arrival) (arrivals : AreFirsts visible labels items) (k : ℕ) (rises : IsStrictlyIncreasing (labels k)) where
+module _ (visible : List ℕ) (labels : ℕ → List ℕ) (one : (k : ℕ) → Among (labels k) (labels (suc k))) (items : List First) (arrivals : AreFirsts visible labels items) (k : ℕ) (rises : IsStrictlyIncreasing (labels k)) where
   arrived_label : (label : List ℕ) → IsStrictlyIncreasing label → ((a : ℕ) → Contains label a ↔ CameBy items k a) → label ≡ cut_to visible (labels k)
   arrived_label label up each =
       same_members label (cut_to visible (labels k)) up (IsStrictlyIncreasing-cut_to visible (labels k) rises)

@@ -11,13 +11,13 @@ use Rattle.pair_table.specs.Rows.{IsRowOf}
 use Rattle.pair_table.proofs.RowLemmas.{row_of_pair}
 use Rattle.simple_core.specs.declared.system.System.{System}
 use Rattle.simple_core.specs.Rounds.{grown}
-use Rattle.proof_maker.specs.declared.arrivals.Arrival.{Arrival}
+use Rattle.simple_core.specs.declared.summaries.First.{First}
 use Rattle.proof_maker.specs.Arrivals.{AreArrivals}
 use Rattle.proof_maker.specs.PlaceMemos.{IsPlaceMemo}
 
 -- a row
 abbrev Told : Type 0
-Told = Row (List Arrival)
+Told = Row (List First)
 
 pub no_rows : (s : System) (rows : List Told) → rows ≡ [] → IsPlaceMemo s rows
 no_rows s rows none = λ g there. absurd (Contains-none g (subst (λ (z : List Told). Contains z g) none there))
@@ -29,12 +29,12 @@ one_more s rows rows' g before new is = λ h there. elim (Contains-push_cases ro
 ]
 
 -- what a row tells of its pair
-pub row_arrivals : (s : System) (rows : List Told) (kind : ℕ) (parent : List ℕ) (n : ℕ) (items : List Arrival) → IsPlaceMemo s rows → IsRowOf rows kind parent n → ((g : Told) → slice_get rows n ≡ Some g → items ≡ g.value)
+pub row_arrivals : (s : System) (rows : List Told) (kind : ℕ) (parent : List ℕ) (n : ℕ) (items : List First) → IsPlaceMemo s rows → IsRowOf rows kind parent n → ((g : Told) → slice_get rows n ≡ Some g → items ≡ g.value)
     → AreArrivals s.visible (λ k. grown s k kind parent) items
 row_arrivals s rows kind parent n items are there is =
     let row = row_of_pair rows kind parent n there in
     let g = row.0 in
-    subst (λ (z : List Arrival). AreArrivals s.visible (λ k. grown s k kind parent) z) (sym (is g row.1))
+    subst (λ (z : List First). AreArrivals s.visible (λ k. grown s k kind parent) z) (sym (is g row.1))
     (subst (λ (z : List ℕ). AreArrivals s.visible (λ k. grown s k kind z) g.value) row.3 (subst (λ z. AreArrivals s.visible (λ k. grown s k z g.label) g.value) row.2 (are g (Contains-at rows n g row.1))))
 
 pub row_bound : (rows : List Told) (kind : ℕ) (parent : List ℕ) (n : ℕ) → IsRowOf rows kind parent n → n < length rows

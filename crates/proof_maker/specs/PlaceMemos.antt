@@ -4,8 +4,8 @@ use Rattle.std.specs.Prelude.{List, Contains}
 use Rattle.pair_table.specs.declared.table.Row.{Row}
 use Rattle.simple_core.specs.declared.system.System.{System}
 use Rattle.simple_core.specs.Rounds.{grown}
-use Rattle.proof_maker.specs.declared.arrivals.Arrival.{Arrival}
+use Rattle.simple_core.specs.declared.summaries.First.{First}
 use Rattle.proof_maker.specs.Arrivals.{AreArrivals}
 
-abbrev pub IsPlaceMemo : System → List (Row (List Arrival)) → Type 0
-IsPlaceMemo s rows = (r : Row (List Arrival)) → Contains rows r → AreArrivals s.visible (λ k. grown s k r.kind r.label) r.value
+abbrev pub IsPlaceMemo : System → List (Row (List First)) → Type 0
+IsPlaceMemo s rows = (r : Row (List First)) → Contains rows r → AreArrivals s.visible (λ k. grown s k r.kind r.label) r.value

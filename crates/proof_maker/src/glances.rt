@@ -85,7 +85,7 @@ pub(crate) fn glance_added<S: Summaries>(
     if !below {
         return glance_in(alloc, world, &bare, atom);
     }
-    let row = memo.reach(alloc, world.system, world.sums, key.kind, &parent)?;
+    let row = memo.reach(alloc, world.sums, key.kind, &parent)?;
     let arrivals = memo.arrivals(row);
     let place = Place::Added(key.kind, &parent, Some(arrivals));
     glance_in(alloc, world, &place, atom)

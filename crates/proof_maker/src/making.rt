@@ -54,8 +54,8 @@ pub struct ProofGround<'a> {
 
 /// The canonical proof that the page's root gets the target, where it has no more entries than the limit. Each atom that is needed is
 /// looked at once: that costs a look-up of a first round for each premise of the rules that give it, twice at an added node. Where
-/// children of an added node are looked at, it costs one for each visible atom, once for each kind and label of a parent, and a sort
-/// of those that come.
+/// children of an added node are looked at, the summaries are asked what comes to it, once for each kind and label of a parent, and
+/// that is sorted.
 pub fn prove<S: Summaries>(
     alloc: Global,
     page: &Tree,

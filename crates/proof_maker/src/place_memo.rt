@@ -3,12 +3,12 @@ ghost use Rattle.std.specs.Prelude.{◌≡◌, ◌<◌, List, length, Some, slic
 ghost use Rattle.simple_core.specs.declared.system.System.{System};
 ghost use Rattle.pair_table.specs.declared.table.Row.{Row};
 ghost use Rattle.pair_table.specs.Rows.{IsRowOf};
-ghost use Rattle.proof_maker.specs.declared.arrivals.Arrival.{Arrival};
+ghost use Rattle.simple_core.specs.declared.summaries.First.{First};
 ghost use Rattle.proof_maker.specs.PlaceMemos.{IsPlaceMemo};
 
 use crate::arrivals::{Arrivals, arrivals_of};
 use pair_table::PairTable;
-use simple_core::{Summaries, System};
+use simple_core::Summaries;
 use std::alloc::Global;
 use std::marker::Model;
 use tp_base::{ClassSet, NoMemory};
@@ -23,9 +23,9 @@ pub struct PlaceMemo {
 impl Model for PlaceMemo {
     ghost use Rattle.std.specs.Prelude.{List};
     ghost use Rattle.pair_table.specs.declared.table.Row.{Row};
-    ghost use Rattle.proof_maker.specs.declared.arrivals.Arrival.{Arrival};
+    ghost use Rattle.simple_core.specs.declared.summaries.First.{First};
 
-    ghost Value = { List (Row (List Arrival)) };
+    ghost Value = { List (Row (List First)) };
 
     ghost view = { λ m. m.table };
 }
@@ -41,25 +41,23 @@ impl PlaceMemo {
     }
 
     /// The row of an added node, which is made where it isn't there. Linear in the parent's atoms, on average, where it is; else
-    /// it asks the first round of each visible atom.
+    /// the summaries tell what comes to it, and that is sorted.
     pub(crate) fn reach<S: Summaries>(
         &mut self,
         alloc: Global,
-        system: &System,
         sums: &S,
         kind: u32,
         parent: &ClassSet,
     ) -> Result<usize, NoMemory>
-        requires made { S.system sums.now ≡ system.now }
         requires known { S.known sums.now (kind, parent.now) }
-        requires rows { IsPlaceMemo system.now self.old }
-        ensures rows { IsPlaceMemo system.now self.new }
+        requires rows { IsPlaceMemo (S.system sums.now) self.old }
+        ensures rows { IsPlaceMemo (S.system sums.now) self.new }
         ensures row { IfOk result (IsRowOf self.new kind parent.now) }
     {
         match self.table.find(kind, parent) {
             Some(row) => Ok(row),
             None => {
-                let arrivals = arrivals_of(alloc, system, sums, kind, parent)?;
+                let arrivals = arrivals_of(alloc, sums, kind, parent)?;
                 let parent = parent.copy()?;
                 self.table.push(kind, parent, arrivals)
             }
@@ -69,7 +67,7 @@ impl PlaceMemo {
     /// What comes to the added node of a row.
     pub(crate) fn arrivals(&self, row: usize) -> &Arrivals
         requires { row < length self.now }
-        ensures { (r : Row (List Arrival)) → slice_get self.now row ≡ Some r → result.now ≡ r.value }
+        ensures { (r : Row (List First)) → slice_get self.now row ≡ Some r → result.now ≡ r.value }
     {
         self.table.value(row)
     }

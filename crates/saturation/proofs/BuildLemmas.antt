@@ -10,14 +10,17 @@ use Rattle.pushdown_sym.specs.declared.cells.CellKey.{CellKey}
 use Rattle.saturation.specs.Histories.{Change}
 use Rattle.saturation.specs.HistoryMap.{history_in}
 use Rattle.saturation.specs.Saturation.{IsBuilt}
+use Rattle.saturation.specs.declared.courses.Course.{Course}
+use Rattle.saturation.specs.Courses.{AreRows}
 use Rattle.saturation.specs.Shared.{AreSummaries}
 
 -- the summaries keep a copy of the system
-pub summaries_built : (s copy : System) (atoms : List ℕ) (d : Arena) (cells : Entries) (histories : List (CellKey × List Change)) → copy ≡ s → IsSound s → atoms ≡ given_atoms s
-    → AreIn d.branches cells → IsBuilt s d (history_in histories) cells → AreSummaries copy atoms d cells histories
-summaries_built s copy atoms d cells histories same sound given inside built = record {
+pub summaries_built : (s copy : System) (atoms : List ℕ) (d : Arena) (cells : Entries) (histories : List (CellKey × List Change)) (rows : List (List Course)) → copy ≡ s → IsSound s → atoms ≡ given_atoms s
+    → AreIn d.branches cells → IsBuilt s d (history_in histories) cells → AreRows s (history_in histories) rows → AreSummaries copy atoms d cells histories rows
+summaries_built s copy atoms d cells histories rows same sound given inside built are = record {
   sound = subst IsSound (sym same) sound;
   given = given ∙ ap given_atoms (sym same);
   inside = inside;
   built = subst (λ (z : System). IsBuilt z d (history_in histories) cells) (sym same) built;
+  by_kind = subst (λ (z : System). AreRows z (history_in histories) rows) (sym same) are;
 }

@@ -20,3 +20,4 @@ mod FirstLemmas
 mod GrowthLemmas
 mod ReadsLemmas
 mod BuildLemmas
+mod CourseLemmas

@@ -8,4 +8,5 @@ pub mod Saturation
 pub mod Shared
 pub mod Waking
 -- Invariants, and the states of the code.
+pub mod Courses
 pub mod Tables

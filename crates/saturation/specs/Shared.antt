@@ -11,14 +11,17 @@ use Rattle.pushdown_sym.specs.declared.cells.CellKey.{CellKey}
 use Rattle.saturation.specs.Histories.{Change}
 use Rattle.saturation.specs.HistoryMap.{history_in}
 use Rattle.saturation.specs.Saturation.{IsBuilt}
+use Rattle.saturation.specs.Courses.{AreRows}
+use Rattle.saturation.specs.declared.courses.Course.{Course}
 
 -- what a contract sees of summaries in diagrams: the system, and the branches that are held
 pub record Shared : Type 0 where
   pub system : System
   pub branches : List Tree
 
-pub record AreSummaries (s : System) (atoms : List ℕ) (d : Arena) (cells : Entries) (histories : List (CellKey × List Change)) : Type 0 where
+pub record AreSummaries (s : System) (atoms : List ℕ) (d : Arena) (cells : Entries) (histories : List (CellKey × List Change)) (rows : List (List Course)) : Type 0 where
   pub sound : IsSound s
   pub given : atoms ≡ given_atoms s
   pub inside : AreIn d.branches cells
   pub built : IsBuilt s d (history_in histories) cells
+  pub by_kind : AreRows s (history_in histories) rows

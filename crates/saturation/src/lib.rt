@@ -2,6 +2,7 @@
 #![tactic(auto)]
 
 mod changes;
+mod courses;
 mod histories;
 mod labels;
 mod names;

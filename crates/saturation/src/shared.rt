@@ -11,17 +11,19 @@ ghost use Rattle.saturation.specs.Budgets.{MayBeSpent, HasToBeSpent};
 ghost use Rattle.saturation.specs.Held.{AreWork, HoldsCells};
 ghost use Rattle.saturation.specs.HistoryMap.{history_in};
 ghost use Rattle.saturation.specs.Saturation.{IsBuilt};
+ghost use Rattle.saturation.specs.Courses.{AreRows};
 
+use crate::courses::{Course, firsts_by, row_at, rows_of};
 use crate::histories::{Histories, first_round_under};
 use crate::labels::label_of;
 use crate::names::given;
 use crate::saturating::saturate;
 use class_diagrams::Diagrams;
 use pushdown_sym::Cells;
-use simple_core::{GainFault, Summaries, System};
+use simple_core::{First, GainFault, Summaries, System};
 use std::alloc::Global;
 use std::marker::Model;
-use tp_base::{Atom, ClassSet, NoMemory};
+use tp_base::{Atom, ClassSet, Items, NoMemory};
 
 // The cells of a round at rest, and how they came to be.
 #[derive(Drop)]
@@ -45,23 +47,33 @@ fn all_rounds(alloc: Global, system: &System, diagrams: &mut Diagrams) -> Result
     Ok(Ended { cells, histories })
 }
 
-// A system, and the atoms that it gives.
+// A system, the atoms that it gives, and what can come to each of its kinds.
 #[derive(Drop)]
 struct Copied {
     system: System,
     atoms: ClassSet,
+    rows: Items<Items<Course>>,
 }
 
-fn copy_of(alloc: Global, system: &System) -> Result<Copied, NoMemory>
+fn copy_of(alloc: Global, system: &System, histories: &Histories) -> Result<Copied, NoMemory>
+    requires { IsSound system.now }
     ensures same { IfOk result (λ c. c.system ≡ system.now) }
     ensures given { IfOk result (λ c. c.atoms ≡ given_atoms system.now) }
+    ensures rows { IfOk result (λ c. AreRows system.now (history_in histories.now) c.rows) }
 {
     let atoms = given(alloc, system)?;
+    let rows = rows_of(alloc, system, histories)?;
     let system = system.copy(alloc)?;
-    Ok(Copied { system, atoms })
+    Ok(Copied {
+        system,
+        atoms,
+        rows,
+    })
 }
 
 /// The summaries of a system, for every visible label of the parent. A contract sees the system and the branches that are held.
+/// What comes to a pair (`firsts`) costs a look for each visible atom that can come to the kind at all, of which `rows` has a
+/// list for each kind.
 #[derive(Drop)]
 pub struct SharedSummaries {
     system: System,
@@ -69,6 +81,7 @@ pub struct SharedSummaries {
     diagrams: Diagrams,
     cells: Cells,
     histories: Histories,
+    rows: Items<Items<Course>>,
 }
 
 impl Model for SharedSummaries {
@@ -82,12 +95,13 @@ impl Model for SharedSummaries {
 
     ghost view = { λ s. record { system = s.system; branches = s.diagrams.branches } };
 
-    ghost invariant = { λ s. AreSummaries s.system s.atoms s.diagrams s.cells s.histories };
+    ghost invariant = { λ s. AreSummaries s.system s.atoms s.diagrams s.cells s.histories s.rows };
 }
 
 impl SharedSummaries {
     /// The summaries of a system, in at most so many branches. Rounds go on until no cell changes, each over the cells
-    /// that read one that changed in the round before.
+    /// that read one that changed in the round before. Behind them there is one look into the histories for each kind and
+    /// visible atom.
     pub fn build(alloc: Global, system: &System, nodes: u32) -> Result<Self, GainFault>
         requires sound { IsSound system.now }
         requires nodes { nodes ≤ MOST_BRANCHES }
@@ -99,13 +113,14 @@ impl SharedSummaries {
     {
         let mut diagrams = Diagrams::new(alloc, nodes)?;
         let ended = all_rounds(alloc, system, &mut diagrams)?;
-        let copied = copy_of(alloc, system)?;
+        let copied = copy_of(alloc, system, &ended.histories)?;
         Ok(SharedSummaries {
             system: copied.system,
             atoms: copied.atoms,
             diagrams,
             cells: ended.cells,
             histories: ended.histories,
+            rows: copied.rows,
         })
     }
 
@@ -178,5 +193,11 @@ impl Summaries for SharedSummaries {
 
     fn first_at(&self, _entry: usize, kind: u32, parent: &ClassSet, atom: Atom) -> Option<u64> {
         self.first_told(kind, parent, atom)
+    }
+
+    fn firsts(&self, alloc: Global, kind: u32, parent: &ClassSet) -> Result<Vec<First>, NoMemory> {
+        let row = row_at(self.rows.items(), kind);
+        let firsts = firsts_by(alloc, row, &self.diagrams, parent)?;
+        Ok(firsts)
     }
 }

@@ -1,4 +1,5 @@
 -- What public contracts cite.
+pub mod Firsts
 pub mod Forests
 pub mod Givers
 pub mod Growth

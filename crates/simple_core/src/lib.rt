@@ -11,5 +11,5 @@ mod system;
 pub use givers::{AllGivers, Givers};
 pub use growth::{brings_closed, keeps_growth, keeps_out};
 pub use rules::{Kind, Link, Local, Spawn};
-pub use summaries::{GainFault, Summaries};
+pub use summaries::{First, GainFault, Summaries};
 pub use system::{Kinds, Links, Locals, MOST_KINDS, Spawns, System};

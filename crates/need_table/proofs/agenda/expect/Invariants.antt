@@ -1,5 +1,5 @@
 use Rattle.std.proofs.Common.{◌≡◌, ◌⊎◌, ◌≤◌, ℕ, length, Some, slice_get, Contains}
-use Rattle.need_table.specs.declared.entries.First.{First}
+use Rattle.simple_core.specs.declared.summaries.First.{First}
 use Rattle.need_table.specs.declared.entries.Entry.{Entry}
 use Rattle.need_table.specs.Rows.{IsRicher, AreSameBelow, IsDue}
 use Rattle.need_table.proofs.agenda.expect.Given as goal

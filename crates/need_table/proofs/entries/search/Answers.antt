@@ -1,6 +1,6 @@
 use Rattle.std.proofs.Common.{nat_lt, rules, of_calls}
 use Rattle.std.proofs.lemmas.Fn.{always_returns_same}
-use Rattle.need_table.specs.declared.entries.First.{First}
+use Rattle.simple_core.specs.declared.summaries.First.{First}
 use Rattle.need_table.proofs.OrderLemmas.{parted, place_found}
 use Rattle.need_table.proofs.entries.search.Goals as goal
 

@@ -3,7 +3,7 @@ use Rattle.std.proofs.lemmas.Bool.{both_ways}
 use Rattle.std.proofs.lemmas.Option.{get_or_from_slice_get}
 use Rattle.tp_base.specs.Classes.{union_of}
 use Rattle.simple_core.specs.Labels.{set_of}
-use Rattle.need_table.specs.declared.entries.First.{First}
+use Rattle.simple_core.specs.declared.summaries.First.{First}
 use Rattle.need_table.specs.declared.entries.Entry.{Entry}
 use Rattle.need_table.specs.Tables.{pair_of, replaced}
 use Rattle.need_table.proofs.FillLemmas.{on_err}

@@ -2,7 +2,7 @@ use Rattle.std.proofs.Common.{◌≡◌, List, ℕ, length, Some, None, slice_ge
 use Rattle.std.proofs.lemmas.Option.{slice_get_read, slice_get_past}
 use Rattle.tp_base.specs.Classes.{union_of}
 use Rattle.simple_core.specs.Labels.{set_of, given_by_links}
-use Rattle.need_table.specs.declared.entries.First.{First}
+use Rattle.simple_core.specs.declared.summaries.First.{First}
 use Rattle.need_table.specs.Tables.{atoms_within}
 use Rattle.need_table.proofs.GainLemmas.{given_here, given_none}
 use Rattle.need_table.proofs.OrderLemmas.{part_atoms}

@@ -3,7 +3,7 @@ use Rattle.std.specs.List.Sorted.{IsStrictlyIncreasing}
 use Rattle.tp_base.proofs.ClassLemmas.{IsStrictlyIncreasing-union_of}
 use Rattle.simple_core.specs.Labels.{given_by_links}
 use Rattle.rule_index.proofs.IndexLemmas.{first_rest}
-use Rattle.need_table.specs.declared.entries.First.{First}
+use Rattle.simple_core.specs.declared.summaries.First.{First}
 use Rattle.need_table.proofs.GainLemmas.{union_next, union_end, firsts_linked}
 use Rattle.need_table.proofs.gaining.add_firsts.Goals as goal
 

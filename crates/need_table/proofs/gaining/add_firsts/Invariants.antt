@@ -3,7 +3,7 @@ use Rattle.std.specs.List.{flat_map}
 use Rattle.std.specs.List.Sorted.{IsStrictlyIncreasing}
 use Rattle.tp_base.specs.Classes.{union_of}
 use Rattle.simple_core.specs.Labels.{given_by_links}
-use Rattle.need_table.specs.declared.entries.First.{First}
+use Rattle.simple_core.specs.declared.summaries.First.{First}
 use Rattle.need_table.proofs.gaining.add_firsts.Given as goal
 
 abbrev pub invariant-firsts : goal.invariant-firsts

@@ -1,7 +1,9 @@
 use Rattle.std.proofs.Common.{List, ℕ, Contains, refl, sym, subst, ◌∙◌}
 use Rattle.std.specs.List.Sorted.{IsStrictlyIncreasing}
+use Rattle.simple_core.specs.declared.system.System.{System}
 use Rattle.simple_core.specs.Rounds.{grown}
 use Rattle.proof_needs.specs.Spots.{triple_of}
+use Rattle.proof_maker.specs.PlaceMemos.{IsPlaceMemo}
 use Rattle.proof_maker.proofs.FindLemmas.{ok_further}
 use Rattle.proof_maker.proofs.GlanceLemmas.{added_glance}
 use Rattle.proof_maker.proofs.MemoLemmas.{row_arrivals, row_bound}
@@ -12,6 +14,9 @@ reach-requires-clause-known g c =
     let key = c.args.key.now in
     let rises = subst (λ (z : List ℕ). IsStrictlyIncreasing z) (sym c.deref.ensures.value) c.requires.key.rises in
     subst (λ (z : List ℕ). g.S.Summaries.known c.args.world.now.sums.now (key.kind, z)) (sym (c.in_ok-parent.ensures rises ∙ c.deref.ensures.value)) c.requires.key.pair
+
+pub reach-requires-clause-rows : goal.reach-requires-clause-rows
+reach-requires-clause-rows g c = subst (λ (y : System). IsPlaceMemo y c.args.memo.now) (sym c.requires.ready.made) c.requires.memo
 
 pub arrivals-arrivals-requires : goal.arrivals-arrivals-requires
 arrivals-arrivals-requires g c = row_bound c.reach.new.self c.args.key.now.kind c.in_ok-parent.parent c.in_ok-row.row c.in_ok-row.ensures.row
@@ -42,7 +47,8 @@ glance_in-requires-2-clause-place g c =
 
 pub glance_in-requires-2-clause-arrivals : goal.glance_in-requires-2-clause-arrivals
 glance_in-requires-2-clause-arrivals g c =
-    row_arrivals c.args.world.now.system.now c.reach.new.self c.args.key.now.kind c.in_ok-parent.parent c.in_ok-row.row c.arrivals-arrivals.result.now c.in_ok-row.ensures.rows c.in_ok-row.ensures.row c.arrivals-arrivals.ensures
+    row_arrivals c.args.world.now.system.now c.reach.new.self c.args.key.now.kind c.in_ok-parent.parent c.in_ok-row.row c.arrivals-arrivals.result.now
+    (subst (λ (y : System). IsPlaceMemo y c.reach.new.self) c.requires.ready.made c.in_ok-row.ensures.rows) c.in_ok-row.ensures.row c.arrivals-arrivals.ensures
 
 pub glance_in-requires-clause-comes : goal.glance_in-requires-clause-comes
 glance_in-requires-clause-comes g c =
@@ -69,3 +75,9 @@ returns-clause-glance g c =
     let rises = subst (λ (z : List ℕ). IsStrictlyIncreasing z) (sym c.deref.ensures.value) c.requires.key.rises in
     ok_further c.glance_in-2.result _ _ c.glance_in-2.ensures.glance
     (λ found is. added_glance c.args.world.now.system.now c.args.world.now.page.now c.args.atom found key.kind _ _ (triple_of key) refl (c.in_ok-parent.ensures rises ∙ c.deref.ensures.value) is)
+
+pub returns-in_err-row-clause-memo : goal.returns-in_err-row-clause-memo
+returns-in_err-row-clause-memo g c = subst (λ (y : System). IsPlaceMemo y c.reach.new.self) c.requires.ready.made c.reach.ensures.rows
+
+pub returns-clause-memo : goal.returns-clause-memo
+returns-clause-memo g c = subst (λ (y : System). IsPlaceMemo y c.reach.new.self) c.requires.ready.made c.reach.ensures.rows

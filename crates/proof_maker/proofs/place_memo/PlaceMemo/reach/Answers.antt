@@ -1,7 +1,7 @@
 use Rattle.std.proofs.Common.{ℕ, List, refl, sym, subst}
 use Rattle.pair_table.specs.declared.table.Row.{Row}
 use Rattle.simple_core.specs.Rounds.{grown}
-use Rattle.proof_maker.specs.declared.arrivals.Arrival.{Arrival}
+use Rattle.simple_core.specs.declared.summaries.First.{First}
 use Rattle.proof_maker.specs.Arrivals.{AreArrivals}
 use Rattle.proof_maker.specs.PlaceMemos.{IsPlaceMemo}
 use Rattle.proof_maker.proofs.MemoLemmas.{pushed_rows, pushed_row}
@@ -9,10 +9,10 @@ use Rattle.proof_maker.proofs.place_memo.PlaceMemo.reach.Goals as goal
 
 pub returns-in_ok-parent-in-None-clause-rows : goal.returns-in_ok-parent-in-None-clause-rows
 returns-in_ok-parent-in-None-clause-rows g c =
-    let s = c.args.system.now in
+    let s = g.S.Summaries.system c.args.sums.now in
     let arrivals = c.in_ok-arrivals-in-None.arrivals in
     let parent = c.in_ok-parent-in-None.parent in
-    pushed_rows s c.self.inside.table c.push.new.self (record { kind = c.args.kind; label = parent; value = arrivals }) c.push.result (subst (λ (z : List (Row (List Arrival))). IsPlaceMemo s z) (sym c.self.view_is) c.requires.rows)
+    pushed_rows s c.self.inside.table c.push.new.self (record { kind = c.args.kind; label = parent; value = arrivals }) c.push.result (subst (λ (z : List (Row (List First))). IsPlaceMemo s z) (sym c.self.view_is) c.requires.rows)
     (subst (λ (z : List ℕ). AreArrivals s.visible (λ k. grown s k c.args.kind z) arrivals) (sym c.in_ok-parent-in-None.ensures) c.in_ok-arrivals-in-None.ensures) c.push.ensures.ok c.push.ensures.err
 
 pub returns-in_ok-parent-in-None-clause-row : goal.returns-in_ok-parent-in-None-clause-row
