@@ -1,5 +1,5 @@
 -- What was found at one node is so at another one that is like it.
-use Rattle.std.proofs.Common.{◌≡◌, ℕ, zero, suc, ◌<◌, List, [], ◌∷◌, ◌++◌, map, length, get_or, Option, Some, None, IsSome, IfSome, IsTrue, option_map, unwrap_or, All, Contains, refl, sym, ap, ◌∙◌, inl, inr, arith, subst}
+use Rattle.std.proofs.Common.{◌≡◌, ℕ, zero, suc, List, [], ◌∷◌, ◌++◌, map, length, get_or, Option, Some, None, IsSome, IfSome, IsTrue, option_map, unwrap_or, All, Contains, refl, sym, ap, ◌∙◌, inl, inr, arith, subst}
 use Rattle.std.specs.List.{range_with_len}
 use Rattle.std.proofs.lemmas.List.{get_or_default}
 use Rattle.tp_base.proofs.Rising.{Contains-none}

@@ -14,16 +14,17 @@ use pair_table::PairTable;
 use rule_index::IndexedSystem;
 use simple_core::{GainFault, Summaries, System};
 use std::alloc::Global;
+use tp_base::NoMemory;
 use tree_sem::Tree;
 
 // The closed page that is known once nothing more comes.
-fn closed_of(filling: Filling) -> Closed
+fn closed_of(alloc: Global, filling: Filling) -> Result<Closed, NoMemory>
     requires nodes { AreOfNodes filling.labels.nodes filling.labels.firsts }
     requires others { HasNoOthers filling.labels.labels (firsts_of filling.labels.firsts) }
-    ensures labels { result.labels ≡ filling.labels.labels }
-    ensures rounds { (v : List ℕ) (a : ℕ) → round_of result.firsts v a ≡ round_of (firsts_of filling.labels.firsts) v a }
+    ensures labels { IfOk result (λ c. c.labels ≡ filling.labels.labels) }
+    ensures rounds { IfOk result (λ c. (v : List ℕ) (a : ℕ) → round_of c.firsts v a ≡ round_of (firsts_of filling.labels.firsts) v a) }
 {
-    Closed::new(filling.labels)
+    Closed::new(alloc, filling.labels)
 }
 
 // Closes the page, over rules that are found by their atoms.
@@ -58,7 +59,8 @@ fn close_over<S: Summaries>(
         remembered: &mut remembered,
     };
     asker.fill(alloc, page, &mut filling)?;
-    Ok(closed_of(filling))
+    let closed = closed_of(alloc, filling)?;
+    Ok(closed)
 }
 
 /// Closes the page. Each pair that it asks is asked of the summaries once, with a first round for each link from a

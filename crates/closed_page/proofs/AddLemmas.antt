@@ -3,7 +3,7 @@ use Rattle.std.proofs.Common.{◌≡◌, ◌≢◌, ◌↔◌, ℕ, List, [], �
 use Rattle.tp_base.specs.Classes.{union_of}
 use Rattle.tree_sem.specs.Trees.{LabelTree, node_at, label_at, children_at, edit_at, add_class}
 use Rattle.tree_sem.specs.Actions.{add_classes}
-use Rattle.tree_sem.proofs.EditLemmas.{node_at-edit_at, edit_at-edit_at, edit_at-same, label_at-add_class_other, children_at-add_class, children_at-add_classes}
+use Rattle.tree_sem.proofs.EditLemmas.{node_at-edit_at, edit_at-edit_at, edit_at-same, label_at-add_class_other, children_at-add_classes}
 
 pub label_at-add_classes : (p classes : List ℕ) (t : LabelTree) → label_at p (edit_at p (add_classes classes) t) ≡ option_map (λ l. union_of l classes) (label_at p t)
 label_at-add_classes p classes t =

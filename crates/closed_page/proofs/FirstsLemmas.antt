@@ -2,11 +2,9 @@
 use Rattle.std.proofs.lemmas.Slice.Eq.{bytes_eq-Decides}
 use Rattle.std.specs.Str.{bytes_eq}
 use Rattle.std.proofs.Common.{◌≡◌, ◌==◌, ◌-◌, ◌<◌, ◌≤◌, ℕ, List, [], ◌∷◌, ◌++◌, length, get_or, slice_get, Option, Some, None, option_map, unwrap_or, Contains, refl, sym, ap, ◌∙◌, inl, inr, arith, subst, ◌&&◌, true, false}
-use Rattle.std.specs.List.Sorted.{IsPermutation}
 use Rattle.std.proofs.lemmas.Bool.{cases_Bool, both_ways, eqb-true, eq-eqb, and_from}
 use Rattle.std.proofs.lemmas.List.{length_push}
 use Rattle.tp_base.proofs.Lists.{slice_get-push}
-use Rattle.std.proofs.lemmas.List.Sorted.{Contains-permutation, IsPermutation-sym}
 use Rattle.std.proofs.lemmas.Option.{slice_get-get_or, slice_get_past}
 use Rattle.tp_base.proofs.Rising.{Contains-here, Contains-behind, Contains-cons, Contains-none}
 use Rattle.tree_sem.specs.Paths.{parent_of}
@@ -141,16 +139,16 @@ round_same nodes fs gs of back on v a = elim (round_of (firsts_of gs) v a) as (�
       ] refl
 ] refl
 
-module _ (nodes : List (List ℕ)) (parents : List (Option ℕ)) (fs gs : List NodeFirst) (moved : IsPermutation fs gs) (kept : AreKept nodes parents fs) where
+module _ (nodes : List (List ℕ)) (parents : List (Option ℕ)) (fs gs : List NodeFirst) (back : (f : NodeFirst) → Contains gs f → Contains fs f) (on : (f : NodeFirst) → Contains fs f → Contains gs f) (kept : AreKept nodes parents fs) where
   to_old : (g : PageFirst) → Contains (placed nodes gs) g → Contains (placed nodes fs) g
   to_old g there =
       let f = placed-is nodes gs g there in
-      subst (Contains (placed nodes fs)) (sym f.2) (is_placed nodes fs f.0 (Contains-permutation gs fs f.0 (IsPermutation-sym fs gs moved) f.1))
+      subst (Contains (placed nodes fs)) (sym f.2) (is_placed nodes fs f.0 (back f.0 f.1))
 
   to_new : (g : PageFirst) → Contains (placed nodes fs) g → Contains (placed nodes gs) g
   to_new g there =
       let f = placed-is nodes fs g there in
-      subst (Contains (placed nodes gs)) (sym f.2) (is_placed nodes gs f.0 (Contains-permutation fs gs f.0 moved f.1))
+      subst (Contains (placed nodes gs)) (sym f.2) (is_placed nodes gs f.0 (on f.0 f.1))
 
   pub moved_kept : AreKept nodes parents gs
   moved_kept = record {
@@ -161,7 +159,7 @@ module _ (nodes : List (List ℕ)) (parents : List (Option ℕ)) (fs gs : List N
       there = λ g listed. kept.of_nodes.there g (to_old g listed);
       one = λ g h in_g in_h. kept.of_nodes.one g h (to_old g in_g) (to_old h in_h);
     };
-    spots = λ f there. kept.spots f (Contains-permutation gs fs f (IsPermutation-sym fs gs moved) there);
+    spots = λ f there. kept.spots f (back f there);
   }
 
   pub moved_rounds : (v : List ℕ) (a : ℕ) → round_of (firsts_of (placed nodes gs)) v a ≡ round_of (firsts_of (placed nodes fs)) v a

@@ -1,5 +1,5 @@
 //! A closed page.
-ghost use Rattle.std.specs.Prelude.{◌≡◌, ◌++◌, ◌∷◌, ℕ, List, [], find, option_copied, unwrap_or};
+ghost use Rattle.std.specs.Prelude.{◌≡◌, ◌++◌, ◌∷◌, ℕ, List, [], find, option_copied, unwrap_or, IfOk};
 ghost use Rattle.std.specs.List.{range_with_len};
 ghost use Rattle.tree_sem.specs.Trees.{label_at, children_at};
 ghost use Rattle.closed_page.specs.ClosedPages.{HasNoOthers, round_of};
@@ -9,8 +9,9 @@ ghost use Rattle.closed_page.specs.Views.{firsts_of};
 
 use crate::first_rounds::FirstRounds;
 use crate::page_labels::PageLabels;
+use std::alloc::Global;
 use std::marker::Model;
-use tp_base::{Atom, ClassSet, Path};
+use tp_base::{Atom, ClassSet, NoMemory, Path};
 use tree_sem::Tree;
 
 /// The page with its closed labels, and for each node and atom the round in which it came.
@@ -33,15 +34,16 @@ impl Model for Closed {
 }
 
 impl Closed {
-    /// A page whose labels are closed. It costs a sort of its firsts.
-    pub fn new(page: PageLabels) -> Closed
+    /// A page whose labels are closed. Linear in its firsts and the largest atom, but for a sort of the firsts of each atom by
+    /// themselves; until it is made the firsts stand twice.
+    pub fn new(alloc: Global, page: PageLabels) -> Result<Closed, NoMemory>
         requires nodes { AreOfNodes page.nodes page.firsts }
         requires others { HasNoOthers page.labels (firsts_of page.firsts) }
-        ensures labels { result.labels ≡ page.labels }
-        ensures rounds { (v : List ℕ) (a : ℕ) → round_of result.firsts v a ≡ round_of (firsts_of page.firsts) v a }
+        ensures labels { IfOk result (λ c. c.labels ≡ page.labels) }
+        ensures rounds { IfOk result (λ c. (v : List ℕ) (a : ℕ) → round_of c.firsts v a ≡ round_of (firsts_of page.firsts) v a) }
     {
-        let (labels, firsts) = page.into_rounds();
-        Closed { labels, firsts }
+        let (labels, firsts) = page.into_rounds(alloc)?;
+        Ok(Closed { labels, firsts })
     }
 
     /// The closed label of a node. Linear in the path's length.
@@ -52,7 +54,7 @@ impl Closed {
     }
 
     /// The first round in which a node has the atom. Linear in the path's length, on average, and logarithmic in
-    /// the firsts of the page.
+    /// the firsts of the atom.
     pub fn first_round(&self, at: &Path, atom: Atom) -> Option<u64>
         ensures { result ≡ round_of self.now.firsts at.now atom }
     {
@@ -63,7 +65,7 @@ impl Closed {
     }
 
     /// The least number of a child that has the atom by the round. Linear in the path's length, on average, logarithmic
-    /// in the firsts of the page, and linear in the children before it that have the atom later.
+    /// in the firsts of the atom, and linear in the children before it that have the atom later.
     pub fn first_child(&self, at: &Path, atom: Atom, round: u64) -> Option<u32>
         ensures { result ≡ find (λ n. came_by round (round_of self.now.firsts (at.now ++ n ∷ []) atom))
             (range_with_len 0 (unwrap_or (children_at at.now self.now.labels) 0)) }

@@ -1,5 +1,5 @@
 //! The first rounds of a page, found by the parents of its nodes.
-ghost use Rattle.std.specs.Prelude.{◌≡◌, ◌==◌, ◌&&◌, ◌<◌, ◌≤◌, ◌∷◌, ◌++◌, ℕ, List, [], None, length, get_or, OnOk, true, false};
+ghost use Rattle.std.specs.Prelude.{◌≡◌, ◌==◌, ◌&&◌, ◌<◌, ◌≤◌, ◌∷◌, ◌++◌, ℕ, List, [], None, length, get_or, IfOk, OnOk, true, false};
 ghost use Rattle.std.specs.List.Sorted.{IsPartitionPoint, IsSorted, IsStrictlyIncreasing};
 ghost use Rattle.std.specs.Ordering.{is_lt};
 ghost use Rattle.closed_page.specs.ClosedPages.{round_of};
@@ -9,7 +9,9 @@ ghost use Rattle.closed_page.specs.Gains.{rows_at};
 ghost use Rattle.closed_page.specs.Labelled.{AreAllAbove};
 ghost use Rattle.closed_page.specs.Views.{firsts_of};
 
+use crate::first_rows::{FirstRow, in_rows, row_of};
 use crate::nodes::PageNodes;
+use std::alloc::Global;
 use std::marker::Model;
 use tp_base::{Atom, ClassSet, NoMemory, Path};
 
@@ -24,7 +26,7 @@ pub(crate) struct Spot {
 #[derive(Clone, Copy, Debug, PartialEq, Eq, PartialOrd, Ord)]
 pub(crate) struct NodeFirst {
     parent: usize,
-    atom: Atom,
+    pub(crate) atom: Atom,
     step: u32,
     round: u64,
 }
@@ -49,67 +51,68 @@ impl NodeFirst {
     }
 }
 
-/// Firsts in their order. A contract sees them with the paths of their nodes.
+/// Firsts by their atoms, those of each in their order. A contract sees them with the paths of their nodes.
 #[derive(Drop)]
 pub(crate) struct FirstRounds {
     nodes: PageNodes,
     parents: Vec<Option<usize>>,
-    firsts: Vec<NodeFirst>,
+    rows: Vec<FirstRow>,
 }
 
 impl Model for FirstRounds {
     ghost use Rattle.std.specs.Prelude.{List};
-    ghost use Rattle.std.specs.List.Sorted.{IsSorted};
     ghost use Rattle.closed_page.specs.ClosedPages.{First};
     ghost use Rattle.closed_page.specs.Views.{firsts_of};
-    ghost use Rattle.closed_page.specs.Firsts.{placed, first_cmp, AreKept};
+    ghost use Rattle.closed_page.specs.Firsts.{placed, all_in, AreKept, AreByAtom, AreSorted};
 
     ghost Value = { List First };
 
-    ghost view = { λ r. firsts_of (placed r.nodes r.firsts.items) };
+    ghost view = { λ r. firsts_of (placed r.nodes (all_in r.rows.items)) };
 
-    ghost invariant = { λ r. AreKept r.nodes r.parents.items r.firsts.items × IsSorted first_cmp r.firsts.items };
+    ghost invariant = { λ r. AreKept r.nodes r.parents.items (all_in r.rows.items) × AreByAtom (all_in r.rows.items) r.rows.items × AreSorted r.rows.items };
 }
 
 impl FirstRounds {
-    /// Puts firsts in order, which costs a sort of them and no memory.
+    /// Puts firsts in order, those of each atom by themselves. Linear in the firsts and the largest atom, but for these
+    /// sorts, which are linear where the firsts of an atom come in order.
     pub(crate) fn new(
+        alloc: Global,
         nodes: PageNodes,
         parents: Vec<Option<usize>>,
         firsts: Vec<NodeFirst>,
-    ) -> FirstRounds
+    ) -> Result<FirstRounds, NoMemory>
         requires { AreKept nodes parents.items firsts.items }
-        ensures { (v : List ℕ) (a : ℕ) → round_of result v a ≡ round_of (firsts_of (placed nodes firsts.items)) v a }
+        ensures { IfOk result (λ r. (v : List ℕ) (a : ℕ) → round_of r v a ≡ round_of (firsts_of (placed nodes firsts.items)) v a) }
     {
-        let mut firsts = firsts;
-        firsts.sort_unstable();
-        FirstRounds {
+        let rows = in_rows(alloc, firsts)?;
+        Ok(FirstRounds {
             nodes,
             parents,
-            firsts,
-        }
+            rows,
+        })
     }
 
-    /// The first round in which a node has the atom. Linear in the path's length, on average, and logarithmic in the firsts.
+    /// The first round in which a node has the atom. Linear in the path's length, on average, and logarithmic in
+    /// the firsts of the atom.
     pub(crate) fn round(&self, at: &Path, atom: Atom) -> Option<u64>
         ensures { result ≡ round_of self.now at.now atom }
     {
         match self.nodes.number_of(at) {
             Some(number) => {
                 let spot = spot_of(&self.nodes, &self.parents, number);
-                round_in(&self.firsts, spot, atom)
+                round_in(row_of(&self.rows, atom), spot, atom)
             }
             None => None,
         }
     }
 
     /// The least child of a node that has the atom by the round. Linear in the path's length, on average, logarithmic in the
-    /// firsts, and linear in the children before it that have the atom later.
+    /// firsts of the atom, and linear in the children before it that have the atom later.
     pub(crate) fn first_child(&self, at: &Path, atom: Atom, round: u64) -> Option<u32>
         ensures { IsFirstChild self.now at.now atom round result }
     {
         match self.nodes.number_of(at) {
-            Some(number) => child_in(&self.firsts, number, atom, round),
+            Some(number) => child_in(row_of(&self.rows, atom), number, atom, round),
             None => None,
         }
     }

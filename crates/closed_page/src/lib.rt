@@ -3,6 +3,7 @@
 
 mod closed;
 mod first_rounds;
+mod first_rows;
 mod gains;
 mod nodes;
 mod page_labels;

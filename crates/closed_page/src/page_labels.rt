@@ -253,15 +253,13 @@ impl PageLabels {
     }
 
     /// The tree with the labels, and the firsts in their order.
-    pub(crate) fn into_rounds(self) -> (Tree, FirstRounds)
+    pub(crate) fn into_rounds(self, alloc: Global) -> Result<(Tree, FirstRounds), NoMemory>
         requires { AreOfNodes self.nodes self.firsts }
-        ensures tree { result.0 ≡ self.labels }
-        ensures rounds { (v : List ℕ) (a : ℕ) → round_of result.1 v a ≡ round_of (firsts_of self.firsts) v a }
+        ensures tree { IfOk result (λ r. r.0 ≡ self.labels) }
+        ensures rounds { IfOk result (λ r. (v : List ℕ) (a : ℕ) → round_of r.1 v a ≡ round_of (firsts_of self.firsts) v a) }
     {
-        (
-            self.tree,
-            FirstRounds::new(self.nodes, self.parents, self.firsts),
-        )
+        let rounds = FirstRounds::new(alloc, self.nodes, self.parents, self.firsts)?;
+        Ok((self.tree, rounds))
     }
 }
 

@@ -26,7 +26,10 @@ returns-in_err-fill-clause-within g c = on_err (TellsWithin c.args.system.now (g
 pub returns-in_err-fill-clause-spent : goal.returns-in_err-fill-clause-spent
 returns-in_err-fill-clause-spent g c = λ none. err_spent {U = Unit {0}} c.from_residual-in_err-fill.result c.in_err-fill.field-0.0 _ c.from_residual-in_err-fill.ensures.1 (search rules)
 
+pub returns-in_err-closed-clause-within : goal.returns-in_err-closed-clause-within
+returns-in_err-closed-clause-within g c = on_err (TellsWithin c.args.system.now (g.S.Summaries.told c.args.sums.now) _ (Asked c.args.system.now c.args.page.now)) c.from_residual-in_err-closed.result (search rules)
+
 pub returns-clause-closed : goal.returns-clause-closed
 returns-clause-closed g c =
     let f = c.fill.new.filling in
-    closed_same c.args.system.now c.args.page.now f.labels.labels f.labels.firsts c.closed_of.result c.in_ok-fill.ensures.closed c.closed_of.ensures.labels c.closed_of.ensures.rounds
+    closed_same c.args.system.now c.args.page.now f.labels.labels f.labels.firsts c.in_ok-closed.closed c.in_ok-fill.ensures.closed c.in_ok-closed.ensures.labels c.in_ok-closed.ensures.rounds
