@@ -10,6 +10,7 @@ use Rattle.jq_stmts.specs.Sharp.{ExactStatement, exact_statement, wides}
 use Rattle.jq_words.specs.Words.{Outcome, ◌>>=◌}
 use Rattle.jq_read.specs.Script.{script_with, script}
 use Rattle.run_ends.specs.declared.stops.Stop.{Stop}
+use Rattle.run_ends.specs.declared.refusals.Part.TheVariants.{Page}
 use Rattle.run_ends.specs.Refusals.{page_stop, sheet_stop}
 use Rattle.triple_gen.specs.declared.triple.TheConstants.{MOST_BOXES}
 use Rattle.triple_gen.specs.Ring as rings
@@ -54,7 +55,7 @@ statements_read m n names few room = by (reads_exactly m)
 pub ring_read : (m : Mode) (page : Option ℕ) (k : ℕ) → k ≤ MOST_BOXES → (i : Inputs) × (read_inputs m page (ring_texts k) ≡ Ok i)
 unfolding read_inputs
 ring_read m page k few =
-    let p = of_ending (page_stop page (rings.page k)) (3 + k * 8) (read_page (rings.page k) []) (reads_pages k few) in
+    let p = of_ending (page_stop (Page page) (rings.page k)) (3 + k * 8) (read_page (rings.page k) []) (reads_pages k few) in
     let many = p.3 in
     let s = of_ending (sheet_stop (rings.sheet k)) (length p.1 + k * 100) (read_sheet (rings.sheet k) p.1) (reads_sheets k p.1 few (omega (arith, few, many))) in
     let more = s.3 in

@@ -158,18 +158,18 @@ probed_of s (limits, page, is) =
     )
 
 -- by the numbers of the answers that were made
-pub probed_by : (x : Texts) (u : held.Said) → IsWritable Dead (said_of x u) → InOrder 0 u.numbers.items (length u.others.items) → ArePrintable (inputs_of u.inputs) u.numbers.items u.others.items
+pub probed_by : (x : Texts) (u : held.Said) → IsWritable Dead (said_of x u) → InOrder 0 u.numbers.items (length u.by_guard.items) → ArePrintable (inputs_of u.inputs) u.numbers.items u.by_guard.items
 probed_by x u is order =
     let s = said_of x u in
     let numbers = u.numbers.items in
-    let told = map answer_of u.others.items in
+    let told = map answer_of u.by_guard.items in
     let all = probed_of s is in
     record {
       one_each = sym (length-map numbers (λ k. get_or told k spent)) ∙ all.0;
-      known = (in_order_known 0 (length u.others.items) numbers order).1;
+      known = (in_order_known 0 (length u.by_guard.items) numbers order).1;
       probed =
-          all_unmapped (IsProbed (places_of s.inputs)) answer_of u.others.items
-          (each_of (IsProbed (places_of s.inputs)) spent told numbers (subst (InOrder 0 numbers) (sym (length-map u.others.items answer_of)) order) all.1);
+          all_unmapped (IsProbed (places_of s.inputs)) answer_of u.by_guard.items
+          (each_of (IsProbed (places_of s.inputs)) spent told numbers (subst (InOrder 0 numbers) (sym (length-map u.by_guard.items answer_of)) order) all.1);
     }
 
 pub traceable_of : (s : Said) → IsWritable Runs s → AreTraceable (places_of s.inputs) s.inputs.sheet.items s.traces

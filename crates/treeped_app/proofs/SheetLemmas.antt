@@ -10,6 +10,7 @@ use Rattle.tree_sem.specs.Trees.{LabelTree}
 use Rattle.jq_stmts.specs.Sharp.{ExactStatement, wides}
 use Rattle.html_subset.specs.Reading.{read_page}
 use Rattle.command_words.specs.declared.words.Mode.{Mode}
+use Rattle.run_ends.specs.declared.refusals.Part.TheVariants.{Page, Script}
 use Rattle.run_ends.specs.Refusals.{page_stop, sheet_stop}
 use Rattle.run_ends.specs.declared.stops.Stop.{Stop}
 use Rattle.treeped_app.specs.Modes.{Texts, Inputs}
@@ -18,13 +19,13 @@ use Rattle.treeped_app.specs.Runs.{IsSheetOf, read_as, read_script_as, statement
 -- ---- the three texts of a page, one after another
 
 abbrev page_in : Option ℕ → Texts → Result (LabelTree × List Named) Stop
-page_in k x = read_as (page_stop k x.page) (read_page x.page [])
+page_in k x = read_as (page_stop (Page k) x.page) (read_page x.page [])
 
 abbrev sheet_in : Texts → List Named → Result (Sheet × List Named) Stop
 sheet_in x names = read_as (sheet_stop x.sheet) (read_sheet x.sheet names)
 
 abbrev script_in : Mode → Option ℕ → Texts → List Named → Result (List ExactStatement × List Named) Stop
-script_in m k x names = read_script_as k x.script (statements_in m x.script names)
+script_in m k x names = read_script_as (Script k) x.script (statements_in m x.script names)
 
 abbrev all_read : LabelTree × List Named → Sheet × List Named → List ExactStatement × List Named → Inputs
 all_read p s j = record { tree = p.0; sheet = s.0; stmts = wides j.0; exact = j.0; names = j.1 }

@@ -12,6 +12,8 @@ use Rattle.tp_io.specs.Files.{Load}
 use Rattle.tp_io.specs.Sinks.{Adds, AddsPrefix, Rose}
 use Rattle.tp_base.specs.declared.places.TheConstants.{MOST_BYTES}
 use Rattle.run_ends.specs.declared.status.Status.{Status}
+use Rattle.run_ends.specs.declared.refusals.Part.{Part}
+use Rattle.run_ends.specs.declared.refusals.Part.TheVariants.{Page, Script}
 use Rattle.run_ends.specs.declared.refusals.JudgeRefusal.{JudgeRefusal}
 use Rattle.run_ends.specs.declared.refusals.JudgeRefusal.TheVariants as refused
 use Rattle.run_ends.specs.declared.stops.Stop.{Stop}
@@ -49,16 +51,16 @@ plainly (Err e) = Err e
 abbrev pub statements_in : Mode → List ℕ → List Named → Outcome (List ExactStatement × List Named)
 statements_in m text names = if reads_exactly m then exact_script text names else plainly (script text names)
 
-abbrev pub read_script_as : Option ℕ → List ℕ → Outcome (List ExactStatement × List Named) → Result (List ExactStatement × List Named) Stop
-read_script_as page text (Ok r) = Ok r
-read_script_as page text (Err e) = Err (script_stop page text e)
+abbrev pub read_script_as : Part → List ℕ → Outcome (List ExactStatement × List Named) → Result (List ExactStatement × List Named) Stop
+read_script_as part text (Ok r) = Ok r
+read_script_as part text (Err e) = Err (script_stop part text e)
 
 -- the page, the sheet and the script are read in this order, with one list of names that is new for each page
 unfoldable pub read_inputs : Mode → Option ℕ → Texts → Result Inputs Stop
 read_inputs m page x = do
-  p ← read_as (page_stop page x.page) (read_page x.page [])
+  p ← read_as (page_stop (Page page) x.page) (read_page x.page [])
   s ← read_as (sheet_stop x.sheet) (read_sheet x.sheet p.1)
-  j ← read_script_as page x.script (statements_in m x.script s.1)
+  j ← read_script_as (Script page) x.script (statements_in m x.script s.1)
   Ok (record { tree = p.0; sheet = s.0; stmts = wides j.0; exact = j.0; names = j.1 })
 
 -- the sheet was read of this text, whatever names were there before

@@ -35,4 +35,4 @@ inputs_of i = record { tree = i.page; sheet = sheet_of i.sheet; stmts = statemen
 
 -- with the texts of which it is said
 abbrev pub said_of : modes.Texts → Said → modes.Said
-said_of x s = record { texts = x; inputs = inputs_of s.inputs; items = map answer_of s.items.items; others = by_number spent (map answer_of s.others.items) s.numbers.items; traces = map (option_map trace_of) s.traces.items }
+said_of x s = record { texts = x; inputs = inputs_of s.inputs; items = map answer_of s.items.items; others = by_number spent (map answer_of s.by_guard.items) s.numbers.items; traces = map (option_map trace_of) s.traces.items }

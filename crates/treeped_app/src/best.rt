@@ -30,7 +30,7 @@ fn any_best(question: Question, site: &Site, count: usize) -> bool
     ensures { result ≡ list_any (is_answer_so question) (spec.best_answers site.now) }
 {
     'items: for item in 0..count {
-        if is_so_at(question, site, item) {
+        if best_meets(question, site, item) {
             return true;
         }
     }
@@ -48,23 +48,23 @@ pub(crate) fn unused_on_site(
 {
     let mut flags = Vec::new(alloc);
     'items: for item in 0..count {
-        flags.push(is_so_at(Question::Dead, site, item))?;
+        flags.push(best_meets(Question::Dead, site, item))?;
     }
     Ok(flags)
 }
 
 // Whether it is so of the best answer for an item.
-fn is_so_at(question: Question, site: &Site, item: usize) -> bool
+fn best_meets(question: Question, site: &Site, item: usize) -> bool
     ensures { (b : sites.Best) → slice_get site.now.items item ≡ Some b → result ≡ is_answer_so question b.answer }
 {
     match site.answer(item) {
-        Some((_, answer)) => is_so(question, answer),
+        Some((_, answer)) => meets(question, answer),
         None => false,
     }
 }
 
 // Whether it is so of an answer.
-fn is_so(question: Question, answer: &Answer) -> bool
+fn meets(question: Question, answer: &Answer) -> bool
     ensures { result ≡ is_answer_so question (answer_of answer.now) }
 {
     match question {

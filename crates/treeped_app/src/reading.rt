@@ -28,7 +28,7 @@ use css_read::{Sheet, read_sheet};
 use html_subset::read_page;
 use jq_exact::{Script, parted};
 use jq_read::{read_exact, read_script};
-use run_ends::{Stop, page_stop, script_stop, sheet_stop};
+use run_ends::{Part, Stop, page_stop, script_stop, sheet_stop};
 use std::alloc::Global;
 use tp_base::AtomTable;
 use tree_sem::Tree;
@@ -65,9 +65,9 @@ pub(crate) fn read_all(
     ensures placed { IfOk result (λ i. ArePlaced (length (texts_of texts.now).sheet) i.sheet.items) }
 {
     let mut atoms = AtomTable::new(alloc);
-    let page = open_page(alloc, number, texts.page, &mut atoms)?;
+    let page = open_page(alloc, Part::Page(number), texts.page, &mut atoms)?;
     let sheet = open_sheet(alloc, texts.sheet, &mut atoms)?;
-    let script = open_script(alloc, mode, number, texts.script, &mut atoms)?;
+    let script = open_script(alloc, mode, Part::Script(number), texts.script, &mut atoms)?;
     Ok(Inputs {
         page,
         sheet,
@@ -77,20 +77,15 @@ pub(crate) fn read_all(
 }
 
 // What was read of a page, or why the run stops at it.
-fn open_page(
-    alloc: Global,
-    number: Option<u32>,
-    text: &[u8],
-    atoms: &mut AtomTable,
-) -> Result<Tree, Stop>
+fn open_page(alloc: Global, part: Part, text: &[u8], atoms: &mut AtomTable) -> Result<Tree, Stop>
     requires { length text.now ≤ MOST_BYTES }
-    ensures opened { IsOpened (λ t. t) (spec.read_as (page_stop number text.now) (html.read_page text.now atoms.old)) result atoms.new }
+    ensures opened { IsOpened (λ t. t) (spec.read_as (page_stop part text.now) (html.read_page text.now atoms.old)) result atoms.new }
     ensures over { IfOk result (λ t. IsTreeOver (length atoms.new) t) }
     ensures few { IfOk result (λ t. count_of t ≤ MOST_PAGE_NODES + 1) }
 {
     match read_page(alloc, text, atoms) {
         Ok(tree) => Ok(tree),
-        Err(fault) => Err(page_stop(number, text, fault)),
+        Err(fault) => Err(page_stop(part, text, fault)),
     }
 }
 
@@ -112,21 +107,21 @@ fn open_sheet(alloc: Global, text: &[u8], atoms: &mut AtomTable) -> Result<Sheet
 fn open_script(
     alloc: Global,
     mode: Mode,
-    number: Option<u32>,
+    part: Part,
     text: &[u8],
     atoms: &mut AtomTable,
 ) -> Result<Script, Stop>
     requires { length text.now ≤ MOST_BYTES }
-    ensures opened { IsOpened exact_in (spec.read_script_as number text.now (spec.statements_in mode text.now atoms.old)) result atoms.new }
+    ensures opened { IsOpened exact_in (spec.read_script_as part text.now (spec.statements_in mode text.now atoms.old)) result atoms.new }
     ensures wide { IfOk result (λ s. wides (exact_in s) ≡ statements_of s.stmts.items) }
     ensures over { IfOk result (λ s. AreStatementsOver (length atoms.new) (statements_of s.stmts.items)) }
     ensures within { IfOk result (λ s. AreWithin (statements_of s.stmts.items)) }
     ensures front { IsFront atoms.old atoms.new }
 {
     if reads_exactly(mode) {
-        open_exact(alloc, number, text, atoms)
+        open_exact(alloc, part, text, atoms)
     } else {
-        open_plain(alloc, number, text, atoms)
+        open_plain(alloc, part, text, atoms)
     }
 }
 
@@ -139,14 +134,9 @@ fn reads_exactly(mode: Mode) -> bool
 
 // The statements of a script in which sharp calls may stand.
 #[tactic(auto, using(crate::proofs::ReadingLemmas::not_opened))]
-fn open_exact(
-    alloc: Global,
-    number: Option<u32>,
-    text: &[u8],
-    atoms: &mut AtomTable,
-) -> Result<Script, Stop>
+fn open_exact(alloc: Global, part: Part, text: &[u8], atoms: &mut AtomTable) -> Result<Script, Stop>
     requires { length text.now ≤ MOST_BYTES }
-    ensures opened { IsOpened exact_in (spec.read_script_as number text.now (exact_script text.now atoms.old)) result atoms.new }
+    ensures opened { IsOpened exact_in (spec.read_script_as part text.now (exact_script text.now atoms.old)) result atoms.new }
     ensures wide { IfOk result (λ s. wides (exact_in s) ≡ statements_of s.stmts.items) }
     ensures over { IfOk result (λ s. AreStatementsOver (length atoms.new) (statements_of s.stmts.items)) }
     ensures within { IfOk result (λ s. AreWithin (statements_of s.stmts.items)) }
@@ -157,20 +147,15 @@ fn open_exact(
             let script = parted(alloc, statements)?;
             Ok(script)
         }
-        Err(fault) => Err(script_stop(number, text, fault)),
+        Err(fault) => Err(script_stop(part, text, fault)),
     }
 }
 
 // Those of a script in which none may.
 #[tactic(auto, using(crate::proofs::ReadingLemmas::not_opened))]
-fn open_plain(
-    alloc: Global,
-    number: Option<u32>,
-    text: &[u8],
-    atoms: &mut AtomTable,
-) -> Result<Script, Stop>
+fn open_plain(alloc: Global, part: Part, text: &[u8], atoms: &mut AtomTable) -> Result<Script, Stop>
     requires { length text.now ≤ MOST_BYTES }
-    ensures opened { IsOpened exact_in (spec.read_script_as number text.now (spec.plainly (script text.now atoms.old))) result atoms.new }
+    ensures opened { IsOpened exact_in (spec.read_script_as part text.now (spec.plainly (script text.now atoms.old))) result atoms.new }
     ensures wide { IfOk result (λ s. wides (exact_in s) ≡ statements_of s.stmts.items) }
     ensures over { IfOk result (λ s. AreStatementsOver (length atoms.new) (statements_of s.stmts.items)) }
     ensures within { IfOk result (λ s. AreWithin (statements_of s.stmts.items)) }
@@ -181,6 +166,6 @@ fn open_plain(
             stmts,
             sharp: Vec::new(alloc),
         }),
-        Err(fault) => Err(script_stop(number, text, fault)),
+        Err(fault) => Err(script_stop(part, text, fault)),
     }
 }

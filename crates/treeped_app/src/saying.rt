@@ -32,7 +32,7 @@ use usage_report::{Answer, RunTrace};
 pub(crate) struct Said {
     pub(crate) inputs: Inputs,
     pub(crate) items: Vec<Answer>,
-    pub(crate) others: Vec<Answer>,
+    pub(crate) by_guard: Vec<Answer>,
     pub(crate) numbers: Vec<usize>,
     pub(crate) traces: Vec<Option<RunTrace>>,
 }
@@ -117,7 +117,7 @@ fn said_by(alloc: Global, inputs: Inputs, answered: Answered) -> Result<Said, No
     ensures inputs { IfOk result (λ s. inputs_of s.inputs ≡ inputs_of inputs) }
     ensures sheet { IfOk result (λ s. s.inputs.sheet ≡ inputs.sheet) }
     ensures settled { IfOk result (λ s. AreSettled (inputs_of inputs).tree (inputs_of inputs).exact answered.both.system (map answer_of answered.both.items) (map answer_of s.items.items)) }
-    ensures others { IfOk result (λ s. s.others.items ≡ answered.both.extra) }
+    ensures by_guard { IfOk result (λ s. s.by_guard.items ≡ answered.both.extra) }
     ensures numbers { IfOk result (λ s. s.numbers.items ≡ answered.numbers.items) }
 {
     let both = answered.both;
@@ -134,7 +134,7 @@ fn said_by(alloc: Global, inputs: Inputs, answered: Answered) -> Result<Said, No
     Ok(Said {
         inputs,
         items: settled.items,
-        others: both.extra.into_items(),
+        by_guard: both.extra.into_items(),
         numbers,
         traces: Vec::new(alloc),
     })
@@ -150,7 +150,7 @@ pub(crate) fn say(
     requires fit { Fit (texts_of texts.now) }
     ensures said { IsSaying request.now.mode request.now.limits.now number (texts_of texts.now) result }
     ensures placed { IfOk result (λ s. ArePlaced (length (texts_of texts.now).sheet) s.inputs.sheet.items) }
-    ensures in_order { IfOk result (λ s. InOrder 0 s.numbers.items (length s.others.items)) }
+    ensures in_order { IfOk result (λ s. InOrder 0 s.numbers.items (length s.by_guard.items)) }
 {
     let inputs = read_all(alloc, request.mode, number, texts)?;
     let answered = answers_of(alloc, request, &inputs)?;

@@ -28,8 +28,8 @@ pub(crate) enum Question {
 pub(crate) fn status_of(mode: Mode, said: &Said) -> Status
     ensures { (x : spec.Texts) → result ≡ spec.status_on mode (said_of x said.now) }
 {
-    let unsure = any_open(&said.items) || asks(mode, Question::Open, said);
-    let unused = any_unused(&said.items) || asks(mode, Question::Dead, said);
+    let unsure = any_open(&said.items) || any_meets(mode, Question::Open, said);
+    let unused = any_unused(&said.items) || any_meets(mode, Question::Dead, said);
     status_by(unsure, unused)
 }
 
@@ -78,14 +78,14 @@ pub(crate) fn is_unused(answer: &Answer) -> bool
 }
 
 // Whether it is so of a statement's verdict, in a mode that has verdicts.
-fn asks(mode: Mode, question: Question, said: &Said) -> bool
+fn any_meets(mode: Mode, question: Question, said: &Said) -> bool
     ensures { (x : spec.Texts) → result ≡ list_any (verdict.is_so question) (spec.verdicts_in mode (said_of x said.now ∷ [])) }
 {
     match mode {
         Mode::Dead => any_verdict(
             question,
             &said.inputs.script.stmts,
-            &said.others,
+            &said.by_guard,
             &said.numbers,
         ),
         _ => false,
@@ -100,7 +100,7 @@ fn any_verdict(question: Question, stmts: &[Stmt], answers: &[Answer], numbers: 
     let mut left = numbers;
     'statements: for stmt in stmts {
         let handlers = stmt.handlers.items().len();
-        if is_so(question, answers, left, handlers) {
+        if own_answer_meets(question, answers, left, handlers) {
             return true;
         }
         left = behind(left, handlers);
@@ -120,17 +120,17 @@ fn behind(numbers: &[usize], handlers: usize) -> &[usize]
 }
 
 // Whether it is so of a statement whose own number is at that place; without one it is open.
-fn is_so(question: Question, answers: &[Answer], numbers: &[usize], at: usize) -> bool
+fn own_answer_meets(question: Question, answers: &[Answer], numbers: &[usize], at: usize) -> bool
     ensures { result ≡ verdict.is_so_of question (slice_get (by_number spent (map answer_of answers.now) numbers.now) at) }
 {
     match numbers.get(at) {
-        Some(number) => is_so_at(question, answers, *number),
+        Some(number) => answer_meets(question, answers, *number),
         None => matches!(question, Question::Open),
     }
 }
 
 // Whether it is so of a statement whose own answer has this number: it is dead where that is unused, and open where that is.
-fn is_so_at(question: Question, answers: &[Answer], at: usize) -> bool
+fn answer_meets(question: Question, answers: &[Answer], at: usize) -> bool
     ensures { result ≡ verdict.is_so_of question (option_map answer_of (slice_get answers.now at)) }
 {
     match (question, answers.get(at)) {

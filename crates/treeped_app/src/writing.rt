@@ -44,7 +44,7 @@ pub(crate) fn write_one<O: Sink>(
     requires in_limit { length (texts_of texts.now).sheet ≤ MOST_BYTES }
     requires placed { ArePlaced (length (texts_of texts.now).sheet) said.now.inputs.sheet.items }
     requires writable { IsWritable mode (said_of (texts_of texts.now) said.now) }
-    requires in_order { InOrder 0 said.now.numbers.items (length said.now.others.items) }
+    requires in_order { InOrder 0 said.now.numbers.items (length said.now.by_guard.items) }
     ensures ok { OnOk result (Adds (O.written out.old) (O.written out.new) (spec.text_on mode (said_of (texts_of texts.now) said.now))) }
     ensures err { OnErr result (AddsPrefix (O.written out.old) (O.written out.new) (spec.text_on mode (said_of (texts_of texts.now) said.now))) }
     ensures write { result ≡ Err ReportFault.Write → Rose (O.faults out.old) (O.faults out.new) }
@@ -61,7 +61,7 @@ pub(crate) fn write_one<O: Sink>(
                 alloc,
                 &inputs.script.stmts,
                 &said.numbers,
-                &said.others,
+                &said.by_guard,
                 out,
             )
         }

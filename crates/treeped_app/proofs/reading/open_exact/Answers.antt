@@ -7,7 +7,7 @@ use Rattle.treeped_app.proofs.ReadingLemmas.{opened_exactly, judged_again}
 use Rattle.treeped_app.proofs.reading.open_exact.Goals as goal
 
 pub returns-in_ok-script-in-Ok-clause-opened : goal.returns-in_ok-script-in-Ok-clause-opened
-returns-in_ok-script-in-Ok-clause-opened c = opened_exactly c.args.number c.args.text.now c.args.atoms.now c.read_exact.new.atoms c.in-Ok.statements.items c.in_ok-script-in-Ok.script c.in-Ok.ensures.reads c.in_ok-script-in-Ok.ensures
+returns-in_ok-script-in-Ok-clause-opened c = opened_exactly c.args.part c.args.text.now c.args.atoms.now c.read_exact.new.atoms c.in-Ok.statements.items c.in_ok-script-in-Ok.script c.in-Ok.ensures.reads c.in_ok-script-in-Ok.ensures
 
 pub returns-in_ok-script-in-Ok-clause-wide : goal.returns-in_ok-script-in-Ok-clause-wide
 returns-in_ok-script-in-Ok-clause-wide c = let s = c.in_ok-script-in-Ok.script in wides_marked s.stmts.items s.sharp.items

@@ -46,11 +46,11 @@ returns-clause-said c =
     record {
       read = c.in_ok-inputs.ensures.read ∙ ap Ok (sym c.in_ok-said.ensures.inputs);
       answers =
-          rw (c.in_ok-said.ensures.others, c.in_ok-said.ensures.numbers)
+          rw (c.in_ok-said.ensures.by_guard, c.in_ok-said.ensures.numbers)
           (said_right c.args.request.now.mode c.args.request.now.limits.now (inputs_of old) (inputs_of said.inputs) (map answer_of both.items) (map answer_of said.items.items) others both.system c.in_ok-said.ensures.inputs
           (wides_marked old.script.stmts.items old.script.sharp.items) c.in_ok-answered.ensures.answers c.in_ok-answered.ensures.system c.in_ok-said.ensures.settled);
       traces = rw c.deref.ensures.value at c.in_ok-traces.ensures;
     }
 
 pub returns-clause-in_order : goal.returns-clause-in_order
-returns-clause-in_order c = rw (c.in_ok-said.ensures.others, c.in_ok-said.ensures.numbers) c.in_ok-answered.ensures.in_order
+returns-clause-in_order c = rw (c.in_ok-said.ensures.by_guard, c.in_ok-said.ensures.numbers) c.in_ok-answered.ensures.in_order

@@ -4,8 +4,8 @@ use Rattle.treeped_app.specs.Verdicts.{is_so_of}
 use Rattle.treeped_app.proofs.VerdictLemmas.{any_so, told_by, told_behind, next_so, or_false}
 use Rattle.treeped_app.proofs.statuses.any_verdict.Goals as goal
 
-pub returns-then-is_so : goal.returns-then-is_so
-returns-then-is_so c =
+pub returns-then-own_answer_meets : goal.returns-then-own_answer_meets
+returns-then-own_answer_meets c =
     let q = c.args.question in
     let stmt = c.stmt-item.result in
     let told = told_by c.args.answers.now c.statements.left.now in

@@ -20,11 +20,11 @@ returns c = λ x.
     let unsure : c.if-any_open.unsure ≡ (list_any spec.is_open s.items || left) =
     elim c.if-any_open.branch [
       | then-any_open w ↦ w.unsure-is ∙ w.if-any_open.true ∙ sym (ap (λ z. z || left) (sym first ∙ w.if-any_open.true))
-      | else-any_open w ↦ w.unsure-is ∙ w.asks-unsure.ensures x ∙ sym (ap (λ z. z || left) (sym first ∙ w.if-any_open.false))
+      | else-any_open w ↦ w.unsure-is ∙ w.any_meets-unsure.ensures x ∙ sym (ap (λ z. z || left) (sym first ∙ w.if-any_open.false))
     ] in
     let unused : c.if-any_unused.unused ≡ (list_any spec.is_unused s.items || gone) =
     elim c.if-any_unused.branch [
       | then-any_unused w ↦ w.unused-is ∙ w.if-any_unused.true ∙ sym (ap (λ z. z || gone) (sym second ∙ w.if-any_unused.true))
-      | else-any_unused w ↦ w.unused-is ∙ w.asks-unused.ensures x ∙ sym (ap (λ z. z || gone) (sym second ∙ w.if-any_unused.false))
+      | else-any_unused w ↦ w.unused-is ∙ w.any_meets-unused.ensures x ∙ sym (ap (λ z. z || gone) (sym second ∙ w.if-any_unused.false))
     ] in
     c.status_by.ensures ∙ ap (λ z. spec.status_by z c.if-any_unused.unused) unsure ∙ ap (λ z. spec.status_by (list_any spec.is_open s.items || left) z) unused

@@ -3,14 +3,14 @@ use Rattle.std.proofs.lemmas.Bool.{ltb-true, ltb-false}
 use Rattle.std.proofs.lemmas.Option.{slice_get_read, slice_get_past}
 use Rattle.treeped_app.specs.Verdicts.{is_so_of}
 use Rattle.treeped_app.proofs.VerdictLemmas.{so_by_number, so_without}
-use Rattle.treeped_app.proofs.statuses.is_so.Goals as goal
+use Rattle.treeped_app.proofs.statuses.own_answer_meets.Goals as goal
 
 pub returns-in-Some : goal.returns-in-Some
 returns-in-Some c =
     let numbers = c.args.numbers.now in
     let number = c.in-Some.number.now in
     let look = c.in-Some.ensures.lookup in
-    c.is_so_at.ensures
+    c.answer_meets.ensures
     ∙ so_by_number c.args.question c.args.answers.now numbers c.args.at number (slice_get_read numbers (length numbers) c.args.at number refl (ltb-true c.args.at (length numbers) (sym look.0)) look.1)
 
 pub returns-in-Open : goal.returns-in-Open
