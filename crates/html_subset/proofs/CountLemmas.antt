@@ -18,7 +18,7 @@ use Rattle.html_subset.specs.Labels.{Outcome, ◌>>=◌, labelled}
 use Rattle.html_subset.specs.Pages.{root_label, bare_page, page_tree, page_of}
 use Rattle.html_subset.specs.Reading.{read_page}
 use Rattle.html_table.specs.TreeTable.{behind, has_kind, Place, place, opens}
-use Rattle.html_subset.proofs.AtomLemmas.{Brings, brings_then, brings_either, ended_over, if_read}
+use Rattle.html_subset.proofs.AtomLemmas.{Brings, brings_more, brings_then, brings_either, ended_over, if_read}
 
 -- ---- how many nodes trees have that grow
 
@@ -46,10 +46,6 @@ IsFew s = count_in s ≤ MOST_PAGE_NODES
 all_any : {X : Type 0} (r : Outcome X) → Brings (λ (x : X). Unit {0}) r
 all_any (Ok x) = tt
 all_any (Err e) = tt
-
-brings_more : {X : Type 0} (P Q : X → Type 0) (r : Outcome X) → ((x : X) → P x → Q x) → Brings P r → Brings Q r
-brings_more P Q (Ok x) weaker is = weaker x is
-brings_more P Q (Err e) weaker is = tt
 
 -- below a limit that was tested
 brings_below : {X : Type 0} (P : X → Type 0) (most n : ℕ) (r s : Outcome X) → Brings P r → (suc n ≤ most → Brings P s) → Brings P (if nat_le most n then r else s)

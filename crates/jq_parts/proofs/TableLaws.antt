@@ -34,9 +34,9 @@ subjects_over : (n : ℕ) (ss : List Selector) → AreSelectorsOver n ss → Are
 subjects_over n [] over = tt
 subjects_over n (s ∷ ss) over = (over.0.0, subjects_over n ss over.1)
 
-bound_ok : {A B : Type 0} (P : A → Type 0) (Q : B → Type 0) (r : Outcome A) (f : A → Outcome B) → IfOk r P → ((x : A) → P x → IfOk (f x) Q) → IfOk (r >>= f) Q
-bound_ok P Q (Ok x) f is h = h x is
-bound_ok P Q (Err e) f is h = tt
+pub and_then : {A B : Type 0} (P : A → Type 0) (Q : B → Type 0) (r : Outcome A) (f : A → Outcome B) → IfOk r P → ((x : A) → P x → IfOk (f x) Q) → IfOk (r >>= f) Q
+and_then P Q (Ok x) f is h = h x is
+and_then P Q (Err e) f is h = tt
 
 abbrev found : List (List ℕ) → List Named → Outcome (List (List ℕ) × List Named)
 found cs names = Ok (cs, names)
@@ -49,7 +49,7 @@ alone_over false n at cs names is = tt
 pub compounds_over : (at : ℕ) (letters : List ℕ) (names : List Named) → IfOk (compounds at letters names) (λ r. (length names ≤ length r.1) × AreCompoundsOver (length r.1) r.0)
 unfolding compounds
 compounds_over at letters names =
-    bound_ok (λ r. (length names ≤ length r.1) × AreSelectorsOver (length r.1) r.0) (λ r. (length names ≤ length r.1) × AreCompoundsOver (length r.1) r.0)
+    and_then (λ r. (length names ≤ length r.1) × AreSelectorsOver (length r.1) r.0) (λ r. (length names ≤ length r.1) × AreCompoundsOver (length r.1) r.0)
     (selectors at letters names) (λ ss. if list_all (λ (t : Selector). is_empty t.outer) ss.0 then Ok (map (λ (t : Selector). t.subject) ss.0, ss.1) else Err (ComplexArgument at))
     (selectors_over at letters names)
     (λ ss is. alone_over (list_all (λ (t : Selector). is_empty t.outer) ss.0) (length names) at (map (λ (t : Selector). t.subject) ss.0) ss.1 (is.0, subjects_over (length ss.1) ss.0 is.1))
@@ -78,7 +78,7 @@ with_classes_over : (m at : ℕ) (classes : List (List ℕ)) (set : List ℕ) (n
 unfolding with_classes
 with_classes_over m at [] set names longer are = (longer, are)
 with_classes_over m at (name ∷ others) set names longer are =
-    bound_ok (IsSetOver m) (IsSetOver m) (and_class at set (with_name names (kind.Class, name))) (λ c. with_classes at others c.0 c.1)
+    and_then (IsSetOver m) (IsSetOver m) (and_class at set (with_name names (kind.Class, name))) (λ c. with_classes at others c.0 c.1)
     (and_class_over m at set (kind.Class, name) names (with_name names (kind.Class, name)) refl longer are)
     (λ c is. with_classes_over m at others c.0 c.1 is.0 is.1)
 

@@ -35,7 +35,8 @@ use Rattle.jq_read.specs.Chains.{several, listened, listening, listen_arguments,
 use Rattle.jq_read.specs.Statements.{Blocks, and_end, bracketed, start, ready, once, timer, named_function, declared_value, value_behind, one, more_ones, declaration, chain_statement, with_state, statement_as, is_branch, form_at, statement, closes, sequence, no_block, braces, block, is_bound}
 use Rattle.jq_words.specs.FreeLists.{free}
 use Rattle.jq_read.specs.Script.{at_top, nothing_read}
-use Rattle.jq_read.proofs.ReadingLaws.{and_then, any_then, either, all_push}
+use Rattle.jq_parts.proofs.TableLaws.{and_then}
+use Rattle.jq_read.proofs.ReadingLaws.{any_then, either, all_push}
 use Rattle.jq_read.proofs.LimitLaws.{length_of, IsIn, sequence_in, blocks_in, nothing_in}
 
 -- ---- statements

@@ -47,7 +47,8 @@ use Rattle.jq_read.specs.Chains.{several, listened, listening, listen_arguments,
 use Rattle.jq_read.specs.Statements.{Blocks, and_end, bracketed, start, ready, once, timer, named_function, declared_value, value_behind, one, more_ones, declaration, chain_statement, with_state, statement_as, is_branch, form_at, statement, closes, sequence, no_block, braces, block, is_bound}
 use Rattle.jq_words.specs.FreeLists.{free}
 use Rattle.jq_read.specs.Script.{from_scan, at_top, nothing_read, script_of, script_with, script}
-use Rattle.jq_read.proofs.ReadingLaws.{and_then, any_then, either, all_push, all_take, first_some, this_one}
+use Rattle.jq_parts.proofs.TableLaws.{and_then}
+use Rattle.jq_read.proofs.ReadingLaws.{any_then, either, all_push, all_take, first_some, this_one}
 use Rattle.jq_read.specs.Limits.{trees_added, nodes_added, calls_of_chains, calls_of, AreWithin}
 
 -- ---- what is counted

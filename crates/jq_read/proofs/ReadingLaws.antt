@@ -5,10 +5,6 @@ use Rattle.std.specs.List.{AllByRecursion}
 use Rattle.std.specs.Option.{option_or}
 use Rattle.jq_words.specs.Words.{Outcome, ◌>>=◌}
 
-pub and_then : {A B : Type 0} (P : A → Type 0) (Q : B → Type 0) (r : Outcome A) (f : A → Outcome B) → IfOk r P → ((x : A) → P x → IfOk (f x) Q) → IfOk (r >>= f) Q
-and_then P Q (Ok x) f p q = q x p
-and_then P Q (Err e) f p q = p
-
 pub any_then : {A B : Type 0} (Q : B → Type 0) (r : Outcome A) (f : A → Outcome B) → ((x : A) → IfOk (f x) Q) → IfOk (r >>= f) Q
 any_then Q (Ok x) f q = q x
 any_then Q (Err e) f q = tt

@@ -20,13 +20,13 @@ use Rattle.jq_cursor.specs.TextArguments.{text_argument, some_argument}
 use Rattle.jq_parts.specs.Arguments.{markup_argument, forest_or, wrapped, wrapped_forest, target}
 use Rattle.jq_parts.specs.Stating.{Effect}
 use Rattle.jq_stmts.specs.Tables.{AreCompoundsOver, IsCallOver, AreCallsOver, AreTreesOver, IsActionOver}
-use Rattle.jq_parts.proofs.TableLaws.{selectors_over, compounds_over, classes_over, attribute_over}
+use Rattle.jq_parts.proofs.TableLaws.{selectors_over, compounds_over, classes_over, attribute_over, and_then}
 use Rattle.jq_read.specs.States.{Context, State, size, scope_in}
 use Rattle.jq_parts.specs.Calls.{elements_in, made, and_call}
 use Rattle.jq_read.specs.Functions.{rules_in}
 use Rattle.jq_read.specs.CallArguments.{compounds_argument, move_arguments, unite_arguments, acting, class_arguments, value_argument, attribute_arguments, added, grow_arguments, trees_in, place_arguments}
 use Rattle.jq_forms.specs.ListParts.{and_list}
-use Rattle.jq_read.proofs.ReadingLaws.{and_then, any_then, either}
+use Rattle.jq_read.proofs.ReadingLaws.{any_then, either}
 use Rattle.jq_read.proofs.TableStates.{IsValueOver, IsEffectOver, count, AreOver, IsLater, value_more, same, grown_over, renamed_over}
 use Rattle.jq_read.proofs.TableRoots.{ForestOver, forest_over, target_over}
 

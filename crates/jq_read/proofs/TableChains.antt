@@ -16,14 +16,14 @@ use Rattle.jq_parts.specs.Stating.{chains_of}
 use Rattle.jq_parts.specs.Parameters.{hidden, parameters, named_parameters, more_parameters}
 use Rattle.jq_parts.specs.Roots.{root}
 use Rattle.jq_stmts.specs.Tables.{AreCompoundsOver, AreSelectorsOver, AreChainsOver}
-use Rattle.jq_parts.proofs.TableLaws.{compounds_over}
+use Rattle.jq_parts.proofs.TableLaws.{compounds_over, and_then}
 use Rattle.jq_parts.proofs.SelectorLaws.{AreChainsOver-more}
 use Rattle.jq_read.specs.States.{Context, State, size, scope_in}
 use Rattle.jq_read.specs.Functions.{Block, function_body, function, handler_at, in_handler, handed, rules_in}
 use Rattle.jq_forms.specs.Heads.{behind_name, want_function, handed_other, behind_one}
 use Rattle.jq_parts.specs.Calls.{elements_in, below, dot_name, admitted, ended}
 use Rattle.jq_read.specs.Chains.{several, listened, listening, listen_arguments, unchanged, at_least, arguments_of, and_stated, call, all_read, calls, chain}
-use Rattle.jq_read.proofs.ReadingLaws.{and_then, any_then, either, all_push, all_take}
+use Rattle.jq_read.proofs.ReadingLaws.{any_then, either, all_push, all_take}
 use Rattle.jq_read.proofs.TableStates.{IsExactOver, IsValueOver, IsBoundOver, AreBoundOver, IsElementsOver, count, AreOver, IsLater, value_more, elements_more, same, further, grown_over, renamed_over, stated_over}
 use Rattle.jq_read.proofs.TableRoots.{root_over}
 use Rattle.jq_read.proofs.TableArguments.{DoneOver, called_over, move_over, unite_over, class_over, attributes_over, grow_over, place_over}

@@ -21,8 +21,8 @@ use Rattle.jq_parts.specs.Markup.{Grown, forest, with_forest, nodes_in}
 use Rattle.jq_parts.specs.Arguments.{elements_of, is_apart, named_target, wrapped_target, wrapped_this, bare_target, other_target, target_or, target}
 use Rattle.jq_parts.specs.Roots.{root, wrapped_root, root_of, jquery_argument, lettered_root, named_root}
 use Rattle.jq_stmts.specs.Tables.{AreTreesOver}
-use Rattle.jq_parts.proofs.TableLaws.{selectors_over}
-use Rattle.jq_read.proofs.ReadingLaws.{and_then, any_then, either}
+use Rattle.jq_parts.proofs.TableLaws.{selectors_over, and_then}
+use Rattle.jq_read.proofs.ReadingLaws.{any_then, either}
 use Rattle.jq_read.proofs.TableStates.{IsExactOver, IsValueOver, AreBoundOver, used_over, this_over}
 
 -- ---- markup

@@ -22,7 +22,8 @@ use Rattle.jq_words.specs.FreeLists.{free}
 use Rattle.jq_forms.specs.ListParts.{called_with, and_list}
 use Rattle.jq_forms.specs.Heads.{behind_document}
 use Rattle.jq_read.specs.Script.{from_scan, at_top, nothing_read, script_of, script_with, script}
-use Rattle.jq_read.proofs.ReadingLaws.{and_then, any_then, either, all_push}
+use Rattle.jq_parts.proofs.TableLaws.{and_then}
+use Rattle.jq_read.proofs.ReadingLaws.{any_then, either, all_push}
 use Rattle.jq_read.proofs.TableStates.{IsBoundOver, count, AreOver, IsLater, same, further}
 use Rattle.jq_read.proofs.TableChains.{KeepsOver, bind, within, outside_over, body_over, in_handler_over, handed_over, chain_is_over}
 

@@ -16,7 +16,8 @@ use Rattle.jq_stmts.specs.Tables.{IsChainOver, AreChainsOver, AreTreesOver, IsAc
 use Rattle.jq_parts.proofs.SelectorLaws.{IsChainOver-more, AreChainsOver-more, AreTreesOver-more, AreStatementsOver-more}
 use Rattle.jq_read.specs.States.{Context, State, with_names}
 use Rattle.jq_read.specs.Chains.{and_stated}
-use Rattle.jq_read.proofs.ReadingLaws.{and_then, either, first_some, this_one}
+use Rattle.jq_parts.proofs.TableLaws.{and_then}
+use Rattle.jq_read.proofs.ReadingLaws.{either, first_some, this_one}
 
 -- ---- what is over a table
 

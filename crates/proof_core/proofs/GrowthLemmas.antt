@@ -1,19 +1,11 @@
 -- Trees that get more classes at a node, or more children below it: what stays, and what is new.
-use Rattle.std.proofs.Common.{◌≡◌, ◌≢◌, ℕ, ◌+◌, List, [], ◌∷◌, ◌++◌, length, fold, Some, None, IsSome, Contains, option_and_then, option_map, slice_get, inl, inr, refl, sym, ap, ◌∙◌, subst, arith}
+use Rattle.std.proofs.Common.{◌≡◌, ◌≢◌, ℕ, ◌+◌, List, [], ◌∷◌, ◌++◌, fold, Some, None, IsSome, option_and_then, option_map, inl, inr, refl, ap, ◌∙◌, arith}
 use Rattle.std.proofs.lemmas.Bool.{cases_order}
-use Rattle.tp_base.proofs.ClassLemmas.{union_of-keeps_left}
-use Rattle.tree_sem.specs.Trees.{Row, LabelTree, tree_of, length_of, push_tree, node_at, children_at, edit_at}
-use Rattle.tree_sem.specs.Actions.{add_classes, add_trees}
-use Rattle.tree_sem.proofs.EditLemmas.{tree_of-edit_tree, tree_of-edit_tree_other, length_of-edit_tree, node_at-edit_at, node_at-edit_at_below}
+use Rattle.tree_sem.specs.Trees.{LabelTree, tree_of, length_of, push_tree, node_at, children_at, edit_at}
+use Rattle.tree_sem.specs.Actions.{add_trees}
+use Rattle.tree_sem.proofs.EditLemmas.{tree_of-edit_tree, tree_of-edit_tree_other, length_of-edit_tree}
 use Rattle.tree_sem.proofs.RowLemmas.{node_at-append, tree_of-past}
-use Rattle.tree_sem.specs.Growth.{Grows}
-use Rattle.tree_sem.proofs.AddTreesLemmas.{length_of-push_trees, tree_of-push_trees}
-use Rattle.tree_sem.proofs.WithinLemmas.{pushed_at}
-use Rattle.proof_core.proofs.KeepLemmas.{keeps_itself, keeps_both, push_keeps}
-
-pub add_classes_keeps : (cs : List ℕ) (s : LabelTree) → Grows s (add_classes cs s)
-add_classes_keeps cs s [] x at = let same : s ≡ x = cc in (add_classes cs s, refl, λ a has. union_of-keeps_left s.label cs a (subst (λ (z : LabelTree). Contains z.label a) (sym same) has))
-add_classes_keeps cs s (k ∷ q) x at = (x, at, λ a has. has)
+use Rattle.tree_sem.proofs.GrowthLemmas.{all_pushed_stay}
 
 -- and at another node, where f leaves those that were below it
 pub children_elsewhere : (f : LabelTree → LabelTree) → ((s : LabelTree) (m : ℕ) (r : List ℕ) → IsSome (node_at (m ∷ r) s) → children_at (m ∷ r) (f s) ≡ children_at (m ∷ r) s)
@@ -32,14 +24,6 @@ children_elsewhere f each (k ∷ p) (m ∷ q) t other is = elim (cases_order m k
   | inr (inr more) ↦ ap (λ o. option_map (λ (n : LabelTree). length_of n.below) (option_and_then (node_at q) o)) (tree_of-edit_tree_other (edit_at p f) t.below k m (λ e. omega arith))
 ]
 
-pub tree_of-pushes : (tops : List LabelTree) (r : Row) (s : LabelTree) (m : ℕ) → tree_of r m ≡ Some s → tree_of (fold push_tree r tops) m ≡ Some s
-tree_of-pushes [] r s m at = at
-tree_of-pushes (u ∷ tops) r s m at = tree_of-pushes tops (push_tree r u) s m (pushed_at r u s m at)
-
-pub add_trees_keeps : (tops : List LabelTree) (s : LabelTree) → Grows s (add_trees tops s)
-add_trees_keeps [] s = keeps_itself s
-add_trees_keeps (u ∷ tops) s = keeps_both s (record s { below = push_tree s.below u }) (add_trees (u ∷ tops) s) (push_keeps u s) (add_trees_keeps tops (record s { below = push_tree s.below u }))
-
 -- Trees that are added last below the node at v, which is s.
 module _ (v : List ℕ) (tops : List LabelTree) (t s : LabelTree) (at : node_at v t ≡ Some s) where
   pub children_at-add_trees_other : (q : List ℕ) → q ≢ v → IsSome (node_at q t) → children_at q (edit_at v (add_trees tops) t) ≡ children_at q t
@@ -49,7 +33,7 @@ module _ (v : List ℕ) (tops : List LabelTree) (t s : LabelTree) (at : node_at 
       below s m r is =
           elim (tree_of s.below m) as (λ o. tree_of s.below m ≡ o → IsSome (option_and_then (node_at r) o) → option_map (λ (n : LabelTree). length_of n.below) (option_and_then (node_at r) (tree_of (fold push_tree s.below tops) m)) ≡ option_map (λ n. length_of n.below) (option_and_then (node_at r) o)) [
             | None ↦ λ e h. cc
-            | Some c ↦ λ e h. rw (tree_of-pushes tops s.below c m e)
+            | Some c ↦ λ e h. rw (all_pushed_stay tops s.below m c e)
           ] refl is
 
   -- no node was there before

@@ -21,8 +21,8 @@ use Rattle.proof_check.specs.declared.proofs.PageItem.{PageItem}
 use Rattle.proof_check.specs.declared.proofs.Proof.{Proof}
 use Rattle.proof_check.specs.Validity.{atoms_of, items_at, Place, IsSound, AreSound, in_entry, at_page, ArePlaced, IsValid}
 use Rattle.tree_sem.specs.Growth.{Grows}
-use Rattle.tree_sem.proofs.GrowthLemmas.{HasAtom-grows}
-use Rattle.proof_core.proofs.KeepLemmas.{keeps_itself, keeps_both, node_has, kept_node, edit_keeps, add_class_keeps, push_keeps, has_added, new_child}
+use Rattle.tree_sem.proofs.GrowthLemmas.{HasAtom-grows, grows_itself, grows_both, edit_grows, class_grows, child_grows}
+use Rattle.proof_core.proofs.KeepLemmas.{node_has, kept_node, has_added, new_child}
 use Rattle.proof_check.proofs.ItemLemmas.{atoms_of-cases, page_cases}
 
 -- an item stands at v in t, with what its place says
@@ -69,14 +69,14 @@ module _ (system : System) where
   one_step t step legal = (step ∷ [], (legal, tt), refl)
 
   step_keeps : (t : LabelTree) (step : SimpleStep) → Grows t (after_step system t step)
-  step_keeps t (by_local r v) = edit_keeps (add_class r.gives) (add_class_keeps r.gives) v t
-  step_keeps t (by_up l v) = edit_keeps (add_class l.to) (add_class_keeps l.to) v t
-  step_keeps t (by_down l v) = edit_keeps (add_class l.to) (add_class_keeps l.to) v t
-  step_keeps t (by_spawn c v) = edit_keeps (add_child (kind_label system c.kind)) (push_keeps (leaf (kind_label system c.kind))) v t
+  step_keeps t (by_local r v) = edit_grows (add_class r.gives) (class_grows r.gives) v t
+  step_keeps t (by_up l v) = edit_grows (add_class l.to) (class_grows l.to) v t
+  step_keeps t (by_down l v) = edit_grows (add_class l.to) (class_grows l.to) v t
+  step_keeps t (by_spawn c v) = edit_grows (add_child (kind_label system c.kind)) (child_grows (kind_label system c.kind)) v t
 
   steps_keep : (steps : List SimpleStep) (t : LabelTree) → Grows t (end_of system t steps)
-  steps_keep [] t = keeps_itself t
-  steps_keep (s ∷ steps) t = keeps_both t (after_step system t s) (end_of system t (s ∷ steps)) (step_keeps t s) (steps_keep steps (after_step system t s))
+  steps_keep [] t = grows_itself t
+  steps_keep (s ∷ steps) t = grows_both t (after_step system t s) (end_of system t (s ∷ steps)) (step_keeps t s) (steps_keep steps (after_step system t s))
 
   derived_keeps : (t u : LabelTree) → Derived t u → Grows t u
   derived_keeps t u d = rw d.2 (steps_keep d.0 t)
@@ -163,7 +163,7 @@ module _ (system : System) where
           }) sound_item in
           let u = first.0 in
           let more = derived_keeps t u first.1 in
-          let rest = page_made page items (before ++ i ∷ []) u (keeps_both page t u keeps more)
+          let rest = page_made page items (before ++ i ∷ []) u (grows_both page t u keeps more)
           (λ v a is. elim (page_cases v before i a is) [ inl old ↦ HasAtom-grows t u more v a (has v a old) | inr new ↦ subst (λ z. HasAtom u z a) new.0 (subst (λ z. HasAtom u i.at z) new.1 first.2) ]) placed in
           (rest.0, derived_both t u rest.0 first.1 rest.1, λ v a is. rest.2 v a (rw (append_assoc before (i ∷ []) items) is))
         where
@@ -181,6 +181,6 @@ module _ (system : System) where
   -- the theorem
   pub valid_derives : (page : LabelTree) (proof : Proof) (target : ℕ) → IsValid system page proof target → (steps : List SimpleStep) × AreLegal system page steps × HasAtom (end_of system page steps) [] target
   valid_derives page proof target valid =
-      let made = page_made proof.entries valid.entries page proof.page [] page (keeps_itself page) (λ v a (i, within, at). absurd (omega arith)) valid.page_items in
+      let made = page_made proof.entries valid.entries page proof.page [] page (grows_itself page) (λ v a (i, within, at). absurd (omega arith)) valid.page_items in
       let d = made.1 in
       (d.0, d.1, rw (← d.2) (made.2 [] target valid.root))

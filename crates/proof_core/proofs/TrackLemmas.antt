@@ -12,12 +12,13 @@ use Rattle.simple_core.specs.declared.rules.Link.{Link}
 use Rattle.proof_check.specs.declared.proofs.ProofItem.{ProofItem}
 use Rattle.proof_check.specs.Unfolding.{Progress, Passed, with_step, with_children}
 use Rattle.proof_check.specs.Validity.{atoms_of, IsDown, Place}
+use Rattle.tree_sem.proofs.GrowthLemmas.{grows_itself, grows_both, edit_grows, classes_grow, trees_grow}
 use Rattle.tree_sem.specs.Growth.{Grows}
 use Rattle.tree_sem.proofs.AddTreesLemmas.{children_at-add_trees, node_at-add_trees_new}
 use Rattle.tree_sem.proofs.EditLemmas.{children_at-add_classes}
 use Rattle.proof_core.specs.Readings.{end_by, AreLegalBy, step_at, Reading, IsReading}
-use Rattle.proof_core.proofs.KeepLemmas.{keeps_itself, keeps_both, kept_node, edit_keeps}
-use Rattle.proof_core.proofs.GrowthLemmas.{add_classes_keeps, add_trees_keeps, children_at-add_trees_other, node_at-add_trees_none}
+use Rattle.proof_core.proofs.KeepLemmas.{kept_node}
+use Rattle.proof_core.proofs.GrowthLemmas.{children_at-add_trees_other, node_at-add_trees_none}
 
 pub with_children-same : (v : List ℕ) (n : ℕ) (added : List ℕ → ℕ) → with_children v n added v ≡ added v + n
 with_children-same v n added = ap (λ b. if b then added v + n else added v) ((bytes_eq-Decides v v).1 refl)
@@ -82,10 +83,10 @@ module _ (r : Reading) (page : LabelTree) where
 
   module _ (reading : IsReading r page) where
     pub later_itself : (done : Progress) → IsLater done done
-    later_itself done = record { keeps = keeps_itself (now done); counts = λ v n c. c }
+    later_itself done = record { keeps = grows_itself (now done); counts = λ v n c. c }
 
     pub later_twice : (a b c : Progress) → IsLater a b → IsLater b c → IsLater a c
-    later_twice a b c x y = record { keeps = keeps_both (now a) (now b) (now c) x.keeps y.keeps; counts = λ v n h. y.counts v n (x.counts v n h) }
+    later_twice a b c x y = record { keeps = grows_both (now a) (now b) (now c) x.keeps y.keeps; counts = λ v n h. y.counts v n (x.counts v n h) }
 
     -- all that was known goes on
     pub tracked_later : (done later : Progress) (v : List ℕ) (i : ProofItem) (p : Passed) → IsLater done later → IsTracked done v i p → IsTracked later v i p
@@ -153,7 +154,7 @@ module _ (r : Reading) (page : LabelTree) where
     act_later done s v classes good legal does =
         let later = with_step s v done in
         let is : now later ≡ edit_at v (add_classes classes) (now done) = end_by-append r.after page done.steps (step_at s v) ∙ does in
-        let keeps : Grows (now done) (now later) = rw is (edit_keeps (add_classes classes) (add_classes_keeps classes) v (now done)) in (
+        let keeps : Grows (now done) (now later) = rw is (edit_grows (add_classes classes) (classes_grow classes) v (now done)) in (
           record {
             legal = legal_append r.Legal r.after page done.steps (step_at s v) good.legal legal;
             fresh = λ q none. good.fresh q (gone (now done) (now later) keeps q none);
@@ -177,7 +178,7 @@ module _ (r : Reading) (page : LabelTree) where
       forest_is = end_by-append r.after page done.steps step ∙ does
 
       pub forest_keeps : Grows (now done) (now forest_done)
-      forest_keeps = rw forest_is (edit_keeps (add_trees trees) (add_trees_keeps trees) v (now done))
+      forest_keeps = rw forest_is (edit_grows (add_trees trees) (trees_grow trees) v (now done))
 
       the_node : (s : LabelTree) × (node_at v (now done) ≡ Some s)
       the_node = there (node_at v (now done)) node

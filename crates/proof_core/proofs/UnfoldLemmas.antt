@@ -23,9 +23,10 @@ use Rattle.proof_check.specs.declared.proofs.PageItem.{PageItem}
 use Rattle.proof_check.specs.declared.proofs.Proof.{Proof}
 use Rattle.proof_check.specs.Unfolding.{Progress, Passed, with_step, with_children, forest_children, child_for, end_for, from_of, spawned, needed_by, with_forest, after_local, plain_item, down_item, grown_item, unfold_reason, unfold_item, unfold_items, unfold_page, unfold_entry, nothing_yet, passing, unfolded}
 use Rattle.proof_check.specs.Validity.{atoms_of, items_at, IsDown, Place, IsBelow, IsSound, AreSound, in_entry, at_page, ArePlaced, IsValid}
+use Rattle.tree_sem.proofs.GrowthLemmas.{grows_itself, grows_both}
 use Rattle.tree_sem.specs.Growth.{Grows}
 use Rattle.proof_core.specs.Readings.{end_by, AreLegalBy, step_at, Reading, IsReading}
-use Rattle.proof_core.proofs.KeepLemmas.{keeps_itself, keeps_both, kept_node}
+use Rattle.proof_core.proofs.KeepLemmas.{kept_node}
 use Rattle.proof_check.proofs.ItemLemmas.{items_at-append}
 use Rattle.proof_core.proofs.TrackLemmas.{now, Counted, IsGood, IsLater, IsBrought, IsTracked, AreTracked, IsReached, later_itself, later_twice, are_tracked_later, reached_later, tracked_push, tracked_find, end_by-append, act_later, forest_done, forest_good, forest_later, forest_keeps, forest_brought}
 
@@ -294,7 +295,7 @@ module _ (r : Reading) (page : LabelTree) (reading : IsReading r page) where
           }) sound_item in
           let end = unfold_item r.system entry_at i.item base i.at (passed i.at) real done in
           let passed' : List ℕ → List Passed = λ q. if bytes_eq i.at q then passed q ++ end.1 ∷ [] else passed q in
-          let rest = page_unfolded items (before ++ i ∷ []) passed' end.0 (keeps_both page (now r page done) (now r page end.0) keeps first.later.keeps)
+          let rest = page_unfolded items (before ++ i ∷ []) passed' end.0 (grows_both page (now r page done) (now r page end.0) keeps first.later.keeps)
           (λ v is. first.later.counts v (unwrap_or (children_at v page) 0) (counts v is)) first.good (λ q. one_more q end first.later first.tracked) placed in
           let path : (before ++ i ∷ []) ++ items ≡ before ++ i ∷ items = append_assoc before (i ∷ []) items in
           let last = unfold_page r.system entry_at page items passed' end.0 in
@@ -320,7 +321,7 @@ module _ (r : Reading) (page : LabelTree) (reading : IsReading r page) where
   pub unfolded_is_right : (proof : Proof) → IsValid r.system page proof r.target
       → AreLegalBy r.Legal r.after page (unfolded r.system proof page r.target).0 × r.Goal (end_by r.after page (unfolded r.system proof page r.target).0) (unfolded r.system proof page r.target).1
   unfolded_is_right proof valid =
-      let all = page_unfolded proof.entries valid.entries proof.page [] (λ q. []) nothing_yet' (keeps_itself page) (λ v is. counted v is) (record { legal = tt; fresh = λ v none. refl }) (λ v. tt) valid.page_items in
+      let all = page_unfolded proof.entries valid.entries proof.page [] (λ q. []) nothing_yet' (grows_itself page) (λ v is. counted v is) (record { legal = tt; fresh = λ v none. refl }) (λ v. tt) valid.page_items in
       let end = passing r.system proof page in
       let f = tracked_find r page reading end.0 [] (items_at [] proof.page) (end.1 []) r.target (all.tracked []) valid.root in
       let at : end_for r.target (end.1 []) [] ≡ f.1.end = ap (λ o. unwrap_or (option_map (λ (p : Passed). p.end) o) []) f.3 in

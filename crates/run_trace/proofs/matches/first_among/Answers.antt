@@ -3,7 +3,8 @@ use Rattle.tree_sem.specs.Trees.{LabelTree}
 use Rattle.node_marks.specs.Marks.{IsMarked}
 use Rattle.sel_core.specs.Selectors.{Matches}
 use Rattle.sel_text.specs.Views.{selector_of}
-use Rattle.run_trace.proofs.MatchLemmas.{on_ok, first_is}
+use Rattle.jq_sem.proofs.SetLemmas.{on_ok}
+use Rattle.run_trace.proofs.MatchLemmas.{first_is}
 use Rattle.run_trace.proofs.matches.first_among.Goals as goal
 
 pub returns : goal.returns
