@@ -10,5 +10,5 @@ mod ranks;
 mod walk;
 
 pub use marks::Marks;
-pub use numbered_tree::NumberedTree;
+pub use numbered_tree::{Columns, NumberedTree};
 pub use ranks::Ranks;
