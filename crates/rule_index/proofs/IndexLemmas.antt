@@ -1,5 +1,5 @@
 -- Rules found by the atoms that they look at.
-use Rattle.std.proofs.Common.{◌≡◌, ◌≢◌, ◌⊎◌, Bool, true, false, ℕ, ◌+◌, ◌<◌, List, [], ◌∷◌, ◌++◌, take, length, get_or, slice_get, Option, Some, None, option_map, unwrap_or, Contains, refl, sym, ap, ◌∙◌, inl, inr, arith, subst}
+use Rattle.std.proofs.Common.{◌≡◌, ◌≢◌, ◌⊎◌, Bool, true, false, ℕ, ◌+◌, ◌<◌, List, [], ◌∷◌, ◌++◌, take, length, get_or, slice_get, Option, Some, None, option_map, unwrap_or, All, Contains, refl, sym, ap, ◌∙◌, inl, inr, arith, subst}
 use Rattle.std.specs.List.{IsFirstAndRest}
 use Rattle.std.specs.List.Sorted.{IsStrictlyIncreasing}
 use Rattle.std.proofs.lemmas.Bool.{and_from}
@@ -20,10 +20,10 @@ use Rattle.simple_core.specs.declared.rules.Local.{Local}
 use Rattle.simple_core.specs.declared.rules.Link.{Link}
 use Rattle.simple_core.specs.declared.rules.Spawn.{Spawn}
 use Rattle.simple_core.specs.Labels.{given_by_rules, given_by_links}
-use Rattle.simple_core.proofs.Members.{flat_map-Contains, Contains-flat_map}
+use Rattle.simple_core.proofs.Members.{all_among_each, flat_map-Contains, Contains-flat_map}
 use Rattle.simple_core.proofs.LabelLemmas.{IsByRule, given_by_rules-is, is-given_by_rules, given_by_links-is, is-given_by_links, kinds_at-is, is-kinds_at}
 use Rattle.rule_index.specs.Asking.{IsMore, AreMet, AreKinds}
-use Rattle.rule_index.specs.Indexes.{IsIndex, AreNeedsNoted, IsRuleNoted, AreLocalsAt, AreLinksAt, AreSpawnsAt, at_place, at_row, by_label, given_in, to_of, kind_of}
+use Rattle.rule_index.specs.Indexes.{IsIndex, AreNeedsNoted, IsRuleNoted, IsOneKey, AreLocalsAt, AreRareAt, AreFound, AreLinksAt, AreSpawnsAt, at_place, at_row, by_label, given_in, to_of, kind_of}
 
 -- unions with the same members are one
 pub union_of-same : (start xs ys : List ℕ) → IsStrictlyIncreasing start → ((y : ℕ) → Contains xs y → Contains ys y) → ((y : ℕ) → Contains ys y → Contains xs y) → union_of start xs ≡ union_of start ys
@@ -179,9 +179,26 @@ is-at_row : (rules : List Local) (rows : List (List ℕ)) (label : List ℕ) (ke
 is-at_row rules rows label key i r y in_row at given =
     Contains-flat_map (at_place (given_in label) rules) (row_of rows key) i y in_row (subst (λ (z : List ℕ). Contains z y) (sym (place_is (given_in label) rules i r at)) given)
 
-pub ruled : (rules : List Local) (rows : List (List ℕ)) (label fresh start first next row : List ℕ) → AreLocalsAt rules rows → AreMet rules label fresh → row ≡ row_of rows 0 → first ≡ union_of start (at_row (given_in label) rules row)
+-- each rule that the label meets is found by the fresh atoms: where it stands behind each atom that it needs, and where it stands
+-- behind one, if the whole label is fresh
+pub found_by_each : (rules : List Local) (rows : List (List ℕ)) (label fresh : List ℕ) → AreLocalsAt rules rows → AreMet rules label fresh → AreFound rules rows label fresh
+found_by_each rules rows label fresh index met = λ i r at needs. elim (met r (Contains-at rules i r at) needs) [
+  | inl known ↦ inl known
+  | inr (inl free) ↦ inr (inl (index.free i r at free))
+  | inr (inr new) ↦ inr (inr (new.0, new.2, index.each i r new.0 at new.1))
+]
+
+pub found_by_rarest : (rules : List Local) (rows : List (List ℕ)) (label fresh : List ℕ) → AreRareAt rules rows → All (Contains fresh) label → AreFound rules rows label fresh
+found_by_rarest rules rows label fresh index whole = λ i r at needs.
+    let place = index.one i r at in
+    elim place.1 [
+      | inl none ↦ inr (inl (subst (λ z. Contains (row_of rows z) i) none.1 place.2))
+      | inr need ↦ inr (inr (need.0, all_among_each label fresh whole need.0 (all_among_each r.needs label needs need.0 need.1), subst (λ z. Contains (row_of rows z) i) need.2 place.2))
+    ]
+
+pub ruled : (rules : List Local) (rows : List (List ℕ)) (label fresh start first next row : List ℕ) → AreFound rules rows label fresh → row ≡ row_of rows 0 → first ≡ union_of start (at_row (given_in label) rules row)
     → next ≡ union_of first (by_label (given_in label) rules rows (λ a. a + 1) fresh) → IsMore label (given_by_rules rules label) start next
-ruled rules rows label fresh start first next row index met at_first is_first is_next =
+ruled rules rows label fresh start first next row found at_first is_first is_next =
     let f = given_in label in
     let xs = at_row f rules (row_of rows 0) in
     let ys = by_label f rules rows (λ a. a + 1) fresh in
@@ -196,11 +213,11 @@ ruled rules rows label fresh start first next row index met at_first is_first is
     let place = by.listed in
     let at : slice_get rules place.0 ≡ Some by.rule = slice_get-get_or rules place.0 by.rule place.1 ∙ ap Some place.2 in
     let given = is-given_in rules label y by in
-    elim (met by.rule by.listed by.needs) [
+    elim (found place.0 by.rule at by.needs) [
       | inl known ↦ inl (subst (Contains label) by.gives known)
-      | inr (inl free) ↦ inr (Contains-append_left xs ys y (is-at_row rules rows label 0 place.0 by.rule y (index.free place.0 by.rule at free) at given))
-      | inr (inr new) ↦ inr (Contains-append_right xs ys y (Contains-flat_map (λ a. at_row f rules (row_of rows (a + 1))) fresh new.0 y new.2
-          (is-at_row rules rows label (new.0 + 1) place.0 by.rule y (index.each place.0 by.rule new.0 at new.1) at given)))
+      | inr (inl free) ↦ inr (Contains-append_left xs ys y (is-at_row rules rows label 0 place.0 by.rule y free at given))
+      | inr (inr new) ↦ inr (Contains-append_right xs ys y (Contains-flat_map (λ a. at_row f rules (row_of rows (a + 1))) fresh new.0 y new.1
+          (is-at_row rules rows label (new.0 + 1) place.0 by.rule y new.2 at given)))
     ] in
     subst (λ (z : List ℕ). IsMore label (given_by_rules rules label) start z) (sym both) (record {
       kept = λ y there. (Contains-union_of start (xs ++ ys) y).1 (inl there);
@@ -259,6 +276,28 @@ rule_needs old new needs place n is some noted = record { noted = noted; free = 
 pub no_needs : (needs : List ℕ) (n : ℕ) → n ≡ length needs → n ≡ 0 → needs ≡ []
 no_needs [] n is none = refl
 no_needs (a ∷ needs) n is none = absurd (omega arith)
+
+-- one place of each rule
+pub rare_none : (rows : List (List ℕ)) → AreRareAt [] rows
+rare_none rows = record { one = λ i r at. let never : None ≡ Some r = at in cc }
+
+pub rare_more : (rules : List Local) (i : ℕ) (r : Local) (old new : List (List ℕ)) (key : ℕ) → i < length rules → r ≡ get_or rules i r → AreRareAt (take i rules) old → IsOneKey r.needs key → IsNoted old new key i → AreRareAt (take (i + 1) rules) new
+rare_more rules i r old new key less at before is noted =
+    let longer : take (i + 1) rules ≡ take i rules ++ r ∷ [] = take_more rules i r less ∙ (λ n. take i rules ++ sym at n ∷ []) in
+    let long : length (take i rules) ≡ i = length-take-le i rules (omega (arith, less)) in
+    let here : Contains (row_of new key) i = subst (λ (z : List ℕ). Contains z i) (sym noted.here) (Contains-append_right (row_of old key) (i ∷ []) i (Contains-here i i [] refl)) in
+    subst (λ (xs : List Local). AreRareAt xs new) (sym longer) (record {
+      one = λ j x at_j. elim (push_cases (take i rules) r j x at_j) [
+        | inl old_one ↦ let place = before.one j x old_one in (place.0, place.1, noted_kept old new key i noted place.0 j place.2)
+        | inr last ↦ (key, subst (λ (z : Local). IsOneKey z.needs key) last.1 is, subst (λ z. Contains (row_of new key) z) (sym (last.0 ∙ long)) here)
+      ];
+    })
+
+pub rarer_need : (needs : List ℕ) (best a next i : ℕ) → Contains needs best → slice_get needs i ≡ Some a → (next ≡ best) ⊎ (next ≡ a) → Contains needs next
+rarer_need needs best a next i before at is = elim is [
+  | inl same ↦ subst (Contains needs) (sym same) before
+  | inr other ↦ subst (Contains needs) (sym other) (Contains-at needs i a at)
+]
 
 -- ---- what asks something else
 

@@ -1,7 +1,9 @@
 -- Rules found by the atoms that they look at.
 --     IsIndex key rules rows   each rule's place stands at the rule's key, and nothing else stands anywhere
+--     AreFound rules rows own fresh   each rule that the label meets stands at 0 or behind a fresh atom, but for those that give
+--                              an atom which the label has
 --     by_label f rules rows at label   what the rules give that are found at the keys of the label's atoms
-use Rattle.std.specs.Prelude.{◌≡◌, ℕ, ◌+◌, List, [], ◌∷◌, slice_get, Some, option_map, unwrap_or, Contains}
+use Rattle.std.specs.Prelude.{◌≡◌, ◌⊎◌, ℕ, ◌+◌, List, [], ◌∷◌, slice_get, Some, option_map, unwrap_or, All, Contains}
 use Rattle.std.specs.List.{flat_map}
 use Rattle.simple_core.specs.declared.system.System.{System}
 use Rattle.simple_core.specs.declared.rules.Local.{Local}
@@ -29,14 +31,27 @@ pub record AreLocalsAt (rules : List Local) (rows : List (List ℕ)) : Type 0 wh
   pub free : (i : ℕ) (r : Local) → slice_get rules i ≡ Some r → r.needs ≡ [] → Contains (row_of rows 0) i
   pub each : (i : ℕ) (r : Local) (a : ℕ) → slice_get rules i ≡ Some r → Contains r.needs a → Contains (row_of rows (a + 1)) i
 
+-- where a rule may stand once: at 0 if it needs nothing, else behind one of the atoms that it needs
+abbrev pub IsOneKey : List ℕ → ℕ → Type 0
+IsOneKey needs key = ((needs ≡ []) × (key ≡ 0)) ⊎ ((a : ℕ) × Contains needs a × (key ≡ a + 1))
+
+-- each rule stands at a place of this kind
+pub record AreRareAt (rules : List Local) (rows : List (List ℕ)) : Type 0 where
+  pub one : (i : ℕ) (r : Local) → slice_get rules i ≡ Some r → (key : ℕ) × IsOneKey r.needs key × Contains (row_of rows key) i
+
+abbrev pub AreFound : List Local → List (List ℕ) → List ℕ → List ℕ → Type 0
+AreFound rules rows own fresh = (i : ℕ) (r : Local) → slice_get rules i ≡ Some r → All (Contains own) r.needs
+    → Contains own r.gives ⊎ (Contains (row_of rows 0) i ⊎ ((a : ℕ) × Contains fresh a × Contains (row_of rows (a + 1)) i))
+
 abbrev pub AreLinksAt : List Link → List (List ℕ) → Type 0
 AreLinksAt links rows = IsIndex (λ (l : Link). l.from) links rows
 
 abbrev pub AreSpawnsAt : List Spawn → List (List ℕ) → Type 0
 AreSpawnsAt spawns rows = IsIndex (λ (c : Spawn). c.needs) spawns rows
 
-pub record AreIndexes (s : System) (local up down child : List (List ℕ)) : Type 0 where
+pub record AreIndexes (s : System) (local rare up down child : List (List ℕ)) : Type 0 where
   pub of_local : AreLocalsAt s.local local
+  pub of_rare : AreRareAt s.local rare
   pub of_up : AreLinksAt s.up up
   pub of_down : AreLinksAt s.down down
   pub of_child : AreSpawnsAt s.child child

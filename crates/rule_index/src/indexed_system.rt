@@ -1,14 +1,14 @@
 //! The rules of a system, found by the atoms that they look at.
-ghost use Rattle.std.specs.Prelude.{◌≡◌, ◌≢◌, ◌++◌, ◌+◌, ◌∷◌, [], ℕ, Contains, IfOk, OnOk, IsFalse};
+ghost use Rattle.std.specs.Prelude.{◌≡◌, ◌≢◌, ◌++◌, ◌+◌, ◌∷◌, [], ℕ, Contains, All, IfOk, OnOk, IsTrue, IsFalse};
 ghost use Rattle.std.specs.List.Sorted.{IsStrictlyIncreasing};
 ghost use Rattle.tp_base.specs.Classes.{all_among, union_of};
 ghost use Rattle.simple_core.specs.Labels.{given_by_rules, given_by_links};
 ghost use Rattle.simple_core.specs.declared.rules.Link.{Link};
 ghost use Rattle.simple_core.specs.declared.rules.Spawn.{Spawn};
 ghost use Rattle.rule_index.specs.Asking.{IsMore, AreMet, AreUnseen, AsksAnew, AreKinds};
-ghost use Rattle.rule_index.specs.Indexes.{at_place, at_row, by_label, given_in, to_of, kind_of, AreLocalsAt, AreLinksAt};
+ghost use Rattle.rule_index.specs.Indexes.{at_place, at_row, by_label, given_in, to_of, kind_of, AreLinksAt, AreFound};
 
-use crate::places::{links_at, locals_at, spawns_at};
+use crate::places::{links_at, locals_at, rarest_at, spawns_at};
 use gathered::Gathered;
 use row_index::Index;
 use simple_core::{Kind, Link, Local, Spawn, System};
@@ -22,6 +22,7 @@ use tp_base::{Atom, ClassSet, NoMemory};
 pub struct IndexedSystem<'a> {
     system: &'a System,
     local: Index,
+    rare: Index,
     up: Index,
     down: Index,
     child: Index,
@@ -35,21 +36,25 @@ impl<'a> Model for IndexedSystem<'a> {
 
     ghost view = { λ s. s.system.now };
 
-    ghost invariant = { λ s. AreIndexes s.system.now s.local s.up s.down s.child };
+    ghost invariant = { λ s. AreIndexes s.system.now s.local s.rare s.up s.down s.child };
 }
 
 impl<'a> IndexedSystem<'a> {
-    /// Notes where each rule stands. Linear in the rules and in the largest atom that they look at.
+    /// Notes where each rule stands: one that looks at one node behind each atom that it needs, and in a second index, by one
+    /// more walk over what rules need, behind the rarest of these alone. Linear in what they need and in the largest atom that
+    /// they look at.
     pub fn new(alloc: Global, system: &'a System) -> Result<IndexedSystem<'a>, NoMemory>
         ensures { IfOk result (λ s. s ≡ system.now) }
     {
         let local = locals_at(alloc, system.local.items())?;
+        let rare = rarest_at(alloc, system.local.items(), &local)?;
         let up = links_at(alloc, system.up.items())?;
         let down = links_at(alloc, system.down.items())?;
         let child = spawns_at(alloc, system.child.items())?;
         Ok(IndexedSystem {
             system,
             local,
+            rare,
             up,
             down,
             child,
@@ -70,7 +75,8 @@ impl<'a> IndexedSystem<'a> {
         &self.system.visible
     }
 
-    /// Adds what a label gives to its own node, where what only older atoms give is there.
+    /// Adds what a label gives to its own node, where what only older atoms give is there. A rule is tested once for each fresh
+    /// atom that it needs; where the whole label is fresh, once if the label has the rarest atom that it needs, else not at all.
     pub fn add_local(
         &self,
         label: &ClassSet,
@@ -80,7 +86,11 @@ impl<'a> IndexedSystem<'a> {
         requires { AreMet self.now.local label.now fresh.now }
         ensures { OnOk result (IsMore label.now (given_by_rules self.now.local label.now) next.old next.new) }
     {
-        add_by_needs(self.system.local.items(), &self.local, label, fresh, next)
+        let rules = self.system.local.items();
+        if are_all_fresh(label, fresh) {
+            return add_by_needs(rules, &self.rare, label, fresh, next);
+        }
+        add_by_needs(rules, &self.local, label, fresh, next)
     }
 
     /// Adds what the label of the parent gives.
@@ -231,7 +241,14 @@ fn add_rules(
     Ok(())
 }
 
-// Adds what the rules give that need one of these atoms.
+// Whether each atom of the label is a fresh one. Constant where there are fewer or more of these, else linear in them.
+fn are_all_fresh(label: &ClassSet, fresh: &ClassSet) -> bool
+    ensures { IsTrue result → All (Contains fresh.now) label.now }
+{
+    label.len() == fresh.len() && label.within(fresh)
+}
+
+// Adds what the rules give that stand behind one of these atoms.
 fn add_by_each(
     rules: &[Local],
     index: &Index,
@@ -255,8 +272,7 @@ fn add_by_needs(
     fresh: &ClassSet,
     next: &mut Gathered,
 ) -> Result<(), NoMemory>
-    requires index { AreLocalsAt rules.now index.now }
-    requires met { AreMet rules.now label.now fresh.now }
+    requires { AreFound rules.now index.now label.now fresh.now }
     ensures { OnOk result (IsMore label.now (given_by_rules rules.now label.now) next.old next.new) }
 {
     add_rules(rules, index.of(0), label, next)?;

@@ -1,11 +1,11 @@
 //! Places in lists of rules, by what the rules look at.
-ghost use Rattle.std.specs.Prelude.{IfOk, OnOk};
-ghost use Rattle.rule_index.specs.Indexes.{IsRuleNoted, AreNeedsNoted, AreLocalsAt, AreLinksAt, AreSpawnsAt};
+ghost use Rattle.std.specs.Prelude.{◌≡◌, ◌⊎◌, ◌<◌, length, Contains, IfOk, OnOk};
+ghost use Rattle.rule_index.specs.Indexes.{IsRuleNoted, AreNeedsNoted, IsOneKey, AreLocalsAt, AreRareAt, AreLinksAt, AreSpawnsAt};
 
 use row_index::Index;
 use simple_core::{Link, Local, Spawn};
 use std::alloc::Global;
-use tp_base::{ClassSet, NoMemory};
+use tp_base::{Atom, ClassSet, NoMemory};
 
 /// Rules by each atom that they need, one more than its number; those that need none at 0. Linear in what they need.
 pub(crate) fn locals_at(alloc: Global, rules: &[Local]) -> Result<Index, NoMemory>
@@ -49,6 +49,60 @@ fn note_needs(
         index.note(alloc, atom.0 as usize + 1, place)?;
     }
     Ok(())
+}
+
+/// Rules by the rarest atom that they need, one more than its number: the one that the fewest rules need, which the index by
+/// each atom tells, and the largest of such; those that need none at 0. Linear in what they need.
+pub(crate) fn rarest_at(alloc: Global, rules: &[Local], local: &Index) -> Result<Index, NoMemory>
+    ensures { IfOk result (λ t. AreRareAt rules.now t) }
+{
+    let mut rare = Index::new(alloc);
+    for i in 0..rules.len() {
+        let rule = &rules[i];
+        let key = rarest_key(local, &rule.needs);
+        rare.note(alloc, key, i)?;
+    }
+    Ok(rare)
+}
+
+// One more than the rarest of these atoms, 0 if there is none.
+fn rarest_key(local: &Index, needs: &ClassSet) -> usize
+    ensures { IsOneKey needs.now result }
+{
+    if needs.len() == 0 {
+        return 0;
+    }
+    let atom = rarest(local, needs);
+    atom.0 as usize + 1
+}
+
+// The one of these atoms that the fewest rules need, the largest of such: atoms of the system's own, which no label of a page
+// has at first, stand behind the names. That it is the rarest is for time alone.
+fn rarest(local: &Index, needs: &ClassSet) -> Atom
+    requires { 0 < length needs.now }
+    ensures { Contains needs.now result }
+{
+    let mut best = needs.at(0);
+    for i in 1..needs.len() {
+        best = rarer(local, best, needs.at(i));
+    }
+    best
+}
+
+// The one of two atoms that fewer rules need, the second if neither is.
+fn rarer(local: &Index, first: Atom, second: Atom) -> Atom
+    ensures { (result ≡ first) ⊎ (result ≡ second) }
+{
+    if rules_at(local, second) <= rules_at(local, first) {
+        second
+    } else {
+        first
+    }
+}
+
+// How many rules need the atom.
+fn rules_at(local: &Index, atom: Atom) -> usize {
+    local.of(atom.0 as usize + 1).len()
 }
 
 /// Links by the atom that they look at.
