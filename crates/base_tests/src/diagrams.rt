@@ -1,4 +1,4 @@
-use class_diagrams::{DiagramFault, Diagrams};
+use class_diagrams::{DiagramFault, Diagrams, Marks};
 use std::alloc::Global;
 use std::test::Fail;
 use test_building::set_of;
@@ -49,25 +49,42 @@ static MEANINGS: [Meaning; 5] = [
     (&[0, 3], false, false),
 ];
 
-// Whether the conjunction and the disjunction say so of the set.
-fn tell(d: &mut Diagrams, set: &ClassSet, row: &Meaning) -> Result<bool, DiagramFault> {
+// Whether the conjunction and the disjunction say so of the set, as it is and by its marks.
+fn tell(
+    d: &mut Diagrams,
+    set: &ClassSet,
+    marks: &Marks,
+    row: &Meaning,
+) -> Result<bool, DiagramFault> {
     let a = d.var(Atom(1))?;
     let b = d.var(Atom(2))?;
     let both = d.and(a, b)?;
     let either = d.or(a, b)?;
-    Ok(!d.same(both, either) && d.eval(both, set) == row.1 && d.eval(either, set) == row.2)
+    let as_it_is = d.eval(both, set) == row.1 && d.eval(either, set) == row.2;
+    let by_marks = d.eval_marked(both, marks) == row.1 && d.eval_marked(either, marks) == row.2;
+    Ok(!d.same(both, either) && as_it_is && by_marks)
 }
 
 fn means(alloc: Global, row: &Meaning) -> Result<bool, DiagramFault> {
     let mut d = Diagrams::new(alloc, 4)?;
     let set = set_of(alloc, row.0)?;
-    tell(&mut d, &set, row)
+    let marks = Marks::of(alloc, &set)?;
+    tell(&mut d, &set, &marks, row)
+}
+
+// Whether just 1 and 4 are marked, of a set of these two.
+fn two_are_marked(alloc: Global) -> Result<bool, DiagramFault> {
+    let marks = Marks::of(alloc, &set_of(alloc, &[1, 4])?)?;
+    let inside = marks.has(Atom(1)) && marks.has(Atom(4));
+    let outside = marks.has(Atom(0)) || marks.has(Atom(3)) || marks.has(Atom(5));
+    Ok(inside && !outside)
 }
 
 #[test]
 fn diagrams_of_two_atoms(rt: HostRuntime) -> Result<(), Fail> {
     assert!(rt; three_are_full(rt.alloc())?);
     assert!(rt; three_have_parts(rt.alloc())?);
+    assert!(rt; two_are_marked(rt.alloc())?);
     for row in &MEANINGS {
         assert!(rt; means(rt.alloc(), row)?);
     }

@@ -9,4 +9,5 @@ mod PairLemmas
 mod MemoLemmas
 mod Remembering
 mod CombinedLemmas
+mod MarkLemmas
 mod Rows

@@ -7,6 +7,7 @@ pub mod Table
 pub mod TreeCode
 pub mod Trees
 -- Invariants, and the states of the code.
+pub mod Marks
 pub mod Memo
 pub mod Pairs
 pub mod Starts

@@ -9,6 +9,7 @@ ghost use Rattle.class_diagrams.specs.Memo.{tree_of, leaf_rule_of};
 ghost use Rattle.class_diagrams.specs.Starts.{IsStart};
 
 use crate::faults::DiagramFault;
+use crate::marks::Marks;
 use crate::memo::{Memo, Operation, Task};
 use crate::refs::Ref;
 use crate::table::{BranchTable, Pair};
@@ -100,6 +101,18 @@ impl Diagrams {
         let mut at = f;
         while let Some((atom, low, high)) = self.table.branch(at) {
             at = if set.has(atom) { high } else { low };
+        }
+        at.is(Diagrams::leaf(true))
+    }
+
+    /// Whether the set that is marked satisfies the diagram. Linear in its depth.
+    pub fn eval_marked(&self, f: Ref, marks: &Marks) -> bool
+        requires { IsIn self.now.branches f }
+        ensures { result ≡ eval (tree_at self.now.branches f) marks.now }
+    {
+        let mut at = f;
+        while let Some((atom, low, high)) = self.table.branch(at) {
+            at = if marks.has(atom) { high } else { low };
         }
         at.is(Diagrams::leaf(true))
     }

@@ -3,10 +3,12 @@
 
 mod diagrams;
 mod faults;
+mod marks;
 mod memo;
 mod refs;
 mod table;
 
 pub use diagrams::Diagrams;
 pub use faults::DiagramFault;
+pub use marks::Marks;
 pub use refs::Ref;

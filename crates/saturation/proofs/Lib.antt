@@ -20,4 +20,5 @@ mod FirstLemmas
 mod GrowthLemmas
 mod ReadsLemmas
 mod BuildLemmas
+mod SearchLemmas
 mod CourseLemmas

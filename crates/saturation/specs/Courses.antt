@@ -1,9 +1,10 @@
 -- What comes to the nodes of a kind.
 --     NeverComes label history a                 a kind with this label, whose cells have these histories, never has the atom
+--     can_come label history a                   a kind with this label may have the atom
 --     AreCourses label history atoms courses     these are the courses of those of the atoms that can come to it
 --     AreRows s histories rows                   for each kind of s the courses of the visible atoms
 --     first_by branches parent course            what comes by a course below a parent with these visible atoms
-use Rattle.std.specs.Prelude.{◌≡◌, ℕ, false, List, [], ◌∷◌, length, slice_get, Option, Some, None, All, Contains, ◌⊎◌}
+use Rattle.std.specs.Prelude.{◌≡◌, ℕ, nat_lt, Bool, false, ◌||◌, List, [], ◌∷◌, length, map, filter, slice_get, Option, Some, None, All, Contains, ◌⊎◌}
 use Rattle.tp_base.specs.Classes.{has_class}
 use Rattle.class_diagrams.specs.Trees.{Tree}
 use Rattle.class_diagrams.specs.Arena.{IsIn}
@@ -16,14 +17,19 @@ use Rattle.saturation.specs.declared.courses.Course.{Course}
 abbrev pub NeverComes : List ℕ → (ℕ → List Change) → ℕ → Type 0
 NeverComes label history a = (has_class a label ≡ false) × (history a ≡ [])
 
+-- the kind has it from the beginning, or its cell changes
+abbrev pub can_come : List ℕ → (ℕ → List Change) → ℕ → Bool
+can_come label history a = has_class a label || nat_lt 0 (length (history a))
+
 pub record IsCourse (label : List ℕ) (history : ℕ → List Change) (c : Course) : Type 0 where
   pub starts : c.starts ≡ has_class c.atom label
   pub changes : c.changes ≡ history c.atom
 
--- each of the atoms has a course or never comes, and nothing else has one
+-- each of the atoms has a course or never comes, and nothing else has one; they are in the order of the atoms
 pub record AreCourses (label : List ℕ) (history : ℕ → List Change) (atoms : List ℕ) (courses : List Course) : Type 0 where
   pub right : (c : Course) → Contains courses c → Contains atoms c.atom × IsCourse label history c
   pub whole : (a : ℕ) → Contains atoms a → ((c : Course) × Contains courses c × (c.atom ≡ a)) ⊎ NeverComes label history a
+  pub order : map (λ c. c.atom) courses ≡ filter (can_come label history) atoms
 
 pub record AreRows (s : System) (histories : ℕ → ℕ → List Change) (rows : List (List Course)) : Type 0 where
   pub count : length rows ≡ length s.kinds

@@ -1,13 +1,16 @@
 //! What can come to a kind: the histories once more, by kinds, without the atoms that never come.
-ghost use Rattle.std.specs.Prelude.{◌≡◌, ◌<◌, ◌++◌, ℕ, List, [], ◌∷◌, length, slice_get, Some, All, IfOk, OnOk};
+ghost use Rattle.std.specs.Prelude.{◌≡◌, ◌<◌, ◌++◌, ◌||◌, nat_lt, ℕ, List, [], ◌∷◌, length, map, slice_get, Some, All, Contains, IfOk, OnOk, IfSome, IsNone};
 ghost use Rattle.std.specs.List.{flat_map};
+ghost use Rattle.std.specs.List.Sorted.{IsStrictlyIncreasing};
+ghost use Rattle.saturation.specs.declared.courses.Course.{Course};
 ghost use Rattle.simple_core.specs.Systems.{kind_label, IsSound};
 ghost use Rattle.saturation.specs.Histories.{first_in};
 ghost use Rattle.saturation.specs.HistoryMap.{history_in};
 ghost use Rattle.saturation.specs.Courses.{AreCourses, AreRows, CanBeAsked, first_by};
 
+use crate::atom_sets::{AtomSet, are_worth_marks};
 use crate::histories::{Histories, first_round_under};
-use class_diagrams::{Diagrams, Ref};
+use class_diagrams::{Diagrams, Marks, Ref};
 use simple_core::{First, System};
 use std::alloc::Global;
 use tp_base::{Atom, ClassSet, Items, NoMemory};
@@ -21,16 +24,23 @@ pub(crate) struct Course {
 }
 
 impl Course {
-    // The first round in which the atom comes, below a parent with these visible atoms.
-    fn first_under(&self, d: &Diagrams, parent: &ClassSet) -> Option<u64>
-        requires { CanBeAsked d.now.branches parent.now self.now }
-        ensures { result ≡ first_in self.now.starts d.now.branches self.now.changes parent.now }
+    /// The first round in which the atom comes, below a parent with these visible atoms.
+    pub(crate) fn first_under<L: AtomSet>(&self, d: &Diagrams, parent: &L) -> Option<u64>
+        requires { CanBeAsked d.now.branches (L.atoms parent.now) self.now }
+        ensures { result ≡ first_in self.now.starts d.now.branches self.now.changes (L.atoms parent.now) }
     {
         if self.starts {
             return Some(0);
         }
         first_round_under(self.changes.items(), d, parent)
     }
+}
+
+// Whether an atom is there from the beginning, or its cell changes.
+fn may_come(starts: bool, history: &[(u64, Ref)]) -> bool
+    ensures { result ≡ (starts || nat_lt 0 (length history.now)) }
+{
+    starts || history.len() > 0
 }
 
 // One atom of a kind with this label, unless it never comes.
@@ -47,7 +57,7 @@ fn add_course(
 {
     let starts = label.has(atom);
     let history = histories.of(kind, atom);
-    if starts || history.len() > 0 {
+    if may_come(starts, history) {
         let changes = Items::new(Vec::from_slice(alloc, history)?);
         courses.push(Course {
             atom,
@@ -114,14 +124,26 @@ pub(crate) fn row_at(rows: &[Items<Course>], kind: u32) -> &[Course]
     rows[kind as usize].items()
 }
 
-fn add_first(
+/// The course of an atom, where it has one. Logarithmic in their number.
+pub(crate) fn course_of(courses: &[Course], atom: Atom) -> Option<&Course>
+    requires { IsStrictlyIncreasing (map (λ c. c.atom) courses.now) }
+    ensures some { IfSome result (λ c. Contains courses.now c.now × (c.now.atom ≡ atom)) }
+    ensures none { IsNone result → (c : Course) → Contains courses.now c → ¬ (c.atom ≡ atom) }
+{
+    match courses.binary_search_by_key(&atom, |course| course.atom) {
+        Ok(place) => Some(&courses[place]),
+        Err(_) => None,
+    }
+}
+
+fn add_first<L: AtomSet>(
     firsts: &mut Vec<First>,
     course: &Course,
     d: &Diagrams,
-    parent: &ClassSet,
+    parent: &L,
 ) -> Result<(), NoMemory>
-    requires { CanBeAsked d.now.branches parent.now course.now }
-    ensures { OnOk result (firsts.new.items ≡ firsts.old.items ++ first_by d.now.branches parent.now course.now) }
+    requires { CanBeAsked d.now.branches (L.atoms parent.now) course.now }
+    ensures { OnOk result (firsts.new.items ≡ firsts.old.items ++ first_by d.now.branches (L.atoms parent.now) course.now) }
 {
     match course.first_under(d, parent) {
         None => {}
@@ -131,6 +153,23 @@ fn add_first(
         }
     }
     Ok(())
+}
+
+fn firsts_under<L: AtomSet>(
+    alloc: Global,
+    courses: &[Course],
+    d: &Diagrams,
+    parent: &L,
+) -> Result<Vec<First>, NoMemory>
+    requires { All (CanBeAsked d.now.branches (L.atoms parent.now)) courses.now }
+    ensures { IfOk result (λ firsts. firsts.items ≡ flat_map (first_by d.now.branches (L.atoms parent.now)) courses.now) }
+{
+    let mut firsts = Vec::new(alloc);
+    for i in 0..courses.len() {
+        let course = &courses[i];
+        add_first(&mut firsts, course, d, parent)?;
+    }
+    Ok(firsts)
 }
 
 /// What comes by these courses below a parent with these visible atoms. One look into the diagrams for each course that
@@ -144,10 +183,9 @@ pub(crate) fn firsts_by(
     requires { All (CanBeAsked d.now.branches parent.now) courses.now }
     ensures { IfOk result (λ firsts. firsts.items ≡ flat_map (first_by d.now.branches parent.now) courses.now) }
 {
-    let mut firsts = Vec::new(alloc);
-    for i in 0..courses.len() {
-        let course = &courses[i];
-        add_first(&mut firsts, course, d, parent)?;
+    if are_worth_marks(courses.len(), parent) {
+        let marks = Marks::of(alloc, parent)?;
+        return firsts_under(alloc, courses, d, &marks);
     }
-    Ok(firsts)
+    firsts_under(alloc, courses, d, parent)
 }

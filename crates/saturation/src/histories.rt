@@ -4,29 +4,30 @@ ghost use Rattle.class_diagrams.specs.Arena.{IsIn};
 ghost use Rattle.saturation.specs.Histories.{first_holding, AreGrowing};
 ghost use Rattle.saturation.specs.HistoryMap.{history_in};
 
+use crate::atom_sets::AtomSet;
 use class_diagrams::{Diagrams, Ref};
 use multimap::Multimap;
 use pushdown_sym::CellKey;
 use std::alloc::Global;
 use std::marker::Model;
-use tp_base::{Atom, ClassSet, NoMemory};
+use tp_base::{Atom, NoMemory};
 
 /// The first change whose diagram holds under the label, by its round. As each holds where an earlier one does, half of
 /// them are left after each look.
-pub(crate) fn first_round_under(
+pub(crate) fn first_round_under<L: AtomSet>(
     changes: &[(u64, Ref)],
     d: &Diagrams,
-    label: &ClassSet,
+    label: &L,
 ) -> Option<u64>
     requires inside { All (λ c. IsIn d.now.branches c.1) changes.now }
-    requires growing { AreGrowing d.now.branches changes.now label.now }
-    ensures { result ≡ first_holding d.now.branches changes.now label.now }
+    requires growing { AreGrowing d.now.branches changes.now (L.atoms label.now) }
+    ensures { result ≡ first_holding d.now.branches changes.now (L.atoms label.now) }
 {
     let mut low = 0;
     let mut high = changes.len();
     'halves: while low < high {
         let middle = low + (high - low) / 2;
-        if d.eval(changes[middle].1, label) {
+        if label.satisfies(d, changes[middle].1) {
             high = middle;
         } else {
             low = middle + 1;

@@ -5,12 +5,36 @@ ghost use Rattle.class_diagrams.specs.Trees.{eval};
 ghost use Rattle.pushdown_sym.specs.CellMap.{trees_in};
 ghost use Rattle.pushdown_sym.specs.Adding.{AreIn};
 
-use class_diagrams::Diagrams;
+use crate::atom_sets::{AtomSet, are_worth_marks};
+use class_diagrams::{Diagrams, Marks};
 use pushdown_sym::Cells;
 use std::alloc::Global;
 use tp_base::{ClassSet, NoMemory};
 
-/// Those of the atoms whose cells hold below a parent with these visible atoms.
+fn label_under<L: AtomSet>(
+    alloc: Global,
+    atoms: &ClassSet,
+    d: &Diagrams,
+    cells: &Cells,
+    kind: u32,
+    parent: &L,
+) -> Result<ClassSet, NoMemory>
+    requires { AreIn d.now.branches cells.now }
+    ensures members { IfOk result (λ label. (a : ℕ) → Contains label a ↔ (Contains atoms.now a × (eval (trees_in d.now.branches cells.now kind a) (L.atoms parent.now) ≡ true))) }
+    ensures rising { IfOk result IsStrictlyIncreasing }
+{
+    let mut label = ClassSet::new(alloc);
+    for i in 0..atoms.len() {
+        let atom = atoms.at(i);
+        let there = cells.get(kind, atom);
+        if parent.satisfies(d, there) {
+            label.add(atom)?;
+        }
+    }
+    Ok(label)
+}
+
+/// Those of the atoms whose cells hold below a parent with these visible atoms. One look for each of them.
 pub(crate) fn label_of(
     alloc: Global,
     atoms: &ClassSet,
@@ -23,13 +47,9 @@ pub(crate) fn label_of(
     ensures members { IfOk result (λ label. (a : ℕ) → Contains label a ↔ (Contains atoms.now a × (eval (trees_in d.now.branches cells.now kind a) parent.now ≡ true))) }
     ensures rising { IfOk result IsStrictlyIncreasing }
 {
-    let mut label = ClassSet::new(alloc);
-    for i in 0..atoms.len() {
-        let atom = atoms.at(i);
-        let there = cells.get(kind, atom);
-        if d.eval(there, parent) {
-            label.add(atom)?;
-        }
+    if are_worth_marks(atoms.len(), parent) {
+        let marks = Marks::of(alloc, parent)?;
+        return label_under(alloc, atoms, d, cells, kind, &marks);
     }
-    Ok(label)
+    label_under(alloc, atoms, d, cells, kind, parent)
 }

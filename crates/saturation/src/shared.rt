@@ -13,7 +13,7 @@ ghost use Rattle.saturation.specs.HistoryMap.{history_in};
 ghost use Rattle.saturation.specs.Saturation.{IsBuilt};
 ghost use Rattle.saturation.specs.Courses.{AreRows};
 
-use crate::courses::{Course, firsts_by, row_at, rows_of};
+use crate::courses::{Course, course_of, firsts_by, row_at, rows_of};
 use crate::histories::{Histories, first_round_under};
 use crate::labels::label_of;
 use crate::names::given;
@@ -73,7 +73,7 @@ fn copy_of(alloc: Global, system: &System, histories: &Histories) -> Result<Copi
 
 /// The summaries of a system, for every visible label of the parent. A contract sees the system and the branches that are held.
 /// What comes to a pair (`firsts`) costs a look for each visible atom that can come to the kind at all, of which `rows` has a
-/// list for each kind.
+/// list for each kind. One visible atom is found there by a binary search.
 #[derive(Drop)]
 pub struct SharedSummaries {
     system: System,
@@ -143,19 +143,34 @@ impl SharedSummaries {
     // Whether a kind has an atom from the beginning.
     fn starts_with(&self, kind: u32, atom: Atom) -> bool
         requires { kind < length self.now.system.kinds }
-        ensures start { result ≡ has_class atom (kind_label self.now.system kind) }
-        ensures sound { IsSound self.now.system }
+        ensures { result ≡ has_class atom (kind_label self.now.system kind) }
     {
         let kinds = self.system.kinds.items();
         kinds[kind as usize].label.has(atom)
     }
 
-    // The first round after which a node of the kind has the atom, below a parent with these visible atoms.
+    // The first round after which a node of the kind has the atom, below a parent with these visible atoms. A visible one
+    // is looked up in the row of the kind.
     fn first_told(&self, kind: u32, parent: &ClassSet, atom: Atom) -> Option<u64>
         requires { kind < length self.now.system.kinds }
         ensures first { IsFirst (λ k. grown self.now.system k kind parent.now) atom result }
         ensures bound { IfSome result (λ k. k < 2 ^ 62) }
         ensures sound { IsSound self.now.system }
+    {
+        if !self.system.visible.has(atom) {
+            return self.first_noted(kind, parent, atom);
+        }
+        match course_of(row_at(self.rows.items(), kind), atom) {
+            Some(course) => course.first_under(&self.diagrams, parent),
+            None => None,
+        }
+    }
+
+    // The same of any atom, by the changes of its cell.
+    fn first_noted(&self, kind: u32, parent: &ClassSet, atom: Atom) -> Option<u64>
+        requires { kind < length self.now.system.kinds }
+        ensures first { IsFirst (λ k. grown self.now.system k kind parent.now) atom result }
+        ensures bound { IfSome result (λ k. k < 2 ^ 62) }
     {
         if self.starts_with(kind, atom) {
             return Some(0);

@@ -1,6 +1,6 @@
-use Rattle.std.proofs.Common.{sym, subst}
+use Rattle.std.proofs.Common.{ℕ, List, All, sym, subst}
 use Rattle.saturation.specs.Courses.{CanBeAsked}
 use Rattle.saturation.proofs.courses.firsts_by.Goals as goal
 
-pub add_first-requires : goal.add_first-requires
-add_first-requires c = subst (CanBeAsked c.args.d.now.branches c.args.parent.now) (sym c.index-courses-i.is) (c.requires c.loop-i.i c.index-courses-i.result c.loop-i-test.true)
+pub firsts_under-requires : goal.firsts_under-requires
+firsts_under-requires c = subst (λ (parent : List ℕ). All (CanBeAsked c.args.d.now.branches parent) c.args.courses.now) (sym c.in_ok-marks.ensures) c.requires

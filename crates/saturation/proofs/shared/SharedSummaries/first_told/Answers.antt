@@ -1,31 +1,41 @@
-use Rattle.std.proofs.Common.{◌∙◌, sym, ap, List, Bool}
-use Rattle.saturation.specs.Histories.{Change, first_holding, first_in}
+use Rattle.std.proofs.Common.{refl}
 use Rattle.saturation.specs.HistoryMap.{history_in}
-use Rattle.saturation.proofs.EndLemmas.{first_is, first_few}
-use Rattle.saturation.proofs.FirstLemmas.{first_at_start}
-use Rattle.saturation.proofs.GrowthLemmas.{found_growing}
+use Rattle.saturation.proofs.CourseLemmas.{courses_rise, course_asked, course_tells, no_course_tells}
 use Rattle.saturation.proofs.shared.SharedSummaries.first_told.Goals as goal
 
-pub first_round_under-requires-clause-growing : goal.first_round_under-requires-clause-growing
-first_round_under-requires-clause-growing c =
-    found_growing c.self.inside.system c.self.inside.diagrams (history_in c.self.inside.histories) c.self.inside.cells c.self.invariant.built c.args.kind c.args.atom
-    (rw (← c.self.view_is) at c.requires) c.of-history.result.now c.of-history.ensures c.args.parent.now
+pub row_at-requires : goal.row_at-requires
+row_at-requires c = rw (c.items.ensures, c.self.invariant.by_kind.count) (rw (← c.self.view_is) at c.requires)
 
-pub returns-then-starts_with-clause-first : goal.returns-then-starts_with-clause-first
-returns-then-starts_with-clause-first c = first_at_start c.args.self.now.system c.args.kind c.args.atom c.args.parent.now (sym c.starts_with.ensures.start ∙ c.if-starts_with.true)
+pub course_of-requires : goal.course_of-requires
+course_of-requires c =
+    courses_rise c.self.inside.system c.self.invariant.sound c.self.inside.diagrams (history_in c.self.inside.histories) c.self.inside.cells c.self.invariant.built c.args.kind
+    (rw (← c.self.view_is) at c.requires) c.args.parent.now c.row_at.result.now
+    (c.self.invariant.by_kind.each c.args.kind c.row_at.result.now (rw c.items.ensures at c.row_at.ensures))
 
-pub returns-clause-first : goal.returns-clause-first
-returns-clause-first c = rw (← c.self.view_is)
-    (first_is c.self.inside.system c.self.invariant.sound c.self.inside.diagrams (history_in c.self.inside.histories) c.self.inside.cells c.self.invariant.built c.args.kind c.args.atom
-    (rw (← c.self.view_is) at c.requires) c.args.parent.now c.first_round_under.result
-    (ap (λ (b : Bool). first_in b c.self.inside.diagrams.branches (history_in c.self.inside.histories c.args.kind c.args.atom) c.args.parent.now)
-    (sym (rw (← c.self.view_is) at c.starts_with.ensures.start) ∙ c.if-starts_with.false)
-    ∙ sym (c.first_round_under.ensures ∙ ap (λ (h : List Change). first_holding c.self.inside.diagrams.branches h c.args.parent.now) c.of-history.ensures)))
+pub first_under-requires : goal.first_under-requires
+first_under-requires c =
+    course_asked c.self.inside.system c.self.invariant.sound c.self.inside.diagrams (history_in c.self.inside.histories) c.self.inside.cells c.self.invariant.built c.args.kind
+    (rw (← c.self.view_is) at c.requires) c.args.parent.now c.row_at.result.now
+    (c.self.invariant.by_kind.each c.args.kind c.row_at.result.now (rw c.items.ensures at c.row_at.ensures))
+    c.in-Some.course.now c.in-Some.ensures.some.0
 
-pub returns-clause-bound : goal.returns-clause-bound
-returns-clause-bound c =
-    first_few c.self.inside.system c.self.invariant.sound c.self.inside.diagrams (history_in c.self.inside.histories) c.self.inside.cells c.self.invariant.built c.args.kind c.args.atom
-    (rw (← c.self.view_is) at c.requires) c.args.parent.now c.first_round_under.result
-    (ap (λ (b : Bool). first_in b c.self.inside.diagrams.branches (history_in c.self.inside.histories c.args.kind c.args.atom) c.args.parent.now)
-    (sym (rw (← c.self.view_is) at c.starts_with.ensures.start) ∙ c.if-starts_with.false)
-    ∙ sym (c.first_round_under.ensures ∙ ap (λ (h : List Change). first_holding c.self.inside.diagrams.branches h c.args.parent.now) c.of-history.ensures))
+pub returns-in-Some-clause-first : goal.returns-in-Some-clause-first
+returns-in-Some-clause-first c = rw (← c.self.view_is)
+    (course_tells c.self.inside.system c.self.invariant.sound c.self.inside.diagrams (history_in c.self.inside.histories) c.self.inside.cells c.self.invariant.built c.args.kind
+    (rw (← c.self.view_is) at c.requires) c.args.parent.now c.row_at.result.now
+    (c.self.invariant.by_kind.each c.args.kind c.row_at.result.now (rw c.items.ensures at c.row_at.ensures))
+    c.in-Some.course.now c.in-Some.ensures.some.0 c.args.atom c.in-Some.ensures.some.1 c.first_under.result c.first_under.ensures).0
+
+pub returns-in-Some-clause-bound : goal.returns-in-Some-clause-bound
+returns-in-Some-clause-bound c =
+    (course_tells c.self.inside.system c.self.invariant.sound c.self.inside.diagrams (history_in c.self.inside.histories) c.self.inside.cells c.self.invariant.built c.args.kind
+    (rw (← c.self.view_is) at c.requires) c.args.parent.now c.row_at.result.now
+    (c.self.invariant.by_kind.each c.args.kind c.row_at.result.now (rw c.items.ensures at c.row_at.ensures))
+    c.in-Some.course.now c.in-Some.ensures.some.0 c.args.atom c.in-Some.ensures.some.1 c.first_under.result c.first_under.ensures).1
+
+pub returns-in-None-clause-first : goal.returns-in-None-clause-first
+returns-in-None-clause-first c = rw (← c.self.view_is)
+    (no_course_tells c.self.inside.system c.self.invariant.sound c.self.inside.diagrams (history_in c.self.inside.histories) c.self.inside.cells c.self.invariant.built c.args.kind
+    (rw (← c.self.view_is) at c.requires) c.args.parent.now c.row_at.result.now
+    (c.self.invariant.by_kind.each c.args.kind c.row_at.result.now (rw c.items.ensures at c.row_at.ensures))
+    c.args.atom (c.has.ensures.member.0 c.if-not-has.false) (c.in-None.ensures.none refl))

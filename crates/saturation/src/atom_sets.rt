@@ -1,0 +1,47 @@
+//! Sets of atoms that diagrams are asked for.
+ghost use Rattle.std.specs.Prelude.{◌≡◌};
+ghost use Rattle.class_diagrams.specs.Trees.{eval};
+ghost use Rattle.class_diagrams.specs.Arena.{tree_at, IsIn};
+
+use class_diagrams::{Diagrams, Marks, Ref};
+use tp_base::ClassSet;
+
+/// A set of atoms, as it is or by its marks.
+pub(crate) trait AtomSet {
+    ghost use Rattle.std.specs.Prelude.{ℕ, List};
+
+    // Its atoms, as a list that rises.
+    ghost atoms: { Self → List ℕ };
+
+    /// Whether the set satisfies the diagram.
+    fn satisfies(&self, d: &Diagrams, f: Ref) -> bool
+        requires { IsIn d.now.branches f }
+        ensures { result ≡ eval (tree_at d.now.branches f) (atoms self.now) };
+}
+
+impl AtomSet for ClassSet {
+    ghost atoms = { λ s. s };
+
+    fn satisfies(&self, d: &Diagrams, f: Ref) -> bool {
+        d.eval(f, self)
+    }
+}
+
+impl AtomSet for Marks {
+    ghost atoms = { λ m. m };
+
+    fn satisfies(&self, d: &Diagrams, f: Ref) -> bool {
+        d.eval_marked(f, self)
+    }
+}
+
+/// Whether so many looks are worth the marks of a set, which are a byte for each number up to its largest atom.
+pub(crate) fn are_worth_marks(looks: usize, set: &ClassSet) -> bool {
+    match set.len() {
+        0 => false,
+        count => set.at(count - 1).0 as usize / NUMBERS_A_LOOK <= looks,
+    }
+}
+
+// How many bytes are filled in the time of one look.
+const NUMBERS_A_LOOK: usize = 64;
