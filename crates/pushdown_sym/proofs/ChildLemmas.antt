@@ -24,7 +24,8 @@ use Rattle.pushdown_sym.specs.declared.gathering.Child.{Child}
 use Rattle.pushdown_sym.specs.CellMap.{Entries, place_in, trees_in, is_false, may_have}
 use Rattle.pushdown_sym.specs.Terms.{Term, down_term}
 use Rattle.pushdown_sym.specs.Adding.{AreIn, Adds, of_down}
-use Rattle.simple_core.specs.Givers.{places_from, places_in}
+use Rattle.simple_core.specs.Givers.{places_from}
+use Rattle.row_index.specs.Rows.{row_of}
 use Rattle.pushdown_sym.specs.Givers.{of_place, AreMakers}
 use Rattle.pushdown_sym.specs.Children.{child_by, children_by, children_of, stands, standing_by, standing_each, standing_of, with_child, different, beneath, DoServe, term_of, terms_by}
 use Rattle.pushdown_sym.proofs.AddLemmas.{cells_same}
@@ -141,9 +142,9 @@ gathered s cells a links spawns places links_are spawns_are places_are =
     ∙ ap (fold with_child []) (filtered_places (standing_each cells s.child) (λ (l : Link). l.to == a) s.down ∙ standing_are s cells a)
 
 -- what a link looks at, where these places are all those of the rules that make a kind which may have its left side
-pub link_added : (cells : Entries) (l : Link) (spawns : List Spawn) (makers : List (ℕ × List ℕ)) (kinds places : List ℕ) → AreMakers spawns makers
+pub link_added : (cells : Entries) (l : Link) (spawns : List Spawn) (makers : List (List ℕ)) (kinds places : List ℕ) → AreMakers spawns makers
     → ((j : ℕ) → place_in cells j l.from ≢ leaf_reference false → Contains kinds j) → IsStrictlyIncreasing places
-    → ((j : ℕ) → Contains kinds j → (i : ℕ) → Contains (places_in makers j) i → Contains places i)
+    → ((j : ℕ) → Contains kinds j → (i : ℕ) → Contains (row_of makers j) i → Contains places i)
     → flat_map (of_place (standing_by cells l) spawns) places ≡ flat_map (standing_by cells l) spawns
 link_added cells l spawns makers kinds places are whole rises listed =
     enough_places (standing_by cells l) (λ (c : Spawn). stands (child_by cells l c)) (none_standing cells l) spawns places rises (λ i c at passes.

@@ -10,6 +10,7 @@ mod LinkLemmas
 mod DifferentLemmas
 mod ChildLemmas
 pub mod MapLemmas
+mod CellRowLemmas
 mod Rows
 mod GiverLemmas
 mod PlaceLemmas

@@ -10,7 +10,8 @@ use Rattle.tp_base.proofs.Rising.{Contains-here, Contains-behind, Contains-cons,
 use Rattle.tp_base.proofs.Lists.{any_Contains}
 use Rattle.class_diagrams.specs.References.{leaf_reference}
 use Rattle.simple_core.specs.declared.rules.Spawn.{Spawn}
-use Rattle.simple_core.specs.Givers.{places_in}
+use Rattle.row_index.specs.Rows as index
+use Rattle.row_index.specs.Rows.{row_of}
 use Rattle.pushdown_sym.specs.CellMap.{Entries, place_in, may_have}
 use Rattle.pushdown_sym.specs.Givers.{a_few, HaveDoors, IsRow, Grows, IsNoted}
 use Rattle.pushdown_sym.proofs.ChildLemmas.{stands_no}
@@ -57,6 +58,15 @@ push_grows place row none = record {
 }
 
 -- ### a kind more
+
+-- a place that was noted at a key
+pub noted_put : (old new : List (List ℕ)) (key place : ℕ) → index.IsNoted old new key place → (j : ℕ) → row_of new j ≡ (if key == j then row_of old key ++ place ∷ [] else row_of old j)
+noted_put old new key place noted j = elim (cases_Bool (eqb key j)) [
+  | inl here ↦
+      let same : key ≡ j = eqb-true key j here in
+      rw here (ap (row_of new) (sym same) ∙ noted.here)
+  | inr other ↦ rw other (noted.others j (λ same. both_ways (eqb key j) other (eq-eqb key j (sym same))))
+]
 
 module _ (kind place : ℕ) (old new : ℕ → List ℕ) where
   pub noted_new : list_any (λ n. n == place) (old kind) ≡ false → ((j : ℕ) → new j ≡ (if kind == j then old kind ++ place ∷ [] else old j)) → IsNoted (kind ∷ []) place old new
@@ -121,7 +131,7 @@ pub record AreDoorsTo (spawns : List Spawn) (cells : Entries) (i : ℕ) (rows : 
   pub whole : (j n : ℕ) (c : Spawn) → n < i → slice_get spawns n ≡ Some c → may_have cells j c.needs ≡ true → length (rows j) ≤ a_few → Contains (rows j) n
 
 module _ (spawns : List Spawn) (cells : Entries) where
-  pub doors_start : AreDoorsTo spawns cells 0 (places_in [])
+  pub doors_start : AreDoorsTo spawns cells 0 (row_of [])
   doors_start = record {
     rising = λ j i less. absurd (omega arith);
     within = λ j n there. absurd (Contains-none n there);
@@ -148,7 +158,7 @@ module _ (spawns : List Spawn) (cells : Entries) where
         ];
       }
 
-  pub doors_all : (i : ℕ) (rows : List (ℕ × List ℕ)) → length spawns ≤ i → AreDoorsTo spawns cells i (places_in rows) → HaveDoors spawns cells rows
+  pub doors_all : (i : ℕ) (rows : List (List ℕ)) → length spawns ≤ i → AreDoorsTo spawns cells i (row_of rows) → HaveDoors spawns cells rows
   doors_all i rows past are = λ j few. record {
     rising = are.rising j;
     whole = λ n c at may. are.whole j n c (omega (arith, slice_get_within spawns n c at, past)) at may few;

@@ -3,7 +3,7 @@
 --     makers_more       the places of the rules by kind, with one rule more
 --     listed_more       the places of some kinds, with one kind more
 --     once_has          the same places in order
-use Rattle.std.proofs.Common.{◌≡◌, eqb, nat_cmp, ℕ, suc, ◌+◌, ◌<◌, ◌≤◌, Bool, true, false, ◌==◌, if◌then◌else◌, nat_eq, List, [], ◌∷◌, ◌++◌, filter, take, length, get_or, slice_get, Some, None, Option, option_map, unwrap_or, Contains, refl, sym, ap, subst, ◌∙◌, arith, inl, inr}
+use Rattle.std.proofs.Common.{◌≡◌, eqb, nat_cmp, ℕ, suc, ◌+◌, ◌<◌, ◌≤◌, Bool, true, false, nat_eq, List, [], ◌∷◌, ◌++◌, filter, take, length, get_or, slice_get, Some, None, Option, option_map, unwrap_or, Contains, refl, sym, ap, subst, ◌∙◌, arith, inl, inr}
 use Rattle.std.specs.List.{flat_map}
 use Rattle.std.specs.List.Sorted.{IsStrictlyIncreasing}
 use Rattle.std.specs.List.Retain.{IsFiltered, DiffersFromLast}
@@ -16,14 +16,15 @@ use Rattle.std.proofs.lemmas.List.Sorted.{Contains-permutation}
 use Rattle.std.proofs.lemmas.Map.Keys.{IsStrictlyIncreasing-dedup}
 use Rattle.std.proofs.lemmas.Option.{slice_get-get_or}
 use Rattle.std.proofs.lemmas.List.Kept.{IsStrictlyIncreasing-filter, Contains-dedup_nat}
-use Rattle.tp_base.proofs.Rising.{Contains-cons, Contains-none, All-from_Contains, rises_cons, same_members}
+use Rattle.row_index.specs.Rows.{row_of, IsNoted}
+use Rattle.row_index.proofs.RowLemmas.{noted_kept}
+use Rattle.tp_base.proofs.Rising.{Contains-here, Contains-cons, Contains-none, All-from_Contains, rises_cons, same_members}
 use Rattle.simple_core.specs.declared.rules.Spawn.{Spawn}
 use Rattle.simple_core.specs.Givers.{places_from}
 use Rattle.simple_core.proofs.Members.{filter-Contains, Contains-filter}
 use Rattle.simple_core.proofs.PlaceLemmas.{places_from-Contains, places_from-is}
 use Rattle.pushdown_sym.specs.Givers.{of_place}
 use Rattle.pushdown_sym.proofs.GiverLemmas.{all_places}
-use Rattle.pushdown_sym.proofs.MapLemmas.{still_had, had_now}
 
 -- ### the places of what passes
 
@@ -77,16 +78,18 @@ module _ {X Y : Type 0} (f : X → List Y) (passes : X → Bool) (none : (x : X)
 
 -- ### the rules that make a kind
 
-module _ (spawns : List Spawn) (i : ℕ) (spawn : Spawn) (less : i < length spawns) (item : spawn ≡ get_or spawns i spawn) (old new : ℕ → List ℕ)
-    (put : (j : ℕ) → new j ≡ (if spawn.kind == j then old spawn.kind ++ i ∷ [] else old j)) where
-  pub makers_more : ((n : ℕ) (c : Spawn) → n < i → slice_get spawns n ≡ Some c → Contains (old c.kind) n) → (n : ℕ) (c : Spawn) → n < i + 1 → slice_get spawns n ≡ Some c → Contains (new c.kind) n
+module _ (spawns : List Spawn) (i : ℕ) (spawn : Spawn) (less : i < length spawns) (item : spawn ≡ get_or spawns i spawn) (old new : List (List ℕ)) (noted : IsNoted old new spawn.kind i) where
+  had_now : Contains (row_of new spawn.kind) i
+  had_now = subst (λ (row : List ℕ). Contains row i) (sym noted.here) (Contains-append_right (row_of old spawn.kind) (i ∷ []) i (Contains-here i i [] refl))
+
+  pub makers_more : ((n : ℕ) (c : Spawn) → n < i → slice_get spawns n ≡ Some c → Contains (row_of old c.kind) n) → (n : ℕ) (c : Spawn) → n < i + 1 → slice_get spawns n ≡ Some c → Contains (row_of new c.kind) n
   makers_more before n c within at = elim (cases_lt n i) [
-    | inl earlier ↦ still_had old new spawn.kind i put c.kind n (before n c earlier at)
+    | inl earlier ↦ noted_kept old new spawn.kind i noted c.kind n (before n c earlier at)
     | inr later ↦
         let same : n ≡ i = omega (arith, within, later) in
         let here : Some spawn ≡ Some c = sym (slice_get-get_or spawns i spawn less ∙ ap (λ (x : Spawn). Some x) (sym item)) ∙ ap (λ m. slice_get spawns m) (sym same) ∙ at in
         let is : spawn ≡ c = cc in
-        subst (λ m. Contains (new c.kind) m) (sym same) (subst (λ (d : Spawn). Contains (new d.kind) i) is (had_now old new spawn.kind i put))
+        subst (λ m. Contains (row_of new c.kind) m) (sym same) (subst (λ (d : Spawn). Contains (row_of new d.kind) i) is had_now)
   ]
 
 module _ (f : ℕ → List ℕ) (kinds : List ℕ) where

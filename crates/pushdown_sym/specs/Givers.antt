@@ -2,7 +2,7 @@
 use Rattle.std.specs.Prelude.{◌≡◌, ℕ, ◌≤◌, true, List, [], length, Contains, Some, slice_get, unwrap_or, option_map}
 use Rattle.std.specs.List.Sorted.{IsStrictlyIncreasing}
 use Rattle.simple_core.specs.declared.rules.Spawn.{Spawn}
-use Rattle.simple_core.specs.Givers.{places_in}
+use Rattle.row_index.specs.Rows.{row_of}
 use Rattle.pushdown_sym.specs.CellMap.{Entries, may_have}
 
 -- what comes of the rule at a place
@@ -10,8 +10,8 @@ abbrev pub of_place : {X Y : Type 0} → (X → List Y) → List X → ℕ → L
 of_place f rules i = unwrap_or (option_map f (slice_get rules i)) []
 
 -- for each kind, the places of the spawn rules that make it, and maybe others
-abbrev pub AreMakers : List Spawn → List (ℕ × List ℕ) → Type 0
-AreMakers spawns makers = (i : ℕ) (c : Spawn) → slice_get spawns i ≡ Some c → Contains (places_in makers c.kind) i
+abbrev pub AreMakers : List Spawn → List (List ℕ) → Type 0
+AreMakers spawns makers = (i : ℕ) (c : Spawn) → slice_get spawns i ≡ Some c → Contains (row_of makers c.kind) i
 
 -- these places rise, and among them are those of all spawn rules that a node of the kind may use
 pub record AreDoors (spawns : List Spawn) (cells : Entries) (j : ℕ) (places : List ℕ) : Type 0 where
@@ -23,8 +23,8 @@ abbrev pub a_few : ℕ
 a_few = 8
 
 -- for each kind its places, unless they are more than a few
-abbrev pub HaveDoors : List Spawn → Entries → List (ℕ × List ℕ) → Type 0
-HaveDoors spawns cells rows = (j : ℕ) → length (places_in rows j) ≤ a_few → AreDoors spawns cells j (places_in rows j)
+abbrev pub HaveDoors : List Spawn → Entries → List (List ℕ) → Type 0
+HaveDoors spawns cells rows = (j : ℕ) → length (row_of rows j) ≤ a_few → AreDoors spawns cells j (row_of rows j)
 
 -- a row of places up to this one
 pub record IsRow (place : ℕ) (row : List ℕ) : Type 0 where

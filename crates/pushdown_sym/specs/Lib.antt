@@ -5,6 +5,7 @@ pub mod Laws
 pub mod Rounds
 pub mod Terms
 -- Invariants, and the states of the code.
+pub mod CellRows
 pub mod Children
 pub mod Givers
 pub mod Reads

@@ -1,11 +1,11 @@
 //! For each kind the spawn rules that its nodes may use.
 ghost use Rattle.std.specs.Prelude.{◌≡◌, ◌==◌, ◌≤◌, ◌<◌, [], ◌∷◌, true, false, length, Contains, IfOk, OnOk};
 ghost use Rattle.std.specs.List.{list_any};
-ghost use Rattle.simple_core.specs.Givers.{places_in};
+ghost use Rattle.row_index.specs.Rows.{row_of};
 ghost use Rattle.pushdown_sym.specs.Givers.{a_few, HaveDoors, IsNoted};
 
 use crate::cells::Cells;
-use multimap::Multimap;
+use row_index::Index;
 use simple_core::Spawn;
 use std::alloc::Global;
 use std::marker::Model;
@@ -18,13 +18,13 @@ const A_FEW: usize = 8;
 /// more than a few, the first ones alone.
 #[derive(Drop)]
 pub(crate) struct Doors {
-    rows: Multimap<u32, usize>,
+    rows: Index,
 }
 
 impl Model for Doors {
     ghost use Rattle.std.specs.Prelude.{List, ℕ};
 
-    ghost Value = { List (ℕ × List ℕ) };
+    ghost Value = { List (List ℕ) };
 
     ghost view = { λ d. d.rows };
 }
@@ -46,22 +46,22 @@ fn has_room(row: &[usize], place: usize) -> bool
 }
 
 // Notes a place for a kind.
-fn note(rows: &mut Multimap<u32, usize>, kind: u32, place: usize) -> Result<(), NoMemory>
-    ensures { OnOk result (IsNoted (kind ∷ []) place (places_in rows.old) (places_in rows.new)) }
+fn note(alloc: Global, rows: &mut Index, kind: u32, place: usize) -> Result<(), NoMemory>
+    ensures { OnOk result (IsNoted (kind ∷ []) place (row_of rows.old) (row_of rows.new)) }
 {
-    if has_room(rows.of(kind), place) {
-        rows.push(kind, place)?;
+    if has_room(rows.of(kind as usize), place) {
+        rows.note(alloc, kind as usize, place)?;
     }
     Ok(())
 }
 
 // Notes a place for each of these kinds.
-fn note_each(rows: &mut Multimap<u32, usize>, kinds: &[u32], place: usize) -> Result<(), NoMemory>
-    ensures { OnOk result (IsNoted kinds.now place (places_in rows.old) (places_in rows.new)) }
+fn note_each(alloc: Global, rows: &mut Index, kinds: &[u32], place: usize) -> Result<(), NoMemory>
+    ensures { OnOk result (IsNoted kinds.now place (row_of rows.old) (row_of rows.new)) }
 {
     for i in 0..kinds.len() {
         let kind = kinds[i];
-        note(rows, kind, place)?;
+        note(alloc, rows, kind, place)?;
     }
     Ok(())
 }
@@ -71,18 +71,18 @@ impl Doors {
     pub(crate) fn of_spawns(alloc: Global, spawns: &[Spawn], now: &Cells) -> Result<Self, NoMemory>
         ensures { IfOk result (HaveDoors spawns.now now.now) }
     {
-        let mut rows = Multimap::new(alloc);
+        let mut rows = Index::new(alloc);
         for i in 0..spawns.len() {
             let spawn = spawns[i];
-            note_each(&mut rows, now.kinds_with(spawn.needs), i)?;
+            note_each(alloc, &mut rows, now.kinds_with(spawn.needs), i)?;
         }
         Ok(Doors { rows })
     }
 
     /// The places of a kind.
     pub(crate) fn of(&self, kind: u32) -> &[usize]
-        ensures { result.now ≡ places_in self.now kind }
+        ensures { result.now ≡ row_of self.now kind }
     {
-        self.rows.of(kind)
+        self.rows.of(kind as usize)
     }
 }

@@ -1,6 +1,7 @@
 //! The cells of a system of rules, as diagrams over the visible label of the parent, round by round.
 #![tactic(auto)]
 
+mod cell_rows;
 mod cells;
 mod children;
 mod doors;

@@ -1,15 +1,15 @@
 use Rattle.std.proofs.Common.{List, ℕ, sym, subst, arith}
-use Rattle.simple_core.specs.Givers.{places_in}
+use Rattle.row_index.specs.Rows.{row_of}
 use Rattle.pushdown_sym.proofs.NoteLemmas.{AreDoorsTo, doors_start, doors_more, doors_all}
 use Rattle.pushdown_sym.proofs.doors.Doors.of_spawns.Goals as goal
 
 pub loop-i-init : goal.loop-i-init
 loop-i-init c =
-    subst (λ (rows : List (ℕ × List ℕ)). AreDoorsTo c.args.spawns.now c.args.now.now 0 (places_in rows)) (sym c.new-rows.ensures) (doors_start c.args.spawns.now c.args.now.now)
+    subst (λ (rows : List (List ℕ)). AreDoorsTo c.args.spawns.now c.args.now.now 0 (row_of rows)) (sym c.new-rows.ensures) (doors_start c.args.spawns.now c.args.now.now)
 
 pub loop-i-preserved : goal.loop-i-preserved
 loop-i-preserved c =
-    doors_more c.args.spawns.now c.args.now.now c.loop-i.i c.index-spawns-i.result c.kinds_with.result.now (places_in c.loop-i.rows) (places_in c.note_each.new.rows)
+    doors_more c.args.spawns.now c.args.now.now c.loop-i.i c.index-spawns-i.result c.kinds_with.result.now (row_of c.loop-i.rows) (row_of c.note_each.new.rows)
     c.loop-i-test.true c.index-spawns-i.is c.kinds_with.ensures c.loop-i.invariant c.in_ok-note_each.ensures
 
 pub returns : goal.returns
