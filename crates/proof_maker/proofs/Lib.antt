@@ -1,4 +1,5 @@
 pub mod ChoiceLemmas
+mod VisibleLemmas
 pub mod ValidLemmas
 pub mod UsedLemmas
 pub mod OneLemmas

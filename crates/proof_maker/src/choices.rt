@@ -1,5 +1,5 @@
 //! The reason that is chosen for an atom at a place: the first one all of whose premises stand in the round before the atom's first round.
-ghost use Rattle.std.specs.Prelude.{◌≡◌, ◌&&◌, ◌-◌, length, find, Contains, IfOk, IfSome, option_map};
+ghost use Rattle.std.specs.Prelude.{◌≡◌, ◌&&◌, ◌-◌, ℕ, false, List, length, find, Contains, IsTrue, IfOk, IfSome, option_map};
 ghost use Rattle.std.specs.List.{flat_map, range_with_len};
 ghost use Rattle.tp_base.specs.Classes.{has_class};
 ghost use Rattle.simple_core.specs.Labels.{visible_in};
@@ -11,7 +11,7 @@ ghost use Rattle.proof_maker.specs.Reasons.{found_reason};
 
 use crate::worlds::{Place, World, added_has, has, has_all, is_above, visible_at};
 use proof_needs::{Choice, from_of};
-use simple_core::{Spawn, Summaries};
+use simple_core::{Spawn, Summaries, System};
 use std::alloc::Global;
 use tp_base::{Atom, ClassSet, NoMemory};
 
@@ -283,8 +283,22 @@ fn spawn_stands<S: Summaries>(
     requires listed { Contains world.now.system.now.child spawn.now }
     ensures { result ≡ (has_class spawn.now.needs (labels_of world.now.system.now world.now.page.now scene.now.place.now scene.now.round) && has_class from (grown world.now.system.now scene.now.round spawn.now.kind scene.now.visible.now)) }
 {
+    if lacks(world.system, scene.visible, spawn.needs) {
+        return false;
+    }
     if !has(world, scene.place, spawn.needs, scene.round) {
         return false;
     }
     added_has(world.sums, spawn.kind, scene.visible, from, scene.round)
+}
+
+// Whether the atom is a visible one that isn't in the visible part of a label.
+fn lacks(system: &System, visible: &ClassSet, atom: Atom) -> bool
+    ensures { IsTrue result → (label : List ℕ) → visible.now ≡ visible_in system.now label → has_class atom label ≡ false }
+{
+    if system.visible.has(atom) {
+        !visible.has(atom)
+    } else {
+        false
+    }
 }

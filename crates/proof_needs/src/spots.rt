@@ -105,13 +105,10 @@ fn atoms_of(alloc: Global, set: &ClassSet) -> Result<Vec<Atom>, NoMemory>
     Ok(atoms)
 }
 
-/// The atoms as a set. Linear, but for the search of each place.
+/// The atoms as a set. It costs a sort of them, which is linear where they rise.
 pub fn set_of(alloc: Global, atoms: &[Atom]) -> Result<ClassSet, NoMemory>
     ensures { IfOk result (λ s. IsStrictlyIncreasing atoms.now → s ≡ atoms.now) }
 {
-    let mut set = ClassSet::new(alloc);
-    for atom in atoms {
-        set.add(*atom)?;
-    }
-    Ok(set)
+    let atoms = Vec::from_slice(alloc, atoms)?;
+    ClassSet::of(atoms)
 }

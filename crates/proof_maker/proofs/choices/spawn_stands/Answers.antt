@@ -1,7 +1,8 @@
-use Rattle.std.proofs.Common.{◌&&◌, ap, ◌∙◌}
+use Rattle.std.proofs.Common.{◌&&◌, sym, ap, ◌∙◌}
 use Rattle.tp_base.specs.Classes.{has_class}
 use Rattle.simple_core.specs.declared.system.System.{System}
 use Rattle.simple_core.specs.Rounds.{grown}
+use Rattle.proof_maker.specs.Worlds.{labels_of}
 use Rattle.proof_maker.proofs.WorldLemmas.{below_known}
 use Rattle.proof_maker.proofs.choices.spawn_stands.Goals as goal
 
@@ -18,3 +19,10 @@ returns g c =
     c.added_has.ensures.test
     ∙ ap (λ (s : System). has_class c.args.from (grown s scene.round c.args.spawn.now.kind scene.visible.now)) c.requires.ready.made
     ∙ ap (λ b. b && has_class c.args.from (grown c.args.world.now.system.now scene.round c.args.spawn.now.kind scene.visible.now)) c.if-not-has.ensures.test
+
+pub returns-then-lacks : goal.returns-then-lacks
+returns-then-lacks g c =
+    let s = c.args.world.now.system.now in
+    let scene = c.args.scene.now in
+    let has = has_class c.args.from (grown s scene.round c.args.spawn.now.kind scene.visible.now) in
+    sym (ap (λ b. b && has) (c.lacks.ensures c.if-lacks.true (labels_of s c.args.world.now.page.now scene.place.now scene.round) c.requires.visible))
