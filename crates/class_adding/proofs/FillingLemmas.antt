@@ -7,6 +7,7 @@ use Rattle.simple_core.specs.declared.system.System.{System}
 use Rattle.simple_core.specs.Pairs.{Pair}
 use Rattle.closed_page.specs.declared.gains.Gain.{Gain}
 use Rattle.class_adding.specs.declared.looking.Look.{Look}
+use Rattle.class_adding.specs.Alike.{AreAlike}
 use Rattle.class_adding.specs.Filling.{AreLooked, AreFresh, IsNews, IsLooked, IsAfter, wake_at, wakes_in}
 use Rattle.class_adding.specs.Fillings.{IsBegun, IsTaken}
 use Rattle.class_adding.specs.Fresh.{AreSettled, AreResting}
@@ -15,7 +16,8 @@ use Rattle.class_adding.specs.Work.{IsWorking, IsNext, IsSeen, IsWritten, AreUnt
 use Rattle.class_adding.specs.declared.filling.Filling.{Filling}
 use Rattle.class_adding.specs.declared.rounds.Round.{Round}
 use Rattle.class_adding.specs.declared.work.Work.{Work}
-use Rattle.class_adding.proofs.EndLemmas.{IsClosing, closing_start, closing_next, few_next}
+use Rattle.class_adding.proofs.AlikeLemmas.{all_alike_next}
+use Rattle.class_adding.proofs.EndLemmas.{IsClosing, closing_start, closing_next}
 use Rattle.class_adding.proofs.RoundLemmas.{looked_now, looked_more, news_rest}
 use Rattle.class_adding.proofs.SettledLemmas.{all_labels_are, settled_start, resting_start, settled_next, resting_next, rest_now}
 use Rattle.class_adding.proofs.WrittenLemmas.{working_start, working_next, look_of, cases_true, is_due}
@@ -27,9 +29,10 @@ pub record IsFilled (s : System) (t : LabelTree) (k : ℕ) (known : Pair → Typ
   pub settled : AreSettled s f.labels.labels f.labels.nodes f.work.fresh.items
   pub resting : AreResting s f.labels.labels k known f.labels.nodes f.work.fresh.items f.work.wakes.items
   pub working : IsWorking f.labels.nodes f.work
+  pub alike : AreAlike f.labels.labels f.labels.nodes f.alike.items
   pub nodes : f.labels.nodes ≡ paths_of t
-  pub few : k ≤ 2 ^ 62 + length f.labels.firsts
-  pub room : length f.labels.firsts < 2 ^ 63
+  pub few : k ≤ 2 ^ 62 + f.labels.notes
+  pub room : f.labels.notes < 2 ^ 63
 
 pub filled_start : (s : System) (t : LabelTree) (known : Pair → Type 0) (f : Filling) → IsBegun t f → IsFilled s t 0 known f
 filled_start s t known f b =
@@ -42,6 +45,7 @@ filled_start s t known f b =
       settled = settled_start s u nodes f.work.fresh.items own;
       resting = resting_start s u nodes f.work.fresh.items own known f.work.wakes.items b.start.none;
       working = working_start t nodes f.work b.start;
+      alike = subst (λ (z : LabelTree). AreAlike z nodes f.alike.items) (sym b.labels) b.alike;
       nodes = b.nodes;
       few = omega arith;
       room = b.few;
@@ -126,6 +130,17 @@ rests_next s t u u' k k' latest known gains nodes w w' looks all after after' fr
       known gains wakes looked asleep))
 ]
 
+-- how many rounds there are: each has a gain, or comes before the last one in which a node wakes
+some_gains : (gains : List Gain) → (gains ≡ [] → ⊥) → 0 < length gains
+some_gains [] some = absurd (some refl)
+some_gains (g ∷ gains) some = omega arith
+
+few_next : (k k' latest notes notes' : ℕ) (gains : List Gain) → (gains ≢ []) ⊎ (k < latest) → latest < 2 ^ 62 → k ≤ 2 ^ 62 + notes → k' ≡ suc k → notes' ≡ notes + length gains → k' ≤ 2 ^ 62 + notes'
+few_next k k' latest notes notes' gains cases bound few next more = elim cases [
+  | inl some ↦ let one : 0 < length gains = some_gains gains some in omega (arith, one, few, next, more)
+  | inr waits ↦ let less : k < latest = waits in omega (arith, less, bound, next)
+]
+
 pub filled_next : (s : System) (t : LabelTree) (k k' latest : ℕ) (known known' : Pair → Type 0) (f f' : Filling) (r : Round) → IsFilled s t k known f → ((q : Pair) → known q → known' q)
     → AreFound s f.labels.labels f.labels.nodes k known' f.work.due.items r → f.work.latest ≤ latest → AreUntil r.looks.items latest → latest < 2 ^ 62 → (r.gains.items ≢ []) ⊎ (k < latest)
     → IsTaken f r latest k' f' → k' ≡ suc k → IsFilled s t k' known' f'
@@ -156,7 +171,9 @@ filled_next s t k k' latest known known' f f' r filled more found before until b
       resting = subst (λ (z : List (List ℕ)). AreResting s u' k' known' z fresh wakes) (sym same) (subst (λ z. AreResting s u' z known' nodes fresh wakes) (sym next)
           (resting_next s t u u' k nodes fresh filled.nodes filled.closing.after after' is_fresh known' gains wakes wakes refl looked));
       working = subst (λ (z : List (List ℕ)). IsWorking z f'.work) (sym same) working;
+      alike = subst (λ (z : List (List ℕ)). AreAlike u' z f'.alike.items) (sym same)
+          (all_alike_next s t u u' k nodes f.alike.items f'.alike.items filled.nodes filled.closing.after after' (ap (λ z. z.items) taken.alike) filled.alike);
       nodes = same ∙ filled.nodes;
-      few = few_next s t u f.labels.firsts k known known' nodes gains latest filled.nodes filled.closing found.right seen more found.news cases bound filled.few k' f'.labels.firsts next taken.firsts;
+      few = few_next k k' latest f.labels.notes f'.labels.notes gains cases bound filled.few next taken.notes;
       room = taken.few filled.room;
     }

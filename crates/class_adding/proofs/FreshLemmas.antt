@@ -2,11 +2,12 @@
 use Rattle.std.proofs.lemmas.List.Sums.{fold-append}
 use Rattle.std.proofs.Common.{◌≡◌, ◌⊎◌, ◌==◌, ℕ, zero, suc, ◌+◌, ◌<◌, ◌≤◌, true, false, not, List, [], ◌∷◌, ◌++◌, length, get_or, take, slice_get, Option, Some, None, option_map, unwrap_or, IsSome, IsTrue, IsFalse, All, Contains, refl, sym, ap, ◌∙◌, inl, inr, arith, subst}
 use Rattle.std.specs.List.{flat_map, range_with_len}
+use Rattle.std.specs.List.Sorted.{IsStrictlyIncreasing}
 use Rattle.std.proofs.lemmas.Bool.{cases_Bool, eqb-true}
 use Rattle.std.proofs.lemmas.List.{get_or_past, get_or_default}
 use Rattle.std.proofs.lemmas.List.Elements.{Contains-append_left, Contains-append_right, Contains-append_cases}
 use Rattle.tp_base.specs.Classes.{with_class, union_of}
-use Rattle.tp_base.proofs.ClassLemmas.{Contains-union_of, Contains-with_class, IsStrictlyIncreasing-union_of}
+use Rattle.tp_base.proofs.ClassLemmas.{same_members, Contains-union_of, Contains-with_class, IsStrictlyIncreasing-union_of}
 use Rattle.tp_base.proofs.Rising.{Contains-none, Contains-here, Contains-cons}
 use Rattle.tp_base.proofs.Lists.{take_next}
 use Rattle.tree_sem.specs.Trees.{LabelTree, node_at, children_at}
@@ -17,7 +18,7 @@ use Rattle.simple_core.specs.declared.system.System.{System}
 use Rattle.simple_core.specs.declared.rules.Link.{Link}
 use Rattle.simple_core.specs.Labels.{given_by_rules, given_by_links, labels_below}
 use Rattle.simple_core.specs.Rounds.{grown}
-use Rattle.simple_core.proofs.Members.{flat_map-Contains, Contains-flat_map, Contains-range, all_among_each}
+use Rattle.simple_core.proofs.Members.{among_all, flat_map-Contains, Contains-flat_map, Contains-range, all_among_each}
 use Rattle.simple_core.proofs.LabelLemmas.{given_by_links-is, is-given_by_links}
 use Rattle.simple_core.proofs.PageRest.{counted_child}
 use Rattle.rule_index.specs.Asking.{IsMore}
@@ -285,6 +286,30 @@ each_next s own next next' rest c others split given =
 pub each_end : (s : System) (own : List (List ℕ)) (next start rest row : List ℕ) → length rest ≡ 0 → union_of next (given_at s own rest) ≡ union_of start (given_at s own row) → next ≡ union_of start (given_at s own row)
 each_end s own next start [] row none same = same
 each_end s own next start (c ∷ rest) row none same = absurd (omega arith)
+
+-- ---- what was given already
+
+twice : (xs ys : List ℕ) → IsStrictlyIncreasing xs → union_of xs ys ≡ union_of (union_of xs ys) ys
+twice xs ys rises =
+    let once = IsStrictlyIncreasing-union_of xs ys rises in
+    same_members (union_of xs ys) (union_of (union_of xs ys) ys) once (IsStrictlyIncreasing-union_of (union_of xs ys) ys once)
+    (among_all (union_of xs ys) (union_of (union_of xs ys) ys) (λ a there. (Contains-union_of (union_of xs ys) ys a).1 (inl there)))
+    (among_all (union_of (union_of xs ys) ys) (union_of xs ys) (λ a there. elim ((Contains-union_of (union_of xs ys) ys a).0 there) [
+      | inl before ↦ before
+      | inr again ↦ (Contains-union_of xs ys a).1 (inr again)
+    ]))
+
+-- before the first set
+pub none_last : (links : List Link) (next : List ℕ) → next ≡ union_of next (given_by_links links [])
+none_last links next = sym (ap (λ (z : List ℕ). union_of next z) (given_none links))
+
+-- what a set has given is there
+pub one_last : (links : List Link) (own : List (List ℕ)) (c : ℕ) (next next' : List ℕ) → IsStrictlyIncreasing next → next' ≡ union_of next (given_by_links links (get_or own c [])) → next' ≡ union_of next' (given_by_links links (get_or own c []))
+one_last links own c next next' rises given = let gives = given_by_links links (get_or own c []) in given ∙ twice next gives rises ∙ ap (λ (z : List ℕ). union_of z gives) (sym given)
+
+-- a set with the same atoms adds nothing
+pub given_again : (links : List Link) (own : List (List ℕ)) (last : Option ℕ) (c : ℕ) (next : List ℕ) → get_or own c [] ≡ set_at own last → next ≡ union_of next (given_by_links links (set_at own last)) → next ≡ union_of next (given_by_links links (get_or own c []))
+given_again links own last c next same given = given ∙ ap (λ (z : List ℕ). union_of next (given_by_links links z)) (sym same)
 
 -- a number that is past all labels gives nothing
 pub nothing_past : (s : System) (own : List (List ℕ)) (c : ℕ) (next : List ℕ) → length own ≤ c → next ≡ union_of next (given_by_links s.down (get_or own c []))

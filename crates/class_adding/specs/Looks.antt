@@ -2,7 +2,6 @@
 --     MayLook S a f k number a look at the node with this number tells what is new there after one more round than k
 --     IsLookAt .. number l   the look l says what is new at the node with this number, and when it wakes
 --     IsLook .. nodes l      l is such a look at its node, and what is new there is among the gains
---     IsAlike u v w          the nodes at v and w have one label, next to the same labels, so that both gain the same
 --     IsTakenOver .. looks number l   l is one of the looks, moved to a node that is like its own
 --     AreSeen .. latest nodes   each node was looked at or need not be, and wakes in no round after `latest`
 --     AreFound .. due r      the round r found what is new at each node that was due
@@ -21,7 +20,8 @@ use Rattle.class_adding.specs.declared.filling.Filling.{Filling}
 use Rattle.class_adding.specs.declared.looking.Look.{Look}
 use Rattle.class_adding.specs.declared.rounds.Round.{Round}
 use Rattle.class_adding.specs.Asking.{IsReady}
-use Rattle.class_adding.specs.Filling.{above_in, real_in, IsGained, IsLooked, IsNews, AreRight, AreNew, wake_at}
+use Rattle.class_adding.specs.Alike.{IsAlike, AreAlike}
+use Rattle.class_adding.specs.Filling.{IsGained, IsLooked, IsNews, AreRight, AreNew, wake_at}
 use Rattle.class_adding.specs.Fresh.{IsSettled, IsAsleep, IsResting}
 use Rattle.class_adding.specs.Work.{IsWorking, IsSeen}
 
@@ -29,6 +29,7 @@ use Rattle.class_adding.specs.Work.{IsWorking, IsSeen}
 pub record MayLook {X : Type 0} (S : Ghosts X) (a : Asker X) (f : Filling) (k number : ℕ) : Type 0 where
   pub within : number < length f.labels.nodes
   pub working : IsWorking f.labels.nodes f.work
+  pub alike : AreAlike f.labels.labels f.labels.nodes f.alike.items
   pub settled : IsSettled a.system.now f.labels.labels f.labels.nodes f.work.fresh.items number
   pub resting : IsResting a.system.now k (S.known a.sums.now) (label_in f.labels.labels (node_of f.labels number)) (get_or f.work.fresh.items number []) (wake_at f.work.wakes.items number)
   pub ready : IsReady S a
@@ -46,11 +47,6 @@ pub record IsLook (s : System) (u : LabelTree) (k : ℕ) (known : Pair → Type 
   pub within : l.number < length nodes
   pub tells : IsLookAt s u k known nodes l.number l
   pub gained : IsTrue l.grew → IsGained gains (get_or nodes l.number [])
-
-pub record IsAlike (u : LabelTree) (v w : List ℕ) : Type 0 where
-  pub own : label_in u v ≡ label_in u w
-  pub above : above_in u v ≡ above_in u w
-  pub below : real_in u v ≡ real_in u w
 
 pub record IsTakenOver (u : LabelTree) (nodes : List (List ℕ)) (looks : List Look) (number : ℕ) (l : Look) : Type 0 where
   pub before : Look

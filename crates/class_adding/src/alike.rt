@@ -1,12 +1,13 @@
-//! What was found at one node, taken over at the next one where the two are alike.
-ghost use Rattle.std.specs.Prelude.{◌≡◌, ◌<◌, List, [], length, Contains, IfOk, IfSome, IsSome, IsTrue};
+//! Which nodes are alike, and what was found at one of them, taken over at the next one.
+ghost use Rattle.std.specs.Prelude.{◌≡◌, ◌<◌, ℕ, suc, List, false, length, get_or, Contains, IfOk, IfSome, IsSome, IsTrue};
+ghost use Rattle.tree_sem.specs.Paths.{parent_of};
 ghost use Rattle.simple_core.specs.Pairs.{Asks};
 ghost use Rattle.closed_page.specs.Gains.{label_in};
 ghost use Rattle.closed_page.specs.declared.gains.Gain.{Gain};
 ghost use Rattle.closed_page.specs.Labelled.{node_of};
+ghost use Rattle.class_adding.specs.Alike.{IsLeaf, IsAlike, AreAlike};
 ghost use Rattle.class_adding.specs.Asking.{Went, TellsSpent};
-ghost use Rattle.class_adding.specs.Filling.{above_in, real_in};
-ghost use Rattle.class_adding.specs.Looks.{IsLookAt, MayLook, IsAlike, IsTakenOver, AreLooks};
+ghost use Rattle.class_adding.specs.Looks.{IsLookAt, MayLook, IsTakenOver, AreLooks};
 ghost use Rattle.class_adding.specs.declared.looking.Look.{Look};
 
 use crate::asker::Asker;
@@ -15,7 +16,8 @@ use crate::looking::Look;
 use closed_page::PageLabels;
 use pair_table::same_atoms;
 use simple_core::{GainFault, Summaries};
-use tp_base::{ClassSet, NoMemory};
+use std::alloc::Global;
+use tp_base::NoMemory;
 
 // Whether both are there and the same.
 fn are_one(first: Option<usize>, second: Option<usize>) -> bool
@@ -32,7 +34,7 @@ fn are_one(first: Option<usize>, second: Option<usize>) -> bool
 fn have_one_parent(labels: &PageLabels, first: usize, second: usize) -> bool
     requires first { first < length labels.now.nodes }
     requires second { second < length labels.now.nodes }
-    ensures { IsTrue result → above_in labels.now.labels (node_of labels.now first) ≡ above_in labels.now.labels (node_of labels.now second) }
+    ensures { IsTrue result → parent_of (node_of labels.now first) ≡ parent_of (node_of labels.now second) }
 {
     are_one(labels.parent(first), labels.parent(second))
 }
@@ -40,7 +42,7 @@ fn have_one_parent(labels: &PageLabels, first: usize, second: usize) -> bool
 // Whether a node has no children.
 fn is_leaf(labels: &PageLabels, number: usize) -> bool
     requires { number < length labels.now.nodes }
-    ensures { IsTrue result → real_in labels.now.labels (node_of labels.now number) ≡ [] }
+    ensures { IsTrue result → IsLeaf labels.now.labels (node_of labels.now number) }
 {
     let kids = labels.kids(number);
     kids.len() == 0
@@ -64,19 +66,56 @@ fn are_alike(labels: &PageLabels, first: usize, second: usize) -> bool
     same_atoms(labels.own(first), labels.own(second))
 }
 
-// Whether the last round brought something to a node. Time alone rests on it.
-fn is_fresh(fresh: &[ClassSet], number: usize) -> bool {
-    match fresh.get(number) {
-        Some(atoms) => atoms.len() != 0,
+// Whether a node is alike the one numbered just before it.
+fn is_alike(labels: &PageLabels, number: usize) -> bool
+    requires { number < length labels.now.nodes }
+    ensures { IsTrue result → (i : ℕ) → number ≡ suc i → IsAlike labels.now.labels (node_of labels.now i) (node_of labels.now number) }
+{
+    if number == 0 {
+        return false;
+    }
+    are_alike(labels, number - 1, number)
+}
+
+/// Whether each node is alike the one numbered just before it, which then is so in every round. It costs a walk along each
+/// label.
+pub(crate) fn all_alike(alloc: Global, labels: &PageLabels) -> Result<Vec<bool>, NoMemory>
+    ensures { IfOk result (λ v. AreAlike labels.now.labels labels.now.nodes v.items) }
+{
+    let mut alike = Vec::new(alloc);
+    let count = labels.count();
+    for i in 0..count {
+        let mark = is_alike(labels, i);
+        alike.push(mark)?;
+    }
+    Ok(alike)
+}
+
+// Whether a node is marked.
+fn is_marked(alike: &[bool], number: usize) -> bool
+    ensures { IsTrue result → IsTrue (get_or alike.now number false) }
+{
+    match alike.get(number) {
+        Some(mark) => *mark,
         None => false,
     }
+}
+
+// Whether the second number is the one after the first.
+fn is_next(first: usize, second: usize) -> bool
+    ensures { IsTrue result → second ≡ suc first }
+{
+    if second <= first {
+        return false;
+    }
+    second - first == 1
 }
 
 // The same look at another node.
 fn moved(look: &Look, number: usize) -> Result<Look, NoMemory>
     ensures { IfOk result (λ l. l ≡ record look.now { number = number }) }
 {
-    let news = look.news.copy()?;
+    let news = look.news.share()?;
     Ok(Look {
         number,
         news,
@@ -94,20 +133,19 @@ fn last_of(looks: &[Look]) -> Option<&Look>
     looks.last()
 }
 
-// The last of these looks, moved to a node that is like its own. The labels are compared only where the last round changed
-// the node's: elsewhere a look costs less.
+// The last of these looks, moved to a node that is alike its own.
 fn look_before(filling: &Filling, looks: &[Look], number: usize) -> Result<Option<Look>, NoMemory>
     requires number { number < length filling.now.labels.nodes }
-    requires numbers { (l : Look) → Contains looks.now l → l.number < length filling.now.labels.nodes }
+    requires alike { AreAlike filling.now.labels.labels filling.now.labels.nodes filling.now.alike.items }
     ensures { IfOk result (λ o. IfSome o (IsTakenOver filling.now.labels.labels filling.now.labels.nodes looks.now number)) }
 {
-    if !is_fresh(&filling.work.fresh, number) {
+    if !is_marked(&filling.alike, number) {
         return Ok(None);
     }
     let Some(look) = last_of(looks) else {
         return Ok(None);
     };
-    if !are_alike(&filling.labels, look.number, number) {
+    if !is_next(look.number, number) {
         return Ok(None);
     }
     let again = moved(look, number)?;
@@ -116,7 +154,7 @@ fn look_before(filling: &Filling, looks: &[Look], number: usize) -> Result<Optio
 
 impl<'a, 's, S: Summaries> Asker<'a, 's, S> {
     /// What is new at a node, as `look_at` tells it, after these looks. Where the last of them can be taken over, it costs a
-    /// walk along the label and a copy of what is new.
+    /// few steps.
     pub(crate) fn look_on(
         &mut self,
         filling: &Filling,

@@ -64,13 +64,14 @@ fn close_over<S: Summaries>(
 }
 
 /// Closes the page. Each pair that it asks is asked of the summaries once, with a first round for each link from a
-/// child. It costs a few steps for each round, and a look at a node for each round in which its label or what an added child
-/// gives has changed, or its parent's or a child's label by an atom at which a link looks from the node. A look costs a few
-/// steps for each atom that is new there or next to it, and for each rule that is found by one of these or needs none; where
-/// an added child gives more, or a new atom adds a child or can be seen by one, a few steps for each atom of the label and of
-/// what such a child sees, too. Where a changed node has the parent and the label of the one before that was looked at, and
-/// neither has children, it takes over that look by a walk along the label. A change costs the label's length and the node's
-/// depth in steps that only copy.
+/// child. It costs a walk along each label at first, a few steps for each round, and a look at a node for each round in which
+/// its label or what an added child gives has changed, or its parent's or a child's label by an atom at which a link looks
+/// from the node. A look costs a few steps for each atom that is new there or next to it, and for each rule that is found by
+/// one of these or needs none; a child that got the same atoms as the one before it costs a comparison of these. Where an
+/// added child gives more, or a new atom adds a child or can be seen by one, a look costs a few steps for each atom of the
+/// label and of what such a child sees, too. Where a node has the parent and at first the label of the one before it, and
+/// neither has children, it takes over that look by a few steps. A change costs the label's length and the node's depth in
+/// steps that only copy.
 pub fn close_page<S: Summaries>(
     alloc: Global,
     page: &Tree,

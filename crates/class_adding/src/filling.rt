@@ -10,6 +10,7 @@ ghost use Rattle.class_adding.specs.Fillings.{IsBegun, IsTaken};
 ghost use Rattle.closed_page.specs.Firsts.{AreOfNodes};
 ghost use Rattle.closed_page.specs.Views.{firsts_of};
 
+use crate::alike::all_alike;
 use crate::asker::Asker;
 use crate::rounds::Round;
 use crate::work::{Work, begin_work, latest_of, take_looks};
@@ -19,11 +20,12 @@ use std::alloc::Global;
 use tp_base::NoMemory;
 use tree_sem::Tree;
 
-/// What is known of a page between two rounds: its labels with the first round of each of their atoms, and what is still to
-/// come to its nodes.
+/// What is known of a page between two rounds: its labels with the first round of each of their atoms, whether each node is
+/// alike the one numbered just before it, and what is still to come to its nodes.
 #[derive(Drop)]
 pub(crate) struct Filling {
     pub(crate) labels: PageLabels,
+    pub(crate) alike: Vec<bool>,
     pub(crate) work: Work,
 }
 
@@ -32,8 +34,13 @@ pub(crate) fn begin(alloc: Global, page: &Tree) -> Result<Filling, NoMemory>
     ensures { IfOk result (λ f. IsBegun page.now f) }
 {
     let labels = PageLabels::new(alloc, page)?;
+    let alike = all_alike(alloc, &labels)?;
     let work = begin_work(alloc, &labels)?;
-    Ok(Filling { labels, work })
+    Ok(Filling {
+        labels,
+        alike,
+        work,
+    })
 }
 
 // Takes in what a round brought, which is then round k.

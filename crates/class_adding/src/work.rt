@@ -7,18 +7,18 @@ ghost use Rattle.class_adding.specs.Work.{IsLessOf, IsWritten, IsAwaited, AreAwa
 
 use crate::due::next_due;
 use crate::looking::Look;
-use closed_page::PageLabels;
+use closed_page::{PageLabels, SharedSet};
 use multimap::Multimap;
 use row_index::Index;
 use std::alloc::Global;
-use tp_base::{ClassSet, NoMemory};
+use tp_base::NoMemory;
 
 /// What is still to come to the nodes, by their numbers: the atoms that the last round brought to each; those of its
 /// children to which it brought some; the round in which the children that its label adds give something new, and for each
 /// such round the nodes that wait for it; the last of these rounds; and the nodes that the next round looks at, in order.
 #[derive(Drop)]
 pub(crate) struct Work {
-    pub(crate) fresh: Vec<ClassSet>,
+    pub(crate) fresh: Vec<SharedSet>,
     pub(crate) callers: Index,
     pub(crate) wakes: Vec<Option<u64>>,
     pub(crate) awaited: Multimap<u64, usize>,
@@ -46,7 +46,7 @@ pub(crate) fn begin_work(alloc: Global, labels: &PageLabels) -> Result<Work, NoM
 {
     let fresh = labels.all_own(alloc)?;
     let callers = labels.all_callers(alloc)?;
-    let count = labels.paths().len();
+    let count = labels.count();
     let wakes = no_wakes(alloc, count)?;
     let due = labels.all_numbers(alloc)?;
     Ok(Work {
@@ -108,17 +108,17 @@ fn call_all(
     Ok(())
 }
 
-fn write_news(fresh: &mut Vec<ClassSet>, look: &Look) -> Result<(), NoMemory>
+fn write_news(fresh: &mut Vec<SharedSet>, look: &Look) -> Result<(), NoMemory>
     requires { look.now.number < length fresh.old.items }
     ensures { OnOk result (fresh.new.items ≡ set fresh.old.items look.now.number look.now.news) }
 {
-    let news = look.news.copy()?;
+    let news = look.news.share()?;
     fresh[look.number] = news;
     Ok(())
 }
 
 // Writes what is new at each of these nodes.
-fn write_all_news(fresh: &mut Vec<ClassSet>, looks: &[Look]) -> Result<(), NoMemory>
+fn write_all_news(fresh: &mut Vec<SharedSet>, looks: &[Look]) -> Result<(), NoMemory>
     requires { (l : Look) → Contains looks.now l → l.number < length fresh.old.items }
     ensures { OnOk result (IsWritten (λ l. l.news) [] looks.now fresh.old.items fresh.new.items) }
 {

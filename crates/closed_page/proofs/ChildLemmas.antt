@@ -4,7 +4,7 @@ use Rattle.std.specs.List.{range_with_len}
 use Rattle.std.proofs.lemmas.Bool.{leb-true, le-leb, false_from_ne_true}
 use Rattle.tree_sem.specs.Trees.{LabelTree, label_at, children_at}
 use Rattle.tree_sem.proofs.EditLemmas.{node_at-label_at}
-use Rattle.closed_page.specs.declared.first_rounds.NodeFirst.{NodeFirst}
+use Rattle.closed_page.specs.Notes.{NodeFirst}
 use Rattle.closed_page.specs.ClosedPages.{First, HasNoOthers, round_of}
 use Rattle.closed_page.specs.Views.{PageFirst, firsts_of}
 use Rattle.closed_page.specs.Firsts.{path_to, placed, placed_one, AreSpots, AreOfNodes, AreRooted, IsBelow, IsChildIn}

@@ -9,13 +9,13 @@ use Rattle.std.proofs.lemmas.Option.{slice_get-get_or, slice_get_past}
 use Rattle.tp_base.proofs.Rising.{Contains-here, Contains-behind, Contains-cons, Contains-none}
 use Rattle.tree_sem.specs.Paths.{parent_of}
 use Rattle.tree_sem.proofs.NodeLemmas.{Contains-map, map-Contains}
-use Rattle.tree_sem.proofs.PathLemmas.{parent_of-child, parent_of-none, child_of_parent}
-use Rattle.closed_page.specs.declared.first_rounds.NodeFirst.{NodeFirst}
+use Rattle.tree_sem.proofs.PathLemmas.{parent_of-child}
+use Rattle.closed_page.specs.Notes.{NodeFirst, IsSpot}
 use Rattle.closed_page.specs.declared.first_rounds.Spot.{Spot}
 use Rattle.closed_page.specs.ClosedPages.{round_of}
 use Rattle.closed_page.specs.Views.{PageFirst, firsts_of}
 use Rattle.closed_page.specs.Labelled.{IsAbove}
-use Rattle.closed_page.specs.Firsts.{path_to, IsSpot, IsSpotOf, placed_one, placed, AreSpots, AreOfNodes, AreRooted, AreKept, IsFirstAt, IsRoundIn}
+use Rattle.closed_page.specs.Firsts.{path_to, IsSpotOf, placed_one, placed, AreSpots, AreOfNodes, AreKept, IsFirstAt, IsRoundIn}
 use Rattle.tree_sem.proofs.PathLemmas.{same_parent}
 
 -- ---- the round that stands with a node and an atom
@@ -59,12 +59,6 @@ same_step v n m same =
     let both : Some n ≡ Some m = sym (last_step v n) ∙ ap (λ u. slice_get u (length u - 1)) same ∙ last_step v m in
     cc
 
--- the step that was read at the end of a path
-pub last_is : (at v : List ℕ) (k s count : ℕ) → count ≡ length at → slice_get at (count - 1) ≡ Some s → at ≡ v ++ k ∷ [] → s ≡ k
-last_is at v k s count long here is =
-    let both : Some s ≡ Some k = sym here ∙ ap (λ n. slice_get at (n - 1)) long ∙ ap (λ u. slice_get u (length u - 1)) is ∙ last_step v k in
-    cc
-
 pub not_root : (v : List ℕ) (n : ℕ) → [] ≡ v ++ n ∷ [] → ⊥
 not_root v n same = let never : None ≡ Some v = ap parent_of same ∙ parent_of-child v n in cc
 
@@ -95,22 +89,15 @@ module _ (nodes : List (List ℕ)) (once : (i j : ℕ) → i < length nodes → 
         only = λ q t spot same. let both = spot_child nodes once p above.1 q t above.0 spot (same ∙ above.2) in (both.0, both.1 ∙ sym step);
       }
 
-  pub spot_none : (p : ℕ) → p ≡ length nodes → AreRooted nodes → Contains nodes v → IsAbove nodes v None → IsSpotOf nodes v (record { parent = p; step = 0 })
-  spot_none p count rooted there above =
-      let root : v ≡ [] = elim (parent_of v) as (λ o. parent_of v ≡ o → v ≡ []) [
-        | None ↦ λ e. parent_of-none v e
-        | Some u ↦ λ e.
-            let child = child_of_parent v u e in
-            absurd (above u child.0 child.1 (rooted u child.0 (subst (Contains nodes) child.1 there)))
-      ] refl in
-      record {
-        right = inr (count, refl);
-        path = path_root nodes p 0 (omega (arith, count)) ∙ sym root;
-        only = λ q t spot same. elim spot [
-          | inl less ↦ absurd (not_root (get_or nodes q []) t (sym root ∙ sym same ∙ path_there nodes q t less))
-          | inr none ↦ (none.0 ∙ sym count, none.1)
-        ];
-      }
+  pub spot_none : (p : ℕ) → p ≡ length nodes → v ≡ [] → IsSpotOf nodes v (record { parent = p; step = 0 })
+  spot_none p count root = record {
+    right = inr (count, refl);
+    path = path_root nodes p 0 (omega (arith, count)) ∙ sym root;
+    only = λ q t spot same. elim spot [
+      | inl less ↦ absurd (not_root (get_or nodes q []) t (sym root ∙ sym same ∙ path_there nodes q t less))
+      | inr none ↦ (none.0 ∙ sym count, none.1)
+    ];
+  }
 
 -- ---- firsts with the paths of their nodes
 
@@ -139,7 +126,7 @@ round_same nodes fs gs of back on v a = elim (round_of (firsts_of gs) v a) as (�
       ] refl
 ] refl
 
-module _ (nodes : List (List ℕ)) (parents : List (Option ℕ)) (fs gs : List NodeFirst) (back : (f : NodeFirst) → Contains gs f → Contains fs f) (on : (f : NodeFirst) → Contains fs f → Contains gs f) (kept : AreKept nodes parents fs) where
+module _ (nodes : List (List ℕ)) (fs gs : List NodeFirst) (back : (f : NodeFirst) → Contains gs f → Contains fs f) (on : (f : NodeFirst) → Contains fs f → Contains gs f) (kept : AreKept nodes fs) where
   to_old : (g : PageFirst) → Contains (placed nodes gs) g → Contains (placed nodes fs) g
   to_old g there =
       let f = placed-is nodes gs g there in
@@ -150,9 +137,8 @@ module _ (nodes : List (List ℕ)) (parents : List (Option ℕ)) (fs gs : List N
       let f = placed-is nodes fs g there in
       subst (Contains (placed nodes gs)) (sym f.2) (is_placed nodes gs f.0 (on f.0 f.1))
 
-  pub moved_kept : AreKept nodes parents gs
+  pub moved_kept : AreKept nodes gs
   moved_kept = record {
-    above = kept.above;
     rooted = kept.rooted;
     of_nodes = record {
       once = kept.of_nodes.once;

@@ -1,9 +1,12 @@
 pub mod AddLemmas
 pub mod CallLemmas
 pub mod ChildLemmas
-mod FirstRowLemmas
 pub mod FirstsLemmas
 mod GainLemmas
 pub mod LabelledLemmas
-mod OrderLemmas
-mod PathTests
+mod ListTests
+mod NodeLemmas
+mod NoteLemmas
+mod RelabelledLemmas
+mod RowLemmas
+mod RunLemmas

@@ -1,33 +1,18 @@
 -- First rounds, found by the parents of their nodes.
 --     path_to nodes p s        the path to which the step s leads from the p-th node, and the root's where there is no p-th node
---     IsSpot nodes p s         the p-th node is there, or p and s are what stands for the root
 --     IsSpotOf nodes v spot    the spot stands for the node at v, and no other does
 --     placed nodes fs          the firsts with the paths of their nodes
 --     AreOfNodes nodes fs      each first is of a node, and a node has an atom from one round on
---     first_cmp f g            the order of firsts: by the parent, then by the atom, then by the step
---     row_at rows a            the firsts of the atom a, where they stand in a row for each atom
---     all_in rows              the firsts of all rows
---     IsPut old new f          f was put behind the firsts of its atom, and nothing else
---     AreByAtom fs rows        the rows have the firsts fs, each in the row of its atom
---     AreSorted rows           each row is in order
---     AreKept nodes parents fs what is kept of firsts belongs to the nodes
+--     AreKept nodes fs         what is kept of firsts belongs to the nodes
 --     IsRoundIn fs spot a o    o is the round of the atom at the node for which the spot stands
 --     IsChildIn fs p a k o     o is the least step from the p-th node to one that has the atom by the round k
-use Rattle.std.specs.Prelude.{◌≡◌, ◌≢◌, ◌⊎◌, ◌<◌, ◌≤◌, ℕ, List, [], ◌∷◌, ◌++◌, map, Option, Some, None, option_map, unwrap_or, length, get_or, slice_get, Contains}
-use Rattle.std.specs.List.{flat_map}
-use Rattle.std.specs.List.Sorted.{IsSorted}
-use Rattle.std.specs.Ordering.{nat_cmp, ordering_then}
-use Rattle.std.specs.declared.cmp.Ordering.{Ordering}
-use Rattle.closed_page.specs.declared.first_rounds.NodeFirst.{NodeFirst}
+use Rattle.std.specs.Prelude.{◌≡◌, ◌<◌, ◌≤◌, ℕ, List, [], ◌∷◌, ◌++◌, map, Option, Some, None, option_map, unwrap_or, length, get_or, slice_get, Contains}
+use Rattle.closed_page.specs.Notes.{NodeFirst, IsSpot}
 use Rattle.closed_page.specs.declared.first_rounds.Spot.{Spot}
 use Rattle.closed_page.specs.Views.{PageFirst}
-use Rattle.closed_page.specs.Labelled.{AreAllAbove}
 
 abbrev pub path_to : List (List ℕ) → ℕ → ℕ → List ℕ
 path_to nodes p s = unwrap_or (option_map (λ v. v ++ s ∷ []) (slice_get nodes p)) []
-
-abbrev pub IsSpot : List (List ℕ) → ℕ → ℕ → Type 0
-IsSpot nodes p s = (p < length nodes) ⊎ ((p ≡ length nodes) × (s ≡ 0))
 
 pub record IsSpotOf (nodes : List (List ℕ)) (v : List ℕ) (spot : Spot) : Type 0 where
   pub right : IsSpot nodes spot.parent spot.step
@@ -49,35 +34,11 @@ pub record AreOfNodes (nodes : List (List ℕ)) (firsts : List PageFirst) : Type
   pub there : (f : PageFirst) → Contains firsts f → Contains nodes f.at
   pub one : (f g : PageFirst) → Contains firsts f → Contains firsts g → f.at ≡ g.at → f.atom ≡ g.atom → f.round ≡ g.round
 
-abbrev pub first_cmp : NodeFirst → NodeFirst → Ordering
-first_cmp f g = ordering_then (nat_cmp f.parent g.parent) (ordering_then (nat_cmp f.atom g.atom) (ordering_then (nat_cmp f.step g.step) (nat_cmp f.round g.round)))
-
--- the firsts of the atom a
-abbrev pub row_at : List (List NodeFirst) → ℕ → List NodeFirst
-row_at rows a = get_or rows a []
-
-abbrev pub all_in : List (List NodeFirst) → List NodeFirst
-all_in rows = flat_map (λ row. row) rows
-
--- the first f was put behind those of its atom
-pub record IsPut (old new : List (List NodeFirst)) (f : NodeFirst) : Type 0 where
-  pub here : row_at new f.atom ≡ row_at old f.atom ++ f ∷ []
-  pub others : (a : ℕ) → a ≢ f.atom → row_at new a ≡ row_at old a
-
--- each first stands in the row of its atom, and no other does
-pub record AreByAtom (fs : List NodeFirst) (rows : List (List NodeFirst)) : Type 0 where
-  pub whole : (f : NodeFirst) → Contains fs f → Contains (row_at rows f.atom) f
-  pub only : (a : ℕ) (f : NodeFirst) → Contains (row_at rows a) f → Contains fs f × (f.atom ≡ a)
-
-abbrev pub AreSorted : List (List NodeFirst) → Type 0
-AreSorted rows = (a : ℕ) → IsSorted first_cmp (row_at rows a)
-
 -- a node's parent is a node
 abbrev pub AreRooted : List (List ℕ) → Type 0
 AreRooted nodes = (v : List ℕ) (k : ℕ) → Contains nodes (v ++ k ∷ []) → Contains nodes v
 
-pub record AreKept (nodes : List (List ℕ)) (parents : List (Option ℕ)) (firsts : List NodeFirst) : Type 0 where
-  pub above : AreAllAbove nodes parents (length nodes)
+pub record AreKept (nodes : List (List ℕ)) (firsts : List NodeFirst) : Type 0 where
   pub rooted : AreRooted nodes
   pub of_nodes : AreOfNodes nodes (placed nodes firsts)
   pub spots : AreSpots nodes firsts

@@ -1,7 +1,7 @@
 -- What nodes gain, and the first rounds that come of it.
 --     label_in u v             the label at v
 --     firsts_at at own label round   the atoms of the label that the node doesn't have in `own`, as firsts of that round
---     rows_at spot own label round   the same, as they are kept
+--     new_of own label       the atoms of the label that a node doesn't have in `own`
 --     with_gains u gs          the tree with the gains gs, one after another
 --     news u gs round          the firsts that they bring
 --     starts t nodes           the firsts of these nodes before any round
@@ -11,8 +11,6 @@ use Rattle.tp_base.specs.Classes.{has_class}
 use Rattle.tree_sem.specs.Trees.{LabelTree, label_at, edit_at}
 use Rattle.tree_sem.specs.Actions.{add_classes}
 use Rattle.closed_page.specs.declared.gains.Gain.{Gain}
-use Rattle.closed_page.specs.declared.first_rounds.NodeFirst.{NodeFirst}
-use Rattle.closed_page.specs.declared.first_rounds.Spot.{Spot}
 use Rattle.closed_page.specs.Views.{PageFirst}
 
 abbrev pub label_in : LabelTree → List ℕ → List ℕ
@@ -21,8 +19,8 @@ label_in u v = unwrap_or (label_at v u) []
 abbrev pub firsts_at : List ℕ → List ℕ → List ℕ → ℕ → List PageFirst
 firsts_at at own label round = map (λ a. record { at = at; atom = a; round = round }) (filter (λ a. not (has_class a own)) label)
 
-abbrev pub rows_at : Spot → List ℕ → List ℕ → ℕ → List NodeFirst
-rows_at spot own label round = map (λ a. record { parent = spot.parent; atom = a; step = spot.step; round = round }) (filter (λ a. not (has_class a own)) label)
+abbrev pub new_of : List ℕ → List ℕ → List ℕ
+new_of own label = filter (λ a. not (has_class a own)) label
 
 abbrev pub with_gain : LabelTree → Gain → LabelTree
 with_gain u g = edit_at g.at (add_classes g.label) u

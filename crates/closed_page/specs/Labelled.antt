@@ -1,27 +1,29 @@
 -- The labels of a page, by the numbers of its nodes.
---     Labelled               a tree with the labels, the paths of its nodes, and first rounds of its atoms
+--     Labelled               a tree with the labels, the paths of its nodes, first rounds of its atoms, and how many notes tell these
 --     node_of l i            the path of the node with this number
 --     IsAbove nodes v o      o is the number of the parent of the node at v, if the parent is there
 --     AreKids nodes i row    the row has the numbers of the children of the i-th node
 --     IsParentIn nodes c row the row has the number of the c-th node's parent
 --     IsHeard nodes callers c   the c-th node stands among its parent's callers
---     AreRelated ..          what is kept of each node belongs to the tree
+--     HaveLabels u nodes own each node of the tree u is among these, and has this label
+--     AreRelated u nodes own the same, and no node stands there twice
 use Rattle.std.specs.Prelude.{◌≡◌, ℕ, ◌<◌, List, [], ◌∷◌, ◌++◌, Option, Some, None, length, get_or, Contains, IsSome, refl}
 use Rattle.std.specs.Coded.{Coded, code_by, coded×, coded_ℕ, coded_list}
 use Rattle.tree_sem.specs.Trees.{LabelTree, node_at, label_at}
 use Rattle.tree_sem.specs.TreeCode.{tree_code}
-use Rattle.row_index.specs.Rows.{row_of, AreByNumber}
+use Rattle.row_index.specs.Rows.{row_of}
 use Rattle.closed_page.specs.Views.{PageFirst, page_first_code}
 
 pub record Labelled : Type 0 where
   pub labels : LabelTree
   pub nodes : List (List ℕ)
   pub firsts : List PageFirst
+  pub notes : ℕ
 
 abbrev pub labelled_code : Coded Labelled
 labelled_code =
-    code_by (LabelTree × (List (List ℕ) × List PageFirst)) (coded× tree_code (coded× (coded_list (coded_list coded_ℕ)) (coded_list page_first_code)))
-    (λ l. (l.labels, (l.nodes, l.firsts))) (λ p. record { labels = p.0; nodes = p.1.0; firsts = p.1.1 }) (λ l. refl)
+    code_by (LabelTree × (List (List ℕ) × (List PageFirst × ℕ))) (coded× tree_code (coded× (coded_list (coded_list coded_ℕ)) (coded× (coded_list page_first_code) coded_ℕ)))
+    (λ l. (l.labels, (l.nodes, (l.firsts, l.notes)))) (λ p. record { labels = p.0; nodes = p.1.0; firsts = p.1.1.0; notes = p.1.1.1 }) (λ l. refl)
 
 -- the path of the node with this number
 abbrev pub node_of : Labelled → ℕ → List ℕ
@@ -53,17 +55,15 @@ pub record IsCalled (nodes old new : List (List ℕ)) (c : ℕ) : Type 0 where
   pub heard : IsHeard nodes new c
 
 -- the first n nodes
-pub record AreAllAbove (nodes : List (List ℕ)) (parents : List (Option ℕ)) (n : ℕ) : Type 0 where
-  pub count : length parents ≡ n
-  pub each : (i : ℕ) → i < n → IsAbove nodes (get_or nodes i []) (get_or parents i None)
-
 pub record AreAllLabels (u : LabelTree) (nodes own : List (List ℕ)) (n : ℕ) : Type 0 where
   pub count : length own ≡ n
   pub each : (i : ℕ) → i < n → label_at (get_or nodes i []) u ≡ Some (get_or own i [])
 
-pub record AreRelated (u : LabelTree) (nodes : List (List ℕ)) (parents : List (Option ℕ)) (kids own : List (List ℕ)) : Type 0 where
+pub record HaveLabels (u : LabelTree) (nodes own : List (List ℕ)) : Type 0 where
+  pub whole : (v : List ℕ) → IsSome (node_at v u) → Contains nodes v
+  pub labels : AreAllLabels u nodes own (length nodes)
+
+pub record AreRelated (u : LabelTree) (nodes own : List (List ℕ)) : Type 0 where
   pub whole : (v : List ℕ) → IsSome (node_at v u) → Contains nodes v
   pub once : (i j : ℕ) → i < length nodes → j < length nodes → get_or nodes i [] ≡ get_or nodes j [] → i ≡ j
-  pub above : AreAllAbove nodes parents (length nodes)
-  pub below : AreByNumber parents kids
   pub labels : AreAllLabels u nodes own (length nodes)

@@ -4,4 +4,8 @@ pub mod FirstChildren
 pub mod Firsts
 pub mod Gains
 pub mod Labelled
+pub mod Notes
+pub mod Numbered
+pub mod Relabelled
+pub mod Runs
 pub mod Views

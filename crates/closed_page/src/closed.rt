@@ -9,63 +9,74 @@ ghost use Rattle.closed_page.specs.Views.{firsts_of};
 
 use crate::first_rounds::FirstRounds;
 use crate::page_labels::PageLabels;
+use crate::shared_set::SharedSet;
 use std::alloc::Global;
 use std::marker::Model;
 use tp_base::{Atom, ClassSet, NoMemory, Path};
 use tree_sem::Tree;
 
-/// The page with its closed labels, and for each node and atom the round in which it came.
+/// A page as it was, for each node its closed label, and for each node and atom the round in which it came. A contract sees
+/// the page with its closed labels.
 #[derive(Drop)]
 pub struct Closed {
-    labels: Tree,
+    tree: Tree,
+    own: Vec<SharedSet>,
     firsts: FirstRounds,
 }
 
 impl Model for Closed {
+    ghost use Rattle.std.specs.Prelude.{List, ℕ, length, Contains, IsSome};
+    ghost use Rattle.tree_sem.specs.Trees.{node_at};
     ghost use Rattle.closed_page.specs.ClosedPages.{ClosedPage, closed_code, HasNoOthers};
+    ghost use Rattle.closed_page.specs.Labelled.{AreAllLabels, HaveLabels};
+    ghost use Rattle.closed_page.specs.Relabelled.{label_by, relabelled};
 
     ghost Value = { ClosedPage };
 
     ghost coded = { closed_code };
 
-    ghost view = { λ c. record { labels = c.labels; firsts = c.firsts } };
+    ghost view = { λ c. record { labels = relabelled (label_by c.firsts.nodes c.own.items) c.tree; firsts = c.firsts.firsts } };
 
-    ghost invariant = { λ c. HasNoOthers c.labels c.firsts };
+    ghost invariant = { λ c. HasNoOthers (relabelled (label_by c.firsts.nodes c.own.items) c.tree) c.firsts.firsts × HaveLabels (relabelled (label_by c.firsts.nodes c.own.items) c.tree) c.firsts.nodes c.own.items };
 }
 
 impl Closed {
-    /// A page whose labels are closed. Linear in its firsts and the largest atom, but for a sort of the firsts of each atom by
-    /// themselves; until it is made the firsts stand twice.
+    /// A page whose labels are closed. Linear in its firsts and the largest atom, but for a sort of what each node came to
+    /// have in each round; it takes the memory of runs of children that came to have an atom in one round.
     pub fn new(alloc: Global, page: PageLabels) -> Result<Closed, NoMemory>
         requires nodes { AreOfNodes page.nodes page.firsts }
         requires others { HasNoOthers page.labels (firsts_of page.firsts) }
         ensures labels { IfOk result (λ c. c.labels ≡ page.labels) }
         ensures rounds { IfOk result (λ c. (v : List ℕ) (a : ℕ) → round_of c.firsts v a ≡ round_of (firsts_of page.firsts) v a) }
     {
-        let (labels, firsts) = page.into_rounds(alloc)?;
-        Ok(Closed { labels, firsts })
+        let parts = page.into_parts(alloc)?;
+        Ok(Closed {
+            tree: parts.tree,
+            own: parts.own,
+            firsts: parts.firsts,
+        })
     }
 
-    /// The closed label of a node. Linear in the path's length.
+    /// The closed label of a node. Linear in the path's length where the node is there.
     pub fn label(&self, at: &Path) -> Option<&ClassSet>
         ensures { option_copied result ≡ label_at at.now self.now.labels }
     {
-        self.labels.label(at)
-    }
-
-    /// The first round in which a node has the atom. Linear in the path's length, on average, and logarithmic in
-    /// the firsts of the atom.
-    pub fn first_round(&self, at: &Path, atom: Atom) -> Option<u64>
-        ensures { result ≡ round_of self.now.firsts at.now atom }
-    {
-        match self.labels.label(at) {
-            Some(_) => self.firsts.round(at, atom),
+        match self.firsts.number_of(at) {
+            Some(number) => Some(self.own[number].set()),
             None => None,
         }
     }
 
-    /// The least number of a child that has the atom by the round. Linear in the path's length, on average, logarithmic
-    /// in the firsts of the atom, and linear in the children before it that have the atom later.
+    /// The first round in which a node has the atom. Linear in the path's length, and logarithmic in
+    /// the runs of the atom.
+    pub fn first_round(&self, at: &Path, atom: Atom) -> Option<u64>
+        ensures { result ≡ round_of self.now.firsts at.now atom }
+    {
+        self.firsts.round(at, atom)
+    }
+
+    /// The least number of a child that has the atom by the round. Linear in the path's length, logarithmic
+    /// in the runs of the atom, and linear in those of the children before it, which have the atom later.
     pub fn first_child(&self, at: &Path, atom: Atom, round: u64) -> Option<u32>
         ensures { result ≡ find (λ n. came_by round (round_of self.now.firsts (at.now ++ n ∷ []) atom))
             (range_with_len 0 (unwrap_or (children_at at.now self.now.labels) 0)) }

@@ -1,232 +1,153 @@
 //! The first rounds of a page, found by the parents of its nodes.
-ghost use Rattle.std.specs.Prelude.{◌≡◌, ◌==◌, ◌&&◌, ◌<◌, ◌≤◌, ◌∷◌, ◌++◌, ℕ, List, [], None, length, get_or, IfOk, OnOk, true, false};
-ghost use Rattle.std.specs.List.Sorted.{IsPartitionPoint, IsSorted, IsStrictlyIncreasing};
-ghost use Rattle.std.specs.Ordering.{is_lt};
+ghost use Rattle.std.specs.Prelude.{◌≡◌, ◌<◌, ◌≤◌, ◌∷◌, ◌++◌, ℕ, List, [], None, length, get_or, Contains, IfOk, IfSome, IsNone, true, false};
+ghost use Rattle.std.specs.List.Sorted.{IsPartitionPoint};
 ghost use Rattle.closed_page.specs.ClosedPages.{round_of};
 ghost use Rattle.closed_page.specs.FirstChildren.{IsFirstChild};
-ghost use Rattle.closed_page.specs.Firsts.{placed, first_cmp, AreKept, AreRooted, AreSpots, IsSpotOf, IsRoundIn, IsChildIn};
-ghost use Rattle.closed_page.specs.Gains.{rows_at};
-ghost use Rattle.closed_page.specs.Labelled.{AreAllAbove};
+ghost use Rattle.closed_page.specs.Firsts.{placed, AreKept, IsSpotOf};
+ghost use Rattle.closed_page.specs.Notes.{expanded};
+ghost use Rattle.closed_page.specs.Runs.{ends_before, AreOrdered, IsRoundInRow, IsChildInRow};
 ghost use Rattle.closed_page.specs.Views.{firsts_of};
 
-use crate::first_rows::{FirstRow, in_rows, row_of};
+use crate::first_rows::{FirstRow, Run, in_rows, row_of};
 use crate::nodes::PageNodes;
+use crate::notes::NodeNews;
 use std::alloc::Global;
 use std::marker::Model;
-use tp_base::{Atom, ClassSet, NoMemory, Path};
+use tp_base::{Atom, NoMemory, Path};
 
 /// What stands for a node: its parent's number and its step from there; for the root, the count of the nodes and 0.
-#[derive(Clone, Copy, Debug, PartialEq, Eq)]
-pub(crate) struct Spot {
-    parent: usize,
-    step: u32,
-}
-
-/// An atom of a node, by what stands for the node, and the first round in which the node has it.
 #[derive(Clone, Copy, Debug, PartialEq, Eq, PartialOrd, Ord)]
-pub(crate) struct NodeFirst {
-    parent: usize,
-    pub(crate) atom: Atom,
-    step: u32,
-    round: u64,
-}
-
-impl NodeFirst {
-    fn is_before(&self, other: &NodeFirst) -> bool
-        ensures { result ≡ is_lt (first_cmp self.now other.now) }
-    {
-        self < other
-    }
-
-    fn is_at(&self, spot: Spot, atom: Atom) -> bool
-        ensures { result ≡ ((self.now.parent == spot.parent) && (self.now.step == spot.step) && (self.now.atom == atom)) }
-    {
-        self.parent == spot.parent && self.step == spot.step && self.atom == atom
-    }
-
-    fn is_under(&self, parent: usize, atom: Atom) -> bool
-        ensures { result ≡ ((self.now.parent == parent) && (self.now.atom == atom)) }
-    {
-        self.parent == parent && self.atom == atom
-    }
+pub(crate) struct Spot {
+    pub(crate) parent: usize,
+    pub(crate) step: u32,
 }
 
 /// Firsts by their atoms, those of each in their order. A contract sees them with the paths of their nodes.
 #[derive(Drop)]
 pub(crate) struct FirstRounds {
     nodes: PageNodes,
-    parents: Vec<Option<usize>>,
     rows: Vec<FirstRow>,
 }
 
 impl Model for FirstRounds {
-    ghost use Rattle.std.specs.Prelude.{List};
-    ghost use Rattle.closed_page.specs.ClosedPages.{First};
+    ghost use Rattle.closed_page.specs.ClosedPages.{NodeRounds, rounds_code};
     ghost use Rattle.closed_page.specs.Views.{firsts_of};
-    ghost use Rattle.closed_page.specs.Firsts.{placed, all_in, AreKept, AreByAtom, AreSorted};
+    ghost use Rattle.closed_page.specs.Firsts.{placed, AreKept};
+    ghost use Rattle.closed_page.specs.Runs.{all_in, AreSorted};
 
-    ghost Value = { List First };
+    ghost Value = { NodeRounds };
 
-    ghost view = { λ r. firsts_of (placed r.nodes (all_in r.rows.items)) };
+    ghost coded = { rounds_code };
 
-    ghost invariant = { λ r. AreKept r.nodes r.parents.items (all_in r.rows.items) × AreByAtom (all_in r.rows.items) r.rows.items × AreSorted r.rows.items };
+    ghost view = { λ r. record { nodes = r.nodes; firsts = firsts_of (placed r.nodes (all_in r.rows.items)) } };
+
+    ghost invariant = { λ r. AreKept r.nodes (all_in r.rows.items) × AreSorted r.rows.items };
 }
 
 impl FirstRounds {
-    /// Puts firsts in order, those of each atom by themselves. Linear in the firsts and the largest atom, but for these
-    /// sorts, which are linear where the firsts of an atom come in order.
+    /// Puts firsts in order, those of each atom by themselves. Linear in the atoms of the notes and the largest atom, but for a
+    /// sort of the notes.
     pub(crate) fn new(
         alloc: Global,
         nodes: PageNodes,
-        parents: Vec<Option<usize>>,
-        firsts: Vec<NodeFirst>,
+        notes: Vec<NodeNews>,
     ) -> Result<FirstRounds, NoMemory>
-        requires { AreKept nodes parents.items firsts.items }
-        ensures { IfOk result (λ r. (v : List ℕ) (a : ℕ) → round_of r v a ≡ round_of (firsts_of (placed nodes firsts.items)) v a) }
+        requires { AreKept nodes (expanded notes.items) }
+        ensures nodes { IfOk result (λ r. r.nodes ≡ nodes) }
+        ensures rounds { IfOk result (λ r. (v : List ℕ) (a : ℕ) → round_of r.firsts v a ≡ round_of (firsts_of (placed nodes (expanded notes.items))) v a) }
     {
-        let rows = in_rows(alloc, firsts)?;
-        Ok(FirstRounds {
-            nodes,
-            parents,
-            rows,
-        })
+        let rows = in_rows(alloc, notes)?;
+        Ok(FirstRounds { nodes, rows })
     }
 
-    /// The first round in which a node has the atom. Linear in the path's length, on average, and logarithmic in
-    /// the firsts of the atom.
+    /// The number of a node. Linear in its path's length where the node is there.
+    pub(crate) fn number_of(&self, at: &Path) -> Option<usize>
+        ensures some { IfSome result (λ i. (i < length self.now.nodes) × (get_or self.now.nodes i [] ≡ at.now)) }
+        ensures none { IsNone result → ¬ Contains self.now.nodes at.now }
+    {
+        self.nodes.number_of(at)
+    }
+
+    /// The first round in which a node has the atom. Linear in the path's length, and logarithmic in
+    /// the runs of the atom.
     pub(crate) fn round(&self, at: &Path, atom: Atom) -> Option<u64>
-        ensures { result ≡ round_of self.now at.now atom }
+        ensures { result ≡ round_of self.now.firsts at.now atom }
     {
         match self.nodes.number_of(at) {
             Some(number) => {
-                let spot = spot_of(&self.nodes, &self.parents, number);
-                round_in(row_of(&self.rows, atom), spot, atom)
+                let spot = spot_of(&self.nodes, number);
+                round_in(row_of(&self.rows, atom), spot)
             }
             None => None,
         }
     }
 
-    /// The least child of a node that has the atom by the round. Linear in the path's length, on average, logarithmic in the
-    /// firsts of the atom, and linear in the children before it that have the atom later.
+    /// The least child of a node that has the atom by the round. Linear in the path's length, logarithmic in the
+    /// runs of the atom, and linear in those of the children before it, which have the atom later.
     pub(crate) fn first_child(&self, at: &Path, atom: Atom, round: u64) -> Option<u32>
-        ensures { IsFirstChild self.now at.now atom round result }
+        ensures { IsFirstChild self.now.firsts at.now atom round result }
     {
         match self.nodes.number_of(at) {
-            Some(number) => child_in(row_of(&self.rows, atom), number, atom, round),
+            Some(number) => child_in(row_of(&self.rows, atom), number, round),
             None => None,
         }
     }
-}
-
-// The last step of a path, if it has one.
-fn last_of(at: &Path) -> u32
-    ensures { (v : List ℕ) (k : ℕ) → at.now ≡ v ++ k ∷ [] → result ≡ k }
-{
-    let count = at.len();
-    if count == 0 { 0 } else { at.at(count - 1) }
 }
 
 /// What stands for the node with this number.
-pub(crate) fn spot_of(nodes: &PageNodes, parents: &[Option<usize>], number: usize) -> Spot
-    requires number { number < length nodes.now }
-    requires above { AreAllAbove nodes.now parents.now (length nodes.now) }
-    requires rooted { AreRooted nodes.now }
-    requires once { (i j : ℕ) → i < length nodes.now → j < length nodes.now → get_or nodes.now i [] ≡ get_or nodes.now j [] → i ≡ j }
+pub(crate) fn spot_of(nodes: &PageNodes, number: usize) -> Spot
+    requires { number < length nodes.now }
     ensures { IsSpotOf nodes.now (get_or nodes.now number []) result }
 {
-    match parents[number] {
-        Some(parent) => {
-            let paths = nodes.paths();
-            Spot {
-                parent,
-                step: last_of(&paths[number]),
-            }
-        }
+    match nodes.parent(number) {
+        Some(parent) => Spot {
+            parent,
+            step: nodes.step(number),
+        },
         None => Spot {
-            parent: parents.len(),
+            parent: nodes.count(),
             step: 0,
         },
     }
 }
 
-/// Notes the atoms of a label that the node didn't have.
-pub(crate) fn note(
-    firsts: &mut Vec<NodeFirst>,
-    spot: Spot,
-    own: &ClassSet,
-    label: &ClassSet,
-    round: u64,
-) -> Result<(), NoMemory>
-    ensures firsts { OnOk result (firsts.new.items ≡ firsts.old.items ++ rows_at spot own.now label.now round) }
-    ensures spots { (nodes : List (List ℕ)) (v : List ℕ) → IsSpotOf nodes v spot → AreSpots nodes firsts.old.items → AreSpots nodes firsts.new.items }
-    ensures rising { IsStrictlyIncreasing label.now }
+// The place of the first run that doesn't end before the child.
+fn place_of(row: &[Run], spot: Spot) -> usize
+    requires { AreOrdered row.now }
+    ensures bound { result ≤ length row.now }
+    ensures point { IsPartitionPoint (λ x. ends_before x spot ≡ true) (λ x. ends_before x spot ≡ false) row.now result }
 {
-    let count = label.len();
-    let mut i = 0;
-    'atoms: while i < count {
-        let atom = label.at(i);
-        if !own.has(atom) {
-            firsts.push(NodeFirst {
-                parent: spot.parent,
-                atom,
-                step: spot.step,
-                round,
-            })?;
-        }
-        i += 1;
-    }
-    Ok(())
+    row.partition_point(|run| run.ends_before(spot))
 }
 
-// The place of the first that is not before another.
-fn place_of(firsts: &[NodeFirst], probe: &NodeFirst) -> usize
-    requires { IsSorted first_cmp firsts.now }
-    ensures bound { result ≤ length firsts.now }
-    ensures point { IsPartitionPoint (λ f. is_lt (first_cmp f probe.now) ≡ true) (λ f. is_lt (first_cmp f probe.now) ≡ false) firsts.now result }
+// The round in which the child came to have the row's atom.
+fn round_in(row: &[Run], spot: Spot) -> Option<u64>
+    requires { AreOrdered row.now }
+    ensures { IsRoundInRow row.now spot result }
 {
-    firsts.partition_point(|first| first.is_before(probe))
-}
-
-// The round of the atom at a node.
-fn round_in(firsts: &[NodeFirst], spot: Spot, atom: Atom) -> Option<u64>
-    requires { IsSorted first_cmp firsts.now }
-    ensures { IsRoundIn firsts.now spot atom result }
-{
-    let probe = NodeFirst {
-        parent: spot.parent,
-        atom,
-        step: spot.step,
-        round: 0,
-    };
-    let place = place_of(firsts, &probe);
-    if place < firsts.len() {
-        let first = firsts[place];
-        if first.is_at(spot, atom) {
-            return Some(first.round);
+    let place = place_of(row, spot);
+    if place < row.len() {
+        let run = row[place];
+        if run.covers(spot) {
+            return Some(run.round);
         }
     }
     None
 }
 
-// The least step from the node with this number to one that has the atom by the round.
-fn child_in(firsts: &[NodeFirst], parent: usize, atom: Atom, round: u64) -> Option<u32>
-    requires { IsSorted first_cmp firsts.now }
-    ensures { IsChildIn firsts.now parent atom round result }
+// The least step from the node with this number to one that has the row's atom by the round.
+fn child_in(row: &[Run], parent: usize, round: u64) -> Option<u32>
+    requires { AreOrdered row.now }
+    ensures { IsChildInRow row.now parent round result }
 {
-    let probe = NodeFirst {
-        parent,
-        atom,
-        step: 0,
-        round: 0,
-    };
-    let mut i = place_of(firsts, &probe);
-    'children: while i < firsts.len() {
-        let first = firsts[i];
-        if !first.is_under(parent, atom) {
+    let mut i = place_of(row, Spot { parent, step: 0 });
+    'children: while i < row.len() {
+        let run = row[i];
+        if run.parent != parent {
             return None;
         }
-        if first.round <= round {
-            return Some(first.step);
+        if run.round <= round {
+            return Some(run.first);
         }
         i += 1;
     }

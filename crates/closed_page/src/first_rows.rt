@@ -1,36 +1,109 @@
-//! The firsts of a page by their atoms.
-ghost use Rattle.std.specs.Prelude.{◌≡◌, ◌<◌, ℕ, List, length, IfOk, OnOk};
-ghost use Rattle.std.specs.List.Sorted.{IsPermutation, IsSorted};
-ghost use Rattle.closed_page.specs.declared.first_rounds.NodeFirst.{NodeFirst};
-ghost use Rattle.closed_page.specs.Firsts.{row_at, first_cmp, IsPut, AreByAtom, AreSorted};
+//! The firsts of a page by their atoms, where children of one node that stand next to each other are kept as one.
+ghost use Rattle.std.specs.Prelude.{◌≡◌, ◌<◌, ◌≤◌, ℕ, List, ◌++◌, length, Contains, IfOk, OnOk, IfSome, IsNone, IsTrue, IsFalse};
+ghost use Rattle.std.specs.List.Sorted.{IsSortedByKey};
+ghost use Rattle.closed_page.specs.declared.first_rounds.Spot.{Spot};
+ghost use Rattle.closed_page.specs.Notes.{NodeFirst, expanded, spot_cmp, AreAlike};
+ghost use Rattle.closed_page.specs.Runs.{row_at, start_of, end_of, covers, ends_before, AllEndBy, IsWith, IsPutIn, IsPut, AreOrdered, AreSorted, AreEnded, AreByAtom, AreByAtomWith, IsRunOf};
 
-use crate::first_rounds::NodeFirst;
+use crate::first_rounds::Spot;
+use crate::notes::{NodeNews, alike_to};
 use std::alloc::Global;
 use std::marker::Model;
-use tp_base::{Atom, NoMemory};
+use tp_base::{Atom, ClassSet, NoMemory};
 
-/// The firsts of one atom. A contract sees the list of them.
+/// Children of one node, from the first to the last, that came to have an atom in one round.
+#[derive(Clone, Copy, Debug, PartialEq, Eq)]
+pub(crate) struct Run {
+    pub(crate) parent: usize,
+    pub(crate) first: u32,
+    pub(crate) last: u32,
+    pub(crate) round: u64,
+}
+
+impl Run {
+    /// Whether the child is in the run.
+    pub(crate) fn covers(&self, spot: Spot) -> bool
+        ensures { result ≡ covers self.now spot }
+    {
+        self.parent == spot.parent && self.first <= spot.step && spot.step <= self.last
+    }
+
+    /// Whether the run ends before the child.
+    pub(crate) fn ends_before(&self, spot: Spot) -> bool
+        ensures { result ≡ ends_before self.now spot }
+    {
+        self.parent < spot.parent || (self.parent == spot.parent && self.last < spot.step)
+    }
+
+    // The run with these children, where they came in the same round and stand next to it.
+    fn with(self, kids: Run) -> Option<Run>
+        ensures { IfSome result (λ x. IsWith self kids x) }
+    {
+        if self.parent != kids.parent || self.round != kids.round {
+            return None;
+        }
+        if kids.first.saturating_sub(self.last) > 1 {
+            return None;
+        }
+        Some(Run {
+            parent: self.parent,
+            first: self.first,
+            last: kids.last,
+            round: self.round,
+        })
+    }
+}
+
+/// The firsts of one atom, in the order of the parents and their children. A contract sees the list of their runs.
 #[derive(Drop)]
 pub(crate) struct FirstRow {
-    items: Vec<NodeFirst>,
+    items: Vec<Run>,
 }
 
 impl Model for FirstRow {
     ghost use Rattle.std.specs.Prelude.{List};
-    ghost use Rattle.closed_page.specs.declared.first_rounds.NodeFirst.{NodeFirst};
+    ghost use Rattle.closed_page.specs.declared.first_rows.Run.{Run};
 
-    ghost Value = { List NodeFirst };
+    ghost Value = { List Run };
 
     ghost view = { λ r. r.items.items };
 }
 
 impl FirstRow {
-    // Puts the firsts in order, which takes no memory.
-    fn sort(&mut self)
-        ensures same { IsPermutation self.old self.new }
-        ensures sorted { IsSorted first_cmp self.new }
+    // Whether the last run takes in these children.
+    fn takes(&mut self, kids: Run) -> bool
+        requires ordered { AreOrdered self.old }
+        requires ends { AllEndBy self.old (start_of kids) }
+        requires filled { kids.first ≤ kids.last }
+        ensures taken { IsTrue result → IsPutIn self.old self.new kids }
+        ensures left { IsFalse result → self.new ≡ self.old }
     {
-        self.items.sort_unstable();
+        let count = self.items.len();
+        if count == 0 {
+            return false;
+        }
+        let last = self.items[count - 1];
+        match last.with(kids) {
+            Some(run) => {
+                self.items[count - 1] = run;
+                true
+            }
+            None => false,
+        }
+    }
+
+    // Puts in children that aren't before the others.
+    fn put(&mut self, kids: Run) -> Result<(), NoMemory>
+        requires ordered { AreOrdered self.old }
+        requires ends { AllEndBy self.old (start_of kids) }
+        requires filled { kids.first ≤ kids.last }
+        ensures { OnOk result (IsPutIn self.old self.new kids) }
+    {
+        if self.takes(kids) {
+            return Ok(());
+        }
+        self.items.push(kids)?;
+        Ok(())
     }
 }
 
@@ -47,50 +120,93 @@ fn reach(rows: &mut Vec<FirstRow>, alloc: Global, atom: Atom) -> Result<(), NoMe
     Ok(())
 }
 
-// Puts a first behind those of its atom. Linear in the atom's number, where it is the largest so far.
-fn put(rows: &mut Vec<FirstRow>, alloc: Global, first: NodeFirst) -> Result<(), NoMemory>
-    ensures { OnOk result (IsPut rows.old.items rows.new.items first) }
+// Puts children into the row of the atom. Linear in the atom's number, where it is the largest so far.
+fn put(rows: &mut Vec<FirstRow>, alloc: Global, atom: Atom, kids: Run) -> Result<(), NoMemory>
+    requires ordered { AreOrdered (row_at rows.old.items atom) }
+    requires ends { AllEndBy (row_at rows.old.items atom) (start_of kids) }
+    requires filled { kids.first ≤ kids.last }
+    ensures { OnOk result (IsPut rows.old.items rows.new.items atom kids) }
 {
-    reach(rows, alloc, first.atom)?;
-    let row = &mut rows[first.atom.0 as usize];
-    row.items.push(first)?;
+    reach(rows, alloc, atom)?;
+    let row = &mut rows[atom.0 as usize];
+    row.put(kids)?;
     Ok(())
 }
 
-// The firsts by their atoms, in the order in which they come.
-fn by_atoms(alloc: Global, firsts: Vec<NodeFirst>) -> Result<Vec<FirstRow>, NoMemory>
-    ensures { IfOk result (λ r. AreByAtom firsts.items r.items) }
+// Puts children into the rows of these atoms.
+fn put_all(
+    rows: &mut Vec<FirstRow>,
+    alloc: Global,
+    atoms: &ClassSet,
+    kids: Run,
+) -> Result<(), NoMemory>
+    requires sorted { AreSorted rows.old.items }
+    requires ended { AreEnded rows.old.items (start_of kids) }
+    requires filled { kids.first ≤ kids.last }
+    ensures sorted { OnOk result (AreSorted rows.new.items) }
+    ensures ended { OnOk result (AreEnded rows.new.items (end_of kids)) }
+    ensures rows { OnOk result ((fs : List NodeFirst) → AreByAtom fs rows.old.items → AreByAtomWith fs atoms.now kids rows.new.items) }
+{
+    for i in 0..atoms.len() {
+        put(rows, alloc, atoms.at(i), kids)?;
+    }
+    Ok(())
+}
+
+// The children of the notes from the i-th on, up to the one before the end.
+fn kids_of(notes: &[NodeNews], i: usize, end: usize) -> Run
+    requires { AreAlike notes.now i end }
+    ensures { IsRunOf notes.now i end result }
+{
+    Run {
+        parent: notes[i].spot.parent,
+        first: notes[i].spot.step,
+        last: notes[end - 1].spot.step,
+        round: notes[i].round,
+    }
+}
+
+// The firsts of these notes by their atoms.
+fn by_atoms(alloc: Global, notes: &[NodeNews]) -> Result<Vec<FirstRow>, NoMemory>
+    requires { IsSortedByKey (λ n. n.spot) spot_cmp notes.now }
+    ensures rows { IfOk result (λ r. AreByAtom (expanded notes.now) r.items) }
+    ensures sorted { IfOk result (λ r. AreSorted r.items) }
 {
     let mut rows = Vec::new(alloc);
-    for i in 0..firsts.len() {
-        put(&mut rows, alloc, firsts[i])?;
+    let mut i = 0;
+    'notes: while i < notes.len() {
+        let end = alike_to(notes, i);
+        let kids = kids_of(notes, i, end);
+        put_all(&mut rows, alloc, notes[i].atoms.set(), kids)?;
+        i = end;
     }
     Ok(rows)
 }
 
-// Puts each row in order.
-fn sort_each(rows: &mut Vec<FirstRow>)
-    ensures rows { (fs : List NodeFirst) → AreByAtom fs rows.old.items → AreByAtom fs rows.new.items }
-    ensures sorted { AreSorted rows.new.items }
+// Puts notes in the order of the nodes' parents, and of the children of each.
+fn in_order(notes: &mut Vec<NodeNews>)
+    ensures sorted { IsSortedByKey (λ n. n.spot) spot_cmp notes.new.items }
+    ensures back { (f : NodeFirst) → Contains (expanded notes.new.items) f → Contains (expanded notes.old.items) f }
+    ensures on { (f : NodeFirst) → Contains (expanded notes.old.items) f → Contains (expanded notes.new.items) f }
 {
-    for i in 0..rows.len() {
-        let row = &mut rows[i];
-        row.sort();
-    }
+    notes.sort_unstable_by_key(|note| note.spot);
 }
 
-/// The firsts by their atoms, each row in order. Linear in the firsts and the largest atom, but for the sorts of the rows.
-pub(crate) fn in_rows(alloc: Global, firsts: Vec<NodeFirst>) -> Result<Vec<FirstRow>, NoMemory>
-    ensures rows { IfOk result (λ r. AreByAtom firsts.items r.items) }
+/// The firsts of notes by their atoms, each row in order. It costs a sort of the notes, a comparison of each with the one
+/// before, and the largest atom; and for each run of children that came to have the same atoms in one round a few steps for
+/// each of these. It takes memory for each row, and for each run of children that came to have the atom in one round.
+pub(crate) fn in_rows(alloc: Global, notes: Vec<NodeNews>) -> Result<Vec<FirstRow>, NoMemory>
+    ensures rows { IfOk result (λ r. AreByAtom (expanded notes.items) r.items) }
     ensures sorted { IfOk result (λ r. AreSorted r.items) }
 {
-    let mut rows = by_atoms(alloc, firsts)?;
-    sort_each(&mut rows);
+    let mut ordered = notes;
+    in_order(&mut ordered);
+    let rows = by_atoms(alloc, &ordered)?;
     Ok(rows)
 }
 
 /// The firsts of an atom. Constant.
-pub(crate) fn row_of(rows: &[FirstRow], atom: Atom) -> &[NodeFirst]
+pub(crate) fn row_of(rows: &[FirstRow], atom: Atom) -> &[Run]
     ensures { result.now ≡ row_at rows.now atom }
 {
     match rows.get(atom.0 as usize) {

@@ -6,9 +6,11 @@ mod first_rounds;
 mod first_rows;
 mod gains;
 mod nodes;
+mod notes;
 mod page_labels;
-mod paths;
+mod shared_set;
 
 pub use closed::Closed;
 pub use gains::{Gain, apply_gains};
 pub use page_labels::PageLabels;
+pub use shared_set::SharedSet;

@@ -1,89 +1,194 @@
-//! The nodes of a page, found by their paths.
-ghost use Rattle.std.specs.Prelude.{◌≡◌, ◌<◌, ℕ, [], length, get_or, Contains, IfSome, IsNone, IfOk};
+//! The nodes of a page, by their numbers in the order of the document.
+ghost use Rattle.std.specs.Prelude.{◌≡◌, ◌<◌, ◌++◌, ◌∷◌, ℕ, List, [], Some, length, get_or, slice_get, reverse, Contains, ◌↔◌, IsTrue, IfSome, IsNone, IfOk};
+ghost use Rattle.tree_sem.specs.Trees.{LabelTree};
+ghost use Rattle.tree_sem.specs.Order.{paths_of};
+ghost use Rattle.row_index.specs.Rows.{row_of};
+ghost use Rattle.closed_page.specs.Labelled.{IsAbove, AreKids};
+ghost use Rattle.closed_page.specs.Numbered.{parent_told, AreTold, AreColumns};
 
-use crate::paths::same_path;
-use indexmap::IndexMap;
+use row_index::Index;
 use std::alloc::Global;
 use std::marker::Model;
 use tp_base::{NoMemory, Path};
 
-/// Paths, each found by a number that is worked out from it; of two paths with one number the later is found, and the
-/// other is sought. A contract sees the paths.
+/// Of each node the number of its parent, its step from there, and the numbers of its children; no path is kept. A contract
+/// sees the paths.
 #[derive(Drop)]
 pub(crate) struct PageNodes {
-    paths: Vec<Path>,
-    numbers: IndexMap<u64, usize>,
+    parents: Vec<Option<usize>>,
+    steps: Vec<u32>,
+    kids: Index,
 }
 
 impl Model for PageNodes {
     ghost use Rattle.std.specs.Prelude.{List, ℕ};
+    ghost use Rattle.closed_page.specs.Numbered.{paths_by, AreNumbered};
 
     ghost Value = { List (List ℕ) };
 
-    ghost view = { λ n. n.paths.items };
+    ghost view = { λ n. paths_by n.parents.items n.steps.items };
+
+    ghost invariant = { λ n. AreNumbered (paths_by n.parents.items n.steps.items) n.parents.items n.steps.items n.kids };
 }
 
 impl PageNodes {
-    /// Notes each path. Linear in their lengths, on average.
-    pub(crate) fn new(alloc: Global, paths: Vec<Path>) -> Result<PageNodes, NoMemory>
-        ensures { IfOk result (λ n. n ≡ paths.items) }
+    /// The nodes of a page, from the numbers of their parents, where the root's is of no account, and their steps. Linear in
+    /// them.
+    pub(crate) fn new(
+        alloc: Global,
+        numbers: &[usize],
+        steps: Vec<u32>,
+    ) -> Result<PageNodes, NoMemory>
+        requires { (t : LabelTree) × AreColumns t numbers.now steps.items }
+        ensures { IfOk result (λ n. (t : LabelTree) → AreColumns t numbers.now steps.items → n ≡ paths_of t) }
     {
-        let mut numbers = IndexMap::new(alloc);
-        for i in 0..paths.len() {
-            numbers.insert(key_of(&paths[i]), i)?;
+        let parents = told_parents(alloc, numbers)?;
+        let kids = Index::of_numbers(alloc, &parents)?;
+        Ok(PageNodes {
+            parents,
+            steps,
+            kids,
+        })
+    }
+
+    /// How many there are.
+    pub(crate) fn count(&self) -> usize
+        ensures { result ≡ length self.now }
+    {
+        self.parents.len()
+    }
+
+    /// The number of a node's parent.
+    pub(crate) fn parent(&self, number: usize) -> Option<usize>
+        requires { number < length self.now }
+        ensures above { IsAbove self.now (get_or self.now number []) result }
+        ensures before { IfSome result (λ p. p < number) }
+        ensures root { IsNone result → get_or self.now number [] ≡ [] }
+        ensures once { (i j : ℕ) → i < length self.now → j < length self.now → get_or self.now i [] ≡ get_or self.now j [] → i ≡ j }
+    {
+        self.parents[number]
+    }
+
+    /// The last step to a node; 0 for the root.
+    pub(crate) fn step(&self, number: usize) -> u32
+        requires { number < length self.now }
+        ensures { (v : List ℕ) (k : ℕ) → get_or self.now number [] ≡ v ++ k ∷ [] → result ≡ k }
+    {
+        self.steps[number]
+    }
+
+    /// The numbers of a node's children.
+    pub(crate) fn kids(&self, number: usize) -> &[usize]
+        requires { number < length self.now }
+        ensures { AreKids self.now number result.now }
+    {
+        self.kids.of(number)
+    }
+
+    /// The path of a node. Linear in its length.
+    pub(crate) fn path(&self, number: usize) -> Result<Path, NoMemory>
+        requires { number < length self.now }
+        ensures { IfOk result (λ p. p ≡ get_or self.now number []) }
+    {
+        let mut steps = self.steps_up(number)?;
+        let mut at = Path::root(*self.steps.allocator());
+        'steps: while let Some(step) = steps.pop() {
+            at.push(step)?;
         }
-        Ok(PageNodes { paths, numbers })
+        Ok(at)
     }
 
-    pub(crate) fn paths(&self) -> &[Path]
-        ensures { result.now ≡ self.now }
+    // The steps of a node's path, the last one first.
+    fn steps_up(&self, number: usize) -> Result<Vec<u32>, NoMemory>
+        requires { number < length self.now }
+        ensures { IfOk result (λ s. reverse s.items ≡ get_or self.now number []) }
     {
-        &self.paths
+        let mut steps = Vec::new(*self.steps.allocator());
+        let mut at = number;
+        'nodes: while let Some(parent) = self.parent(at) {
+            steps.push(self.step(at))?;
+            at = parent;
+        }
+        Ok(steps)
     }
 
-    /// The number of a path. Linear in its length, on average, where it is there.
+    /// The number of a path. Linear in its length where it is there, and else linear in the children of a node, too.
     pub(crate) fn number_of(&self, at: &Path) -> Option<usize>
         ensures some { IfSome result (λ i. (i < length self.now) × (get_or self.now i [] ≡ at.now)) }
         ensures none { IsNone result → ¬ Contains self.now at.now }
     {
-        match self.found_by_key(at) {
-            Some(number) => Some(number),
-            None => search(&self.paths, at),
+        let steps = self.steps.as_slice();
+        let mut found = 0;
+        'levels: for level in 0..at.len() {
+            found = child_of(&self.kids, steps, found, at.at(level))?;
         }
-    }
-
-    // The number that stands at the key of a path, if it is that of the path.
-    fn found_by_key(&self, at: &Path) -> Option<usize>
-        ensures { IfSome result (λ i. (i < length self.now) × (get_or self.now i [] ≡ at.now)) }
-    {
-        let number = *self.numbers.get(&key_of(at))?;
-        let path = self.paths.get(number)?;
-        if same_path(path, at) {
-            Some(number)
-        } else {
-            None
-        }
+        Some(found)
     }
 }
 
-// A number that tells most paths apart.
-fn key_of(at: &Path) -> u64 {
-    let mut key = at.len() as u64;
-    for i in 0..at.len() {
-        key = key.wrapping_mul(1_099_511_628_211) ^ at.at(i) as u64;
-    }
-    key
-}
-
-// The number of a path, by a look at each.
-fn search(paths: &[Path], at: &Path) -> Option<usize>
-    ensures some { IfSome result (λ i. (i < length paths.now) × (get_or paths.now i [] ≡ at.now)) }
-    ensures none { IsNone result → ¬ Contains paths.now at.now }
+// The number of a node's parent.
+fn told_parent(numbers: &[usize], i: usize) -> Option<usize>
+    requires { i < length numbers.now }
+    ensures { result ≡ parent_told numbers.now i }
 {
-    for i in 0..paths.len() {
-        if same_path(&paths[i], at) {
-            return Some(i);
+    if i == 0 { None } else { Some(numbers[i]) }
+}
+
+// The numbers of the nodes' parents.
+fn told_parents(alloc: Global, numbers: &[usize]) -> Result<Vec<Option<usize>>, NoMemory>
+    ensures { IfOk result (λ v. AreTold numbers.now v.items (length numbers.now)) }
+{
+    let mut parents = Vec::new(alloc);
+    for i in 0..numbers.len() {
+        parents.push(told_parent(numbers, i))?;
+    }
+    Ok(parents)
+}
+
+// Whether this is the step of a node.
+fn has_step(steps: &[u32], number: usize, step: u32) -> bool
+    ensures { IsTrue result ↔ (slice_get steps.now number ≡ Some step) }
+{
+    match steps.get(number) {
+        Some(own) => *own == step,
+        None => false,
+    }
+}
+
+// The number at the place of a step, if the step is that of its node.
+fn at_place(row: &[usize], steps: &[u32], step: u32) -> Option<usize>
+    ensures { IfSome result (λ c. Contains row.now c × (slice_get steps.now c ≡ Some step)) }
+{
+    let child = *row.get(step as usize)?;
+    if has_step(steps, child, step) {
+        Some(child)
+    } else {
+        None
+    }
+}
+
+// The number of which the node has this step, by a look at each.
+fn search(row: &[usize], steps: &[u32], step: u32) -> Option<usize>
+    ensures some { IfSome result (λ c. Contains row.now c × (slice_get steps.now c ≡ Some step)) }
+    ensures none { IsNone result → (c : ℕ) → Contains row.now c → ¬ (slice_get steps.now c ≡ Some step) }
+{
+    for i in 0..row.len() {
+        if has_step(steps, row[i], step) {
+            return Some(row[i]);
         }
     }
     None
+}
+
+// The number of a node's child that this step leads to. The children stand in their order, so that the child is at its
+// place among them.
+fn child_of(kids: &Index, steps: &[u32], number: usize, step: u32) -> Option<usize>
+    ensures some { IfSome result (λ c. Contains (row_of kids.now number) c × (slice_get steps.now c ≡ Some step)) }
+    ensures none { IsNone result → (c : ℕ) → Contains (row_of kids.now number) c → ¬ (slice_get steps.now c ≡ Some step) }
+{
+    let row = kids.of(number);
+    match at_place(row, steps, step) {
+        Some(child) => Some(child),
+        None => search(row, steps, step),
+    }
 }

@@ -1,107 +1,115 @@
 //! The labels of a page and their first rounds, by the numbers of its nodes in the order of the document.
-ghost use Rattle.std.specs.Prelude.{◌≡◌, ◌<◌, ◌⊎◌, ◌↔◌, ◌++◌, ◌^◌, ℕ, [], Some, None, length, get_or, IfOk, OnOk, OnErr, IfSome, IsSome, IsNone, List, Contains};
+ghost use Rattle.std.specs.Prelude.{◌≡◌, ◌<◌, ◌⊎◌, ◌↔◌, ◌++◌, ◌+◌, ◌^◌, ℕ, [], Some, None, length, get_or, IfOk, OnOk, IfSome, IsSome, IsNone, List, Contains};
 ghost use Rattle.tree_sem.specs.Trees.{node_at, label_at, edit_at};
-ghost use Rattle.tree_sem.specs.Nodes.{IsNode};
 ghost use Rattle.tree_sem.specs.Order.{paths_of};
 ghost use Rattle.tree_sem.specs.Actions.{add_classes};
 ghost use Rattle.std.specs.List.Sorted.{IsStrictlyIncreasing};
 ghost use Rattle.closed_page.specs.ClosedPages.{round_of};
 ghost use Rattle.closed_page.specs.Firsts.{AreOfNodes, IsSpotOf};
 ghost use Rattle.closed_page.specs.Gains.{label_in, firsts_at, starts};
+ghost use Rattle.closed_page.specs.Relabelled.{label_by, relabelled};
 ghost use Rattle.closed_page.specs.Views.{firsts_of};
-ghost use Rattle.closed_page.specs.Labelled.{node_of, IsAbove, AreKids, IsParentIn, AreKidsAll, IsHeard, IsCalled, AreAllAbove, AreAllLabels};
+ghost use Rattle.closed_page.specs.Labelled.{node_of, IsAbove, AreKids, IsParentIn, AreKidsAll, IsHeard, IsCalled, AreAllLabels, HaveLabels};
 
-use crate::first_rounds::{FirstRounds, NodeFirst, Spot, note, spot_of};
+use crate::first_rounds::{FirstRounds, Spot, spot_of};
 use crate::nodes::PageNodes;
-use crate::paths::{all_nodes, copies, is_step};
+use crate::notes::{NodeNews, note};
+use crate::shared_set::{SharedSet, copies, joined, shares};
+use node_marks::NumberedTree;
 use row_index::Index;
 use std::alloc::Global;
 use std::marker::Model;
 use tp_base::{ClassSet, NoMemory, Path};
-use tree_sem::{Tree, TreeFault};
+use tree_sem::Tree;
 
-/// A page, and for each node its label, the number of its parent, and those of its children; and the first rounds of the
-/// atoms, so far. A contract sees the tree, the paths of the nodes, and the firsts with these paths.
+/// A page as it was, the labels of its nodes by their numbers, and the first rounds of the atoms.
+#[derive(Drop)]
+pub(crate) struct PageParts {
+    pub(crate) tree: Tree,
+    pub(crate) own: Vec<SharedSet>,
+    pub(crate) firsts: FirstRounds,
+}
+
+/// A page as it was, its nodes by their numbers, the label of each now, and the first rounds of the atoms, so far. A contract
+/// sees the tree with the labels, the paths of the nodes, and the firsts with these paths.
 #[derive(Drop)]
 pub struct PageLabels {
     tree: Tree,
     nodes: PageNodes,
-    parents: Vec<Option<usize>>,
-    kids: Index,
-    own: Vec<ClassSet>,
-    firsts: Vec<NodeFirst>,
+    own: Vec<SharedSet>,
+    notes: Vec<NodeNews>,
 }
 
 impl Model for PageLabels {
     ghost use Rattle.closed_page.specs.Labelled.{Labelled, labelled_code, AreRelated};
-    ghost use Rattle.closed_page.specs.Firsts.{placed, AreSpots};
+    ghost use Rattle.closed_page.specs.Firsts.{placed};
+    ghost use Rattle.closed_page.specs.Notes.{expanded, AreAtSpots};
+    ghost use Rattle.closed_page.specs.Relabelled.{label_by, relabelled};
+    ghost use Rattle.std.specs.Prelude.{length};
 
     ghost Value = { Labelled };
 
     ghost coded = { labelled_code };
 
-    ghost view = { λ l. record { labels = l.tree; nodes = l.nodes; firsts = placed l.nodes l.firsts.items } };
+    ghost view = { λ l. record { labels = relabelled (label_by l.nodes l.own.items) l.tree; nodes = l.nodes; firsts = placed l.nodes (expanded l.notes.items); notes = length l.notes.items } };
 
-    ghost invariant = { λ l. AreRelated l.tree l.nodes l.parents.items l.kids l.own.items × AreSpots l.nodes l.firsts.items };
+    ghost invariant = { λ l. AreRelated (relabelled (label_by l.nodes l.own.items) l.tree) l.nodes l.own.items × AreAtSpots l.nodes l.notes.items };
 }
 
 impl PageLabels {
-    /// A page, with all its atoms as firsts of round 0. Linear in them and in the lengths of the nodes' paths, on average.
+    /// A page, with all its atoms as firsts of round 0. Linear in them and in the nodes.
     pub fn new(alloc: Global, page: &Tree) -> Result<PageLabels, NoMemory>
         ensures labels { IfOk result (λ l. l.labels ≡ page.now) }
         ensures nodes { IfOk result (λ l. l.nodes ≡ paths_of page.now) }
         ensures firsts { IfOk result (λ l. l.firsts ≡ starts page.now (paths_of page.now)) }
         ensures rising { OnOk result ((v : List ℕ) → Contains (paths_of page.now) v → IsStrictlyIncreasing (label_in page.now v)) }
-        ensures few { IfOk result (λ l. length l.firsts < 2 ^ 63) }
+        ensures few { IfOk result (λ l. l.notes < 2 ^ 63) }
     {
         let mut labels = PageLabels::numbered(alloc, page)?;
         let none = ClassSet::new(alloc);
-        let count = labels.paths().len();
+        let count = labels.count();
         for i in 0..count {
             labels.note_own(i, &none)?;
         }
         Ok(labels)
     }
 
-    // Numbers the nodes of a page, of which no firsts are noted yet. Linear in the lengths of their paths, on average.
+    // Numbers the nodes of a page, of which no firsts are noted yet. Linear in them.
     fn numbered(alloc: Global, page: &Tree) -> Result<PageLabels, NoMemory>
         ensures labels { IfOk result (λ l. l.labels ≡ page.now) }
         ensures nodes { IfOk result (λ l. l.nodes ≡ paths_of page.now) }
         ensures firsts { IfOk result (λ l. l.firsts ≡ []) }
     {
         let tree = page.copy()?;
-        let walk = all_nodes(alloc, page)?;
-        let own = walk.labels;
-        let nodes = PageNodes::new(alloc, walk.paths)?;
-        let parents = all_above(alloc, &nodes)?;
-        let kids = Index::of_numbers(alloc, &parents)?;
+        let columns = NumberedTree::new(alloc, page)?.into_columns();
+        let parents = columns.parents;
+        let steps = columns.steps;
+        let own = copies(alloc, &columns.labels)?;
+        let nodes = PageNodes::new(alloc, &parents, steps)?;
         Ok(PageLabels {
             tree,
             nodes,
-            parents,
-            kids,
             own,
-            firsts: Vec::new(alloc),
+            notes: Vec::new(alloc),
         })
     }
 
-    /// The paths of the nodes.
-    pub fn paths(&self) -> &[Path]
-        ensures { result.now ≡ self.now.nodes }
+    /// How many nodes there are.
+    pub fn count(&self) -> usize
+        ensures { result ≡ length self.now.nodes }
     {
-        self.nodes.paths()
+        self.nodes.count()
     }
 
-    /// The path of a node.
-    pub fn path(&self, number: usize) -> &Path
+    /// The path of a node. Linear in its length: it is made of the steps from the node up.
+    pub fn path(&self, number: usize) -> Result<Path, NoMemory>
         requires { number < length self.now.nodes }
-        ensures { result.now ≡ node_of self.now number }
+        ensures { IfOk result (λ p. p ≡ node_of self.now number) }
     {
-        let paths = self.nodes.paths();
-        &paths[number]
+        self.nodes.path(number)
     }
 
-    /// The number of a node. Linear in its path's length, on average, where the node is there.
+    /// The number of a node. Linear in its path's length where the node is there, and else linear in the children of a node, too.
     pub fn number_of(&self, at: &Path) -> Option<usize>
         ensures some { IfSome result (λ i. (i < length self.now.nodes) × (node_of self.now i ≡ at.now)) }
         ensures none { IsNone result → ¬ Contains self.now.nodes at.now }
@@ -114,7 +122,7 @@ impl PageLabels {
         ensures { IfOk result (λ v. (i : ℕ) → Contains v.items i ↔ (i < length self.now.nodes)) }
     {
         let mut numbers = Vec::new(alloc);
-        let count = self.paths().len();
+        let count = self.count();
         for i in 0..count {
             numbers.push(i)?;
         }
@@ -126,14 +134,14 @@ impl PageLabels {
         requires { number < length self.now.nodes }
         ensures { label_at (node_of self.now number) self.now.labels ≡ Some result.now }
     {
-        &self.own[number]
+        self.own[number].set()
     }
 
-    /// The label of each node, once more. Linear in the labels.
-    pub fn all_own(&self, alloc: Global) -> Result<Vec<ClassSet>, NoMemory>
+    /// The label of each node, once more. Linear in the nodes: the labels are shared.
+    pub fn all_own(&self, alloc: Global) -> Result<Vec<SharedSet>, NoMemory>
         ensures { IfOk result (λ v. AreAllLabels self.now.labels self.now.nodes v.items (length self.now.nodes)) }
     {
-        let labels = copies(alloc, &self.own)?;
+        let labels = shares(alloc, &self.own)?;
         Ok(labels)
     }
 
@@ -144,7 +152,7 @@ impl PageLabels {
         ensures whole { (v : List ℕ) → IsSome (node_at v self.now.labels) → Contains self.now.nodes v }
         ensures once { (i j : ℕ) → i < length self.now.nodes → j < length self.now.nodes → node_of self.now i ≡ node_of self.now j → i ≡ j }
     {
-        self.parents[number]
+        self.nodes.parent(number)
     }
 
     /// The numbers of a node's children.
@@ -153,7 +161,7 @@ impl PageLabels {
         ensures kids { AreKids self.now.nodes number result.now }
         ensures whole { (v : List ℕ) → IsSome (node_at v self.now.labels) → Contains self.now.nodes v }
     {
-        self.kids.of(number)
+        self.nodes.kids(number)
     }
 
     /// Adds the number of a node's parent to these, if there is a parent. Constant.
@@ -192,7 +200,7 @@ impl PageLabels {
         ensures heard { IfOk result (λ t. (c : ℕ) → c < length self.now.nodes → IsHeard self.now.nodes t c) }
     {
         let mut callers = Index::new(alloc);
-        let count = self.paths().len();
+        let count = self.count();
         for i in 0..count {
             self.call(alloc, i, &mut callers)?;
         }
@@ -204,24 +212,25 @@ impl PageLabels {
         requires { number < length self.now.nodes }
         ensures { IsSpotOf self.now.nodes (node_of self.now number) result }
     {
-        spot_of(&self.nodes, &self.parents, number)
+        spot_of(&self.nodes, number)
     }
 
     /// Notes those of these atoms that a node doesn't have as its firsts of a round.
     pub(crate) fn note(
         &mut self,
         number: usize,
-        label: &ClassSet,
+        label: &SharedSet,
         round: u64,
     ) -> Result<(), NoMemory>
         requires { number < length self.old.nodes }
         ensures labels { self.new.labels ≡ self.old.labels }
         ensures nodes { self.new.nodes ≡ self.old.nodes }
         ensures firsts { OnOk result (self.new.firsts ≡ self.old.firsts ++ firsts_at (node_of self.old number) (label_in self.old.labels (node_of self.old number)) label.now round) }
-        ensures few { length self.new.firsts < 2 ^ 63 }
+        ensures notes { OnOk result (self.new.notes ≡ self.old.notes + 1) }
+        ensures few { self.new.notes < 2 ^ 63 }
     {
         let spot = self.spot(number);
-        note(&mut self.firsts, spot, &self.own[number], label, round)
+        note(&mut self.notes, spot, self.own[number].set(), label, round)
     }
 
     // Notes all atoms of a node as its firsts of round 0.
@@ -232,116 +241,39 @@ impl PageLabels {
         ensures nodes { self.new.nodes ≡ self.old.nodes }
         ensures firsts { OnOk result (self.new.firsts ≡ self.old.firsts ++ firsts_at (node_of self.old number) [] (label_in self.old.labels (node_of self.old number)) 0) }
         ensures rising { IsStrictlyIncreasing (label_in self.old.labels (node_of self.old number)) }
-        ensures few { length self.new.firsts < 2 ^ 63 }
+        ensures few { self.new.notes < 2 ^ 63 }
     {
         let spot = self.spot(number);
-        note(&mut self.firsts, spot, none, &self.own[number], 0)
+        note(&mut self.notes, spot, none, &self.own[number], 0)
     }
 
-    /// Adds atoms to the label of a node. It costs the node's depth, too.
+    /// Adds atoms to the label of a node. Linear in the two labels; a few atoms cost a copy of the label, and a search of each
+    /// one's place.
     pub(crate) fn add(&mut self, number: usize, label: &ClassSet) -> Result<(), NoMemory>
         requires { number < length self.old.nodes }
         ensures labels { OnOk result (self.new.labels ≡ edit_at (node_of self.old number) (add_classes label.now) self.old.labels) }
         ensures nodes { OnOk result (self.new.nodes ≡ self.old.nodes) }
         ensures firsts { OnOk result (self.new.firsts ≡ self.old.firsts) }
+        ensures notes { OnOk result (self.new.notes ≡ self.old.notes) }
     {
-        let mut longer = self.own[number].copy()?;
-        longer.union(label)?;
-        widen(&mut self.tree, &self.nodes.paths()[number], label)?;
-        self.own[number] = longer;
+        let longer = joined(self.own[number].set(), label)?;
+        let own = SharedSet::new(longer)?;
+        self.own[number] = own;
         Ok(())
     }
 
-    /// The tree with the labels, and the firsts in their order.
-    pub(crate) fn into_rounds(self, alloc: Global) -> Result<(Tree, FirstRounds), NoMemory>
+    /// The page as it was, the labels by the numbers of the nodes, and the firsts by their atoms.
+    pub(crate) fn into_parts(self, alloc: Global) -> Result<PageParts, NoMemory>
         requires { AreOfNodes self.nodes self.firsts }
-        ensures tree { IfOk result (λ r. r.0 ≡ self.labels) }
-        ensures rounds { IfOk result (λ r. (v : List ℕ) (a : ℕ) → round_of r.1 v a ≡ round_of (firsts_of self.firsts) v a) }
+        ensures tree { IfOk result (λ r. relabelled (label_by r.firsts.nodes r.own.items) r.tree ≡ self.labels) }
+        ensures own { IfOk result (λ r. HaveLabels self.labels r.firsts.nodes r.own.items) }
+        ensures rounds { IfOk result (λ r. (v : List ℕ) (a : ℕ) → round_of r.firsts.firsts v a ≡ round_of (firsts_of self.firsts) v a) }
     {
-        let rounds = FirstRounds::new(alloc, self.nodes, self.parents, self.firsts)?;
-        Ok((self.tree, rounds))
+        let firsts = FirstRounds::new(alloc, self.nodes, self.notes)?;
+        Ok(PageParts {
+            tree: self.tree,
+            own: self.own,
+            firsts,
+        })
     }
-}
-
-// Adds atoms to the label of a node of the tree.
-fn widen(tree: &mut Tree, at: &Path, label: &ClassSet) -> Result<(), NoMemory>
-    requires { IsNode tree.old at.now }
-    ensures ok { OnOk result (tree.new ≡ edit_at at.now (add_classes label.now) tree.old) }
-    ensures err { OnErr result (tree.new ≡ tree.old) }
-{
-    match tree.add_classes(at, label) {
-        Ok(_) => Ok(()),
-        Err(TreeFault::Memory) => Err(NoMemory),
-        Err(_) => unreachable!(),
-    }
-}
-
-// A parent that stands before the node.
-fn earlier_parent(parents: &[Option<usize>], number: usize) -> Option<usize>
-    ensures { IfSome result (λ p. p < number) }
-{
-    match parents.get(number) {
-        Some(parent) => match *parent {
-            Some(parent) => { if parent < number { Some(parent) } else { None } }
-            None => None,
-        },
-        None => None,
-    }
-}
-
-// The number of the node above, among the node before and those above it.
-fn near_above(nodes: &PageNodes, parents: &[Option<usize>], number: usize) -> Option<usize>
-    requires { number < length nodes.now }
-    ensures { IfSome result (λ p. IsAbove nodes.now (get_or nodes.now number []) (Some p)) }
-{
-    let paths = nodes.paths();
-    let at = &paths[number];
-    let mut near = number.saturating_sub(1);
-    'nodes: while !is_step(&paths[near], at) {
-        match earlier_parent(parents, near) {
-            Some(parent) => near = parent,
-            None => return None,
-        }
-    }
-    Some(near)
-}
-
-// The number of the node above, by its path.
-fn searched_above(nodes: &PageNodes, number: usize) -> Result<Option<usize>, NoMemory>
-    requires { number < length nodes.now }
-    ensures { IfOk result (λ o. IsAbove nodes.now (get_or nodes.now number []) o) }
-{
-    let paths = nodes.paths();
-    let mut at = paths[number].copy()?;
-    match at.pop() {
-        Some(_) => Ok(nodes.number_of(&at)),
-        None => Ok(None),
-    }
-}
-
-// The number of the node above, where those of the nodes before are known. In the order of the document it is found without
-// a search.
-fn number_above(
-    nodes: &PageNodes,
-    parents: &[Option<usize>],
-    number: usize,
-) -> Result<Option<usize>, NoMemory>
-    requires { number < length nodes.now }
-    ensures { IfOk result (λ o. IsAbove nodes.now (get_or nodes.now number []) o) }
-{
-    match near_above(nodes, parents, number) {
-        Some(near) => Ok(Some(near)),
-        None => searched_above(nodes, number),
-    }
-}
-
-fn all_above(alloc: Global, nodes: &PageNodes) -> Result<Vec<Option<usize>>, NoMemory>
-    ensures { IfOk result (λ v. AreAllAbove nodes.now v.items (length nodes.now)) }
-{
-    let mut parents = Vec::new(alloc);
-    for i in 0..nodes.paths().len() {
-        let parent = number_above(nodes, &parents, i)?;
-        parents.push(parent)?;
-    }
-    Ok(parents)
 }

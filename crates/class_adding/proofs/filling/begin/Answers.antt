@@ -2,6 +2,7 @@ use Rattle.std.proofs.Common.{ℕ, List, Contains, sym, ap, ◌∙◌, subst}
 use Rattle.std.specs.List.Sorted.{IsStrictlyIncreasing}
 use Rattle.tree_sem.specs.Trees.{LabelTree}
 use Rattle.closed_page.specs.Gains.{label_in, starts}
+use Rattle.class_adding.specs.Alike.{AreAlike}
 use Rattle.class_adding.specs.Work.{IsStart}
 use Rattle.class_adding.proofs.filling.begin.Goals as goal
 
@@ -17,5 +18,6 @@ returns c =
       firsts = c.in_ok-labels.ensures.firsts ∙ ap (starts t) (sym all);
       few = c.in_ok-labels.ensures.few;
       rising = subst (λ (z : List (List ℕ)). (v : List ℕ) → Contains z v → IsStrictlyIncreasing (label_in t v)) (sym all) c.in_ok-labels.ensures.rising;
+      alike = subst (λ (z : LabelTree). AreAlike z nodes c.in_ok-alike.alike.items) same c.in_ok-alike.ensures;
       start = subst (λ (z : LabelTree). IsStart z nodes c.in_ok-work.work) same c.in_ok-work.ensures;
     }

@@ -1,4 +1,4 @@
-use Rattle.std.proofs.Common.{[], List, ℕ, get_or, unwrap_or, sym, ap, ◌≡◌, ◌<◌, length, Contains, arith, subst}
+use Rattle.std.proofs.Common.{[], List, ℕ, get_or, unwrap_or, sym, ap, ◌∙◌, ◌≡◌, ◌<◌, length, Contains, arith, subst}
 use Rattle.std.proofs.lemmas.List.{get_or_read}
 use Rattle.std.specs.List.Sorted.{IsStrictlyIncreasing}
 use Rattle.tp_base.proofs.ClassLemmas.{IsStrictlyIncreasing-union_of}
@@ -16,9 +16,9 @@ add_local-requires c =
     let number = c.args.number in
     let long : length fresh ≡ length c.args.filling.now.labels.nodes = c.requires.working.long in
     let less : number < length fresh = omega (arith, c.requires.number, long) in
-    let here : c.index-fresh-number.result ≡ get_or fresh number [] = rw c.as_slice-fresh.ensures.value at (get_or_read c.as_slice-fresh.result.now number c.index-fresh-number.result (omega (arith, less, ap (λ (z : List (List ℕ)). length z) c.as_slice-fresh.ensures.value)) c.index-fresh-number.is []) in
+    let here : c.set-here.result.now ≡ get_or fresh number [] = c.set-here.ensures ∙ rw c.as_slice-fresh.ensures.value at (get_or_read c.as_slice-fresh.result.now number c.index-fresh-number.result (omega (arith, less, ap (λ (z : List (List ℕ)). length z) c.as_slice-fresh.ensures.value)) c.index-fresh-number.is []) in
     let own : label_in c.args.filling.now.labels.labels (node_of c.args.filling.now.labels number) ≡ c.args.own.now = ap (λ o. unwrap_or o []) c.requires.own in
-    subst (λ (z : List ℕ). AreMet c.args.system.now.local z c.index-fresh-number.result) own
+    subst (λ (z : List ℕ). AreMet c.args.system.now.local z c.set-here.result.now) own
     (subst (λ (z : List ℕ). AreMet c.args.system.now.local (label_in c.args.filling.now.labels.labels (node_of c.args.filling.now.labels number)) z) (sym here) c.requires.settled.here)
 
 pub add_above-requires : goal.add_above-requires

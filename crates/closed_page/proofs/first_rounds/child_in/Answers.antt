@@ -1,15 +1,19 @@
-use Rattle.std.proofs.Common.{sym, ◌∙◌}
-use Rattle.closed_page.proofs.OrderLemmas.{no_child, child_here, under_true, under_false}
+use Rattle.std.proofs.Common.{get_or}
+use Rattle.std.proofs.lemmas.List.{get_or_default}
+use Rattle.closed_page.specs.declared.first_rows.Run.{Run}
+use Rattle.closed_page.proofs.RunLemmas.{no_child, child_here}
 use Rattle.closed_page.proofs.first_rounds.child_in.Goals as goal
 
-pub returns-then-not-is_under : goal.returns-then-not-is_under
-returns-then-not-is_under c =
-    let x = c.index-firsts-i.result in
-    no_child c.args.firsts.now c.requires c.args.parent c.args.atom c.args.round c.children.i c.children.invariant x (λ less.
-    (c.index-firsts-i.is, under_false x c.args.parent c.args.atom (sym c.if-not-is_under.true ∙ c.is_under.ensures)))
+pub returns-then-run-parent : goal.returns-then-run-parent
+returns-then-run-parent c =
+    let row = c.args.row.now in
+    let none : Run = record { parent = 0; first = 0; last = 0; round = 0 } in
+    let x = get_or row c.children.i none in
+    no_child row c.requires c.args.parent c.args.round c.children.i c.children.invariant x (λ less. (get_or_default row c.children.i none x less, c.if-run-parent.true))
 
-pub returns-then-first-round : goal.returns-then-first-round
-returns-then-first-round c =
-    let x = c.index-firsts-i.result in
-    let same = under_true x c.args.parent c.args.atom (sym c.if-not-is_under.false ∙ c.is_under.ensures) in
-    child_here c.args.firsts.now c.requires c.args.parent c.args.atom c.args.round c.children.i c.children.invariant x c.children-test.true c.index-firsts-i.is same.0 same.1 c.if-first-round.true
+pub returns-then-run-round : goal.returns-then-run-round
+returns-then-run-round c =
+    let row = c.args.row.now in
+    let none : Run = record { parent = 0; first = 0; last = 0; round = 0 } in
+    let x = get_or row c.children.i none in
+    child_here row c.requires c.args.parent c.args.round c.children.i c.children.invariant x c.children-test.true (get_or_default row c.children.i none x c.children-test.true) c.if-run-parent.false c.if-run-round.true

@@ -1,5 +1,5 @@
 use Rattle.std.proofs.Common.{◌≡◌, ◌+◌, ◌-◌, ℕ, length}
-use Rattle.closed_page.specs.Firsts.{row_at}
+use Rattle.closed_page.specs.Runs.{row_at}
 use Rattle.closed_page.proofs.first_rows.reach.Given as goal
 
 abbrev pub invariant-rows : goal.invariant-rows

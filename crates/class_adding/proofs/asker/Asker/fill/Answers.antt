@@ -31,6 +31,9 @@ look_at_all-requires-clause-nodes g c =
 pub look_at_all-requires-clause-working : goal.look_at_all-requires-clause-working
 look_at_all-requires-clause-working g c = c.rounds.invariant.filled.working
 
+pub look_at_all-requires-clause-alike : goal.look_at_all-requires-clause-alike
+look_at_all-requires-clause-alike g c = c.rounds.invariant.filled.alike
+
 pub look_at_all-requires-clause-settled : goal.look_at_all-requires-clause-settled
 look_at_all-requires-clause-settled g c =
     let labels = c.rounds.filling.labels in

@@ -34,6 +34,7 @@ look_once-requires-clause-may g c =
     record {
       within = less;
       working = c.requires.working;
+      alike = c.requires.alike;
       settled = subst (λ (z : System). IsSettled z u nodes c.args.filling.now.work.fresh.items number) (sym same) (c.requires.settled number less);
       resting = subst (λ (z : System). IsResting z c.args.k (g.S.Summaries.known c.nodes.self.sums.now) (label_in u (get_or nodes number [])) (get_or c.args.filling.now.work.fresh.items number []) (wake_at c.args.filling.now.work.wakes.items number)) (sym same)
           (resting_more s u c.args.k (g.S.Summaries.known c.args.self.now.sums.now) (g.S.Summaries.known c.nodes.self.sums.now) nodes c.args.filling.now.work.fresh.items c.args.filling.now.work.wakes.items number _ c.requires.resting less refl c.nodes.invariant.went.kept);

@@ -5,8 +5,8 @@ use Rattle.class_adding.proofs.WentLemmas.{went_start}
 use Rattle.class_adding.proofs.AlikeLemmas.{taken_over, again}
 use Rattle.class_adding.proofs.asker.Asker.look_on.Goals as goal
 
-pub look_before-requires-clause-numbers : goal.look_before-requires-clause-numbers
-look_before-requires-clause-numbers g c = λ l there. (c.requires.looks.1 l there).within
+pub look_before-requires-clause-alike : goal.look_before-requires-clause-alike
+look_before-requires-clause-alike g c = c.requires.may.alike
 
 pub returns-in_err-before-clause-went : goal.returns-in_err-before-clause-went
 returns-in_err-before-clause-went g c = went_start g.S.Summaries (Asks c.args.self.now.system.now (label_in c.args.filling.now.labels.labels (node_of c.args.filling.now.labels c.args.number))) c.args.self.now c.requires.may.ready

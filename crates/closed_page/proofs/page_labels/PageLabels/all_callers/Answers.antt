@@ -1,9 +1,9 @@
-use Rattle.std.proofs.Common.{length, ap, arith}
+use Rattle.std.proofs.Common.{arith}
 use Rattle.closed_page.proofs.CallLemmas.{heard_next, kids_none}
 use Rattle.closed_page.proofs.page_labels.PageLabels.all_callers.Goals as goal
 
 pub loop-i-init : goal.loop-i-init
-loop-i-init c = record { only = kids_none c.args.self.now.nodes c.new-callers.result c.new-callers.ensures; heard = λ d less. absurd (omega arith); count = omega (arith, ap length c.paths-count.ensures) }
+loop-i-init c = record { only = kids_none c.args.self.now.nodes c.new-callers.result c.new-callers.ensures; heard = λ d less. absurd (omega arith); count = c.count-count.ensures }
 
 pub call-requires : goal.call-requires
 call-requires c = omega (arith, c.loop-i-test.true, c.loop-i.invariant.count)

@@ -1,4 +1,4 @@
-use Rattle.std.proofs.Common.{List, ℕ, length, Contains, ap, subst, arith}
+use Rattle.std.proofs.Common.{List, ℕ, length, Contains, subst, arith}
 use Rattle.tp_base.proofs.Rising.{Contains-none}
 use Rattle.closed_page.proofs.CallLemmas.{number_within, number_more}
 use Rattle.closed_page.proofs.page_labels.PageLabels.all_numbers.Goals as goal
@@ -7,7 +7,7 @@ pub loop-i-init : goal.loop-i-init
 loop-i-init c = record {
   within = λ j there. absurd (Contains-none j (subst (λ (z : List ℕ). Contains z j) c.new-numbers.ensures.items there));
   whole = λ j less. absurd (omega arith);
-  count = omega (arith, ap length c.paths-count.ensures);
+  count = c.count-count.ensures;
 }
 
 pub loop-i-preserved : goal.loop-i-preserved

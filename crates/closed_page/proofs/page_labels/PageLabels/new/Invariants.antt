@@ -10,6 +10,6 @@ invariant-loop-i l = record {
   nodes : l.labels.nodes ≡ paths_of l.page;
   firsts : l.labels.firsts ≡ [] ++ starts l.page (take l.i (paths_of l.page));
   rising : (v : List ℕ) → Contains (take l.i (paths_of l.page)) v → IsStrictlyIncreasing (label_in l.page v);
-  few : length l.labels.firsts < 2 ^ 63;
+  few : l.labels.notes < 2 ^ 63;
   count : l.count ≡ length (paths_of l.page);
 }

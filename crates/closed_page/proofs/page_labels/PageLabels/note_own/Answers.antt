@@ -4,7 +4,7 @@ use Rattle.tree_sem.specs.Trees.{label_at}
 use Rattle.closed_page.specs.Gains.{label_in}
 use Rattle.closed_page.specs.Labelled.{Labelled, AreRelated, node_of}
 use Rattle.closed_page.specs.Firsts.{IsSpotOf}
-use Rattle.closed_page.proofs.GainLemmas.{noted}
+use Rattle.closed_page.proofs.NoteLemmas.{noted}
 use Rattle.closed_page.proofs.page_labels.PageLabels.note_own.Goals as goal
 
 pub invariant_of-self : goal.invariant_of-self
@@ -19,9 +19,9 @@ returns-clause-firsts c =
     let n = c.self.inside in
     let l = c.args.self.now in
     let v = node_of l c.args.number in
-    let is = subst (λ (z : Labelled). AreRelated z.labels z.nodes n.parents.items n.kids n.own.items) c.self.view_is c.self.invariant.0 in
+    let is = subst (λ (z : Labelled). AreRelated z.labels z.nodes n.own.items) c.self.view_is c.self.invariant.0 in
     let count = is.labels.count in
     let here : label_at v l.labels ≡ Some c.index.result.now = is.labels.each c.args.number c.requires.number ∙ ap Some (sym (get_or_read n.own.items c.args.number c.index.result.now (omega (arith, count, c.requires.number)) c.index.ensures [])) in
     let own : c.index.result.now ≡ label_in l.labels v = sym (ap (λ o. unwrap_or o []) here) in
-    noted l n.nodes n.firsts.items c.note.new.firsts.items c.spot-spot.result v c.args.none.now [] c.index.result.now (label_in l.labels v) 0 c.note.result (ap (λ (z : Labelled). z.nodes) c.self.view_is) (ap (λ (z : Labelled). z.firsts) c.self.view_is) c.spot-spot.ensures
-    c.requires.none own c.note.ensures.firsts
+    noted l n.nodes n.notes.items c.note.new.notes.items c.spot-spot.result v c.args.none.now [] c.index.result.now (label_in l.labels v) 0 c.note.result (ap (λ (z : Labelled). z.nodes) c.self.view_is) (ap (λ (z : Labelled). z.firsts) c.self.view_is) c.spot-spot.ensures
+    c.requires.none own c.note.ensures.noted

@@ -1,20 +1,49 @@
-use Rattle.std.proofs.Common.{List, ℕ, Option, length, Contains, sym, ◌∙◌, subst}
-use Rattle.tree_sem.specs.Trees.{LabelTree}
+use Rattle.std.proofs.Common.{List, ℕ, Contains, map, sym, ap, ◌∙◌, subst}
 use Rattle.tp_base.proofs.Rising.{Contains-none}
-use Rattle.row_index.specs.Rows.{AreByNumber}
-use Rattle.closed_page.specs.declared.first_rounds.NodeFirst.{NodeFirst}
-use Rattle.closed_page.specs.Labelled.{AreRelated, AreAllLabels}
-use Rattle.closed_page.proofs.LabelledLemmas.{related_page}
+use Rattle.tree_sem.specs.Trees.{LabelTree}
+use Rattle.node_marks.specs.Numbering.{IsNumbering}
+use Rattle.closed_page.specs.declared.notes.NodeNews.{NodeNews}
+use Rattle.closed_page.specs.Labelled.{AreRelated}
+use Rattle.closed_page.proofs.LabelledLemmas.{related_columns}
+use Rattle.closed_page.proofs.RelabelledLemmas.{labels_kept}
 use Rattle.closed_page.proofs.page_labels.PageLabels.numbered.Goals as goal
+
+pub new-requires-2 : goal.new-requires-2
+new-requires-2 c =
+    let columns = c.into_columns-columns.result in
+    let labels : List (List ℕ) = map (λ b. b.now) columns.labels.items in
+    let is = subst (λ (z : LabelTree). IsNumbering z columns.parents.items columns.steps.items labels) c.in_ok-new.ensures c.into_columns-columns.ensures in
+    (c.args.page.now, (labels, subst (λ (z : List ℕ). IsNumbering c.args.page.now z columns.steps.items labels) (sym c.deref-2.ensures.value) is))
 
 pub invariant_of-result : goal.invariant_of-result
 invariant_of-result c =
-    let nodes = c.in_ok-nodes.nodes in
-    let parents = c.in_ok-parents.parents.items in
-    let kids = c.in_ok-kids.kids in
-    let own = c.in_ok-walk.walk.labels.items in
-    let related = subst (λ (z : LabelTree). AreRelated z nodes parents kids own) (sym c.in_ok-tree.ensures)
-    (related_page c.args.page.now nodes parents kids own (c.in_ok-nodes.ensures ∙ c.in_ok-walk.ensures.paths) c.in_ok-parents.ensures
-    (subst (λ (z : List (Option ℕ)). AreByNumber z kids) c.deref.ensures.value c.in_ok-kids.ensures)
-    (subst (λ (z : List (List ℕ)). AreAllLabels c.args.page.now z own (length z)) (sym c.in_ok-nodes.ensures) c.in_ok-walk.ensures.labels)) in
-    (related, λ f there. absurd (Contains-none f (subst (λ (z : List NodeFirst). Contains z f) c.new-2.ensures.items there)))
+    let t = c.args.page.now in
+    let columns = c.into_columns-columns.result in
+    let labels : List (List ℕ) = map (λ b. b.now) columns.labels.items in
+    let is = subst (λ (z : LabelTree). IsNumbering z columns.parents.items columns.steps.items labels) c.in_ok-new.ensures c.into_columns-columns.ensures in
+    let nodes = c.in_ok-nodes.ensures t (labels, subst (λ (z : List ℕ). IsNumbering t z columns.steps.items labels) (sym c.deref-2.ensures.value) is) in
+    let related = related_columns t c.in_ok-tree.tree columns.parents.items columns.steps.items labels c.in_ok-nodes.nodes c.in_ok-own.own.items is c.in_ok-tree.ensures nodes
+    (c.in_ok-own.ensures ∙ ap (map (λ b. b.now)) c.deref.ensures.value) in (
+      subst (λ (z : LabelTree). AreRelated z c.in_ok-nodes.nodes c.in_ok-own.own.items) (sym (labels_kept c.in_ok-tree.tree c.in_ok-nodes.nodes c.in_ok-own.own.items related)) related,
+      λ f there. absurd (Contains-none f (subst (λ (z : List NodeNews). Contains z f) c.new-3.ensures.items there)),
+    )
+
+pub returns-clause-labels : goal.returns-clause-labels
+returns-clause-labels c =
+    let t = c.args.page.now in
+    let columns = c.into_columns-columns.result in
+    let labels : List (List ℕ) = map (λ b. b.now) columns.labels.items in
+    let is = subst (λ (z : LabelTree). IsNumbering z columns.parents.items columns.steps.items labels) c.in_ok-new.ensures c.into_columns-columns.ensures in
+    let nodes = c.in_ok-nodes.ensures t (labels, subst (λ (z : List ℕ). IsNumbering t z columns.steps.items labels) (sym c.deref-2.ensures.value) is) in
+    let related = related_columns t c.in_ok-tree.tree columns.parents.items columns.steps.items labels c.in_ok-nodes.nodes c.in_ok-own.own.items is c.in_ok-tree.ensures nodes
+    (c.in_ok-own.ensures ∙ ap (map (λ b. b.now)) c.deref.ensures.value) in
+    labels_kept c.in_ok-tree.tree c.in_ok-nodes.nodes c.in_ok-own.own.items related ∙ c.in_ok-tree.ensures
+
+pub returns-clause-nodes : goal.returns-clause-nodes
+returns-clause-nodes c =
+    let t = c.args.page.now in
+    let columns = c.into_columns-columns.result in
+    let labels : List (List ℕ) = map (λ b. b.now) columns.labels.items in
+    let is = subst (λ (z : LabelTree). IsNumbering z columns.parents.items columns.steps.items labels) c.in_ok-new.ensures c.into_columns-columns.ensures in
+    let nodes = c.in_ok-nodes.ensures t (labels, subst (λ (z : List ℕ). IsNumbering t z columns.steps.items labels) (sym c.deref-2.ensures.value) is) in
+    nodes

@@ -1,25 +1,21 @@
-use Rattle.std.proofs.Common.{None, sym, arith, subst}
-use Rattle.std.proofs.lemmas.List.{get_or_read}
-use Rattle.closed_page.specs.Labelled.{Labelled, AreRelated, IsAbove, node_of}
-use Rattle.closed_page.proofs.LabelledLemmas.{above_is}
+use Rattle.std.proofs.Common.{◌<◌, [], length, get_or, sym, subst}
+use Rattle.closed_page.specs.Labelled.{Labelled, AreRelated, IsAbove}
 use Rattle.closed_page.proofs.page_labels.PageLabels.parent.Goals as goal
 
+pub parent-requires : goal.parent-requires
+parent-requires c = subst (λ (z : Labelled). c.args.number < length z.nodes) (sym c.self.view_is) c.requires
+
 pub returns-clause-above : goal.returns-clause-above
-returns-clause-above c =
-    let n = c.self.inside in
-    let is = subst (λ (z : Labelled). AreRelated z.labels z.nodes n.parents.items n.kids n.own.items) c.self.view_is c.self.invariant.0 in
-    let count = is.above.count in
-    let here = sym (get_or_read n.parents.items c.args.number c.index.result.now (omega (arith, count, c.requires)) c.index.ensures None) in
-    subst (IsAbove c.args.self.now.nodes (node_of c.args.self.now c.args.number)) here (above_is c.args.self.now.labels c.args.self.now.nodes n.parents.items n.kids n.own.items is c.args.number c.requires)
+returns-clause-above c = subst (λ (z : Labelled). IsAbove z.nodes (get_or z.nodes c.args.number []) c.parent.result) c.self.view_is c.parent.ensures.above
 
 pub returns-clause-whole : goal.returns-clause-whole
 returns-clause-whole c =
     let n = c.self.inside in
-    let is = subst (λ (z : Labelled). AreRelated z.labels z.nodes n.parents.items n.kids n.own.items) c.self.view_is c.self.invariant.0 in
+    let is = subst (λ (z : Labelled). AreRelated z.labels z.nodes n.own.items) c.self.view_is c.self.invariant.0 in
     is.whole
 
 pub returns-clause-once : goal.returns-clause-once
 returns-clause-once c =
     let n = c.self.inside in
-    let is = subst (λ (z : Labelled). AreRelated z.labels z.nodes n.parents.items n.kids n.own.items) c.self.view_is c.self.invariant.0 in
+    let is = subst (λ (z : Labelled). AreRelated z.labels z.nodes n.own.items) c.self.view_is c.self.invariant.0 in
     is.once

@@ -1,0 +1,43 @@
+-- The nodes of a page by their numbers: of each the number of its parent, if it has one, and its step from there.
+--     path_next before o s        the path to which the step s leads from the node o of those before; the root's where there is none
+--     paths_up parents steps n    the paths of the first n nodes
+--     paths_by parents steps      those of all
+--     AreNumbered nodes ..        the nodes at these paths have such parents, steps and children; the root stands first
+--     parent_told numbers i       the number of the i-th node's parent, where the root's is of no account
+--     AreTold numbers told n      these are the parents of the first n nodes
+--     AreColumns t numbers steps  the parents and steps are those of the nodes of t
+use Rattle.std.specs.Prelude.{◌≡◌, ℕ, zero, suc, ◌<◌, List, [], ◌∷◌, ◌++◌, Option, Some, None, length, get_or}
+use Rattle.tree_sem.specs.Trees.{LabelTree}
+use Rattle.row_index.specs.Rows.{AreByNumber}
+use Rattle.node_marks.specs.Numbering.{IsNumbering}
+
+abbrev pub path_next : List (List ℕ) → Option ℕ → ℕ → List ℕ
+path_next before None s = []
+path_next before (Some p) s = get_or before p [] ++ s ∷ []
+
+unfoldable pub paths_up : List (Option ℕ) → List ℕ → ℕ → List (List ℕ)
+paths_up parents steps zero = []
+paths_up parents steps (suc n) = paths_up parents steps n ++ path_next (paths_up parents steps n) (get_or parents n None) (get_or steps n 0) ∷ []
+
+abbrev pub paths_by : List (Option ℕ) → List ℕ → List (List ℕ)
+paths_by parents steps = paths_up parents steps (length parents)
+
+pub record AreNumbered (nodes : List (List ℕ)) (parents : List (Option ℕ)) (steps : List ℕ) (kids : List (List ℕ)) : Type 0 where
+  pub some : 0 < length nodes
+  pub parents_count : length parents ≡ length nodes
+  pub steps_count : length steps ≡ length nodes
+  pub root : (i : ℕ) → i < length nodes → get_or parents i None ≡ None → get_or nodes i [] ≡ []
+  pub above : (i p : ℕ) → i < length nodes → get_or parents i None ≡ Some p → (p < i) × (get_or nodes i [] ≡ get_or nodes p [] ++ get_or steps i 0 ∷ [])
+  pub once : (i j : ℕ) → i < length nodes → j < length nodes → get_or nodes i [] ≡ get_or nodes j [] → i ≡ j
+  pub below : AreByNumber parents kids
+
+abbrev pub parent_told : List ℕ → ℕ → Option ℕ
+parent_told numbers zero = None
+parent_told numbers (suc i) = Some (get_or numbers (suc i) 0)
+
+pub record AreTold (numbers : List ℕ) (told : List (Option ℕ)) (n : ℕ) : Type 0 where
+  pub count : length told ≡ n
+  pub each : (i : ℕ) → i < n → get_or told i None ≡ parent_told numbers i
+
+abbrev pub AreColumns : LabelTree → List ℕ → List ℕ → Type 0
+AreColumns t numbers steps = (labels : List (List ℕ)) × IsNumbering t numbers steps labels
