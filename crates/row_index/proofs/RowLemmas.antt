@@ -1,23 +1,31 @@
--- Places in a list, by a key that stands there.
-use Rattle.std.proofs.Common.{◌≡◌, ◌⊎◌, ℕ, List, [], ◌∷◌, Contains, sym, inl, inr, arith, subst}
-use Rattle.std.proofs.lemmas.Bool.{cases_order}
+-- A value noted at a key.
+use Rattle.std.proofs.Common.{◌≡◌, ◌⊎◌, ℕ, ◌==◌, if◌then◌else◌, List, [], ◌∷◌, ◌++◌, Contains, sym, ap, ◌∙◌, inl, inr, arith, subst}
+use Rattle.std.proofs.lemmas.Bool.{cases_Bool, cases_order, eqb-true, eq-eqb}
 use Rattle.std.proofs.lemmas.List.Elements.{Contains-append_left, Contains-append_cases}
 use Rattle.tp_base.proofs.Lists.{Contains-only}
 use Rattle.row_index.specs.Rows.{row_of, IsNoted}
 
-pub noted_kept : (old new : List (List ℕ)) (key place : ℕ) → IsNoted old new key place → (k j : ℕ) → Contains (row_of old k) j → Contains (row_of new k) j
-noted_kept old new key place noted k j there = elim (cases_order k key) [
-  | inl same ↦ subst (λ z. Contains (row_of new z) j) (sym same) (subst (λ (z : List ℕ). Contains z j) (sym noted.here) (Contains-append_left (row_of old key) (place ∷ []) j (subst (λ z. Contains (row_of old z) j) same there)))
-  | inr (inl less) ↦ subst (λ (z : List ℕ). Contains z j) (sym (noted.others k (λ e. omega arith))) there
-  | inr (inr more) ↦ subst (λ (z : List ℕ). Contains z j) (sym (noted.others k (λ e. omega arith))) there
-]
-
-pub noted_cases : (old new : List (List ℕ)) (key place : ℕ) → IsNoted old new key place → (k j : ℕ) → Contains (row_of new k) j → Contains (row_of old k) j ⊎ ((k ≡ key) × (j ≡ place))
-noted_cases old new key place noted k j there = elim (cases_order k key) [
-  | inl same ↦ elim (Contains-append_cases (row_of old key) (place ∷ []) j (subst (λ (z : List ℕ). Contains z j) noted.here (subst (λ z. Contains (row_of new z) j) same there))) [
-    | inl before ↦ inl (subst (λ z. Contains (row_of old z) j) (sym same) before)
-    | inr now ↦ inr (same, sym (Contains-only place j now))
+module _ {V : Type 0} (old new : List (List V)) (key : ℕ) (x : V) (noted : IsNoted old new key x) where
+  pub noted_kept : (k : ℕ) (y : V) → Contains (row_of old k) y → Contains (row_of new k) y
+  noted_kept k y there = elim (cases_order k key) [
+    | inl same ↦ subst (λ z. Contains (row_of new z) y) (sym same) (subst (λ (z : List V). Contains z y) (sym noted.here) (Contains-append_left (row_of old key) (x ∷ []) y (subst (λ z. Contains (row_of old z) y) same there)))
+    | inr (inl less) ↦ subst (λ (z : List V). Contains z y) (sym (noted.others k (λ e. omega arith))) there
+    | inr (inr more) ↦ subst (λ (z : List V). Contains z y) (sym (noted.others k (λ e. omega arith))) there
   ]
-  | inr (inl less) ↦ inl (subst (λ (z : List ℕ). Contains z j) (noted.others k (λ e. omega arith)) there)
-  | inr (inr more) ↦ inl (subst (λ (z : List ℕ). Contains z j) (noted.others k (λ e. omega arith)) there)
-]
+
+  pub noted_cases : (k : ℕ) (y : V) → Contains (row_of new k) y → Contains (row_of old k) y ⊎ ((k ≡ key) × (y ≡ x))
+  noted_cases k y there = elim (cases_order k key) [
+    | inl same ↦ elim (Contains-append_cases (row_of old key) (x ∷ []) y (subst (λ (z : List V). Contains z y) noted.here (subst (λ z. Contains (row_of new z) y) same there))) [
+      | inl before ↦ inl (subst (λ z. Contains (row_of old z) y) (sym same) before)
+      | inr now ↦ inr (same, sym (Contains-only x y now))
+    ]
+    | inr (inl less) ↦ inl (subst (λ (z : List V). Contains z y) (noted.others k (λ e. omega arith)) there)
+    | inr (inr more) ↦ inl (subst (λ (z : List V). Contains z y) (noted.others k (λ e. omega arith)) there)
+  ]
+
+  -- what stands at any key
+  pub noted_at : (k : ℕ) → row_of new k ≡ (if key == k then row_of old key ++ x ∷ [] else row_of old k)
+  noted_at k = elim (cases_Bool (key == k)) [
+    | inl here ↦ rw here (ap (row_of new) (sym (eqb-true key k here)) ∙ noted.here)
+    | inr other ↦ rw other (noted.others k (λ same. let yes = eq-eqb key k (sym same) in cc))
+  ]

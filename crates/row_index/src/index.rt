@@ -1,4 +1,4 @@
-//! Places in a list, by a key that stands there.
+//! For each key a row of values: places in a list, say, by a key that stands there.
 ghost use Rattle.std.specs.Prelude.{◌≡◌, ◌≢◌, ◌<◌, ℕ, [], None, length, get_or, IfOk, OnOk};
 ghost use Rattle.row_index.specs.Rows.{row_of, IsNoted, IsNotedIf, AreByNumber};
 
@@ -6,57 +6,49 @@ use std::alloc::Global;
 use std::marker::Model;
 use tp_base::NoMemory;
 
-/// Places in a list. A contract sees the list of them.
+/// Values in their order. A contract sees the list of them.
 #[derive(Drop)]
-pub(crate) struct Places {
-    items: Vec<usize>,
+pub(crate) struct Row<V> {
+    items: Vec<V>,
 }
 
-impl Model for Places {
-    ghost use Rattle.std.specs.Prelude.{List, ℕ};
+impl<V> Model for Row<V> {
+    ghost use Rattle.std.specs.Prelude.{List};
 
-    ghost Value = { List ℕ };
+    ghost Value = { List V };
 
-    ghost view = { λ p. p.items.items };
+    ghost view = { λ r. r.items.items };
 }
 
-/// For each key the places that stand there. A contract sees the rows, by their keys.
+/// For each key a row of values. A contract sees the rows, by their keys.
 #[derive(Drop)]
-pub struct Index {
-    rows: Vec<Places>,
+pub struct Rows<V> {
+    rows: Vec<Row<V>>,
 }
 
-impl Model for Index {
-    ghost use Rattle.std.specs.Prelude.{List, ℕ};
+impl<V> Model for Rows<V> {
+    ghost use Rattle.std.specs.Prelude.{List};
 
-    ghost Value = { List (List ℕ) };
+    ghost Value = { List (List V) };
 
     ghost view = { λ t. t.rows.items };
 }
 
-impl Index {
-    /// No place at any key.
-    pub fn new(alloc: Global) -> Index
+/// For each key the places that stand there.
+pub type Index = Rows<usize>;
+
+impl<V: Drop> Rows<V> {
+    /// No value at any key.
+    pub fn new(alloc: Global) -> Rows<V>
         ensures { result ≡ [] }
     {
-        Index {
+        Rows {
             rows: Vec::new(alloc),
         }
     }
 
-    /// Places in a list of numbers, by the numbers that stand there.
-    pub fn of_numbers(alloc: Global, numbers: &[Option<usize>]) -> Result<Index, NoMemory>
-        ensures { IfOk result (λ t. AreByNumber numbers.now t) }
-    {
-        let mut index = Index::new(alloc);
-        for i in 0..numbers.len() {
-            index.note_number(alloc, numbers, i)?;
-        }
-        Ok(index)
-    }
-
-    /// The places at a key. Constant.
-    pub fn of(&self, key: usize) -> &[usize]
+    /// The values at a key. Constant.
+    pub fn of(&self, key: usize) -> &[V]
         ensures { result.now ≡ row_of self.now key }
     {
         match self.rows.get(key) {
@@ -71,11 +63,45 @@ impl Index {
         ensures same { OnOk result ((k : ℕ) → row_of self.new k ≡ row_of self.old k) }
     {
         'rows: while self.rows.len() <= key {
-            self.rows.push(Places {
+            self.rows.push(Row {
                 items: Vec::new(alloc),
             })?;
         }
         Ok(())
+    }
+
+    /// Notes a value at a key, behind those that stand there. Linear in the key, where it is the largest so far.
+    pub fn note(&mut self, alloc: Global, key: usize, value: V) -> Result<(), NoMemory>
+        ensures { OnOk result (IsNoted self.old self.new key value) }
+    {
+        self.reach(alloc, key)?;
+        let row = &mut self.rows[key];
+        row.items.push(value)?;
+        Ok(())
+    }
+
+    /// Takes the values of a key away. Linear in them.
+    pub fn clear(&mut self, key: usize)
+        ensures here { row_of self.new key ≡ [] }
+        ensures others { (k : ℕ) → k ≢ key → row_of self.new k ≡ row_of self.old k }
+    {
+        if key < self.rows.len() {
+            let row = &mut self.rows[key];
+            row.items.clear();
+        }
+    }
+}
+
+impl Rows<usize> {
+    /// Places in a list of numbers, by the numbers that stand there.
+    pub fn of_numbers(alloc: Global, numbers: &[Option<usize>]) -> Result<Index, NoMemory>
+        ensures { IfOk result (λ t. AreByNumber numbers.now t) }
+    {
+        let mut index = Index::new(alloc);
+        for i in 0..numbers.len() {
+            index.note_number(alloc, numbers, i)?;
+        }
+        Ok(index)
     }
 
     // Notes a place at the number that stands there, if one does.
@@ -91,27 +117,6 @@ impl Index {
         match numbers[i] {
             Some(number) => self.note(alloc, number, i),
             None => Ok(()),
-        }
-    }
-
-    /// Notes a place at a key, behind those that stand there. Linear in the key, where it is the largest so far.
-    pub fn note(&mut self, alloc: Global, key: usize, place: usize) -> Result<(), NoMemory>
-        ensures { OnOk result (IsNoted self.old self.new key place) }
-    {
-        self.reach(alloc, key)?;
-        let row = &mut self.rows[key];
-        row.items.push(place)?;
-        Ok(())
-    }
-
-    /// Takes the places of a key away. Linear in them.
-    pub fn clear(&mut self, key: usize)
-        ensures here { row_of self.new key ≡ [] }
-        ensures others { (k : ℕ) → k ≢ key → row_of self.new k ≡ row_of self.old k }
-    {
-        if key < self.rows.len() {
-            let row = &mut self.rows[key];
-            row.items.clear();
         }
     }
 }

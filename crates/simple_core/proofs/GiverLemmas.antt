@@ -2,6 +2,8 @@
 use Rattle.std.proofs.Common.{◌≡◌, ℕ, suc, ◌+◌, ◌<◌, Bool, ◌==◌, if◌then◌else◌, List, [], ◌∷◌, ◌++◌, take, length, get_or, refl, sym, ap, ◌∙◌, arith, inl, inr}
 use Rattle.std.proofs.lemmas.Bool.{cases_Bool, eqb-true}
 use Rattle.std.proofs.lemmas.List.{take_more, length-take-le}
+use Rattle.row_index.specs.Rows.{IsNoted}
+use Rattle.row_index.proofs.RowLemmas.{noted_at}
 use Rattle.simple_core.specs.Givers.{places_from, places_in, AreGivers}
 
 places_from-push : {X : Type 0} (passes : X → Bool) (k : ℕ) (xs : List X) (x : X)
@@ -24,11 +26,12 @@ places_from-push passes k (y ∷ xs) x =
       ]
     ]
 
-module _ {X : Type 0} (gives : X → ℕ) (rules : List X) (i : ℕ) (r : X) (less : i < length rules) (at : r ≡ get_or rules i r) (old new : List (ℕ × List ℕ)) where
+module _ {X : Type 0} (gives : X → ℕ) (rules : List X) (i : ℕ) (r : X) (less : i < length rules) (at : r ≡ get_or rules i r) (old new : List (List ℕ)) where
   pub givers_more : AreGivers gives (take i rules) old
-      → ((a : ℕ) → places_in new a ≡ (if gives r == a then places_in old (gives r) ++ i ∷ [] else places_in old a))
+      → IsNoted old new (gives r) i
       → AreGivers gives (take (i + 1) rules) new
-  givers_more before put a =
+  givers_more before noted a =
+      let put = noted_at old new (gives r) i noted in
       let longer : take (i + 1) rules ≡ take i rules ++ r ∷ [] = take_more rules i r less ∙ (λ n. take i rules ++ sym at n ∷ []) in
       let push = ap (places_from (λ (x : X). gives x == a) 0) longer ∙ places_from-push (λ (x : X). gives x == a) 0 (take i rules) r in
       let place : 0 + length (take i rules) ≡ i = omega (arith, length-take-le i rules (omega (arith, less))) in

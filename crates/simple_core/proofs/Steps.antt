@@ -1,5 +1,5 @@
 -- Trees that a system makes of a tree by legal steps, and that grow.
-use Rattle.std.proofs.Common.{◌≡◌, ℕ, List, [], ◌∷◌, ◌++◌, Some, None, option_map, IsSome, IsSomeAnd, All, Contains, refl, sym, ap, ◌∙◌, subst}
+use Rattle.std.proofs.Common.{◌≡◌, ℕ, List, [], ◌∷◌, ◌++◌, Some, None, option_map, IsSome, IsSomeAnd, Contains, refl, sym, ap, ◌∙◌, subst}
 use Rattle.tp_base.specs.Classes.{with_class}
 use Rattle.tp_base.proofs.ClassLemmas.{with_class-there}
 use Rattle.tree_sem.specs.Trees.{LabelTree, node_at, edit_at, add_class, add_child}

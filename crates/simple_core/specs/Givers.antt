@@ -1,6 +1,6 @@
 -- The rules that give each atom, by their places in a list of rules.
 use Rattle.std.specs.Prelude.{◌≡◌, ℕ, suc, Bool, ◌==◌, if◌then◌else◌, List, [], ◌∷◌}
-use Rattle.multimap.specs.Values.{values_at}
+use Rattle.row_index.specs.Rows.{row_of}
 use Rattle.simple_core.specs.declared.rules.Local.{Local}
 use Rattle.simple_core.specs.declared.rules.Link.{Link}
 use Rattle.simple_core.specs.declared.system.System.{System}
@@ -11,13 +11,13 @@ abbrev pub places_from : {X : Type 0} → (X → Bool) → ℕ → List X → Li
 places_from passes k [] = []
 places_from passes k (x ∷ xs) = if passes x then k ∷ places_from passes (suc k) xs else places_from passes (suc k) xs
 
--- the places of an atom, none where it has no entry
-abbrev pub places_in : List (ℕ × List ℕ) → ℕ → List ℕ
-places_in = values_at (λ a key. a == key)
+-- the places of an atom
+abbrev pub places_in : List (List ℕ) → ℕ → List ℕ
+places_in = row_of
 
 -- for each atom, the places of the rules that give it
-abbrev pub AreGivers : {X : Type 0} → (X → ℕ) → List X → List (ℕ × List ℕ) → Type 0
-AreGivers gives rules entries = (a : ℕ) → places_in entries a ≡ places_from (λ r. gives r == a) 0 rules
+abbrev pub AreGivers : {X : Type 0} → (X → ℕ) → List X → List (List ℕ) → Type 0
+AreGivers gives rules rows = (a : ℕ) → places_in rows a ≡ places_from (λ r. gives r == a) 0 rules
 
 -- and of a system's rules: of the local ones, of the links from a parent, and of those from a child
 pub record AreAllGivers (s : System) (givers : AllGivers) : Type 0 where

@@ -4,55 +4,55 @@ ghost use Rattle.simple_core.specs.Givers.{places_in, AreGivers, AreAllGivers};
 
 use crate::rules::{Link, Local};
 use crate::system::System;
-use multimap::Multimap;
+use row_index::Index;
 use std::alloc::Global;
 use std::marker::Model;
 use tp_base::{Atom, NoMemory};
 
-/// For each atom the places, in a list of rules, of those that give it.
+/// For each atom the places, in a list of rules, of those that give it, in a row for each atom up to the largest that is given.
 #[derive(Drop)]
 pub struct Givers {
-    places: Multimap<Atom, usize>,
+    places: Index,
 }
 
 impl Model for Givers {
     ghost use Rattle.std.specs.Prelude.{List, ℕ};
 
-    ghost Value = { List (ℕ × List ℕ) };
+    ghost Value = { List (List ℕ) };
 
     ghost view = { λ g. g.places };
 }
 
 impl Givers {
-    /// The givers of rules that look at one node. Linear in the rules.
+    /// The givers of rules that look at one node. Linear in the rules and the largest atom that they give.
     pub fn of_locals(alloc: Global, rules: &[Local]) -> Result<Self, NoMemory>
         ensures { IfOk result (AreGivers (λ r. r.gives) rules.now) }
     {
-        let mut places = Multimap::new(alloc);
+        let mut places = Index::new(alloc);
         for i in 0..rules.len() {
             let rule = &rules[i];
-            places.push(rule.gives, i)?;
+            places.note(alloc, rule.gives.0 as usize, i)?;
         }
         Ok(Givers { places })
     }
 
-    /// The givers of rules that look at a node and the one next to it. Linear in the rules.
+    /// The givers of rules that look at a node and the one next to it. Linear in the rules and the largest atom that they give.
     pub fn of_links(alloc: Global, links: &[Link]) -> Result<Self, NoMemory>
         ensures { IfOk result (AreGivers (λ l. l.to) links.now) }
     {
-        let mut places = Multimap::new(alloc);
+        let mut places = Index::new(alloc);
         for i in 0..links.len() {
             let link = &links[i];
-            places.push(link.to, i)?;
+            places.note(alloc, link.to.0 as usize, i)?;
         }
         Ok(Givers { places })
     }
 
-    /// The places of the rules that give the atom.
+    /// The places of the rules that give the atom. Constant.
     pub fn of(&self, atom: Atom) -> &[usize]
         ensures { result.now ≡ places_in self.now atom }
     {
-        self.places.of(atom)
+        self.places.of(atom.0 as usize)
     }
 }
 
@@ -65,7 +65,7 @@ pub struct AllGivers {
 }
 
 impl AllGivers {
-    /// Linear in the rules, on average.
+    /// Linear in the rules and the largest atom that they give.
     pub fn of(alloc: Global, system: &System) -> Result<Self, NoMemory>
         ensures { IfOk result (AreAllGivers system.now) }
     {
