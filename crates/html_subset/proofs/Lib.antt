@@ -1,4 +1,5 @@
 pub mod Fronts
+pub mod NameNotes
 pub mod LabelLemmas
 pub mod AttributeLemmas
 pub mod ClassSteps

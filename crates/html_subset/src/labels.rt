@@ -1,5 +1,5 @@
 //! Labels: the names that a tag gives are entered into the table, and their atoms make a node's label.
-ghost use Rattle.std.specs.Prelude.{◌≡◌, ◌<◌, not, if◌then◌else◌, [], ◌∷◌, ◌++◌, Some, length, take, drop, IfOk, OnOk};
+ghost use Rattle.std.specs.Prelude.{◌≡◌, ◌<◌, true, not, if◌then◌else◌, [], ◌∷◌, ◌++◌, Some, length, take, drop, IfOk, OnOk};
 ghost use Rattle.text_bytes.specs.Attributes.{is_among, with_value};
 ghost use Rattle.tp_base.specs.Names.{with_name};
 ghost use Rattle.tp_base.specs.declared.atoms.AtomKind.TheVariants as named;
@@ -11,10 +11,12 @@ ghost use Rattle.html_subset.specs.Builders.{names_in, Enters, KeepsNames};
 ghost use Rattle.html_subset.specs.Pages.{root_label};
 ghost use Rattle.html_subset.specs.Counting.{with_attribute, name_then, with_attributes, names_then};
 ghost use Rattle.html_subset.specs.Results.{Does, IsFront};
-ghost use Rattle.html_tokens.specs.Attributes.{without_case};
+ghost use Rattle.html_tokens.specs.Attributes.{without_case, written, others_in};
+ghost use Rattle.tp_base.specs.Classes.{with_class};
 ghost use Rattle.html_tokens.specs.Views.{attribute_of, bytes_of, start_tag_of};
 
 use crate::faults::PageFault;
+use crate::name_table::NameTable;
 use gathered::Gathered;
 use html_table::lowered;
 use html_tokens::{Attribute, StartTag, next_attribute, word_len};
@@ -22,7 +24,7 @@ use indexmap::IndexSet;
 use std::alloc::Global;
 use std::mem::replace;
 use text_bytes::{is_blank, is_set_apart, with_value};
-use tp_base::{AtomFault, AtomKind, AtomTable, ClassSet, NoMemory};
+use tp_base::{Atom, AtomFault, AtomKind, AtomTable, ClassSet, NoMemory};
 
 /// The names of attributes that came before, in lower case.
 #[derive(Drop)]
@@ -53,9 +55,42 @@ impl NamesGiven {
 #[derive(Drop)]
 pub(crate) struct LabelBuilder {
     pub(crate) alloc: Global,
-    pub(crate) atoms: AtomTable,
+    pub(crate) atoms: NameTable,
     label: Gathered,
     at: usize,
+}
+
+// Whether a tag ends right behind its name.
+fn ends_at_once(text: &[u8]) -> bool
+    ensures { result ≡ true → others_in (written text.now) ≡ [] }
+{
+    match text.split_first() {
+        Some((first, _)) => *first == b'>',
+        None => false,
+    }
+}
+
+// Whether a tag gives nothing but its name: it may be false of one that has white space behind it.
+#[tactic(auto, using(crate::proofs::LabelLemmas::bare_names))]
+fn is_bare(tag: StartTag<'_>) -> bool
+    ensures { result ≡ true → node_names (start_tag_of tag.entry) ≡ (named.Element, lowered tag.entry.name.now) ∷ [] }
+{
+    match tag.id {
+        None => match tag.class {
+            None => ends_at_once(tag.attributes),
+            Some(_) => false,
+        },
+        Some(_) => false,
+    }
+}
+
+// The set of one atom.
+fn only(alloc: Global, atom: Atom) -> Result<ClassSet, NoMemory>
+    ensures { IfOk result (λ s. s ≡ with_class atom []) }
+{
+    let mut atoms = Vec::with_capacity(alloc, 1)?;
+    atoms.push(atom)?;
+    ClassSet::of(atoms)
 }
 
 impl LabelBuilder {
@@ -65,7 +100,7 @@ impl LabelBuilder {
     {
         LabelBuilder {
             alloc,
-            atoms,
+            atoms: NameTable::new(alloc, atoms),
             label: Gathered::new(alloc),
             at: 0,
         }
@@ -229,8 +264,14 @@ impl LabelBuilder {
         ensures enters { Enters ((named.Element, lowered name.now) ∷ []) self.old self.new result }
         ensures keeps { KeepsNames self.old self.new }
     {
-        let name = lowered(self.alloc, name)?;
-        self.add_name(AtomKind::Element, name.as_slice())
+        match self.atoms.element(self.alloc, name) {
+            Ok(atom) => {
+                self.label.add(atom)?;
+                Ok(())
+            }
+            Err(AtomFault::TooManyAtoms) => Err(PageFault::TooManyAtoms(self.at)),
+            Err(AtomFault::Memory) => Err(PageFault::Memory),
+        }
     }
 
     /// The atom of an element of this name, of which there is no tag yet.
@@ -244,9 +285,25 @@ impl LabelBuilder {
         Ok(self.end())
     }
 
-    /// The label of the node that a tag adds. Linear in the tag, on average, but for one sort of its atoms.
+    // The label of a node of this name that has no attributes, for a tag at `at`. Linear in the name.
+    #[tactic(auto, using(crate::proofs::LabelLemmas::one_name))]
+    fn bare_label(&mut self, name: &[u8], at: usize) -> Result<ClassSet, PageFault>
+        ensures does { Does (λ l. (l, self.new.atoms)) result self.new.atoms (spec.labelled at ((named.Element, lowered name.now) ∷ []) [] self.old.atoms) }
+        ensures front { IsFront self.old.atoms self.new.atoms }
+    {
+        match self.atoms.element(self.alloc, name) {
+            Ok(atom) => {
+                let set = only(self.alloc, atom)?;
+                Ok(set)
+            }
+            Err(AtomFault::TooManyAtoms) => Err(PageFault::TooManyAtoms(at)),
+            Err(AtomFault::Memory) => Err(PageFault::Memory),
+        }
+    }
+
+    // The label of the node that a tag adds, whatever attributes it has.
     #[tactic(auto, using(crate::proofs::AttributeLemmas::node_in_turn, crate::proofs::LabelLemmas::first_name, crate::proofs::Fronts::front_of_front))]
-    pub(crate) fn node_label(&mut self, tag: StartTag<'_>) -> Result<ClassSet, PageFault>
+    fn full_label(&mut self, tag: StartTag<'_>) -> Result<ClassSet, PageFault>
         ensures does { Does (λ l. (l, self.new.atoms)) result self.new.atoms (spec.labelled tag.entry.at (node_names (start_tag_of tag.entry)) [] self.old.atoms) }
         ensures front { IsFront self.old.atoms self.new.atoms }
     {
@@ -257,5 +314,17 @@ impl LabelBuilder {
         self.add_attributes(&mut given, tag.attributes)?;
         let set = self.end().into_set()?;
         Ok(set)
+    }
+
+    /// The label of the node that a tag adds. Linear in the tag, on average, but for one sort of its atoms.
+    pub(crate) fn node_label(&mut self, tag: StartTag<'_>) -> Result<ClassSet, PageFault>
+        ensures does { Does (λ l. (l, self.new.atoms)) result self.new.atoms (spec.labelled tag.entry.at (node_names (start_tag_of tag.entry)) [] self.old.atoms) }
+        ensures front { IsFront self.old.atoms self.new.atoms }
+    {
+        if is_bare(tag) {
+            self.bare_label(tag.name, tag.at)
+        } else {
+            self.full_label(tag)
+        }
     }
 }

@@ -4,6 +4,7 @@
 mod builder;
 mod faults;
 mod labels;
+mod name_table;
 mod reading;
 mod roots;
 

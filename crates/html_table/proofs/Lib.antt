@@ -2,6 +2,9 @@ pub mod ElementNames
 pub mod OutwardLemmas
 pub mod NearestLemmas
 pub mod StackLemmas
+pub mod NoteLemmas
 pub mod NameLemmas
+pub mod KnownLemmas
+pub mod RawLemmas
 pub mod EndLemmas
 pub mod TableLemmas

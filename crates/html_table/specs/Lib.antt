@@ -1,5 +1,6 @@
 -- What public contracts cite.
 pub mod Elements
+pub mod NameNotes
 pub mod NamePlaces
 pub mod Outward
 pub mod TreeTable

@@ -1,13 +1,15 @@
 -- The tree table: which open elements a tag closes, and what is implied. Open elements are listed from the innermost outward.
-use Rattle.std.specs.Prelude.{ℕ, ◌&&◌, ◌||◌, not, Bool, true, false, if◌then◌else◌, List, [], ◌∷◌, codes, Option, Some, None, unwrap_or}
+use Rattle.std.specs.Prelude.{ℕ, ◌&&◌, ◌||◌, not, Bool, true, false, if◌then◌else◌, List, [], ◌∷◌, length, codes, Option, Some, None, unwrap_or}
 use Rattle.std.specs.List.{list_any}
 use Rattle.std.specs.Str.{bytes_eq}
 use Rattle.html_table.specs.declared.elements.Kind.{Kind}
 use Rattle.html_table.specs.declared.elements.Kind.TheVariants as k
 use Rattle.html_table.specs.declared.scopes.Scope.{Scope}
 use Rattle.html_table.specs.declared.scopes.Scope.TheVariants as within
+use Rattle.html_table.specs.declared.open_elements.Ending.{Ending}
+use Rattle.html_table.specs.declared.open_elements.Ending.TheVariants as does
 use Rattle.html_tokens.specs.Names.{is_raw}
-use Rattle.html_table.specs.Elements.{is, is_wall, is_void, is_table_part, ends_paragraph, Element}
+use Rattle.html_table.specs.Elements.{is, is_wall, is_root, is_void, is_table_part, ends_paragraph, Element}
 
 -- past these nothing is closed
 abbrev pub stops : Scope → Kind → Bool
@@ -108,3 +110,10 @@ end_scope t = if is t k.Table then within.Page else (if is_table_part t then wit
 -- what stays open behind an end tag
 unfoldable pub closed_at_end : Element → List Element → List Element
 closed_at_end e elements = without (has_name e.name) (end_scope e.kind) elements
+
+-- What an end tag does: nothing where its element is a root or holds nothing, and that of a paragraph stands apart.
+abbrev pub ending : Element → List Element → Ending
+ending e elements =
+    if is_root e.kind || is_void e.kind then does.Nothing
+    else (if is e.kind k.Paragraph then does.Paragraph
+    else does.Leaves (length (closed_at_end e elements)))

@@ -2,6 +2,7 @@
 #![tactic(auto)]
 
 mod elements;
+mod name_notes;
 mod name_places;
 mod nearest;
 mod open_elements;
@@ -9,7 +10,8 @@ mod scopes;
 mod stack;
 
 pub use elements::{Element, Kind};
+pub use name_notes::NameNotes;
 pub use name_places::lowered;
-pub use open_elements::{Implied, Place, behind_paragraph, closed_at_end, is_opened, place_for};
+pub use open_elements::{Ending, Implied, Place, behind_paragraph, end_tag, is_opened, place_for};
 pub use scopes::Scope;
 pub use stack::OpenElements;

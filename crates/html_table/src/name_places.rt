@@ -1,8 +1,13 @@
 //! Names of open elements, and where the innermost of each is.
-ghost use Rattle.std.specs.Prelude.{◌≡◌, ◌<◌, ◌≤◌, ℕ, List, if◌then◌else◌, length, get_or, bytes_eq, IfOk, OnOk};
+ghost use Rattle.std.specs.Prelude.{◌≡◌, ◌<◌, ◌≤◌, ℕ, List, if◌then◌else◌, length, get_or, bytes_eq, IfSome, IfOk, OnOk};
 ghost use Rattle.html_tokens.specs.Bytes.{lowered};
+ghost use Rattle.html_tokens.specs.Names.{is_raw};
+ghost use Rattle.html_table.specs.Elements.{kind_of};
 ghost use Rattle.html_table.specs.NamePlaces.{place_in, IsNumber, Fits};
 
+use crate::elements::{Element, Kind};
+use crate::name_notes::NameNotes;
+use html_tokens::is_raw;
 use indexmap::IndexSet;
 use std::alloc::Global;
 use tp_base::NoMemory;
@@ -23,6 +28,16 @@ pub(crate) struct NamePlaces {
     names: IndexSet<Vec<u8>>,
     /// By the number of the name.
     places: Vec<usize>,
+    /// Of names as they are written.
+    known: NameNotes<Known>,
+}
+
+// What is known of a name: the kind of its elements, whether they are raw, and its number.
+#[derive(Clone, Copy)]
+struct Known {
+    kind: Kind,
+    is_raw: bool,
+    number: usize,
 }
 
 // Begins the places up to this number.
@@ -46,11 +61,49 @@ impl NamePlaces {
         NamePlaces {
             names: IndexSet::new(alloc),
             places: Vec::new(alloc),
+            known: NameNotes::new(alloc),
         }
     }
 
-    /// The place of a name. Linear in the name, on average.
-    pub(crate) fn get(&self, name: &[u8]) -> usize
+    /// The kind of elements of this name as it is written, and whether they are raw, if it is known. Linear in the name.
+    #[tactic(auto, using(crate::proofs::KnownLemmas::kind_known, crate::proofs::KnownLemmas::raw_known))]
+    pub(crate) fn kind(&self, name: &[u8]) -> Option<(Kind, bool)>
+        requires fits { Fits self.now }
+        ensures kind { IfSome result (λ r. r.0 ≡ kind_of (lowered name.now)) }
+        ensures raw { IfSome result (λ r. r.1 ≡ is_raw (lowered name.now)) }
+    {
+        match self.known.get(name) {
+            Some(known) => Some((known.kind, known.is_raw)),
+            None => None,
+        }
+    }
+
+    /// The kind of elements of a name as it is written, and its place. Linear in the name, on average.
+    #[tactic(auto, using(crate::proofs::KnownLemmas::kind_known, crate::proofs::KnownLemmas::place_known, crate::proofs::KnownLemmas::number_known))]
+    pub(crate) fn get(&self, name: &[u8]) -> Result<(Kind, usize), NoMemory>
+        requires fits { Fits self.now }
+        ensures kind { IfOk result (λ r. r.0 ≡ kind_of (lowered name.now)) }
+        ensures place { IfOk result (λ r. r.1 ≡ place_in self.now (lowered name.now)) }
+    {
+        match self.known.get(name) {
+            Some(known) => Ok((known.kind, self.at(known.number))),
+            None => self.get_unknown(name),
+        }
+    }
+
+    // The same, where the name isn't known as it is written.
+    fn get_unknown(&self, name: &[u8]) -> Result<(Kind, usize), NoMemory>
+        requires fits { Fits self.now }
+        ensures kind { IfOk result (λ r. r.0 ≡ kind_of (lowered name.now)) }
+        ensures place { IfOk result (λ r. r.1 ≡ place_in self.now (lowered name.now)) }
+    {
+        let lower = lowered(*self.names.allocator(), name)?;
+        let kind = Element::new(name).kind;
+        Ok((kind, self.get_lowered(lower.as_slice())))
+    }
+
+    // The place of a name in lower case. Linear in the name, on average.
+    fn get_lowered(&self, name: &[u8]) -> usize
         requires fits { Fits self.now }
         ensures { result ≡ place_in self.now name.now }
     {
@@ -71,8 +124,46 @@ impl NamePlaces {
         self.places[number]
     }
 
-    /// The number of a name, which it has from now on. Linear in the name, on average.
-    pub(crate) fn enter(&mut self, name: Vec<u8>) -> Result<usize, NoMemory>
+    /// The number of a name as it is written, which it has from now on. Linear in the name, on average.
+    #[tactic(auto, using(crate::proofs::KnownLemmas::number_known))]
+    pub(crate) fn enter(&mut self, name: &[u8]) -> Result<usize, NoMemory>
+        requires fits { Fits self.old }
+        ensures number { IfOk result (λ n. IsNumber self.new n (lowered name.now)) }
+        ensures same { (q : List ℕ) → place_in self.new q ≡ place_in self.old q }
+        ensures kept { (n : ℕ) (q : List ℕ) → IsNumber self.old n q → IsNumber self.new n q }
+        ensures fits { Fits self.new }
+    {
+        match self.known.get(name) {
+            Some(known) => Ok(known.number),
+            None => self.enter_new(name),
+        }
+    }
+
+    // The same, where the name isn't known as it is written. It is from now on.
+    fn enter_new(&mut self, name: &[u8]) -> Result<usize, NoMemory>
+        requires fits { Fits self.old }
+        ensures number { IfOk result (λ n. IsNumber self.new n (lowered name.now)) }
+        ensures same { (q : List ℕ) → place_in self.new q ≡ place_in self.old q }
+        ensures kept { (n : ℕ) (q : List ℕ) → IsNumber self.old n q → IsNumber self.new n q }
+        ensures fits { Fits self.new }
+    {
+        let lower = lowered(*self.names.allocator(), name)?;
+        let number = self.enter_lowered(lower)?;
+        let kind = Element::new(name).kind;
+        let is_raw = is_raw(name);
+        self.known.put(
+            name,
+            Known {
+                kind,
+                is_raw,
+                number,
+            },
+        )?;
+        Ok(number)
+    }
+
+    // The number of a name in lower case, which it has from now on. Linear in the name, on average.
+    fn enter_lowered(&mut self, name: Vec<u8>) -> Result<usize, NoMemory>
         requires fits { Fits self.old }
         ensures number { IfOk result (λ n. IsNumber self.new n name.items) }
         ensures same { (q : List ℕ) → place_in self.new q ≡ place_in self.old q }

@@ -1,15 +1,17 @@
 //! Which of the open elements a tag closes, and where a start tag's element goes.
-ghost use Rattle.std.specs.Prelude.{◌≡◌, ◌≤◌, length, reverse, option_map, IfOk};
+ghost use Rattle.std.specs.Prelude.{◌≡◌, ℕ, List, ◌≤◌, length, reverse, option_map, IfOk};
 ghost use Rattle.std.specs.List.{list_any};
 ghost use Rattle.html_table.specs.declared.elements.Kind.TheVariants as k;
 ghost use Rattle.html_table.specs.declared.scopes.Scope.TheVariants as within;
-ghost use Rattle.html_table.specs.Outward.{outward};
+ghost use Rattle.html_tokens.specs.Bytes.{lowered};
+ghost use Rattle.html_tokens.specs.Names as names;
+ghost use Rattle.html_table.specs.Elements.{element};
+ghost use Rattle.html_table.specs.Outward.{outward, up_to_name};
 ghost use Rattle.html_table.specs.TreeTable as spec;
 ghost use Rattle.html_table.specs.Views.{element_of, implied_names, place_of, counted};
 
 use crate::elements::{Element, Kind};
 use crate::stack::OpenElements;
-use html_tokens::is_raw;
 use tp_base::NoMemory;
 
 /// What is implied between an element and the one that holds it.
@@ -27,6 +29,17 @@ pub enum Implied {
 pub struct Place {
     pub left: usize,
     pub implied: Implied,
+}
+
+/// What an end tag does.
+#[derive(Clone, Copy, Debug)]
+pub enum Ending {
+    /// Nothing, whatever is open.
+    Nothing,
+    /// It ends a paragraph, or adds one that holds nothing.
+    Paragraph,
+    /// So many elements stay open.
+    Leaves(usize),
 }
 
 // How many of the first so many elements stay open where the innermost paragraph is closed with all in it, if the walls leave one.
@@ -91,15 +104,36 @@ fn closed_by(open: &OpenElements<'_>, kind: Kind) -> usize
     }
 }
 
-/// How many stay open behind the end tag of an element. Linear in its name, on average.
+// How many stay open behind the end tag of an element of this kind, where so many are open up to the innermost of its name.
 #[tactic(auto, unfolding(crate::specs::TreeTable::closed_at_end))]
-pub fn closed_at_end(open: &OpenElements<'_>, ended: Element<'_>) -> Result<usize, NoMemory>
-    ensures { IfOk result (λ left. left ≡ length (spec.closed_at_end (element_of ended.entry) (reverse open.now))) }
+fn closed_at_end(open: &OpenElements<'_>, kind: Kind, place: usize) -> usize
+    ensures { (q : List ℕ) → place ≡ up_to_name q (reverse open.now) → result ≡ length (spec.closed_at_end (record { kind = kind; name = q }) (reverse open.now)) }
 {
-    match open.behind_end(ended)? {
-        Some(left) => Ok(left),
-        None => Ok(open.len()),
+    match open.behind_end(kind, place) {
+        Some(left) => left,
+        None => open.len(),
     }
+}
+
+// What the end tag of an element of this kind does, where so many are open up to the innermost of its name.
+fn ending_of(open: &OpenElements<'_>, kind: Kind, place: usize) -> Ending
+    ensures { (q : List ℕ) → place ≡ up_to_name q (reverse open.now) → result ≡ spec.ending (record { kind = kind; name = q }) (reverse open.now) }
+{
+    if kind.is_root() || kind.is_void() {
+        Ending::Nothing
+    } else if kind == Kind::Paragraph {
+        Ending::Paragraph
+    } else {
+        Ending::Leaves(closed_at_end(open, kind, place))
+    }
+}
+
+/// What the end tag of an element of this name does. Linear in the name, on average.
+pub fn end_tag(open: &OpenElements<'_>, name: &[u8]) -> Result<Ending, NoMemory>
+    ensures { IfOk result (λ e. e ≡ spec.ending (element (lowered name.now)) (reverse open.now)) }
+{
+    let (kind, place) = open.ended(name)?;
+    Ok(ending_of(open, kind, place))
 }
 
 // Whether nothing is open, or the outermost element is one that stands in a table.
@@ -191,12 +225,11 @@ fn is_in_foreign(open: &OpenElements<'_>) -> bool
     open.nearest(open.len()).foreign
 }
 
-/// Whether an element is opened, among these: not one that holds no elements, and not svg, math or one inside that closes itself.
+/// Whether an element of this kind is opened, among these: not one that is raw, one that holds no elements, or svg, math or one
+/// inside that closes itself.
 #[tactic(auto, unfolding(crate::specs::TreeTable::opens))]
-pub fn is_opened(element: Element<'_>, closes_itself: bool, open: &OpenElements<'_>) -> bool
-    ensures { result ≡ spec.opens (element_of element.entry) closes_itself (reverse open.now) }
+pub fn is_opened(kind: Kind, is_raw: bool, closes_itself: bool, open: &OpenElements<'_>) -> bool
+    ensures { (q : List ℕ) → is_raw ≡ names.is_raw q → result ≡ spec.opens (record { kind = kind; name = q }) closes_itself (reverse open.now) }
 {
-    !(element.kind.is_void()
-        || is_raw(element.name)
-        || closes_itself && (element.kind == Kind::Foreign || is_in_foreign(open)))
+    !(kind.is_void() || is_raw || closes_itself && (kind == Kind::Foreign || is_in_foreign(open)))
 }

@@ -1,12 +1,16 @@
 //! The open elements, each with what is remembered of it and of those outside.
-ghost use Rattle.std.specs.Prelude.{◌≡◌, ◌==◌, ◌-◌, ◌<◌, ◌≤◌, [], ◌∷◌, ◌++◌, length, take, map, reverse, option_map, IfOk, OnOk};
+ghost use Rattle.std.specs.Prelude.{◌≡◌, ℕ, List, ◌==◌, ◌-◌, ◌<◌, ◌≤◌, [], ◌∷◌, ◌++◌, length, take, map, reverse, option_map, IfOk, OnOk};
+ghost use Rattle.html_tokens.specs.Bytes.{lowered};
+ghost use Rattle.html_tokens.specs.Names.{is_raw};
+ghost use Rattle.html_table.specs.Elements.{element, kind_of};
 ghost use Rattle.html_table.specs.TreeTable as spec;
-ghost use Rattle.html_table.specs.Outward.{outward, nearest, first_kind, behind_place};
+ghost use Rattle.html_table.specs.Outward.{outward, nearest, first_kind, up_to_name, behind_place};
 ghost use Rattle.html_table.specs.Views.{element_of};
 
 use crate::elements::{Element, Kind};
-use crate::name_places::{NamePlaces, lowered};
+use crate::name_places::NamePlaces;
 use crate::nearest::Nearest;
+use html_tokens::is_raw;
 use std::alloc::Global;
 use std::marker::Model;
 use tp_base::NoMemory;
@@ -52,6 +56,19 @@ fn behind_place(place: usize, stop: usize) -> Option<usize>
     }
 }
 
+// The element of a name that isn't known, and whether it is raw. One that holds nothing isn't.
+fn new_element(name: &[u8]) -> (Element<'_>, bool)
+    ensures element { element_of result.0 ≡ element (lowered name.now) }
+    ensures raw { result.1 ≡ is_raw (lowered name.now) }
+{
+    let element = Element::new(name);
+    if element.kind.is_void() {
+        (element, false)
+    } else {
+        (element, is_raw(name))
+    }
+}
+
 impl<'a> OpenElements<'a> {
     /// None.
     pub fn new(alloc: Global) -> Self
@@ -81,6 +98,17 @@ impl<'a> OpenElements<'a> {
         ensures { result ≡ (length self.now == 0) }
     {
         self.items.is_empty()
+    }
+
+    /// The element of a name, and whether it is raw. Linear in the name.
+    pub fn element<'n>(&self, name: &'n [u8]) -> (Element<'n>, bool)
+        ensures element { element_of result.0 ≡ element (lowered name.now) }
+        ensures raw { result.1 ≡ is_raw (lowered name.now) }
+    {
+        match self.names.kind(name) {
+            Some((kind, is_raw)) => (Element { kind, name }, is_raw),
+            None => new_element(name),
+        }
     }
 
     /// What is nearest to the innermost of the first so many. Constant.
@@ -115,15 +143,23 @@ impl<'a> OpenElements<'a> {
         }
     }
 
-    /// How many stay open where the end tag of an element closes the innermost of its name, if it closes one. Linear in the name,
-    /// on average.
-    pub(crate) fn behind_end(&self, ended: Element<'_>) -> Result<Option<usize>, NoMemory>
-        ensures { IfOk result (λ left. left ≡ option_map length (spec.behind (spec.has_name (element_of ended.entry).name) (spec.end_scope (element_of ended.entry).kind) (reverse self.now))) }
+    /// The kind of elements of a name, and how many are open up to the innermost of it; 0 where none is. Linear in the name, on
+    /// average.
+    pub(crate) fn ended(&self, name: &[u8]) -> Result<(Kind, usize), NoMemory>
+        ensures kind { IfOk result (λ r. r.0 ≡ kind_of (lowered name.now)) }
+        ensures place { IfOk result (λ r. r.1 ≡ up_to_name (lowered name.now) (reverse self.now)) }
     {
-        let name = lowered(self.allocator(), ended.name)?;
-        let place = self.names.get(name.as_slice());
-        let stop = self.nearest(self.items.len()).stop_of_end(ended.kind);
-        Ok(behind_place(place, stop))
+        let found = self.names.get(name)?;
+        Ok(found)
+    }
+
+    /// How many stay open where the end tag of an element of this kind closes the innermost of its name, if it closes one. So many
+    /// are open up to that one. Constant.
+    pub(crate) fn behind_end(&self, kind: Kind, place: usize) -> Option<usize>
+        ensures { (q : List ℕ) → place ≡ up_to_name q (reverse self.now) → result ≡ option_map length (spec.behind (spec.has_name q) (spec.end_scope kind) (reverse self.now)) }
+    {
+        let stop = self.nearest(self.items.len()).stop_of_end(kind);
+        behind_place(place, stop)
     }
 
     /// Opens one more. Linear in its name, on average.
@@ -132,8 +168,7 @@ impl<'a> OpenElements<'a> {
     {
         let outside = self.items.len();
         let nearest = self.nearest(outside).with(element.kind, outside);
-        let lower = lowered(self.allocator(), element.name)?;
-        let name = self.names.enter(lower)?;
+        let name = self.names.enter(element.name)?;
         let hides = self.names.at(name);
         self.items.push(Open {
             element,

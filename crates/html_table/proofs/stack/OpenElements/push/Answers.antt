@@ -1,4 +1,4 @@
-use Rattle.std.proofs.Common.{◌≡◌, ◌+◌, if◌then◌else◌, length, map, reverse, refl, ap, sym, subst, ◌∙◌, arith}
+use Rattle.std.proofs.Common.{◌≡◌, ◌+◌, if◌then◌else◌, length, map, reverse, refl, ap, sym, ◌∙◌, arith}
 use Rattle.std.specs.Str.{bytes_eq}
 use Rattle.std.proofs.lemmas.List.{length-reverse, length-map}
 use Rattle.html_tokens.specs.Bytes.{lowered}
@@ -26,7 +26,7 @@ invariant_of-self-2 c =
     let all : length os ≡ outside = omega (arith, c.len-outside.ensures, c.self.inside.items.ok.0) in
     let before : c.nearest.result ≡ nearest (reverse es) =
     c.nearest.ensures ∙ ap (λ xs. nearest (outward outside xs)) (sym c.self.view_is) ∙ ap nearest (whole es outside (omega (arith, many, all))) in
-    let number : IsNumber names c.in_ok-name.name (lowered c.args.element.name.now) = subst (IsNumber names c.in_ok-name.name) c.in_ok-lower.ensures c.in_ok-name.ensures.number in
+    let number : IsNumber names c.in_ok-name.name (lowered c.args.element.name.now) = c.in_ok-name.ensures.number in
     rw c.in_ok-push.ensures.items
     (stack_more c.self.inside.names names c.put.new.self os _ c.self.invariant
     (c.with-nearest.ensures _ (reverse es) refl (length-reverse es ∙ many ∙ all) before)

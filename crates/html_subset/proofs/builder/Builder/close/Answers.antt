@@ -1,7 +1,7 @@
 use Rattle.std.proofs.Common.{◌-◌, length, refl, ap, arith, length-take}
 use Rattle.tree_sem.proofs.PathLemmas.{IsSome-take}
 use Rattle.html_subset.specs.Machine.{cut}
-use Rattle.html_subset.proofs.builder.Builder.cut.Goals as goal
+use Rattle.html_subset.proofs.builder.Builder.close.Goals as goal
 
 pub returns-clause-cut : goal.returns-clause-cut
 unfolding cut
