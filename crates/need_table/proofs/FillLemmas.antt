@@ -72,7 +72,7 @@ fresh_of-is own round next f there =
       ap (λ (g : First). g.round) of.2,
     )
 
-is-fresh_of : (own : List ℕ) (round : ℕ) (next : List ℕ) (a : ℕ) → Contains next a → has_class a own ≡ false → Contains (fresh_of own round next) (record { atom = a; round = round })
+pub is-fresh_of : (own : List ℕ) (round : ℕ) (next : List ℕ) (a : ℕ) → Contains next a → has_class a own ≡ false → Contains (fresh_of own round next) (record { atom = a; round = round })
 is-fresh_of own round next a there new =
     Contains-map (λ (a : ℕ). let g : First = record { atom = a; round = round } in g) (filter (λ a. not (has_class a own)) next) a (Contains-filter (λ a. not (has_class a own)) next a there (ap not new))
 
@@ -441,7 +441,7 @@ noted_step s pairs old new i k firsts children e table at fresh asks heard only 
 
 pub untouched_more : (old new : List Entry) (i : ℕ) (e : Entry) → slice_get old i ≡ Some e → IsUntouched old new i → IsMore old new
 untouched_more old new i e at touch =
-    let (e', is, some, pair, rounds, firsts, children) = touch e at in
+    let (e', is, some, pair, rounds, children) = touch e at in
     subst (λ (z : List Entry). IsMore old z) (sym is) (more_set old i e e' at (record {
       pair = pair;
       rounds = λ m done. subst (λ o. IsDone o m) (sym rounds) done;

@@ -1,5 +1,5 @@
 -- What an entry asks and gets in a round, by what is new in it.
-use Rattle.std.proofs.Common.{◌≡◌, ◌↔◌, ◌⊎◌, ℕ, zero, suc, ◌<◌, ◌≤◌, List, [], ◌∷◌, map, length, not, get_or, Option, Some, None, slice_get, option_map, unwrap_or, IsSomeAnd, All, Contains, refl, sym, ap, ◌∙◌, inl, inr, arith, subst}
+use Rattle.std.proofs.Common.{◌≡◌, ◌↔◌, ◌⊎◌, ℕ, zero, suc, ◌<◌, ◌≤◌, ◌+◌, ◌-◌, List, [], ◌∷◌, map, drop, length, not, get_or, Option, Some, None, slice_get, option_map, unwrap_or, IsSomeAnd, All, Contains, refl, sym, ap, ◌∙◌, inl, inr, arith, subst}
 use Rattle.std.specs.Global.{Vec}
 use Rattle.std.specs.List.{filter, flat_map}
 use Rattle.std.specs.List.Sorted.{IsStrictlyIncreasing}
@@ -11,10 +11,11 @@ use Rattle.std.proofs.lemmas.Option.{get_or_from_slice_get}
 use Rattle.tp_base.specs.Classes.{has_class, with_class, union_of}
 use Rattle.tp_base.proofs.ClassLemmas.{same_members, has_class-Contains, Contains-has_class, Contains-union_of, IsStrictlyIncreasing-union_of, Contains-cut_to, IsStrictlyIncreasing-cut_to}
 use Rattle.tp_base.proofs.Rising.{Contains-here, Contains-behind, Contains-none}
-use Rattle.tp_base.proofs.Lists.{Contains-at, Contains-only}
+use Rattle.tp_base.proofs.Lists.{Contains-at, at_Contains, Contains-only}
 use Rattle.tree_sem.proofs.NodeLemmas.{Contains-map, map-Contains}
 use Rattle.simple_core.specs.declared.system.System.{System}
 use Rattle.simple_core.specs.declared.rules.Link.{Link}
+use Rattle.simple_core.specs.declared.rules.Local.{Local}
 use Rattle.simple_core.specs.Labels.{set_of, given_by_rules, given_by_links, visible_in, labels_below}
 use Rattle.simple_core.specs.Rounds.{grown, IsFirst}
 use Rattle.simple_core.specs.Pairs.{Pair, Asks}
@@ -26,29 +27,48 @@ use Rattle.rule_index.specs.Asking.{IsMore, AreMet, AsksAnew}
 use Rattle.rule_index.proofs.IndexLemmas.{union_of-same}
 use Rattle.simple_core.specs.declared.summaries.First.{First}
 use Rattle.need_table.specs.declared.entries.Entry.{Entry}
-use Rattle.need_table.specs.Tables.{pair_of, atoms_within, fresh_of, labels, replaced, AreInOrder, IsHeard, IsAskedAt, IsTable}
-use Rattle.need_table.specs.Agendas.{IsKnown, AreKnown}
+use Rattle.need_table.specs.Tables.{pair_of, atoms_within, atoms_from, fresh_of, labels, replaced, AreInOrder, IsPlaceFrom, IsDone, IsUpTo, IsHeard, IsAskedAt, IsTable}
+use Rattle.need_table.specs.Agendas.{AreKnown}
 use Rattle.need_table.specs.Turns.{given_at, given_above, IsAsked, IsGained}
-use Rattle.need_table.proofs.OrderLemmas.{atoms_within-is, is-atoms_within}
+use Rattle.need_table.proofs.OrderLemmas.{drop_at, atoms_within-is, is-atoms_within}
 use Rattle.need_table.proofs.FillLemmas.{label_now, up_known}
 use Rattle.need_table.proofs.ChildLemmas.{some_at}
 
--- the atoms of a round alone
-pub fresh_is : (s : System) (e : Entry) (k : ℕ) → IsKnown s k e → (a : ℕ) → Contains (set_of (atoms_within k k e.firsts.items)) a ↔ IsFirst (labels s (pair_of e)) a (Some k)
-fresh_is s e k known a =
-    let atoms = atoms_within k k e.firsts.items in (
+-- the atoms from the place on at which the last round begins
+pub fresh_is : (s : System) (e : Entry) (k place : ℕ) → IsUpTo s e → e.rounds ≡ Some k → IsPlaceFrom e.firsts.items k place → (a : ℕ) → Contains (atoms_from place e.firsts.items) a ↔ IsFirst (labels s (pair_of e)) a (Some k)
+fresh_is s e k place so_far rounds found a =
+    let firsts = e.firsts.items in
+    let known = up_known s e k so_far rounds in
+    let atom : First → ℕ = λ f. f.atom in (
       λ there.
-          let f = atoms_within-is k k e.firsts.items a (set_of-is atoms a there) in
-          let from = f.2 in
-          let to = f.3 in
+          let f = map-Contains atom (drop place firsts) a there in
+          let i = at_Contains (drop place firsts) f.0 f.1 in
+          let at : slice_get firsts (place + i.0) ≡ Some f.0 = sym (drop_at firsts place i.0 (place + i.0) refl) ∙ i.1 in
+          let listed = Contains-at firsts (place + i.0) f.0 at in
+          let from = found.from (place + i.0) f.0 (omega arith) at in
+          let to : f.0.round ≤ k = subst (λ o. IsDone o f.0.round) rounds (so_far.right f.0 listed).0 in
           let round : f.0.round ≡ k = omega arith in
-          subst (λ z. IsFirst (labels s (pair_of e)) z (Some k)) f.4 (subst (λ r. IsFirst (labels s (pair_of e)) f.0.atom (Some r)) round (known.first f.0 f.1)),
+          subst (λ z. IsFirst (labels s (pair_of e)) z (Some k)) (sym f.2) (subst (λ r. IsFirst (labels s (pair_of e)) f.0.atom (Some r)) round (known.first f.0 listed)),
       λ first.
           let f = known.whole k a (omega arith) first.0 in
           let one : Some f.0.round ≡ Some k = first_one (labels s (pair_of e)) a (Some f.0.round) (Some k) (subst (λ z. IsFirst (labels s (pair_of e)) z (Some f.0.round)) f.2 (known.first f.0 f.1)) first in
           let round : f.0.round ≡ k = cc in
-          is-set_of atoms a (subst (λ z. Contains atoms z) f.2 (is-atoms_within k k e.firsts.items f.0 f.1 (omega arith) (omega arith))),
+          let i = at_Contains firsts f.0 f.1 in
+          elim (cases_lt i.0 place) [
+            | inl sooner ↦ let less = found.before i.0 f.0 sooner i.1 in absurd (omega arith)
+            | inr behind ↦
+                let at : slice_get (drop place firsts) (i.0 - place) ≡ Some f.0 = drop_at firsts place (i.0 - place) i.0 (omega arith) ∙ i.1 in
+                subst (λ z. Contains (atoms_from place firsts) z) f.2 (Contains-map atom (drop place firsts) f.0 (Contains-at (drop place firsts) (i.0 - place) f.0 at))
+          ],
     )
+
+-- where all of a label is new, what rules give by it
+pub met_whole : (rules : List Local) (own : List ℕ) → AreMet rules own own
+met_whole rules own r listed needs = inr (some_need r.needs needs)
+  where
+    some_need : (xs : List ℕ) → All (Contains own) xs → (xs ≡ []) ⊎ ((a : ℕ) × Contains xs a × Contains own a)
+    some_need [] all = inl refl
+    some_need (x ∷ xs) all = inr (x, Contains-here x x xs refl, All-head (Contains own) x xs all)
 
 module _ (s : System) (q : Pair) (k : ℕ) (fresh : List ℕ) (is_fresh : (a : ℕ) → Contains fresh a ↔ IsFirst (labels s q) a (Some k)) where
   -- an atom of the label is one of the round before, or a new one
@@ -168,24 +188,27 @@ module _ (s : System) (pairs : ℕ) (entries : List Entry) (i k : ℕ) (x : Entr
       let e = read_at in
       subst (λ o. IsSomeAnd o (λ e. own ≡ labels s (pair_of e) k)) (sym e.1) (is ∙ ap (λ (z : Entry). z.label) e.2 ∙ e.4)
 
-  module _ (fresh : List ℕ) (is_fresh : fresh ≡ set_of (atoms_within k k x.firsts.items)) where
-    new_at : (e : Entry) → slice_get entries i ≡ Some e → x ≡ e → e.rounds ≡ Some k → (a : ℕ) → Contains fresh a ↔ IsFirst (labels s (pair_of e)) a (Some k)
-    new_at e at here rounds_e a =
-        let fresh_e : fresh ≡ set_of (atoms_within k k e.firsts.items) = is_fresh ∙ ap (λ (z : Entry). set_of (atoms_within k k z.firsts.items)) here in
-        subst (λ (z : List ℕ). Contains z a ↔ IsFirst (labels s (pair_of e)) a (Some k)) (sym fresh_e) (fresh_is s e k (up_known s e k (table.up_to e (Contains-at entries i e at)) rounds_e) a)
+  module _ (place : ℕ) (found : IsPlaceFrom x.firsts.items k place) where
+    new_at : (e : Entry) → slice_get entries i ≡ Some e → x ≡ e → e.rounds ≡ Some k → (a : ℕ) → Contains (atoms_from place e.firsts.items) a ↔ IsFirst (labels s (pair_of e)) a (Some k)
+    new_at e at here rounds_e a = fresh_is s e k place (table.up_to e (Contains-at entries i e at)) rounds_e (subst (λ (z : Entry). IsPlaceFrom z.firsts.items k place) here found) a
 
-    pub same_at : 0 < k → ((a : ℕ) → Contains fresh a → AsksAnew s a → ⊥) → IsSomeAnd (slice_get entries i) (λ e. IsAsked s entries (pair_of e) k e.label fresh k e.children.items)
-    same_at some quiet =
+    pub same_at : (shown : List First) → shown ≡ drop place x.firsts.items → 0 < k → ((f : First) → Contains shown f → AsksAnew s f.atom → ⊥)
+        → IsSomeAnd (slice_get entries i) (λ e. IsAsked s entries (pair_of e) k e.label (atoms_from place e.firsts.items) k e.children.items)
+    same_at shown is some quiet =
         let e = read_at in
-        subst (λ o. IsSomeAnd o (λ e. IsAsked s entries (pair_of e) k e.label fresh k e.children.items)) (sym e.1)
-        (asked_same s pairs entries e.0 k e.0.label fresh e.0.children.items table (Contains-at entries i e.0 e.1) e.3 some e.4 (new_at e.0 e.1 e.2 e.3) quiet refl)
+        let those : shown ≡ drop place e.0.firsts.items = is ∙ ap (λ (z : Entry). drop place z.firsts.items) e.2 in
+        subst (λ o. IsSomeAnd o (λ e. IsAsked s entries (pair_of e) k e.label (atoms_from place e.firsts.items) k e.children.items)) (sym e.1)
+        (asked_same s pairs entries e.0 k e.0.label (atoms_from place e.0.firsts.items) e.0.children.items table (Contains-at entries i e.0 e.1) e.3 some e.4 (new_at e.0 e.1 e.2 e.3)
+        (λ a there asks.
+        let f = map-Contains (λ (f : First). f.atom) (drop place e.0.firsts.items) a there in
+        quiet f.0 (subst (λ (z : List First). Contains z f.0) (sym those) f.1) (subst (AsksAnew s) f.2 asks)) refl)
 
     pub anew_at : (new : List Entry) (own children : List ℕ) → own ≡ x.label → ((r : Pair) → Asks s own r → IsHeard new children r) → ((j : ℕ) → Contains children j → IsAskedAt s new own j)
-        → IsSomeAnd (slice_get entries i) (λ e. IsAsked s new (pair_of e) k e.label fresh 0 children)
+        → IsSomeAnd (slice_get entries i) (λ e. IsAsked s new (pair_of e) k e.label (atoms_from place e.firsts.items) 0 children)
     anew_at new own children is heard only =
         let e = read_at in
         let own_e : own ≡ e.0.label = is ∙ ap (λ (z : Entry). z.label) e.2 in
-        subst (λ o. IsSomeAnd o (λ e. IsAsked s new (pair_of e) k e.label fresh 0 children)) (sym e.1) (record {
+        subst (λ o. IsSomeAnd o (λ e. IsAsked s new (pair_of e) k e.label (atoms_from place e.firsts.items) 0 children)) (sym e.1) (record {
           label = e.4;
           new = new_at e.0 e.1 e.2 e.3;
           since = inl refl;

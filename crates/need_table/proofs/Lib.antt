@@ -2,6 +2,7 @@ pub mod TableLemmas
 mod OrderLemmas
 pub mod FillLemmas
 pub mod ChildLemmas
+mod GrowLemmas
 mod PlaceLemmas
 mod GainLemmas
 pub mod BoundLemmas

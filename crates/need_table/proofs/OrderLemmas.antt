@@ -28,7 +28,7 @@ take_at (y ∷ ys) zero i x at = cc
 take_at (y ∷ ys) (suc n) zero x at = (omega arith, at)
 take_at (y ∷ ys) (suc n) (suc i) x at = let rest = take_at ys n i x at in let less = rest.0 in (omega arith, rest.1)
 
-drop_at : {X : Type 0} (xs : List X) (n i m : ℕ) → m ≡ n + i → slice_get (drop n xs) i ≡ slice_get xs m
+pub drop_at : {X : Type 0} (xs : List X) (n i m : ℕ) → m ≡ n + i → slice_get (drop n xs) i ≡ slice_get xs m
 drop_at [] zero i m is = refl
 drop_at [] (suc n) i m is = refl
 drop_at (y ∷ ys) zero i m is = let same : i ≡ m = omega arith in ap (slice_get (y ∷ ys)) same

@@ -6,7 +6,6 @@ use Rattle.pair_table.specs.Hashes.{hash_of}
 use Rattle.pair_table.specs.Rows.{places_in, AreFound}
 use Rattle.pair_table.proofs.RowLemmas.{found_none}
 use Rattle.simple_core.specs.Pairs.{Pair}
-use Rattle.simple_core.specs.declared.summaries.First.{First}
 use Rattle.need_table.specs.declared.entries.Entry.{Entry}
 use Rattle.need_table.specs.Tables.{pair_of, rested, raised, IsNotAt, IsNoted, IsUntouched}
 use Rattle.need_table.proofs.FillLemmas.{set-alike, more_itself}
@@ -28,8 +27,8 @@ pub pair_at : (entries : List Entry) (i : ℕ) (q : Pair) → IsSomeAnd (slice_g
 pair_at entries i q at = let e = some_at (λ e. pair_of e ≡ q) (slice_get entries i) at in map_at pair_of entries i e.0 e.1 ∙ ap Some e.2
 
 -- the pairs of entries that were noted, or couldn't be
-pub pairs_noted : (old new : List Entry) (i k : ℕ) (firsts : List First) (anew : Option (Vec ℕ)) → i < length old → IsNoted old new i k firsts anew → map pair_of new ≡ map pair_of old
-pairs_noted old new i k firsts anew within noted =
+pub pairs_noted : (old new : List Entry) (i k : ℕ) (given : List ℕ) (anew : Option (Vec ℕ)) → i < length old → IsNoted old new i k given anew → map pair_of new ≡ map pair_of old
+pairs_noted old new i k given anew within noted =
     let e = element_at old i within in
     elim (noted e.0 e.1) [
       | inl (e', is, rounds, pair, next, firsts, children, label) ↦ ap (map pair_of) is ∙ set-alike pair_of old i e.0 e' e.1 pair
@@ -39,7 +38,7 @@ pairs_noted old new i k firsts anew within noted =
 pub pairs_untouched : (old new : List Entry) (i : ℕ) → i < length old → IsUntouched old new i → map pair_of new ≡ map pair_of old
 pairs_untouched old new i within touch =
     let e = element_at old i within in
-    let (e', is, some, pair, rounds, firsts, children) = touch e.0 e.1 in
+    let (e', is, some, pair, rounds, children) = touch e.0 e.1 in
     ap (map pair_of) is ∙ set-alike pair_of old i e.0 e' e.1 pair
 
 pub pairs_raised : (old new : List Entry) (i k : ℕ) → i < length old → ((e : Entry) → slice_get old i ≡ Some e → new ≡ set old i (raised k e)) → map pair_of new ≡ map pair_of old
@@ -54,6 +53,6 @@ pairs_rested (e ∷ entries) = ap (λ z. pair_of e ∷ z) (pairs_rested entries)
 pub found_alike : (rows : List (ℕ × List ℕ)) (qs rs : List Pair) → rs ≡ qs → AreFound rows qs → AreFound rows rs
 found_alike rows qs rs same at = subst (λ (z : List Pair). AreFound rows z) (sym same) at
 
-pub pairs_either : {T E : Type 0} (r : Result T E) (old new : List Entry) (i k : ℕ) (firsts : List First) (anew : Option (Vec ℕ)) → i < length old → OnOk r (IsNoted old new i k firsts anew) → OnErr r (IsUntouched old new i) → map pair_of new ≡ map pair_of old
-pairs_either (Ok x) old new i k firsts anew within ok err = pairs_noted old new i k firsts anew within ok
-pairs_either (Err e) old new i k firsts anew within ok err = pairs_untouched old new i within err
+pub pairs_either : {T E : Type 0} (r : Result T E) (old new : List Entry) (i k : ℕ) (given : List ℕ) (anew : Option (Vec ℕ)) → i < length old → OnOk r (IsNoted old new i k given anew) → OnErr r (IsUntouched old new i) → map pair_of new ≡ map pair_of old
+pairs_either (Ok x) old new i k given anew within ok err = pairs_noted old new i k given anew within ok
+pairs_either (Err e) old new i k given anew within ok err = pairs_untouched old new i within err

@@ -5,7 +5,7 @@ use Rattle.std.proofs.lemmas.List.Elements.{Contains-append_left, Contains-appen
 use Rattle.tp_base.proofs.Rising.{Contains-here, Contains-cons, Contains-none}
 use Rattle.std.specs.Global.{Vec}
 use Rattle.std.proofs.Math.Seq.{take-append_seam}
-use Rattle.need_table.specs.Rows.{row_in, IsRicher, AreSameBelow, IsDue}
+use Rattle.need_table.specs.Rows.{row_in, IsAdded, IsRicher, AreSameBelow, IsDue}
 
 -- an empty row behind all
 pub row_push : (rows : List (List ℕ)) (p : ℕ) → row_in (rows ++ [] ∷ []) p ≡ row_in rows p
@@ -49,15 +49,28 @@ row_none (x ∷ rows) zero le = absurd (omega arith)
 row_none (x ∷ rows) (suc q) le = row_none rows q (omega arith)
 
 -- a place more in a row
-pub added_richer : (old new : List (List ℕ)) (q i : ℕ) → row_in new q ≡ row_in old q ++ i ∷ [] → ((p : ℕ) → p ≢ q → row_in new p ≡ row_in old p) → IsRicher old new
+pub added_richer : (old new : List (List ℕ)) (q i : ℕ) → IsAdded (row_in old q) (row_in new q) i → ((p : ℕ) → p ≢ q → row_in new p ≡ row_in old p) → IsRicher old new
 added_richer old new q i here others p j there = elim (cases_order p q) [
-  | inl same ↦ subst (λ z. Contains (row_in new z) j) (sym same) (subst (λ (z : List ℕ). Contains z j) (sym here) (Contains-append_left (row_in old q) (i ∷ []) j (subst (λ z. Contains (row_in old z) j) same there)))
+  | inl same ↦ subst (λ z. Contains (row_in new z) j) (sym same) (here.kept j (subst (λ z. Contains (row_in old z) j) same there))
   | inr (inl less) ↦ subst (λ (z : List ℕ). Contains z j) (sym (others p (λ e. omega arith))) there
   | inr (inr more) ↦ subst (λ (z : List ℕ). Contains z j) (sym (others p (λ e. omega arith))) there
 ]
 
-pub added_here : (old new : List (List ℕ)) (q i : ℕ) → row_in new q ≡ row_in old q ++ i ∷ [] → Contains (row_in new q) i
-added_here old new q i here = subst (λ (z : List ℕ). Contains z i) (sym here) (Contains-append_right (row_in old q) (i ∷ []) i (Contains-here i i [] refl))
+pub added_here : (old new : List (List ℕ)) (q i : ℕ) → IsAdded (row_in old q) (row_in new q) i → Contains (row_in new q) i
+added_here old new q i added = added.here
+
+-- behind all, or where it is the last one already
+pub added_last : (old new : List ℕ) (i : ℕ) → new ≡ old ++ i ∷ [] → IsAdded old new i
+added_last old new i is = record {
+  kept = λ j there. subst (λ (z : List ℕ). Contains z j) (sym is) (Contains-append_left old (i ∷ []) j there);
+  here = subst (λ (z : List ℕ). Contains z i) (sym is) (Contains-append_right old (i ∷ []) i (Contains-here i i [] refl));
+}
+
+pub added_already : (row xs : List ℕ) (i : ℕ) → row ≡ xs ++ i ∷ [] → IsAdded row row i
+added_already row xs i is = record {
+  kept = λ j there. there;
+  here = subst (λ (z : List ℕ). Contains z i) (sym is) (Contains-append_right xs (i ∷ []) i (Contains-here i i [] refl));
+}
 
 pub added_same : (old new : List (List ℕ)) (q k : ℕ) → k ≤ q → ((p : ℕ) → p ≢ q → row_in new p ≡ row_in old p) → AreSameBelow k old new
 added_same old new q k le others p less = others p (λ e. omega arith)

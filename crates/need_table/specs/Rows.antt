@@ -5,6 +5,11 @@ use Rattle.std.specs.Prelude.{◌≡◌, ◌≤◌, ◌<◌, ℕ, List, [], get_
 abbrev pub row_in : List (List ℕ) → ℕ → List ℕ
 row_in rows q = get_or rows q []
 
+-- the place stands in the row, with what stood there
+pub record IsAdded (old new : List ℕ) (i : ℕ) : Type 0 where
+  pub kept : (j : ℕ) → Contains old j → Contains new j
+  pub here : Contains new i
+
 -- what stood in a row stands there still
 abbrev pub IsRicher : List (List ℕ) → List (List ℕ) → Type 0
 IsRicher old new = (q i : ℕ) → Contains (row_in old q) i → Contains (row_in new q) i

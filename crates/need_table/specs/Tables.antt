@@ -1,5 +1,5 @@
 -- The table of pairs, while it is filled.
-use Rattle.std.specs.Prelude.{◌≡◌, ◌≢◌, ◌⊎◌, ◌&&◌, ◌++◌, set, ◌≤◌, ◌<◌, ℕ, suc, List, [], ◌∷◌, map, length, not, nat_le, Option, Some, None, Contains, IsSomeAnd, slice_get, ◌==◌, if◌then◌else◌}
+use Rattle.std.specs.Prelude.{◌≡◌, ◌≢◌, ◌⊎◌, ◌&&◌, ◌++◌, set, ◌≤◌, ◌<◌, ◌+◌, ℕ, suc, List, [], ◌∷◌, map, drop, length, not, nat_le, Option, Some, None, Contains, IsSomeAnd, slice_get, ◌==◌, if◌then◌else◌}
 use Rattle.std.specs.List.{filter}
 use Rattle.std.specs.Global.{Vec}
 use Rattle.tp_base.specs.Classes.{has_class, union_of}
@@ -17,6 +17,10 @@ pair_of e = (e.kind, e.parent)
 -- the atoms whose first round is one from `from` to `to`
 abbrev pub atoms_within : ℕ → ℕ → List First → List ℕ
 atoms_within from to firsts = map (λ f. f.atom) (filter (λ f. (nat_le from f.round) && (nat_le f.round to)) firsts)
+
+-- the atoms of the firsts from a place on
+abbrev pub atoms_from : ℕ → List First → List ℕ
+atoms_from place firsts = map (λ f. f.atom) (drop place firsts)
 
 -- the rounds never fall
 abbrev pub AreInOrder : List First → Type 0
@@ -87,7 +91,7 @@ pub record IsMore (old new : List Entry) : Type 0 where
   pub kept : (i : ℕ) (e : Entry) → slice_get old i ≡ Some e → IsSomeAnd (slice_get new i) (IsKept e)
   pub longer : length old ≤ length new
 
--- the entry at i got the atoms new and the places that it asks, if k was its last round; then it has one round more
+-- the entry at i got these firsts and the places that it asks, if k was its last round; then it has one round more
 abbrev pub NotedAt : List Entry → List Entry → ℕ → ℕ → List First → List ℕ → Entry → Type 0
 NotedAt old new i k firsts children e = ((e' : Entry) × (new ≡ set old i e') × (e.rounds ≡ Some k) × (pair_of e' ≡ pair_of e) × (e'.rounds ≡ Some (suc k)) × (e'.firsts.items ≡ e.firsts.items ++ firsts)
     × (e'.children.items ≡ children) × (e'.label ≡ union_of e.label (set_of (map (λ f. f.atom) firsts)))) ⊎ ((new ≡ old) × (e.rounds ≢ Some k))
@@ -97,8 +101,9 @@ abbrev pub replaced : Option (Vec ℕ) → List ℕ → List ℕ
 replaced None old = old
 replaced (Some v) old = v.items
 
-abbrev pub IsNoted : List Entry → List Entry → ℕ → ℕ → List First → Option (Vec ℕ) → Type 0
-IsNoted old new i k firsts anew = (e : Entry) → slice_get old i ≡ Some e → NotedAt old new i k firsts (replaced anew e.children.items) e
+-- the firsts are those of the given atoms that its label doesn't have
+abbrev pub IsNoted : List Entry → List Entry → ℕ → ℕ → List ℕ → Option (Vec ℕ) → Type 0
+IsNoted old new i k given anew = (e : Entry) → slice_get old i ≡ Some e → NotedAt old new i k (fresh_of e.label (k + 1) given) (replaced anew e.children.items) e
 
 -- the entry, worked out up to the round k
 abbrev pub raised : ℕ → Entry → Entry
@@ -106,7 +111,7 @@ raised k e = record e { rounds = Some k }
 
 -- nothing that counts is another at i, where a round was to be noted
 abbrev pub IsUntouched : List Entry → List Entry → ℕ → Type 0
-IsUntouched old new i = (e : Entry) → slice_get old i ≡ Some e → (e' : Entry) × (new ≡ set old i e') × (e.rounds ≢ None) × (pair_of e' ≡ pair_of e) × (e'.rounds ≡ e.rounds) × (e'.firsts.items ≡ e.firsts.items)
+IsUntouched old new i = (e : Entry) → slice_get old i ≡ Some e → (e' : Entry) × (new ≡ set old i e') × (e.rounds ≢ None) × (pair_of e' ≡ pair_of e) × (e'.rounds ≡ e.rounds)
     × (e'.children.items ≡ e.children.items)
 
 -- each pair of the table is needed for those of qs

@@ -1,5 +1,5 @@
 //! What is to be done, while the table is filled.
-ghost use Rattle.std.specs.Prelude.{◌≡◌, ◌≤◌, ◌<◌, ◌-◌, ◌+◌, ◌^◌, ℕ, [], Contains, length, Some, slice_get, IfSome, IsSomeAnd, OnOk};
+ghost use Rattle.std.specs.Prelude.{◌≡◌, ◌≤◌, ◌<◌, ◌-◌, ◌+◌, ◌^◌, ℕ, [], Contains, length, Some, slice_get, IfSome, IsSomeAnd, IsTrue, OnOk};
 ghost use Rattle.simple_core.specs.declared.summaries.First.{First};
 ghost use Rattle.need_table.specs.declared.entries.Entry.{Entry};
 ghost use Rattle.need_table.specs.Tables.{replaced, AreInOrder, AreOrdered};
@@ -173,34 +173,32 @@ pub(crate) fn expect(
     Ok(())
 }
 
-/// Makes due whom it concerns that the entry at i has the round after k now, and got these atoms in it: those that ask it and
-/// itself, for these, and itself for what its children got since.
+/// Makes due whom it concerns that the entry at i has the round after k now: those that ask it and itself, if it got atoms in it,
+/// and itself for what its children got since.
 pub(crate) fn tell(
     entries: &[Entry],
     agenda: &mut Agenda,
     i: usize,
     k: u64,
-    new: &[First],
+    grew: bool,
 ) -> Result<(), NoMemory>
     requires place { i < length entries.now }
     requires first { agenda.old.first ≤ i }
     requires round { k + 1 < 2 ^ 64 }
     requires order { AreOrdered entries.now }
     ensures children { OnOk result ((e : Entry) (j : ℕ) (c : Entry) (f : First) → slice_get entries.now i ≡ Some e → Contains e.children.items j → slice_get entries.now j ≡ Some c → Contains c.firsts.items f → k + 1 ≤ f.round → IsDue agenda.new.due i (k + 1) f.round) }
-    ensures askers { OnOk result ((f : First) → Contains new.now f → (a : ℕ) → Contains (row_in agenda.old.askers (i - agenda.old.first)) a → Contains (row_in agenda.new.due (k + 1)) a) }
-    ensures own { OnOk result ((f : First) → Contains new.now f → Contains (row_in agenda.new.due (k + 1)) i) }
+    ensures askers { OnOk result (IsTrue grew → (a : ℕ) → Contains (row_in agenda.old.askers (i - agenda.old.first)) a → Contains (row_in agenda.new.due (k + 1)) a) }
+    ensures own { OnOk result (IsTrue grew → Contains (row_in agenda.new.due (k + 1)) i) }
     ensures more { OnOk result (IsRicher agenda.old.due agenda.new.due) }
     ensures same { OnOk result (AreSameBelow (k + 1) agenda.old.due agenda.new.due) }
     ensures first { agenda.new.first ≡ agenda.old.first }
     ensures kept { agenda.new.askers ≡ agenda.old.askers }
 {
-    expect(entries, &mut agenda.due, i, k + 1, &entries[i].children)?;
-    if new.is_empty() {
-        return Ok(());
-    }
     let round = k as usize + 1;
-    let row = i - agenda.first;
-    wake(&mut agenda.due, agenda.askers.row(row), round)?;
-    agenda.due.add(round, i)?;
-    Ok(())
+    if grew {
+        let row = i - agenda.first;
+        wake(&mut agenda.due, agenda.askers.row(row), round)?;
+        agenda.due.add(round, i)?;
+    }
+    expect(entries, &mut agenda.due, i, k + 1, &entries[i].children)
 }

@@ -1,11 +1,11 @@
 //! One pair of the table, and its label in each round so far.
-ghost use Rattle.std.specs.Prelude.{◌≡◌, ◌↔◌, ◌≤◌, ◌<◌, ◌+◌, ◌^◌, map, take, drop, length, Some, Contains, IfOk, OnOk, IsTrue};
+ghost use Rattle.std.specs.Prelude.{◌≡◌, ◌↔◌, ◌≤◌, ◌<◌, ◌+◌, ◌++◌, ◌^◌, map, take, drop, length, Some, Contains, IfOk, OnOk, IsTrue};
+ghost use Rattle.std.specs.List.Sorted.{IsStrictlyIncreasing};
 ghost use Rattle.tp_base.specs.Classes.{union_of};
 ghost use Rattle.simple_core.specs.Labels.{set_of};
 ghost use Rattle.simple_core.specs.declared.summaries.First.{First};
-ghost use Rattle.need_table.specs.Tables.{atoms_within, fresh_of, AreInOrder, IsPlaceFrom};
+ghost use Rattle.need_table.specs.Tables.{fresh_of, AreInOrder, IsPlaceFrom};
 
-use gathered::Gathered;
 use simple_core::First;
 use std::alloc::Global;
 use tp_base::{ClassSet, NoMemory};
@@ -51,12 +51,14 @@ pub(crate) fn place_from(firsts: &[First], round: u64) -> usize
     search(before(firsts, place), round)
 }
 
-// The firsts from this place on.
-fn behind(firsts: &[First], place: usize) -> &[First]
-    requires { place ≤ length firsts.now }
+/// The firsts from this place on.
+pub(crate) fn behind(firsts: &[First], place: usize) -> &[First]
     ensures { result.now ≡ drop place firsts.now }
 {
-    firsts.split_at(place).1
+    match firsts.split_at_checked(place) {
+        Some((_, last)) => last,
+        None => &[],
+    }
 }
 
 // The firsts before this place.
@@ -77,62 +79,6 @@ pub(crate) fn within(firsts: &[First], from: u64, to: u64) -> &[First]
     behind(known, place_from(known, from))
 }
 
-/// All atoms.
-pub(crate) fn atoms_of(alloc: Global, firsts: &[First]) -> Result<ClassSet, NoMemory>
-    ensures { IfOk result (λ l. l ≡ set_of (map (λ f. f.atom) firsts.now)) }
-{
-    let mut label = Gathered::new(alloc);
-    let mut rest = firsts;
-    'firsts: while let Some((first, others)) = rest.split_first() {
-        label.add(first.atom)?;
-        rest = others;
-    }
-    let label = label.into_set()?;
-    Ok(label)
-}
-
-// Adds the atoms to a label one by one.
-fn add_each(label: &mut ClassSet, firsts: &[First]) -> Result<(), NoMemory>
-    ensures { OnOk result (label.new ≡ union_of label.old (map (λ f. f.atom) firsts.now)) }
-{
-    let mut rest = firsts;
-    'firsts: while let Some((first, others)) = rest.split_first() {
-        label.add(first.atom)?;
-        rest = others;
-    }
-    Ok(())
-}
-
-/// Adds the atoms to a label: a few by a search for each, and many by a copy of the label.
-#[tactic(auto, using(crate::proofs::OrderLemmas::union_set))]
-pub(crate) fn grow(label: &mut ClassSet, firsts: &[First]) -> Result<(), NoMemory>
-    ensures { OnOk result (label.new ≡ union_of label.old (set_of (map (λ f. f.atom) firsts.now))) }
-{
-    let alloc = label.allocator();
-    if firsts.len() <= A_FEW {
-        add_each(label, firsts)?;
-        return Ok(());
-    }
-    let atoms = atoms_of(alloc, firsts)?;
-    label.union(&atoms)?;
-    Ok(())
-}
-
-/// The atoms whose first round is one of these. The others cost a search.
-pub(crate) fn label_within(
-    alloc: Global,
-    firsts: &[First],
-    from: u64,
-    to: u64,
-) -> Result<ClassSet, NoMemory>
-    requires order { AreInOrder firsts.now }
-    requires round { to + 1 < 2 ^ 64 }
-    ensures { IfOk result (λ l. l ≡ set_of (atoms_within from to firsts.now)) }
-{
-    let label = atoms_of(alloc, within(firsts, from, to))?;
-    Ok(label)
-}
-
 /// The atoms of the second label that the first doesn't have, with the round in which they came.
 pub(crate) fn fresh(
     alloc: Global,
@@ -140,7 +86,8 @@ pub(crate) fn fresh(
     next: &ClassSet,
     round: u64,
 ) -> Result<Vec<First>, NoMemory>
-    ensures { IfOk result (λ v. v.items ≡ fresh_of own.now round next.now) }
+    ensures fresh { IfOk result (λ v. v.items ≡ fresh_of own.now round next.now) }
+    ensures rises { OnOk result (IsStrictlyIncreasing next.now) }
 {
     let mut new = Vec::new(alloc);
     let mut i = 0;
@@ -152,6 +99,48 @@ pub(crate) fn fresh(
         i += 1;
     }
     Ok(new)
+}
+
+// Adds the atoms to a label one by one, and to the firsts those that it didn't have.
+fn add_each(
+    label: &mut ClassSet,
+    firsts: &mut Vec<First>,
+    given: &ClassSet,
+    round: u64,
+) -> Result<(), NoMemory>
+    ensures label { OnOk result (label.new ≡ union_of label.old given.now) }
+    ensures firsts { OnOk result (firsts.new.items ≡ firsts.old.items ++ fresh_of label.old round given.now) }
+{
+    let mut i = 0;
+    'atoms: while i < given.len() {
+        let atom = given.at(i);
+        if label.add(atom)? {
+            firsts.push(First { atom, round })?;
+        }
+        i += 1;
+    }
+    Ok(())
+}
+
+/// Adds the atoms to a label, and those that it didn't have to the firsts, with the round, by a search for each: a few one by one,
+/// and many by a copy of the label.
+pub(crate) fn grow(
+    label: &mut ClassSet,
+    firsts: &mut Vec<First>,
+    given: &ClassSet,
+    round: u64,
+) -> Result<(), NoMemory>
+    ensures label { OnOk result (label.new ≡ union_of label.old (set_of (map (λ f. f.atom) (fresh_of label.old round given.now)))) }
+    ensures firsts { OnOk result (firsts.new.items ≡ firsts.old.items ++ fresh_of label.old round given.now) }
+{
+    let alloc = label.allocator();
+    if given.len() <= A_FEW {
+        return add_each(label, firsts, given, round);
+    }
+    let new = fresh(alloc, label, given, round)?;
+    label.union(given)?;
+    firsts.extend_from_slice(&new)?;
+    Ok(())
 }
 
 /// Whether this is the last round of the entry.

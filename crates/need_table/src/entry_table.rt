@@ -1,12 +1,11 @@
 //! The entries of the table.
-ghost use Rattle.std.specs.Prelude.{◌≡◌, ◌↔◌, ◌+◌, ◌≤◌, ◌<◌, ◌^◌, ◌∷◌, ◌++◌, [], ℕ, None, Some, map, take, set, length, slice_get, get_or, Contains, IsNone, IfSome, IsSomeAnd, IsTrue, IsFalse, OnOk, OnErr};
+ghost use Rattle.std.specs.Prelude.{◌≡◌, ◌↔◌, ◌+◌, ◌≤◌, ◌<◌, ◌^◌, ◌∷◌, ◌++◌, [], ℕ, None, Some, map, take, set, length, slice_get, get_or, Contains, IsNone, IfSome, IsSomeAnd, IsTrue, IsFalse, false, IfOk, OnOk, OnErr};
 ghost use Rattle.need_table.specs.declared.entries.Entry.{Entry};
-ghost use Rattle.need_table.specs.Tables.{pair_of, rested, raised, replaced, IsNotAt, IsNoted, IsUntouched};
+ghost use Rattle.need_table.specs.Tables.{pair_of, fresh_of, rested, raised, replaced, IsNotAt, IsNoted, IsUntouched};
 
 use crate::entries::{Entry, grow, is_at};
 use multimap::Multimap;
 use pair_table::{hash_of, same_atoms};
-use simple_core::First;
 use std::alloc::Global;
 use std::marker::Model;
 use tp_base::{ClassSet, NoMemory};
@@ -88,20 +87,22 @@ impl Table {
         Ok(())
     }
 
-    /// Notes what is new in the round after k at an entry, and where what it asks stands, if it asks anew, unless that was done.
+    /// Notes what of these atoms is new in the round after k at an entry, and where what it asks stands, if it asks anew, unless that
+    /// was done. A no says that nothing is new.
     pub(crate) fn note(
         &mut self,
         i: usize,
         k: u64,
-        new: &[First],
+        given: &ClassSet,
         anew: Option<Vec<usize>>,
-    ) -> Result<(), NoMemory>
+    ) -> Result<bool, NoMemory>
         requires place { i < length self.old }
         requires round { k + 1 < 2 ^ 64 }
-        ensures ok { OnOk result (IsNoted self.old self.new i k new.now anew) }
+        ensures ok { OnOk result (IsNoted self.old self.new i k given.now anew) }
+        ensures grew { IfOk result (λ grew. grew ≡ false → (e : Entry) → slice_get self.old i ≡ Some e → fresh_of e.label (k + 1) given.now ≡ []) }
         ensures err { OnErr result (IsUntouched self.old self.new i) }
     {
-        note(&mut self.entries, i, k, new, anew)
+        note(&mut self.entries, i, k, given, anew)
     }
 
     /// Notes that nothing is new at an entry up to the round k.
@@ -164,27 +165,29 @@ fn replace(places: &mut Vec<usize>, anew: Option<Vec<usize>>)
     }
 }
 
-// Notes what is new in the round after k, unless that was done.
+// Notes what of these atoms is new in the round after k, unless that was done.
 fn note(
     entries: &mut Vec<Entry>,
     i: usize,
     k: u64,
-    new: &[First],
+    given: &ClassSet,
     anew: Option<Vec<usize>>,
-) -> Result<(), NoMemory>
+) -> Result<bool, NoMemory>
     requires place { i < length entries.old.items }
     requires round { k + 1 < 2 ^ 64 }
-    ensures ok { OnOk result (IsNoted entries.old.items entries.new.items i k new.now anew) }
+    ensures ok { OnOk result (IsNoted entries.old.items entries.new.items i k given.now anew) }
+    ensures grew { IfOk result (λ grew. grew ≡ false → (e : Entry) → slice_get entries.old.items i ≡ Some e → fresh_of e.label (k + 1) given.now ≡ []) }
     ensures err { OnErr result (IsUntouched entries.old.items entries.new.items i) }
 {
     if is_at(&entries[i], k) {
         let entry = &mut entries[i];
-        grow(&mut entry.label, new)?;
-        entry.firsts.extend_from_slice(new)?;
+        let before = entry.firsts.len();
+        grow(&mut entry.label, &mut entry.firsts, given, k + 1)?;
         replace(&mut entry.children, anew);
         entry.rounds = Some(k + 1);
+        return Ok(entry.firsts.len() > before);
     }
-    Ok(())
+    Ok(true)
 }
 
 // Notes that nothing is new up to the round k.

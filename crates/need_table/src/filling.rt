@@ -1,17 +1,17 @@
 //! What an entry asks.
 ghost use Rattle.std.specs.Prelude.{◌≡◌, ◌+◌, ◌<◌, ◌^◌, IsFalse, ℕ, List, [], map, length, slice_get, Some, Contains, IsSomeAnd, IfOk, OnOk};
-ghost use Rattle.simple_core.specs.Systems.{kind_label};
+ghost use Rattle.simple_core.specs.Systems.{kind_label, IsSound};
 ghost use Rattle.simple_core.specs.Labels.{set_of, visible_in};
 ghost use Rattle.simple_core.specs.Pairs.{Pair, Asks, Needed, HasMore};
 ghost use Rattle.rule_index.specs.Asking.{AreKinds, AsksAnew};
-ghost use Rattle.need_table.specs.Tables.{pair_of, fresh_of, replaced, IsHeard, IsAskedAt, IsTable, IsMore, AreNeeded};
+ghost use Rattle.need_table.specs.Tables.{pair_of, fresh_of, atoms_from, replaced, IsHeard, IsAskedAt, IsTable, IsMore, AreNeeded};
 ghost use Rattle.need_table.specs.Agendas.{IsAppended};
 ghost use Rattle.need_table.specs.Turns.{IsAsked};
 
-use crate::entries::{Entry, atoms_of, fresh, label_within};
+use crate::entries::{Entry, behind, fresh, place_from};
 use crate::entry_table::Table;
 use rule_index::IndexedSystem;
-use simple_core::GainFault;
+use simple_core::{First, GainFault};
 use std::alloc::Global;
 use tp_base::{ClassSet, NoMemory};
 
@@ -35,7 +35,7 @@ fn first_entry(
     Ok(Entry {
         kind,
         parent: parent.copy()?,
-        label: atoms_of(alloc, &firsts)?,
+        label: label.copy()?,
         firsts,
         children: Vec::new(alloc),
         rounds: Some(0),
@@ -133,18 +133,19 @@ fn ask_all(
 }
 
 // Whether a label asks something in the round k that it didn't ask before, by what it got in it. Linear in that.
-fn asks_other(system: &IndexedSystem, fresh: &ClassSet, k: u64) -> bool
+fn asks_other(system: &IndexedSystem, fresh: &[First], k: u64) -> bool
+    requires { IsSound system.now }
     ensures later { IsFalse result → 0 < k }
-    ensures same { IsFalse result → (a : ℕ) → Contains fresh.now a → ¬ AsksAnew system.now a }
+    ensures same { IsFalse result → (f : First) → Contains fresh.now f → ¬ AsksAnew system.now f.atom }
 {
-    k == 0 || system.is_asking(fresh)
+    k == 0 || system.is_asking_by(fresh)
 }
 
-/// What an entry asks in its last round: what of its label is new in this round, and where what it asks stands, if that was looked
-/// for anew. Of what it asks, the atoms count whose first round is one from `from` on.
+/// What an entry asks in its last round: from which place on its firsts are of this round, and where what it asks stands, if that
+/// was looked for anew. Of what it asks, the atoms count whose first round is one from `from` on.
 #[derive(Drop)]
 pub(crate) struct Asked {
-    pub(crate) fresh: ClassSet,
+    pub(crate) place: usize,
     pub(crate) from: u64,
     pub(crate) anew: Option<Vec<usize>>,
 }
@@ -175,15 +176,15 @@ pub(crate) fn asked_by(
     ensures table { OnOk result (IsTable system.now pairs table.new) }
     ensures more { IsMore table.old table.new }
     ensures appended { OnOk result (IsAppended table.old table.new) }
-    ensures asked { IfOk result (λ a. IsSomeAnd (slice_get table.old i) (λ e. IsAsked system.now table.new (pair_of e) k e.label a.fresh a.from (replaced a.anew e.children.items))) }
+    ensures asked { IfOk result (λ a. IsSomeAnd (slice_get table.old i) (λ e. IsAsked system.now table.new (pair_of e) k e.label (atoms_from a.place e.firsts.items) a.from (replaced a.anew e.children.items))) }
     ensures needed { OnOk result ((qs : List Pair) → AreNeeded system.now qs table.old → AreNeeded system.now qs table.new) }
     ensures spent { result ≡ Err GainFault.Spent → (qs : List Pair) → AreNeeded system.now qs table.old → HasMore (Needed system.now (Contains qs)) pairs }
 {
     let entry = table.entry(i);
-    let fresh = label_within(alloc, &entry.firsts, k, k)?;
-    if !asks_other(system, &fresh, k) {
+    let place = place_from(&entry.firsts, k);
+    if !asks_other(system, behind(&entry.firsts, place), k) {
         return Ok(Asked {
-            fresh,
+            place,
             from: k,
             anew: None,
         });
@@ -191,7 +192,7 @@ pub(crate) fn asked_by(
     let own = entry.label.copy()?;
     let children = ask_all(alloc, system, table, pairs, &own)?;
     Ok(Asked {
-        fresh,
+        place,
         from: 0,
         anew: Some(children),
     })

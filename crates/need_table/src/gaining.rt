@@ -3,14 +3,15 @@ ghost use Rattle.std.specs.Prelude.{◌≡◌, ◌+◌, ◌<◌, ◌^◌, ℕ, s
 ghost use Rattle.std.specs.List.{flat_map};
 ghost use Rattle.std.specs.List.Sorted.{IsStrictlyIncreasing};
 ghost use Rattle.tp_base.specs.Classes.{union_of};
-ghost use Rattle.simple_core.specs.Labels.{set_of, given_by_links};
-ghost use Rattle.need_table.specs.Tables.{pair_of, replaced, IsDone, IsMore, AreOrdered};
+ghost use Rattle.simple_core.specs.Labels.{set_of, given_by_links, given_by_rules};
+ghost use Rattle.rule_index.specs.Asking.{IsMore as IsGiven, AreMet};
+ghost use Rattle.need_table.specs.Tables.{pair_of, atoms_from, replaced, IsDone, IsMore, AreOrdered};
 ghost use Rattle.need_table.specs.Rows.{IsEmptyBelow, AreSameBelow};
 ghost use Rattle.need_table.specs.Agendas.{AreKnown, IsGoing};
 ghost use Rattle.need_table.specs.Turns.{given_at, given_above, IsAsked, IsGained};
 
 use crate::agenda::{Agenda, listen_anew, tell};
-use crate::entries::{Entry, fresh, within};
+use crate::entries::{Entry, behind, within};
 use crate::entry_table::Table;
 use crate::filling::{Asked, asked_places};
 use gathered::Gathered;
@@ -90,6 +91,22 @@ fn add_above(
     Ok(())
 }
 
+// Adds what an entry gives itself, of whose firsts those from this place on are new.
+fn add_own(
+    system: &IndexedSystem,
+    entry: &Entry,
+    place: usize,
+    next: &mut Gathered,
+) -> Result<(), NoMemory>
+    requires { AreMet system.now.local entry.now.label (atoms_from place entry.now.firsts.items) }
+    ensures { OnOk result (IsGiven entry.now.label (given_by_rules system.now.local entry.now.label) next.old next.new) }
+{
+    if place == 0 {
+        return system.add_local(&entry.label, &entry.label, next);
+    }
+    system.add_local_by(&entry.label, behind(&entry.firsts, place), next)
+}
+
 // What an entry gets in the round after k, its last one, and some of what it has. It costs a look at what is new of the label and
 // of what it asks, and at the rules that need that.
 fn gained(
@@ -103,12 +120,12 @@ fn gained(
     requires round { k + 1 < 2 ^ 64 }
     requires order { AreOrdered table.now }
     requires known { AreKnown system.now k table.now }
-    requires asked { IsSomeAnd (slice_get table.now i) (λ e. IsAsked system.now table.now (pair_of e) k e.label asked.now.fresh asked.now.from (replaced asked.now.anew e.children.items)) }
+    requires asked { IsSomeAnd (slice_get table.now i) (λ e. IsAsked system.now table.now (pair_of e) k e.label (atoms_from asked.now.place e.firsts.items) asked.now.from (replaced asked.now.anew e.children.items)) }
     ensures { IfOk result (λ n. IsSomeAnd (slice_get table.now i) (λ e. IsGained system.now (pair_of e) k e.label n)) }
 {
     let mut next = Gathered::new(alloc);
     let entry = table.entry(i);
-    system.add_local(&entry.label, &asked.fresh, &mut next)?;
+    add_own(system, entry, asked.place, &mut next)?;
     add_above(system, &entry.parent, k, &mut next)?;
     let children = asked_places(&asked.anew, &entry.children);
     add_children(system, table.entries(), asked.from, k, children, &mut next)?;
@@ -130,7 +147,7 @@ pub(crate) fn step(
     requires going { (pairs : ℕ) × IsGoing system.now pairs table.old agenda.old }
     requires early { IsEmptyBelow k agenda.old.due }
     requires rounds { IsSomeAnd (slice_get table.old i) (λ e. e.rounds ≡ Some k) }
-    requires asked { IsSomeAnd (slice_get table.old i) (λ e. IsAsked system.now table.old (pair_of e) k e.label asked.fresh asked.from (replaced asked.anew e.children.items)) }
+    requires asked { IsSomeAnd (slice_get table.old i) (λ e. IsAsked system.now table.old (pair_of e) k e.label (atoms_from asked.place e.firsts.items) asked.from (replaced asked.anew e.children.items)) }
     ensures going { OnOk result ((pairs : ℕ) → IsGoing system.now pairs table.old agenda.old → IsGoing system.now pairs table.new agenda.new) }
     ensures more { IsMore table.old table.new }
     ensures same { OnOk result (map pair_of table.new ≡ map pair_of table.old) }
@@ -138,7 +155,6 @@ pub(crate) fn step(
     ensures done { OnOk result (IsSomeAnd (slice_get table.new i) (λ e. IsDone e.rounds (suc k))) }
 {
     let given = gained(alloc, system, table, i, k, &asked)?;
-    let new = fresh(alloc, &table.entry(i).label, &given, k + 1)?;
     let first = agenda.first;
     listen_anew(
         &mut agenda.askers,
@@ -147,7 +163,7 @@ pub(crate) fn step(
         &table.entry(i).children,
         &asked.anew,
     )?;
-    table.note(i, k, &new, asked.anew)?;
-    tell(table.entries(), agenda, i, k, &new)?;
+    let grew = table.note(i, k, &given, asked.anew)?;
+    tell(table.entries(), agenda, i, k, grew)?;
     Ok(())
 }

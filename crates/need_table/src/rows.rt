@@ -1,6 +1,6 @@
 //! Rows of places.
 ghost use Rattle.std.specs.Prelude.{◌≡◌, ◌≢◌, ◌<◌, ◌++◌, ◌∷◌, [], ℕ, List, None, length, IfSome, OnOk};
-ghost use Rattle.need_table.specs.Rows.{row_in};
+ghost use Rattle.need_table.specs.Rows.{row_in, IsAdded};
 
 use std::alloc::Global;
 use std::marker::Model;
@@ -79,11 +79,16 @@ impl Rows {
         Ok(())
     }
 
-    /// Puts a place behind all of a row.
+    /// Puts a place behind all of a row, where it isn't the last one already.
     pub(crate) fn add(&mut self, q: usize, place: usize) -> Result<(), NoMemory>
-        ensures added { OnOk result (row_in self.new q ≡ row_in self.old q ++ place ∷ []) }
+        ensures added { OnOk result (IsAdded (row_in self.old q) (row_in self.new q) place) }
         ensures others { OnOk result ((p : ℕ) → p ≢ q → row_in self.new p ≡ row_in self.old p) }
     {
+        if let Some(last) = self.last(q)
+            && last == place
+        {
+            return Ok(());
+        }
         self.begin(q)?;
         self.rows[q].push(place)?;
         Ok(())

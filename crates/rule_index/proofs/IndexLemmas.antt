@@ -1,5 +1,5 @@
 -- Rules found by the atoms that they look at.
-use Rattle.std.proofs.Common.{◌≡◌, ◌≢◌, ◌⊎◌, Bool, true, false, ℕ, ◌+◌, ◌<◌, List, [], ◌∷◌, ◌++◌, take, length, get_or, slice_get, Option, Some, None, option_map, unwrap_or, All, Contains, refl, sym, ap, ◌∙◌, inl, inr, arith, subst}
+use Rattle.std.proofs.Common.{◌≡◌, ◌≢◌, ◌⊎◌, Bool, true, false, ℕ, ◌+◌, ◌<◌, List, [], ◌∷◌, ◌++◌, map, take, length, get_or, slice_get, Option, Some, None, option_map, unwrap_or, All, Contains, refl, sym, ap, ◌∙◌, inl, inr, arith, subst}
 use Rattle.std.specs.List.{IsFirstAndRest}
 use Rattle.std.specs.List.Sorted.{IsStrictlyIncreasing}
 use Rattle.std.proofs.lemmas.Bool.{and_from}
@@ -11,18 +11,21 @@ use Rattle.std.proofs.lemmas.List.Elements.{Contains-append_left, Contains-appen
 use Rattle.std.proofs.lemmas.Option.{slice_get_within, slice_get-get_or, get_or_from_slice_get}
 use Rattle.tp_base.specs.Classes.{has_class, all_among, with_class, union_of}
 use Rattle.tp_base.proofs.ClassLemmas.{same_members, Contains-union_of, IsStrictlyIncreasing-union_of}
-use Rattle.tp_base.proofs.Rising.{Contains-here, Contains-none, All-from_Contains}
-use Rattle.tp_base.proofs.Lists.{slice_get-append_left, slice_get-push, push_cases, take_next, Contains-at, Contains-only}
+use Rattle.tp_base.proofs.Rising.{Contains-here, Contains-cons, Contains-none, All-from_Contains}
+use Rattle.tp_base.proofs.Lists.{slice_get-append_left, slice_get-push, push_cases, take_next, Contains-at, at_Contains, at_map, Contains-only}
 use Rattle.row_index.specs.Rows.{row_of, IsNoted}
 use Rattle.row_index.proofs.RowLemmas.{noted_kept, noted_cases}
 use Rattle.simple_core.specs.declared.system.System.{System}
+use Rattle.simple_core.specs.declared.summaries.First.{First}
+use Rattle.simple_core.specs.Systems.{IsSound}
 use Rattle.simple_core.specs.declared.rules.Local.{Local}
 use Rattle.simple_core.specs.declared.rules.Link.{Link}
 use Rattle.simple_core.specs.declared.rules.Spawn.{Spawn}
 use Rattle.simple_core.specs.Labels.{given_by_rules, given_by_links}
 use Rattle.simple_core.proofs.Members.{all_among_each, flat_map-Contains, Contains-flat_map}
+use Rattle.simple_core.proofs.RoundLemmas.{set_of-is}
 use Rattle.simple_core.proofs.LabelLemmas.{IsByRule, given_by_rules-is, is-given_by_rules, given_by_links-is, is-given_by_links, kinds_at-is, is-kinds_at}
-use Rattle.rule_index.specs.Asking.{IsMore, AreMet, AreKinds}
+use Rattle.rule_index.specs.Asking.{IsMore, AreMet, AsksAnew, AreKinds}
 use Rattle.rule_index.specs.Indexes.{IsIndex, AreNeedsNoted, IsRuleNoted, IsOneKey, AreLocalsAt, AreRareAt, AreFound, AreLinksAt, AreSpawnsAt, at_place, at_row, by_label, given_in, to_of, kind_of}
 
 -- unions with the same members are one
@@ -335,6 +338,46 @@ has_more needs label i a has at is there before =
 pub has_not : (needs label : List ℕ) (i a : ℕ) (has : Bool) → slice_get needs i ≡ Some a → has ≡ has_class a label → has ≡ false → false ≡ all_among needs label
 has_not needs label i a has at is none =
     sym (list_all_at (λ x. has_class x label) needs i 0 (slice_get_within needs i a at) (ap (λ z. has_class z label) (get_or_from_slice_get needs i a 0 at) ∙ sym is ∙ none))
+
+-- ---- by firsts
+
+-- the atom of one first more
+pub firsts_next : {X : Type 0} (f : X → List ℕ) (rules : List X) (rows : List (List ℕ)) (at : ℕ → ℕ) (next next' row : List ℕ) (rest : List First) (first : First) (others : List First) → rest ≡ first ∷ others → row ≡ row_of rows (at first.atom)
+    → next' ≡ union_of next (at_row f rules row) → union_of next' (by_label f rules rows at (map (λ f. f.atom) others)) ≡ union_of next (by_label f rules rows at (map (λ f. f.atom) rest))
+firsts_next {X} f rules rows at next next' row rest first others split here given =
+    let mine = at_row f rules (row_of rows (at first.atom)) in
+    let left = by_label f rules rows at (map (λ (g : First). g.atom) others) in
+    ap (λ z. union_of z left) (given ∙ ap (λ z. union_of next (at_row f rules z)) here)
+    ∙ sym (fold-append (λ (xs : List ℕ) (y : ℕ). with_class y xs) next mine left)
+    ∙ ap (λ (z : List First). union_of next (by_label f rules rows at (map (λ (g : First). g.atom) z))) (sym split)
+
+pub firsts_end : {X : Type 0} (f : X → List ℕ) (rules : List X) (rows : List (List ℕ)) (at : ℕ → ℕ) (next start : List ℕ) (rest all : List First) → length rest ≡ 0
+    → union_of next (by_label f rules rows at (map (λ f. f.atom) rest)) ≡ union_of start (by_label f rules rows at (map (λ f. f.atom) all)) → next ≡ union_of start (by_label f rules rows at (map (λ f. f.atom) all))
+firsts_end f rules rows at next start [] all none same = same
+firsts_end f rules rows at next start (g ∷ rest) all none same = absurd (omega arith)
+
+-- P holds of those that are not left
+pub left_fewer : (P : First → Type 0) (all rest others : List First) (first : First) → rest ≡ first ∷ others → ((f : First) → Contains all f → Contains rest f ⊎ P f) → P first → (f : First) → Contains all f → Contains others f ⊎ P f
+left_fewer P all rest others first split so_far here f there = elim (so_far f there) [
+  | inl left ↦ elim ((Contains-cons f first others).0 (subst (λ (z : List First). Contains z f) split left)) [
+    | inl same ↦ inr (subst P (sym same) here)
+    | inr later ↦ inl later
+  ]
+  | inr done ↦ inr done
+]
+
+pub none_left : (P : First → Type 0) (all rest : List First) → length rest ≡ 0 → ((f : First) → Contains all f → Contains rest f ⊎ P f) → (f : First) → Contains all f → P f
+none_left P all [] none so_far f there = elim (so_far f there) [ inl left ↦ absurd (Contains-none f left) | inr done ↦ done ]
+none_left P all (x ∷ rest) none so_far f there = absurd (omega arith)
+
+-- an atom that no link from a parent looks at and that adds no child
+pub not_asking : (s : System) (links : List Link) (a : ℕ) → IsSound s → links ≡ s.up → ((l : Link) → Contains links l → l.from ≡ a → ⊥) → ((c : Spawn) → Contains s.child c → c.needs ≡ a → ⊥) → AsksAnew s a → ⊥
+not_asking s links a sound same unseen childless (inl seen) =
+    let from = λ (l : Link). l.from in
+    let i = at_Contains (map from s.up) a (set_of-is (map from s.up) a (subst (λ (z : List ℕ). Contains z a) sound.visible seen)) in
+    let l = at_map from s.up i.0 a i.1 in
+    unseen l.0 (subst (λ (z : List Link). Contains z l.0) (sym same) (Contains-at s.up i.0 l.0 l.1)) l.2
+not_asking s links a sound same unseen childless (inr child) = childless child.0 child.1 child.2
 
 pub first_rest : {X : Type 0} (xs : List X) (x : X) (rest : List X) → IsFirstAndRest xs x rest → xs ≡ x ∷ rest
 first_rest xs x rest is = is.0

@@ -1,8 +1,10 @@
 //! The rules of a system, found by the atoms that they look at.
-ghost use Rattle.std.specs.Prelude.{◌≡◌, ◌≢◌, ◌++◌, ◌+◌, ◌∷◌, [], ℕ, Contains, All, IfOk, OnOk, IsTrue, IsFalse};
+ghost use Rattle.std.specs.Prelude.{◌≡◌, ◌≢◌, ◌++◌, ◌+◌, ◌∷◌, [], ℕ, map, Contains, All, IfOk, OnOk, IsTrue, IsFalse};
 ghost use Rattle.std.specs.List.Sorted.{IsStrictlyIncreasing};
 ghost use Rattle.tp_base.specs.Classes.{all_among, union_of};
 ghost use Rattle.simple_core.specs.Labels.{given_by_rules, given_by_links};
+ghost use Rattle.simple_core.specs.Systems.{IsSound};
+ghost use Rattle.simple_core.specs.declared.summaries.First.{First};
 ghost use Rattle.simple_core.specs.declared.rules.Link.{Link};
 ghost use Rattle.simple_core.specs.declared.rules.Spawn.{Spawn};
 ghost use Rattle.rule_index.specs.Asking.{IsMore, AreMet, AreUnseen, AsksAnew, AreKinds};
@@ -11,7 +13,7 @@ ghost use Rattle.rule_index.specs.Indexes.{at_place, at_row, by_label, given_in,
 use crate::places::{links_at, locals_at, rarest_at, spawns_at};
 use gathered::Gathered;
 use row_index::Index;
-use simple_core::{Kind, Link, Local, Spawn, System};
+use simple_core::{First, Kind, Link, Local, Spawn, System};
 use std::alloc::Global;
 use std::marker::Model;
 use tp_base::{Atom, ClassSet, NoMemory};
@@ -93,6 +95,22 @@ impl<'a> IndexedSystem<'a> {
         add_by_needs(rules, &self.local, label, fresh, next)
     }
 
+    /// The same by what came last to a label. A rule is tested once for each of these atoms that it needs.
+    pub fn add_local_by(
+        &self,
+        label: &ClassSet,
+        fresh: &[First],
+        next: &mut Gathered,
+    ) -> Result<(), NoMemory>
+        requires { AreMet self.now.local label.now (map (λ f. f.atom) fresh.now) }
+        ensures { OnOk result (IsMore label.now (given_by_rules self.now.local label.now) next.old next.new) }
+    {
+        let rules = self.system.local.items();
+        add_rules(rules, self.local.of(0), label, next)?;
+        add_by_firsts(rules, &self.local, label, fresh, next)?;
+        Ok(())
+    }
+
     /// Adds what the label of the parent gives.
     pub fn add_up(&self, label: &ClassSet, next: &mut Gathered) -> Result<(), NoMemory>
         requires { IsStrictlyIncreasing next.old }
@@ -134,6 +152,29 @@ impl<'a> IndexedSystem<'a> {
             }
         }
         false
+    }
+
+    /// The same of what came last to a label. Linear in it.
+    pub fn is_asking_by(&self, fresh: &[First]) -> bool
+        requires { IsSound self.now }
+        ensures { IsFalse result → (f : First) → Contains fresh.now f → ¬ AsksAnew self.now f.atom }
+    {
+        let mut rest = fresh;
+        'firsts: while let Some((first, others)) = rest.split_first() {
+            if self.is_looked_at(first.atom) {
+                return true;
+            }
+            rest = others;
+        }
+        false
+    }
+
+    // Whether a link from a parent looks at an atom, or it adds a child.
+    fn is_looked_at(&self, atom: Atom) -> bool
+        requires { IsSound self.now }
+        ensures { IsFalse result → ¬ AsksAnew self.now atom }
+    {
+        is_seen(self.system.up.items(), &self.up, atom) || self.spawns(atom)
     }
 
     // Whether a label that gets this atom asks something else than before.
@@ -261,6 +302,25 @@ fn add_by_each(
     for i in 0..fresh.len() {
         let atom = fresh.at(i);
         add_rules(rules, index.of(atom.0 as usize + 1), label, next)?;
+    }
+    Ok(())
+}
+
+// The same, for the atoms of firsts.
+fn add_by_firsts(
+    rules: &[Local],
+    index: &Index,
+    label: &ClassSet,
+    fresh: &[First],
+    next: &mut Gathered,
+) -> Result<(), NoMemory>
+    ensures { OnOk result (next.new ≡ union_of next.old (by_label (given_in label.now) rules.now index.now (λ a. a + 1) (map (λ f. f.atom) fresh.now))) }
+{
+    let mut rest = fresh;
+    'firsts: while let Some((first, others)) = rest.split_first() {
+        let atom = first.atom;
+        add_rules(rules, index.of(atom.0 as usize + 1), label, next)?;
+        rest = others;
     }
     Ok(())
 }

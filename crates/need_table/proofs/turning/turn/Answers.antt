@@ -1,7 +1,7 @@
 use Rattle.std.proofs.Common.{◌≡◌, List, Some, Err, IsSomeAnd, slice_get, refl, sym, subst, arith, rules}
 use Rattle.simple_core.specs.declared.summaries.GainFault.TheVariants.{Spent}
 use Rattle.need_table.specs.declared.entries.Entry.{Entry}
-use Rattle.need_table.specs.Tables.{pair_of, replaced}
+use Rattle.need_table.specs.Tables.{pair_of, atoms_from, replaced}
 use Rattle.need_table.specs.Agendas.{IsGoing}
 use Rattle.need_table.specs.Turns.{IsAsked}
 use Rattle.need_table.proofs.FillLemmas.{more_twice}
@@ -51,7 +51,7 @@ step-requires-clause-asked c =
     let a = c.in_ok-asked.asked in
     let new = c.asked_by.new.table in
     let same : new ≡ c.raise.new.self = appended_same c.raise.new.self new c.in_ok-asked.ensures.appended (omega (arith, c.len.ensures, c.if-len-before.true, c.len-before.ensures, r.count)) in
-    subst (λ (z : List Entry). IsSomeAnd (slice_get z c.args.i) (λ e. IsAsked c.args.system.now new (pair_of e) c.args.k e.label a.fresh a.from (replaced a.anew e.children.items))) (sym same) c.in_ok-asked.ensures.asked
+    subst (λ (z : List Entry). IsSomeAnd (slice_get z c.args.i) (λ e. IsAsked c.args.system.now new (pair_of e) c.args.k e.label (atoms_from a.place e.firsts.items) a.from (replaced a.anew e.children.items))) (sym same) c.in_ok-asked.ensures.asked
 
 pub returns-in_err-step-clause-more : goal.returns-in_err-step-clause-more
 returns-in_err-step-clause-more c =

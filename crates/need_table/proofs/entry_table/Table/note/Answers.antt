@@ -13,5 +13,5 @@ returns-clause-err c = rw (← c.self.view_is) c.note.ensures.err
 pub invariant_of-self : goal.invariant_of-self
 invariant_of-self c =
     found_alike c.self.inside.places (map pair_of c.self.inside.entries.items) (map pair_of c.note.new.entries.items)
-    (pairs_either c.note.result c.self.inside.entries.items c.note.new.entries.items c.args.i c.args.k c.args.new.now c.args.anew
+    (pairs_either c.note.result c.self.inside.entries.items c.note.new.entries.items c.args.i c.args.k c.args.given.now c.args.anew
     (subst (λ (z : List Entry). c.args.i < length z) (sym c.self.view_is) c.requires.place) c.note.ensures.ok c.note.ensures.err) c.self.invariant

@@ -1,4 +1,4 @@
-use Rattle.std.proofs.Common.{◌≡◌, map, length, slice_get, Some, sym, subst, arith}
+use Rattle.std.proofs.Common.{◌≡◌, map, slice_get, Some, sym, subst, arith}
 use Rattle.std.proofs.lemmas.List.{length-map}
 use Rattle.std.proofs.lemmas.Option.{slice_get_within}
 use Rattle.need_table.specs.PlainTables.{PlainTable}
