@@ -6,7 +6,7 @@ pub mod SameLemmas
 pub mod SkipLemmas
 pub mod AddLemmas
 pub mod SeenLemmas
-mod LinkLemmas
+pub mod LinkLemmas
 mod DifferentLemmas
 mod ChildLemmas
 pub mod MapLemmas

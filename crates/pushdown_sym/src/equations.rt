@@ -84,8 +84,13 @@ impl Equations {
         self.next_alone(now.allocator(), d, now, kind, atom)
     }
 
-    // The cell, where nothing is kept of the children that its links look at.
-    fn next_alone(
+    /// Whether a link from a child gives the atom.
+    pub(crate) fn is_given_below(&self, atom: Atom) -> bool {
+        !self.givers.downs.of(atom).is_empty()
+    }
+
+    /// The cell, where nothing is kept of the children that its links look at.
+    pub(crate) fn next_alone(
         &self,
         alloc: Global,
         d: &mut Diagrams,

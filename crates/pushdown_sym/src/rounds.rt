@@ -183,7 +183,7 @@ impl<'e, 'c> Round<'e, 'c> {
     }
 }
 
-// The cell, and what is kept then.
+// The cell, and what is kept then: nothing of an atom that no link from a child gives.
 fn next_kept(
     alloc: Global,
     equations: &Equations,
@@ -200,6 +200,9 @@ fn next_kept(
     let start = now.get(cell.0, cell.1);
     if is_whole(d, start) {
         return Ok(start);
+    }
+    if !equations.is_given_below(cell.1) {
+        return equations.next_alone(alloc, d, now, cell.0, cell.1);
     }
     match kept.gather(alloc, equations, now, cell.1) {
         Ok(()) => equations.next_by(alloc, d, now, cell, kept.of(cell.1)),

@@ -6,16 +6,14 @@ use Rattle.simple_core.specs.Systems.{IsSound}
 use Rattle.pushdown_sym.specs.CellMap.{Entries}
 use Rattle.pushdown_sym.specs.Adding.{AreIn}
 use Rattle.pushdown_sym.specs.Rounds.{given_atoms}
-use Rattle.pushdown_sym.specs.declared.cells.CellKey.{CellKey}
-use Rattle.saturation.specs.Histories.{Change}
-use Rattle.saturation.specs.HistoryMap.{history_in}
+use Rattle.saturation.specs.HistoryMap.{Noted, history_in}
 use Rattle.saturation.specs.Saturation.{IsBuilt}
 use Rattle.saturation.specs.declared.courses.Course.{Course}
 use Rattle.saturation.specs.Courses.{AreRows}
 use Rattle.saturation.specs.Shared.{AreSummaries}
 
 -- the summaries keep a copy of the system
-pub summaries_built : (s copy : System) (atoms : List ℕ) (d : Arena) (cells : Entries) (histories : List (CellKey × List Change)) (rows : List (List Course)) → copy ≡ s → IsSound s → atoms ≡ given_atoms s
+pub summaries_built : (s copy : System) (atoms : List ℕ) (d : Arena) (cells : Entries) (histories : List (List Noted)) (rows : List (List Course)) → copy ≡ s → IsSound s → atoms ≡ given_atoms s
     → AreIn d.branches cells → IsBuilt s d (history_in histories) cells → AreRows s (history_in histories) rows → AreSummaries copy atoms d cells histories rows
 summaries_built s copy atoms d cells histories rows same sound given inside built are = record {
   sound = subst IsSound (sym same) sound;

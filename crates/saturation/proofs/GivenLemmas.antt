@@ -19,7 +19,7 @@ use Rattle.simple_core.proofs.Members.{flat_map-Contains}
 use Rattle.pushdown_sym.specs.Terms.{CellTrees, terms, disjunction, next_tree}
 use Rattle.pushdown_sym.specs.Rounds.{cell, given_atoms}
 
-filter_none : {X : Type 0} (q : X → Bool) (xs : List X) → ((x : X) → Contains xs x → q x ≡ false) → filter q xs ≡ []
+pub filter_none : {X : Type 0} (q : X → Bool) (xs : List X) → ((x : X) → Contains xs x → q x ≡ false) → filter q xs ≡ []
 filter_none q [] none = refl
 filter_none q (x ∷ xs) none = rw (none x (Contains-here x x xs refl)) (filter_none q xs (λ y there. none y (Contains-behind y x xs there)))
 

@@ -5,8 +5,11 @@ pub mod FewRounds
 pub mod BudgetLemmas
 pub mod LoopLemmas
 pub mod GivenLemmas
+pub mod IdleLemmas
 pub mod StartLemmas
 pub mod EndLemmas
+mod NoKinds
+mod LogLemmas
 mod NoteLemmas
 mod RoundLemmas
 mod OneCellLemmas
@@ -14,6 +17,7 @@ pub mod AskLemmas
 mod TableLemmas
 mod NameLemmas
 mod WakingLemmas
+mod FirstCells
 mod MemberLemmas
 mod DoneLemmas
 mod FirstLemmas

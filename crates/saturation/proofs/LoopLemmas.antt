@@ -32,7 +32,7 @@ same_name i b j a = elim (cases_order i j) [
   ]
 ]
 
-is_listed : (cs : List CellName) (j a : ℕ) → Contains cs (j, a) ⊎ (Contains cs (j, a) → ⊥)
+pub is_listed : (cs : List CellName) (j a : ℕ) → Contains cs (j, a) ⊎ (Contains cs (j, a) → ⊥)
 is_listed [] j a = inr (λ there. Contains-none (j, a) there)
 is_listed (c ∷ cs) j a = elim (same_name j a c.0 c.1) [
   | inl here ↦ inl (Contains-here (j, a) c cs here)

@@ -12,7 +12,7 @@ use Rattle.simple_core.specs.declared.rules.Link.{Link}
 use Rattle.simple_core.specs.declared.rules.Local.{Local}
 use Rattle.simple_core.specs.declared.system.System.{System}
 use Rattle.pushdown_sym.specs.Rounds.{given_atoms}
-use Rattle.saturation.specs.Waking.{CellName, named, named_each}
+use Rattle.saturation.specs.Waking.{CellName, named}
 
 pub union_append : (xs ys zs : List ℕ) → union_of xs (ys ++ zs) ≡ union_of (union_of xs ys) zs
 union_append xs [] zs = refl
@@ -48,27 +48,24 @@ named_more old now new kind atoms i a at before more =
     ∙ append_assoc old (named kind (take i atoms)) ((kind, a) ∷ [])
     ∙ ap (λ (cs : List CellName). old ++ cs) (sym (ap (named kind) (take_next atoms i a at) ∙ map-append {A = ℕ} {B = CellName} (λ b. (kind, b)) (take i atoms) (a ∷ [])))
 
--- one kind more
-one_kind : (kinds more : List ℕ) (kind : ℕ) (atoms : List ℕ) → more ≡ kinds ++ kind ∷ [] → named_each more atoms ≡ named_each kinds atoms ++ named kind atoms
-one_kind kinds more kind atoms is =
-    ap (λ (ks : List ℕ). named_each ks atoms) is
-    ∙ flat_map-append {X = ℕ} {A = CellName} (λ k. named k atoms) kinds (kind ∷ [])
-    ∙ ap (λ (cs : List CellName). named_each kinds atoms ++ cs) (append-nil (named kind atoms))
-
-pub each_more : (old now new : List CellName) (kinds atoms : List ℕ) (i kind : ℕ) → slice_get kinds i ≡ Some kind → now ≡ old ++ named_each (take i kinds) atoms → new ≡ now ++ named kind atoms
-    → new ≡ old ++ named_each (take (i + 1) kinds) atoms
-each_more old now new kinds atoms i kind at before more =
+-- one key more
+pub mapped_more : (f : ℕ → List CellName) (old now new : List CellName) (keys : List ℕ) (i key : ℕ) → slice_get keys i ≡ Some key → now ≡ old ++ flat_map f (take i keys) → new ≡ now ++ f key
+    → new ≡ old ++ flat_map f (take (i + 1) keys)
+mapped_more f old now new keys i key at before more =
     more
-    ∙ ap (λ (cs : List CellName). cs ++ named kind atoms) before
-    ∙ append_assoc old (named_each (take i kinds) atoms) (named kind atoms)
-    ∙ ap (λ (cs : List CellName). old ++ cs) (sym (one_kind (take i kinds) (take (i + 1) kinds) kind atoms (take_next kinds i kind at)))
+    ∙ ap (λ (cs : List CellName). cs ++ f key) before
+    ∙ append_assoc old (flat_map f (take i keys)) (f key)
+    ∙ ap (λ (cs : List CellName). old ++ cs)
+    (sym (ap (flat_map f) (take_next keys i key at) ∙ flat_map-append {X = ℕ} {A = CellName} f (take i keys) (key ∷ []) ∙ ap (λ (cs : List CellName). flat_map f (take i keys) ++ cs) (append-nil (f key))))
 
-pub kinds_more : (i : ℕ) (atoms : List ℕ) → named_each (range_with_len 0 (i + 1)) atoms ≡ named_each (range_with_len 0 i) atoms ++ named i atoms
-kinds_more i atoms =
+-- one kind more of the first n
+pub kinds_more : (f : ℕ → List CellName) (i : ℕ) → flat_map f (range_with_len 0 (i + 1)) ≡ flat_map f (range_with_len 0 i) ++ f i
+kinds_more f i =
     let next : i + 1 ≡ suc i = omega arith in
     let same : 0 + i ≡ i = omega arith in
-    one_kind (range_with_len 0 i) (range_with_len 0 (i + 1)) i atoms
-    (ap (range_with_len 0) next ∙ range_more 0 i ∙ ap (λ b. range_with_len 0 i ++ b ∷ []) same)
+    ap (flat_map f) (ap (range_with_len 0) next ∙ range_more 0 i ∙ ap (λ b. range_with_len 0 i ++ b ∷ []) same)
+    ∙ flat_map-append {X = ℕ} {A = CellName} f (range_with_len 0 i) (i ∷ [])
+    ∙ ap (λ (cs : List CellName). flat_map f (range_with_len 0 i) ++ cs) (append-nil (f i))
 
 pub at_item : {X : Type 0} (xs : List X) (i : ℕ) (x : X) → i < length xs → x ≡ get_or xs i x → slice_get xs i ≡ Some x
 at_item xs i x less item = slice_get-get_or xs i x less ∙ ap (λ y. Some y) (sym item)

@@ -30,10 +30,10 @@ use Rattle.saturation.proofs.LoopLemmas.{all_one}
 
 -- ### lists of cells
 
-named_one : (i j a : ℕ) (atoms : List ℕ) → i ≡ j → Contains atoms a → Contains {X = CellName} (named i atoms) (j, a)
+pub named_one : (i j a : ℕ) (atoms : List ℕ) → i ≡ j → Contains atoms a → Contains {X = CellName} (named i atoms) (j, a)
 named_one i j a atoms same there = subst (λ (k : ℕ). Contains {X = CellName} (named i atoms) (k, a)) same (Contains-map {X = ℕ} {Y = CellName} (λ b. (i, b)) atoms a there)
 
-one_named : (i : ℕ) (atoms : List ℕ) (c : CellName) → Contains (named i atoms) c → (c.0 ≡ i) × Contains atoms c.1
+pub one_named : (i : ℕ) (atoms : List ℕ) (c : CellName) → Contains (named i atoms) c → (c.0 ≡ i) × Contains atoms c.1
 one_named i atoms c there =
     let found = map-Contains {X = ℕ} {Y = CellName} (λ b. (i, b)) atoms c there in
     (ap (λ (d : CellName). d.0) found.2, subst (λ b. Contains atoms b) (sym (ap (λ (d : CellName). d.1) found.2)) found.1)

@@ -9,4 +9,5 @@ pub mod Shared
 pub mod Waking
 -- Invariants, and the states of the code.
 pub mod Courses
+pub mod Starting
 pub mod Tables

@@ -7,9 +7,7 @@ use Rattle.simple_core.specs.Systems.{IsSound}
 use Rattle.pushdown_sym.specs.CellMap.{Entries}
 use Rattle.pushdown_sym.specs.Adding.{AreIn}
 use Rattle.pushdown_sym.specs.Rounds.{given_atoms}
-use Rattle.pushdown_sym.specs.declared.cells.CellKey.{CellKey}
-use Rattle.saturation.specs.Histories.{Change}
-use Rattle.saturation.specs.HistoryMap.{history_in}
+use Rattle.saturation.specs.HistoryMap.{Noted, history_in}
 use Rattle.saturation.specs.Saturation.{IsBuilt}
 use Rattle.saturation.specs.Courses.{AreRows}
 use Rattle.saturation.specs.declared.courses.Course.{Course}
@@ -19,7 +17,7 @@ pub record Shared : Type 0 where
   pub system : System
   pub branches : List Tree
 
-pub record AreSummaries (s : System) (atoms : List ℕ) (d : Arena) (cells : Entries) (histories : List (CellKey × List Change)) (rows : List (List Course)) : Type 0 where
+pub record AreSummaries (s : System) (atoms : List ℕ) (d : Arena) (cells : Entries) (histories : List (List Noted)) (rows : List (List Course)) : Type 0 where
   pub sound : IsSound s
   pub given : atoms ≡ given_atoms s
   pub inside : AreIn d.branches cells

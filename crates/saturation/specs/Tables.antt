@@ -1,22 +1,19 @@
 -- Tables of numbers, and what a system's rules put into them.
---     noted_in entries a     the numbers that are noted for a
+--     noted_in rows a        the numbers that are noted for a
 --     IsNoted keys n f g     n was noted for the keys, and nothing else
 --     HasAll keys n xs f     each x of the list has its n noted for its keys, and nothing else is noted
 --     AreReads s ..          for each cell, which cells of the round behind it are calculated from it
 --     AreReadsOf s reads     the same of what the code keeps
-use Rattle.std.specs.Prelude.{◌≡◌, ℕ, ◌==◌, List, Contains, ◌⊎◌}
-use Rattle.multimap.specs.Values.{values_at}
+use Rattle.std.specs.Prelude.{◌≡◌, ℕ, List, Contains, ◌⊎◌}
+use Rattle.row_index.specs.Rows.{row_of}
 use Rattle.simple_core.specs.declared.rules.Local.{Local}
 use Rattle.simple_core.specs.declared.rules.Link.{Link}
 use Rattle.simple_core.specs.declared.rules.Spawn.{Spawn}
 use Rattle.simple_core.specs.declared.system.System.{System}
 use Rattle.saturation.specs.declared.reads.Reads.{Reads}
 
-abbrev pub Entries : Type 0
-Entries = List (ℕ × List ℕ)
-
-abbrev pub noted_in : List (ℕ × List ℕ) → ℕ → List ℕ
-noted_in = values_at (λ a key. a == key)
+abbrev pub noted_in : List (List ℕ) → ℕ → List ℕ
+noted_in = row_of
 
 pub record IsNoted (keys : ℕ → Type 0) (number : ℕ) (old new : ℕ → List ℕ) : Type 0 where
   pub kept : (b a : ℕ) → Contains (old b) a → Contains (new b) a

@@ -1,13 +1,14 @@
 //! The changes of each cell.
-ghost use Rattle.std.specs.Prelude.{◌≡◌, ℕ, ◌==◌, ◌&&◌, ◌++◌, if◌then◌else◌, All, [], ◌∷◌, OnOk};
+ghost use Rattle.std.specs.Prelude.{◌≡◌, ◌<◌, ℕ, ◌==◌, ◌&&◌, ◌++◌, if◌then◌else◌, All, [], ◌∷◌, OnOk, IfOk};
+ghost use Rattle.std.specs.List.Sorted.{IsNonDecreasingBy};
+ghost use Rattle.row_index.specs.Rows.{row_of};
 ghost use Rattle.class_diagrams.specs.Arena.{IsIn};
 ghost use Rattle.saturation.specs.Histories.{first_holding, AreGrowing};
-ghost use Rattle.saturation.specs.HistoryMap.{history_in};
+ghost use Rattle.saturation.specs.HistoryMap.{history_in, changes_of};
 
 use crate::atom_sets::AtomSet;
 use class_diagrams::{Diagrams, Ref};
-use multimap::Multimap;
-use pushdown_sym::CellKey;
+use row_index::Rows;
 use std::alloc::Global;
 use std::marker::Model;
 use tp_base::{Atom, NoMemory};
@@ -40,29 +41,30 @@ pub(crate) fn first_round_under<L: AtomSet>(
     }
 }
 
-/// The rounds in which each kind and atom changed, each with its diagram from then on.
+/// The changes of the cells, by kinds, each with its atom, in the order in which they came.
 #[derive(Drop)]
-pub(crate) struct Histories {
-    map: Multimap<CellKey, (u64, Ref)>,
+pub(crate) struct Log {
+    alloc: Global,
+    rows: Rows<(Atom, (u64, Ref))>,
 }
 
-impl Model for Histories {
-    ghost use Rattle.std.specs.Prelude.{List, ℕ};
-    ghost use Rattle.class_diagrams.specs.References.{Reference};
-    ghost use Rattle.pushdown_sym.specs.declared.cells.CellKey.{CellKey};
+impl Model for Log {
+    ghost use Rattle.std.specs.Prelude.{List};
+    ghost use Rattle.saturation.specs.HistoryMap.{Noted};
 
-    ghost Value = { List (CellKey × List (ℕ × Reference)) };
+    ghost Value = { List (List Noted) };
 
-    ghost view = { λ h. h.map };
+    ghost view = { λ l. l.rows };
 }
 
-impl Histories {
+impl Log {
     /// No changes yet.
     pub(crate) fn new(alloc: Global) -> Self
         ensures { result ≡ [] }
     {
-        Histories {
-            map: Multimap::new(alloc),
+        Log {
+            alloc,
+            rows: Rows::new(alloc),
         }
     }
 
@@ -76,18 +78,113 @@ impl Histories {
     ) -> Result<(), NoMemory>
         ensures { OnOk result ((j a : ℕ) → history_in self.new j a ≡ (if (kind == j) && (atom == a) then history_in self.old kind atom ++ (round, to) ∷ [] else history_in self.old j a)) }
     {
-        self.map.push(CellKey { kind, atom }, (round, to))?;
+        self.rows
+            .note(self.alloc, kind as usize, (atom, (round, to)))?;
         Ok(())
     }
 
-    pub(crate) fn allocator(&self) -> Global {
-        self.map.allocator()
+    // The changes of a kind.
+    fn of(&self, kind: usize) -> &[(Atom, (u64, Ref))]
+        ensures { result.now ≡ row_of self.now kind }
+    {
+        self.rows.of(kind)
+    }
+}
+
+/// The changes of a kind's cells, by the atoms of these in increasing order, and of one cell in the order of the rounds.
+#[derive(Drop)]
+pub(crate) struct HistoryRow {
+    atoms: Vec<Atom>,
+    changes: Vec<(u64, Ref)>,
+}
+
+impl Model for HistoryRow {
+    ghost use Rattle.std.specs.Prelude.{List};
+    ghost use Rattle.std.specs.List.{zip};
+    ghost use Rattle.saturation.specs.HistoryMap.{Noted, AreApart};
+
+    ghost Value = { List Noted };
+
+    ghost view = { λ r. zip r.atoms.items r.changes.items };
+
+    ghost invariant = { λ r. AreApart r.atoms.items r.changes.items };
+}
+
+// The same changes by their atoms, in increasing order; those of one atom stay in theirs.
+fn by_atoms(alloc: Global, row: &[(Atom, (u64, Ref))]) -> Result<Vec<(Atom, (u64, Ref))>, NoMemory>
+    ensures order { IfOk result (λ v. IsNonDecreasingBy (λ n. n.0) v.items) }
+    ensures same { (a : ℕ) → IfOk result (λ v. changes_of a v.items ≡ changes_of a row.now) }
+{
+    let mut noted = Vec::from_slice(alloc, row)?;
+    noted.sort_by_key(|change| change.0.0)?;
+    Ok(noted)
+}
+
+impl HistoryRow {
+    // Changes that are in the order of their atoms.
+    fn of_ordered(alloc: Global, noted: &[(Atom, (u64, Ref))]) -> Result<HistoryRow, NoMemory>
+        requires { IsNonDecreasingBy (λ n. n.0) noted.now }
+        ensures { IfOk result (λ r. r ≡ noted.now) }
+    {
+        let mut atoms = Vec::new(alloc);
+        let mut changes = Vec::new(alloc);
+        for i in 0..noted.len() {
+            let (atom, change) = noted[i];
+            atoms.push(atom)?;
+            changes.push(change)?;
+        }
+        Ok(HistoryRow { atoms, changes })
     }
 
-    /// The history of a cell.
+    // The changes of an atom's cell. Logarithmic in those of all.
+    fn of(&self, atom: Atom) -> &[(u64, Ref)]
+        ensures { result.now ≡ changes_of atom self.now }
+    {
+        let from = self.atoms.partition_point(|other| other.0 < atom.0);
+        let to = self.atoms.partition_point(|other| other.0 <= atom.0);
+        self.changes.split_at(to).0.split_at(from).1
+    }
+}
+
+/// The history of each cell: the rounds in which it changed, each with its diagram from then on.
+#[derive(Drop)]
+pub(crate) struct Histories {
+    rows: Vec<HistoryRow>,
+}
+
+impl Model for Histories {
+    ghost use Rattle.std.specs.Prelude.{List};
+    ghost use Rattle.saturation.specs.HistoryMap.{Noted};
+
+    ghost Value = { List (List Noted) };
+
+    ghost view = { λ h. h.rows.items };
+}
+
+impl Histories {
+    /// The histories of so many kinds, from their changes. Linear in these, but for a sort of those of each kind.
+    pub(crate) fn of_log(alloc: Global, log: &Log, kinds: usize) -> Result<Self, NoMemory>
+        ensures { (j a : ℕ) → j < kinds → IfOk result (λ h. history_in h j a ≡ history_in log.now j a) }
+    {
+        let mut rows = Vec::new(alloc);
+        for i in 0..kinds {
+            let noted = by_atoms(alloc, log.of(i))?;
+            rows.push(HistoryRow::of_ordered(alloc, &noted)?)?;
+        }
+        Ok(Histories { rows })
+    }
+
+    pub(crate) fn allocator(&self) -> Global {
+        *self.rows.allocator()
+    }
+
+    /// The history of a cell. Logarithmic in the changes of its kind.
     pub(crate) fn of(&self, kind: u32, atom: Atom) -> &[(u64, Ref)]
         ensures { result.now ≡ history_in self.now kind atom }
     {
-        self.map.of(CellKey { kind, atom })
+        match self.rows.get(kind as usize) {
+            Some(row) => row.of(atom),
+            None => &[],
+        }
     }
 }

@@ -12,7 +12,7 @@ ghost use Rattle.saturation.specs.Tables.{AreReadsOf};
 ghost use Rattle.saturation.specs.Waking.{CellName};
 ghost use Rattle.saturation.specs.Saturation.{AreChanges, AreNotedUpTo, IsDone};
 
-use crate::histories::Histories;
+use crate::histories::Log;
 use crate::reads::Reads;
 use crate::waking::readers;
 use class_diagrams::{Diagrams, Ref};
@@ -24,7 +24,7 @@ use tp_base::{Atom, NoMemory};
 fn note_one(
     d: &Diagrams,
     cells: &mut Cells,
-    histories: &mut Histories,
+    log: &mut Log,
     round: u64,
     change: ((u32, Atom), Ref),
 ) -> Result<(), NoMemory>
@@ -32,12 +32,12 @@ fn note_one(
     requires inside { IsIn d.now.branches change.1 }
     ensures cells { OnOk result (AreIn d.now.branches cells.new) }
     ensures noted { (s : System) (k : ℕ) (done : List (CellName × Reference)) → round ≡ suc k → tree_at d.now.branches change.1 ≡ cell s (suc k) change.0.0 change.0.1
-        → AreNotedUpTo s d.now.branches k done (history_in histories.old) (trees_in d.now.branches cells.old)
-        → OnOk result (AreNotedUpTo s d.now.branches k (done ++ change ∷ []) (history_in histories.new) (trees_in d.now.branches cells.new)) }
+        → AreNotedUpTo s d.now.branches k done (history_in log.old) (trees_in d.now.branches cells.old)
+        → OnOk result (AreNotedUpTo s d.now.branches k (done ++ change ∷ []) (history_in log.new) (trees_in d.now.branches cells.new)) }
 {
     let ((kind, atom), to) = change;
     if !d.same(to, cells.get(kind, atom)) {
-        histories.push(kind, atom, round, to)?;
+        log.push(kind, atom, round, to)?;
         cells.set(kind, atom, to)?;
     }
     Ok(())
@@ -47,7 +47,7 @@ fn note_one(
 fn note_all(
     d: &Diagrams,
     cells: &mut Cells,
-    histories: &mut Histories,
+    log: &mut Log,
     round: u64,
     changes: &[((u32, Atom), Ref)],
 ) -> Result<(), NoMemory>
@@ -55,11 +55,11 @@ fn note_all(
     requires inside { All (λ c. IsIn d.now.branches c.1) changes.now }
     ensures cells { OnOk result (AreIn d.now.branches cells.new) }
     ensures noted { (s : System) (k : ℕ) → round ≡ suc k → All (λ c. tree_at d.now.branches c.1 ≡ cell s (suc k) c.0.0 c.0.1) changes.now
-        → AreNotedUpTo s d.now.branches k [] (history_in histories.old) (trees_in d.now.branches cells.old)
-        → OnOk result (AreNotedUpTo s d.now.branches k changes.now (history_in histories.new) (trees_in d.now.branches cells.new)) }
+        → AreNotedUpTo s d.now.branches k [] (history_in log.old) (trees_in d.now.branches cells.old)
+        → OnOk result (AreNotedUpTo s d.now.branches k changes.now (history_in log.new) (trees_in d.now.branches cells.new)) }
 {
     for change in changes {
-        note_one(d, cells, histories, round, *change)?;
+        note_one(d, cells, log, round, *change)?;
     }
     Ok(())
 }
@@ -69,7 +69,7 @@ pub(crate) fn noted(
     alloc: Global,
     d: &Diagrams,
     cells: &mut Cells,
-    histories: &mut Histories,
+    log: &mut Log,
     round: u64,
     count: usize,
     reads: &Reads,
@@ -79,11 +79,11 @@ pub(crate) fn noted(
     requires inside { All (λ c. IsIn d.now.branches c.1) changes.now }
     ensures { (s : System) (nodes k : ℕ) (old : Arena) (todo : List CellName) → round ≡ suc k → IsSound s → count ≡ length s.kinds
         → AreReadsOf s reads.now
-        → IsDone s nodes k old (history_in histories.old) cells.old todo → AreChanges s k old d.now todo changes.now
+        → IsDone s nodes k old (history_in log.old) cells.old todo → AreChanges s k old d.now todo changes.now
         → (c : CellName × Reference) → Contains changes.now c
-        → IfOk result (λ next. IsDone s nodes (suc k) d.now (history_in histories.new) cells.new next.items) }
+        → IfOk result (λ next. IsDone s nodes (suc k) d.now (history_in log.new) cells.new next.items) }
 {
-    note_all(d, cells, histories, round, changes)?;
+    note_all(d, cells, log, round, changes)?;
     let next = readers(alloc, cells, count, reads, changes)?;
     Ok(next)
 }

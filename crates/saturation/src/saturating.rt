@@ -11,7 +11,7 @@ ghost use Rattle.saturation.specs.Tables.{AreReadsOf};
 ghost use Rattle.saturation.specs.Saturation.{IsBuilt, IsDone, HasSome};
 
 use crate::changes::changed_cells;
-use crate::histories::Histories;
+use crate::histories::Log;
 use crate::names::first_cells;
 use crate::reads::Reads;
 use crate::rounds::noted;
@@ -35,15 +35,15 @@ fn saturate_from(
     reads: &Reads,
     d: &mut Diagrams,
     cells: &mut Cells,
-    histories: &mut Histories,
+    log: &mut Log,
     start: Vec<(u32, Atom)>,
 ) -> Result<(), GainFault>
     requires sound { IsSound equations.now }
     requires count { count ≡ length equations.now.kinds }
     requires reads { AreReadsOf equations.now reads.now }
-    requires done { IsDone equations.now d.old.limit 0 d.old (history_in histories.old) cells.old start.items }
+    requires done { IsDone equations.now d.old.limit 0 d.old (history_in log.old) cells.old start.items }
     ensures inside { OnOk result (AreIn d.new.branches cells.new) }
-    ensures built { OnOk result (IsBuilt equations.now d.new (history_in histories.new) cells.new) }
+    ensures built { OnOk result (IsBuilt equations.now d.new (history_in log.new) cells.new) }
     ensures spent { IsErrOf result GainFault.Spent → MayBeSpent equations.now d.old.limit }
     ensures whole { IsOk result → ¬ HasToBeSpent equations.now d.old.limit }
 {
@@ -56,7 +56,7 @@ fn saturate_from(
             return Ok(());
         }
         round += 1;
-        let next = noted(alloc, d, cells, histories, round, count, reads, list)?;
+        let next = noted(alloc, d, cells, log, round, count, reads, list)?;
         todo = next;
     }
 }
@@ -68,43 +68,53 @@ fn saturate_by(
     equations: &Equations,
     d: &mut Diagrams,
     cells: &mut Cells,
-    histories: &mut Histories,
+    log: &mut Log,
 ) -> Result<(), GainFault>
     requires sound { IsSound equations.now }
     requires same { equations.now ≡ system.now }
     requires empty { d.old.branches ≡ [] }
     requires arena { IsArena d.old }
     requires cells { (j a : ℕ) → place_in cells.old j a ≡ start_place equations.now j a }
-    requires histories { histories.old ≡ [] }
+    requires log { log.old ≡ [] }
     ensures inside { OnOk result (AreIn d.new.branches cells.new) }
-    ensures built { OnOk result (IsBuilt equations.now d.new (history_in histories.new) cells.new) }
+    ensures built { OnOk result (IsBuilt equations.now d.new (history_in log.new) cells.new) }
     ensures spent { IsErrOf result GainFault.Spent → MayBeSpent equations.now d.old.limit }
     ensures whole { IsOk result → ¬ HasToBeSpent equations.now d.old.limit }
 {
     let reads = Reads::new(alloc, system)?;
     let count = system.kinds.items().len();
-    let start = first_cells(alloc, system, count)?;
-    saturate_from(alloc, equations, count, &reads, d, cells, histories, start)
+    let start = first_cells(alloc, system, &reads)?;
+    saturate_from(alloc, equations, count, &reads, d, cells, log, start)
 }
 
-/// Rounds over cells of the first round, until none changes.
+// Whether the system adds no nodes.
+fn has_no_kinds(system: &System) -> bool
+    ensures { result ≡ true → length system.now.kinds ≡ 0 }
+{
+    system.kinds.items().len() == 0
+}
+
+/// Rounds over cells of the first round, until none changes. Where the system adds no nodes, there are no cells.
 pub(crate) fn saturate(
     alloc: Global,
     system: &System,
     d: &mut Diagrams,
     cells: &mut Cells,
-    histories: &mut Histories,
+    log: &mut Log,
 ) -> Result<(), GainFault>
     requires sound { IsSound system.now }
     requires empty { d.old.branches ≡ [] }
     requires arena { IsArena d.old }
     requires cells { (j a : ℕ) → place_in cells.old j a ≡ start_place system.now j a }
-    requires histories { histories.old ≡ [] }
+    requires log { log.old ≡ [] }
     ensures inside { OnOk result (AreIn d.new.branches cells.new) }
-    ensures built { OnOk result (IsBuilt system.now d.new (history_in histories.new) cells.new) }
+    ensures built { OnOk result (IsBuilt system.now d.new (history_in log.new) cells.new) }
     ensures spent { IsErrOf result GainFault.Spent → MayBeSpent system.now d.old.limit }
     ensures whole { IsOk result → ¬ HasToBeSpent system.now d.old.limit }
 {
+    if has_no_kinds(system) {
+        return Ok(());
+    }
     let equations = Equations::new(alloc, system)?;
-    saturate_by(alloc, system, &equations, d, cells, histories)
+    saturate_by(alloc, system, &equations, d, cells, log)
 }

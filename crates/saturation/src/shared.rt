@@ -14,7 +14,7 @@ ghost use Rattle.saturation.specs.Saturation.{IsBuilt};
 ghost use Rattle.saturation.specs.Courses.{AreRows};
 
 use crate::courses::{Course, course_of, firsts_by, row_at, rows_of};
-use crate::histories::{Histories, first_round_under};
+use crate::histories::{Histories, Log, first_round_under};
 use crate::labels::label_of;
 use crate::names::given;
 use crate::saturating::saturate;
@@ -42,8 +42,9 @@ fn all_rounds(alloc: Global, system: &System, diagrams: &mut Diagrams) -> Result
     ensures whole { IsOk result → ¬ HasToBeSpent system.now diagrams.old.limit }
 {
     let mut cells = Cells::first(alloc, system)?;
-    let mut histories = Histories::new(alloc);
-    saturate(alloc, system, diagrams, &mut cells, &mut histories)?;
+    let mut log = Log::new(alloc);
+    saturate(alloc, system, diagrams, &mut cells, &mut log)?;
+    let histories = Histories::of_log(alloc, &log, system.kinds.items().len())?;
     Ok(Ended { cells, histories })
 }
 
@@ -99,9 +100,9 @@ impl Model for SharedSummaries {
 }
 
 impl SharedSummaries {
-    /// The summaries of a system, in at most so many branches. Rounds go on until no cell changes, each over the cells
-    /// that read one that changed in the round before. Behind them there is one look into the histories for each kind and
-    /// visible atom.
+    /// The summaries of a system, in at most so many branches. Rounds go on until no cell changes, the first over the cells
+    /// that a rule may change then, each other over those that read one that changed in the round before. Behind them
+    /// there is one look into the histories for each kind and visible atom.
     pub fn build(alloc: Global, system: &System, nodes: u32) -> Result<Self, GainFault>
         requires sound { IsSound system.now }
         requires nodes { nodes ≤ MOST_BRANCHES }

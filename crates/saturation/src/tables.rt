@@ -2,24 +2,24 @@
 ghost use Rattle.std.specs.Prelude.{◌≡◌, [], Contains, IfOk, OnOk};
 ghost use Rattle.saturation.specs.Tables.{noted_in, IsNoted, OfNeeds, OfLinks, OfSpawns};
 
-use multimap::Multimap;
+use row_index::Rows;
 use simple_core::{Link, Local, Spawn};
 use std::alloc::Global;
 use std::marker::Model;
 use tp_base::{ClassSet, NoMemory};
 
-/// The numbers that are noted for each number, in order.
+/// The numbers that are noted for each number, in order, in a row for each number up to the largest that has some.
 #[derive(Drop)]
 pub(crate) struct Table {
-    map: Multimap<u32, u32>,
+    rows: Rows<u32>,
 }
 
 impl Model for Table {
     ghost use Rattle.std.specs.Prelude.{List, ℕ};
 
-    ghost Value = { List (ℕ × List ℕ) };
+    ghost Value = { List (List ℕ) };
 
-    ghost view = { λ t. t.map };
+    ghost view = { λ t. t.rows };
 }
 
 impl Table {
@@ -27,7 +27,7 @@ impl Table {
         ensures { result ≡ [] }
     {
         Table {
-            map: Multimap::new(alloc),
+            rows: Rows::new(alloc),
         }
     }
 
@@ -38,7 +38,7 @@ impl Table {
         let mut table = Table::new(alloc);
         for i in 0..rules.len() {
             let rule = &rules[i];
-            table.note_each(&rule.needs, rule.gives.0)?;
+            table.note_each(alloc, &rule.needs, rule.gives.0)?;
         }
         Ok(table)
     }
@@ -50,7 +50,7 @@ impl Table {
         let mut table = Table::new(alloc);
         for i in 0..links.len() {
             let link = &links[i];
-            table.note(link.from.0, link.to.0)?;
+            table.note(alloc, link.from.0, link.to.0)?;
         }
         Ok(table)
     }
@@ -62,7 +62,7 @@ impl Table {
         let mut table = Table::new(alloc);
         for i in 0..spawns.len() {
             let spawn = &spawns[i];
-            table.note(spawn.kind, spawn.needs.0)?;
+            table.note(alloc, spawn.kind, spawn.needs.0)?;
         }
         Ok(table)
     }
@@ -70,24 +70,24 @@ impl Table {
     pub(crate) fn of(&self, key: u32) -> &[u32]
         ensures { result.now ≡ noted_in self.now key }
     {
-        self.map.of(key)
+        self.rows.of(key as usize)
     }
 
     // A number for each of these keys.
-    fn note_each(&mut self, keys: &ClassSet, number: u32) -> Result<(), NoMemory>
+    fn note_each(&mut self, alloc: Global, keys: &ClassSet, number: u32) -> Result<(), NoMemory>
         ensures { OnOk result (IsNoted (Contains keys.now) number (noted_in self.old) (noted_in self.new)) }
     {
         for i in 0..keys.len() {
             let key = keys.at(i);
-            self.note(key.0, number)?;
+            self.note(alloc, key.0, number)?;
         }
         Ok(())
     }
 
-    fn note(&mut self, key: u32, number: u32) -> Result<(), NoMemory>
+    fn note(&mut self, alloc: Global, key: u32, number: u32) -> Result<(), NoMemory>
         ensures { OnOk result (IsNoted (λ b. key ≡ b) number (noted_in self.old) (noted_in self.new)) }
     {
-        self.map.push(key, number)?;
+        self.rows.note(alloc, key as usize, number)?;
         Ok(())
     }
 }

@@ -14,7 +14,12 @@ use pushdown_sym::Cells;
 use std::alloc::Global;
 use tp_base::{Atom, ClassSet, NoMemory};
 
-fn add_named(todo: &mut Vec<(u32, Atom)>, kind: u32, atoms: &[u32]) -> Result<(), NoMemory>
+/// A kind with each of these atoms.
+pub(crate) fn add_named(
+    todo: &mut Vec<(u32, Atom)>,
+    kind: u32,
+    atoms: &[u32],
+) -> Result<(), NoMemory>
     ensures { OnOk result (todo.new.items ≡ todo.old.items ++ named kind atoms.now) }
 {
     for i in 0..atoms.len() {
@@ -103,8 +108,8 @@ fn woken_by(alloc: Global, reads: &Reads, changes: &[((u32, Atom), Ref)]) -> Res
     })
 }
 
-// Each cell once, kind by kind.
-fn sorted(cells: Vec<(u32, Atom)>) -> Result<Vec<(u32, Atom)>, NoMemory>
+/// Each cell once, kind by kind.
+pub(crate) fn sorted(cells: Vec<(u32, Atom)>) -> Result<Vec<(u32, Atom)>, NoMemory>
     ensures kept { IfOk result (λ once. (c : CellName) → Contains cells.items c → Contains once.items c) }
     ensures only { IfOk result (λ once. (c : CellName) → Contains once.items c → Contains cells.items c) }
 {

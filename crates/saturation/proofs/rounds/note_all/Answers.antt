@@ -18,7 +18,7 @@ loop-change-preserved c = (
   c.in_ok-note_one.ensures.cells,
   λ s k round trees noted.
       let tree = subst (λ (x : CellName × Reference). tree_at c.args.d.now.branches x.1 ≡ cell s (suc k) x.0.0 x.0.1) (sym c.change-item.is) (trees c.loop-change.change-index c.change-item.result c.loop-change-test.true) in
-      subst (λ (done : List (CellName × Reference)). AreNotedUpTo s c.args.d.now.branches k done (history_in c.note_one.new.histories) (trees_in c.args.d.now.branches c.note_one.new.cells))
+      subst (λ (done : List (CellName × Reference)). AreNotedUpTo s c.args.d.now.branches k done (history_in c.note_one.new.log) (trees_in c.args.d.now.branches c.note_one.new.cells))
       (sym (take_more c.args.changes.now c.loop-change.change-index c.change-item.result c.loop-change-test.true
       ∙ ap (λ (x : CellName × Reference). take c.loop-change.change-index c.args.changes.now ++ x ∷ []) (sym c.change-item.is)))
       (c.in_ok-note_one.ensures.noted s k (take c.loop-change.change-index c.args.changes.now) round tree (c.loop-change.invariant.1 s k round trees noted)),
@@ -26,5 +26,5 @@ loop-change-preserved c = (
 
 pub returns-clause-noted : goal.returns-clause-noted
 returns-clause-noted c s k round trees noted =
-    subst (λ (done : List (CellName × Reference)). AreNotedUpTo s c.args.d.now.branches k done (history_in c.loop-change.histories) (trees_in c.args.d.now.branches c.loop-change.cells))
+    subst (λ (done : List (CellName × Reference)). AreNotedUpTo s c.args.d.now.branches k done (history_in c.loop-change.log) (trees_in c.args.d.now.branches c.loop-change.cells))
     (take_all c.loop-change.change-index c.args.changes.now c.loop-change-test.false) (c.loop-change.invariant.1 s k round trees noted)

@@ -11,5 +11,5 @@ use Rattle.saturation.proofs.rounds.note_all.Given as goal
 abbrev pub invariant-loop-change : goal.invariant-loop-change
 invariant-loop-change l = AreIn l.d.branches l.cells
     × ((s : System) (k : ℕ) → l.round ≡ suc k → All (λ c. tree_at l.d.branches c.1 ≡ cell s (suc k) c.0.0 c.0.1) l.changes
-    → AreNotedUpTo s l.d.branches k [] (history_in l.fn.histories) (trees_in l.d.branches l.fn.cells)
-    → AreNotedUpTo s l.d.branches k (take l.change-index l.changes) (history_in l.histories) (trees_in l.d.branches l.cells))
+    → AreNotedUpTo s l.d.branches k [] (history_in l.fn.log) (trees_in l.d.branches l.fn.cells)
+    → AreNotedUpTo s l.d.branches k (take l.change-index l.changes) (history_in l.log) (trees_in l.d.branches l.cells))

@@ -14,13 +14,13 @@ returns-in_ok-set-clause-cells c j a =
 pub returns-in_ok-set-clause-noted : goal.returns-in_ok-set-clause-noted
 returns-in_ok-set-clause-noted c s k done round tree noted =
     noted_push s c.args.d.now.branches k done c.args.change.0.0 c.args.change.0.1 c.args.change.1 tree
-    (history_in c.args.histories.now) (history_in c.push.new.self) (place_in c.args.cells.now) (place_in c.set.new.self) c.requires.inside
+    (history_in c.args.log.now) (history_in c.push.new.self) (place_in c.args.cells.now) (place_in c.set.new.self) c.requires.inside
     (λ same. both_ways false refl (c.if-not-same.ensures.same.1 (same ∙ ap (tree_at c.args.d.now.branches) (sym c.get.ensures))))
-    (λ i b. c.in_ok-push.ensures i b ∙ ap (λ (r : ℕ). if (c.args.change.0.0 == i) && (c.args.change.0.1 == b) then history_in c.args.histories.now c.args.change.0.0 c.args.change.0.1 ++ (r, c.args.change.1) ∷ [] else history_in c.args.histories.now i b) round)
+    (λ i b. c.in_ok-push.ensures i b ∙ ap (λ (r : ℕ). if (c.args.change.0.0 == i) && (c.args.change.0.1 == b) then history_in c.args.log.now c.args.change.0.0 c.args.change.0.1 ++ (r, c.args.change.1) ∷ [] else history_in c.args.log.now i b) round)
     c.in_ok-set.ensures.ok noted
 
 pub returns-else-not-same-clause-noted : goal.returns-else-not-same-clause-noted
 returns-else-not-same-clause-noted c s k done round tree noted =
     noted_same s c.args.d.now.branches k done c.args.change.0.0 c.args.change.0.1 c.args.change.1 tree
-    (history_in c.args.histories.now) (trees_in c.args.d.now.branches c.args.cells.now)
+    (history_in c.args.log.now) (trees_in c.args.d.now.branches c.args.cells.now)
     (c.if-not-same.ensures.same.0 refl ∙ ap (tree_at c.args.d.now.branches) c.get.ensures) noted

@@ -25,9 +25,9 @@ changed_cells-requires-clause-kinds c =
     let s = c.args.equations.now in
     let nodes = c.args.d.now.limit in
     let k = c.rounds.round in
-    let h = history_in c.rounds.histories in
+    let h = history_in c.rounds.log in
     let todo = c.deref.result.now in
-    let done = subst (λ (cs : List CellName). IsDone c.args.equations.now c.args.d.now.limit c.rounds.round c.rounds.d (history_in c.rounds.histories) c.rounds.cells cs) (sym c.deref.ensures.value) c.rounds.invariant in
+    let done = subst (λ (cs : List CellName). IsDone c.args.equations.now c.args.d.now.limit c.rounds.round c.rounds.d (history_in c.rounds.log) c.rounds.cells cs) (sym c.deref.ensures.value) c.rounds.invariant in
     todo_kinds s nodes k c.rounds.d h c.rounds.cells todo done
 
 pub returns-in_err-changes-clause-spent : goal.returns-in_err-changes-clause-spent
@@ -35,9 +35,9 @@ returns-in_err-changes-clause-spent c spent =
     let s = c.args.equations.now in
     let nodes = c.args.d.now.limit in
     let k = c.rounds.round in
-    let h = history_in c.rounds.histories in
+    let h = history_in c.rounds.log in
     let todo = c.deref.result.now in
-    let done = subst (λ (cs : List CellName). IsDone c.args.equations.now c.args.d.now.limit c.rounds.round c.rounds.d (history_in c.rounds.histories) c.rounds.cells cs) (sym c.deref.ensures.value) c.rounds.invariant in
+    let done = subst (λ (cs : List CellName). IsDone c.args.equations.now c.args.d.now.limit c.rounds.round c.rounds.d (history_in c.rounds.log) c.rounds.cells cs) (sym c.deref.ensures.value) c.rounds.invariant in
     c.in_err-changes.ensures.spent nodes k h c.requires.sound done (error_passed c.from_residual.result c.in_err-changes.field-0.0 Spent c.from_residual.ensures.1 spent)
 
 pub returns-then-are_none-clause-inside : goal.returns-then-are_none-clause-inside
@@ -45,9 +45,9 @@ returns-then-are_none-clause-inside c =
     let s = c.args.equations.now in
     let nodes = c.args.d.now.limit in
     let k = c.rounds.round in
-    let h = history_in c.rounds.histories in
+    let h = history_in c.rounds.log in
     let todo = c.deref.result.now in
-    let done = subst (λ (cs : List CellName). IsDone c.args.equations.now c.args.d.now.limit c.rounds.round c.rounds.d (history_in c.rounds.histories) c.rounds.cells cs) (sym c.deref.ensures.value) c.rounds.invariant in
+    let done = subst (λ (cs : List CellName). IsDone c.args.equations.now c.args.d.now.limit c.rounds.round c.rounds.d (history_in c.rounds.log) c.rounds.cells cs) (sym c.deref.ensures.value) c.rounds.invariant in
     let changed = c.in_ok-changes.ensures.changes nodes k h c.requires.sound done in
     cells_in c.rounds.d.branches c.changed_cells.new.d.branches c.rounds.cells changed.brings.stays c.rounds.invariant.inside
 
@@ -56,9 +56,9 @@ returns-then-are_none-clause-built c =
     let s = c.args.equations.now in
     let nodes = c.args.d.now.limit in
     let k = c.rounds.round in
-    let h = history_in c.rounds.histories in
+    let h = history_in c.rounds.log in
     let todo = c.deref.result.now in
-    let done = subst (λ (cs : List CellName). IsDone c.args.equations.now c.args.d.now.limit c.rounds.round c.rounds.d (history_in c.rounds.histories) c.rounds.cells cs) (sym c.deref.ensures.value) c.rounds.invariant in
+    let done = subst (λ (cs : List CellName). IsDone c.args.equations.now c.args.d.now.limit c.rounds.round c.rounds.d (history_in c.rounds.log) c.rounds.cells cs) (sym c.deref.ensures.value) c.rounds.invariant in
     let changed = c.in_ok-changes.ensures.changes nodes k h c.requires.sound done in
     built_at_rest s c.requires.sound nodes k c.rounds.d c.changed_cells.new.d h c.rounds.cells todo done c.in_ok-changes.changes.items changed
     (sym c.as_slice-list.ensures.value ∙ c.are_none.ensures.none c.if-are_none.true)
@@ -68,9 +68,9 @@ returns-then-are_none-clause-whole c _ =
     let s = c.args.equations.now in
     let nodes = c.args.d.now.limit in
     let k = c.rounds.round in
-    let h = history_in c.rounds.histories in
+    let h = history_in c.rounds.log in
     let todo = c.deref.result.now in
-    let done = subst (λ (cs : List CellName). IsDone c.args.equations.now c.args.d.now.limit c.rounds.round c.rounds.d (history_in c.rounds.histories) c.rounds.cells cs) (sym c.deref.ensures.value) c.rounds.invariant in
+    let done = subst (λ (cs : List CellName). IsDone c.args.equations.now c.args.d.now.limit c.rounds.round c.rounds.d (history_in c.rounds.log) c.rounds.cells cs) (sym c.deref.ensures.value) c.rounds.invariant in
     let changed = c.in_ok-changes.ensures.changes nodes k h c.requires.sound done in
     whole_at_rest s c.requires.sound nodes k c.rounds.d c.changed_cells.new.d h c.rounds.cells todo done c.in_ok-changes.changes.items changed
     (sym c.as_slice-list.ensures.value ∙ c.are_none.ensures.none c.if-are_none.true)
@@ -80,9 +80,9 @@ overflow_add-round c =
     let s = c.args.equations.now in
     let nodes = c.args.d.now.limit in
     let k = c.rounds.round in
-    let h = history_in c.rounds.histories in
+    let h = history_in c.rounds.log in
     let todo = c.deref.result.now in
-    let done = subst (λ (cs : List CellName). IsDone c.args.equations.now c.args.d.now.limit c.rounds.round c.rounds.d (history_in c.rounds.histories) c.rounds.cells cs) (sym c.deref.ensures.value) c.rounds.invariant in
+    let done = subst (λ (cs : List CellName). IsDone c.args.equations.now c.args.d.now.limit c.rounds.round c.rounds.d (history_in c.rounds.log) c.rounds.cells cs) (sym c.deref.ensures.value) c.rounds.invariant in
     omega (arith, rounds_left s c.requires.sound nodes k c.rounds.d c.rounds.d h c.rounds.cells todo done)
 
 pub noted-requires-clause-cells : goal.noted-requires-clause-cells
@@ -90,9 +90,9 @@ noted-requires-clause-cells c =
     let s = c.args.equations.now in
     let nodes = c.args.d.now.limit in
     let k = c.rounds.round in
-    let h = history_in c.rounds.histories in
+    let h = history_in c.rounds.log in
     let todo = c.deref.result.now in
-    let done = subst (λ (cs : List CellName). IsDone c.args.equations.now c.args.d.now.limit c.rounds.round c.rounds.d (history_in c.rounds.histories) c.rounds.cells cs) (sym c.deref.ensures.value) c.rounds.invariant in
+    let done = subst (λ (cs : List CellName). IsDone c.args.equations.now c.args.d.now.limit c.rounds.round c.rounds.d (history_in c.rounds.log) c.rounds.cells cs) (sym c.deref.ensures.value) c.rounds.invariant in
     let changed = c.in_ok-changes.ensures.changes nodes k h c.requires.sound done in
     cells_in c.rounds.d.branches c.changed_cells.new.d.branches c.rounds.cells changed.brings.stays c.rounds.invariant.inside
 
@@ -101,9 +101,9 @@ noted-requires-clause-inside c =
     let s = c.args.equations.now in
     let nodes = c.args.d.now.limit in
     let k = c.rounds.round in
-    let h = history_in c.rounds.histories in
+    let h = history_in c.rounds.log in
     let todo = c.deref.result.now in
-    let done = subst (λ (cs : List CellName). IsDone c.args.equations.now c.args.d.now.limit c.rounds.round c.rounds.d (history_in c.rounds.histories) c.rounds.cells cs) (sym c.deref.ensures.value) c.rounds.invariant in
+    let done = subst (λ (cs : List CellName). IsDone c.args.equations.now c.args.d.now.limit c.rounds.round c.rounds.d (history_in c.rounds.log) c.rounds.cells cs) (sym c.deref.ensures.value) c.rounds.invariant in
     let changed = c.in_ok-changes.ensures.changes nodes k h c.requires.sound done in
     subst (λ (cs : List (CellName × Reference)). All (λ (x : CellName × Reference). IsIn c.changed_cells.new.d.branches x.1) cs) (sym c.as_slice-list.ensures.value) changed.inside
 
@@ -112,25 +112,25 @@ rounds-preserved c =
     let s = c.args.equations.now in
     let nodes = c.args.d.now.limit in
     let k = c.rounds.round in
-    let h = history_in c.rounds.histories in
+    let h = history_in c.rounds.log in
     let todo = c.deref.result.now in
-    let done = subst (λ (cs : List CellName). IsDone c.args.equations.now c.args.d.now.limit c.rounds.round c.rounds.d (history_in c.rounds.histories) c.rounds.cells cs) (sym c.deref.ensures.value) c.rounds.invariant in
+    let done = subst (λ (cs : List CellName). IsDone c.args.equations.now c.args.d.now.limit c.rounds.round c.rounds.d (history_in c.rounds.log) c.rounds.cells cs) (sym c.deref.ensures.value) c.rounds.invariant in
     let changed = c.in_ok-changes.ensures.changes nodes k h c.requires.sound done in
     let listed = subst (λ (cs : List (CellName × Reference)). AreChanges c.args.equations.now c.rounds.round c.rounds.d c.changed_cells.new.d c.deref.result.now cs) (sym c.as_slice-list.ensures.value) changed in
     let first = c.are_none.ensures.some c.if-are_none.false in
     let next = c.in_ok-next.ensures s nodes k c.rounds.d todo (omega arith) c.requires.sound c.requires.count c.requires.reads done listed first.0 first.1 in
-    subst (λ n. IsDone c.args.equations.now c.args.d.now.limit n c.changed_cells.new.d (history_in c.noted.new.histories) c.noted.new.cells c.in_ok-next.next.items) {x = suc c.rounds.round} {y = c.rounds.round + 1} (omega arith) next
+    subst (λ n. IsDone c.args.equations.now c.args.d.now.limit n c.changed_cells.new.d (history_in c.noted.new.log) c.noted.new.cells c.in_ok-next.next.items) {x = suc c.rounds.round} {y = c.rounds.round + 1} (omega arith) next
 
 pub rounds-smaller : goal.rounds-smaller
 rounds-smaller c =
     let s = c.args.equations.now in
     let nodes = c.args.d.now.limit in
     let k = c.rounds.round in
-    let h = history_in c.rounds.histories in
+    let h = history_in c.rounds.log in
     let todo = c.deref.result.now in
-    let done = subst (λ (cs : List CellName). IsDone c.args.equations.now c.args.d.now.limit c.rounds.round c.rounds.d (history_in c.rounds.histories) c.rounds.cells cs) (sym c.deref.ensures.value) c.rounds.invariant in
+    let done = subst (λ (cs : List CellName). IsDone c.args.equations.now c.args.d.now.limit c.rounds.round c.rounds.d (history_in c.rounds.log) c.rounds.cells cs) (sym c.deref.ensures.value) c.rounds.invariant in
     let changed = c.in_ok-changes.ensures.changes nodes k h c.requires.sound done in
     let listed = subst (λ (cs : List (CellName × Reference)). AreChanges c.args.equations.now c.rounds.round c.rounds.d c.changed_cells.new.d c.deref.result.now cs) (sym c.as_slice-list.ensures.value) changed in
     let first = c.are_none.ensures.some c.if-are_none.false in
     let next = c.in_ok-next.ensures s nodes k c.rounds.d todo (omega arith) c.requires.sound c.requires.count c.requires.reads done listed first.0 first.1 in
-    omega (arith, rounds_bound s nodes (suc k) c.changed_cells.new.d (history_in c.noted.new.histories) c.noted.new.cells c.in_ok-next.next.items next)
+    omega (arith, rounds_bound s nodes (suc k) c.changed_cells.new.d (history_in c.noted.new.log) c.noted.new.cells c.in_ok-next.next.items next)

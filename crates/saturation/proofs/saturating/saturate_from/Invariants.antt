@@ -5,7 +5,7 @@ use Rattle.saturation.specs.Saturation.{IsDone}
 use Rattle.saturation.proofs.saturating.saturate_from.Given as goal
 
 abbrev pub invariant-rounds : goal.invariant-rounds
-invariant-rounds l = IsDone l.equations l.initial.d.limit l.round l.d (history_in l.histories) l.cells l.todo.items
+invariant-rounds l = IsDone l.equations l.initial.d.limit l.round l.d (history_in l.log) l.cells l.todo.items
 
 abbrev pub decreases-rounds : goal.decreases-rounds
 decreases-rounds l = (l.initial.d.limit + 2) * (MOST_ATOMS * length l.equations.kinds) + 1 - l.round

@@ -1,11 +1,11 @@
-use Rattle.std.proofs.Common.{◌≡◌, [], refl, ap, subst}
+use Rattle.std.proofs.Common.{◌≡◌, ℕ, List, [], refl, ap, subst}
 use Rattle.simple_core.specs.declared.rules.Spawn.{Spawn}
-use Rattle.saturation.specs.Tables.{Entries, noted_in, IsNoted}
+use Rattle.saturation.specs.Tables.{noted_in, IsNoted}
 use Rattle.saturation.proofs.TableLemmas.{has_none, has_more}
 use Rattle.saturation.proofs.tables.Table.of_spawns.Goals as goal
 
 pub loop-i-init : goal.loop-i-init
-loop-i-init c = has_none (λ (c : Spawn) b. c.kind ≡ b) (λ (c : Spawn). c.needs) [] (noted_in c.new-table.result) refl (λ b. ap (λ (entries : Entries). noted_in entries b) c.new-table.ensures)
+loop-i-init c = has_none (λ (c : Spawn) b. c.kind ≡ b) (λ (c : Spawn). c.needs) [] (noted_in c.new-table.result) refl (λ b. ap (λ (rows : List (List ℕ)). noted_in rows b) c.new-table.ensures)
 
 pub loop-i-preserved : goal.loop-i-preserved
 loop-i-preserved c =

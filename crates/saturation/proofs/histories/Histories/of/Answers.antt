@@ -1,4 +1,0 @@
-use Rattle.saturation.proofs.histories.Histories.of.Goals as goal
-
-pub returns : goal.returns
-returns c = rw (← c.self.view_is) c.of.ensures
