@@ -25,6 +25,7 @@ use Rattle.rule_index.specs.Asking.{IsMore}
 use Rattle.class_adding.specs.Filling.{above_in, real_in, within_page, label_next, IsNews}
 use Rattle.closed_page.specs.Gains.{label_in}
 use Rattle.closed_page.specs.Labelled.{IsAbove}
+use Rattle.class_adding.specs.Work.{AreCallersOf}
 use Rattle.class_adding.specs.Fresh.{AreNewIn, IsAddedIfNew, AreFollowed, set_at, IsSettled, given_at}
 use Rattle.closed_page.proofs.LabelledLemmas.{child_number}
 use Rattle.class_adding.proofs.PageLookLemmas.{given_none, label_next-parts}
@@ -32,6 +33,11 @@ use Rattle.class_adding.proofs.PageLookLemmas.{given_none, label_next-parts}
 -- a number past all sets gives nothing
 pub nothing_above : (links : List Link) (sets : List (List ℕ)) (c : ℕ) (next : List ℕ) → length sets ≤ c → next ≡ union_of next (given_by_links links (get_or sets c []))
 nothing_above links sets c next past = sym (ap (λ (z : List ℕ). union_of next z) (ap (given_by_links links) (get_or_past sets c [] past) ∙ given_none links))
+
+-- a list without length
+pub no_atoms : (xs : List ℕ) → length xs ≡ 0 → xs ≡ []
+no_atoms [] none = refl
+no_atoms (x ∷ xs) none = absurd (omega (arith, none))
 
 -- ---- what is given, but for what is there
 
@@ -117,12 +123,7 @@ module _ (s : System) (u : LabelTree) (nodes fresh : List (List ℕ)) (i : ℕ) 
       (more_of own_i (given_by_links s.up (label_in u p)) (given_by_links s.up new_there) old new is (links_right s.up (label_in u p) new_there (settled.right j above.0))
       (links_whole s.up own_i (label_in u p) new_there (settled.above j above.1 above.0 above.2)))
 
-  -- the row has children alone, and each at which something is fresh
-  pub record AreCallers (row : List ℕ) : Type 0 where
-    pub only : (c : ℕ) → Contains row c → (c < length nodes) × (n : ℕ) × (get_or nodes c [] ≡ get_or nodes i [] ++ n ∷ [])
-    pub heard : (c n a : ℕ) → c < length nodes → get_or nodes c [] ≡ get_or nodes i [] ++ n ∷ [] → Contains (get_or fresh c []) a → Contains row c
-
-  pub more_below : (row old new : List ℕ) → AreCallers row → new ≡ union_of old (given_at s fresh row) → IsMore own_i (flat_map (given_by_links s.down) (real_in u vi)) old new
+  pub more_below : (row old new : List ℕ) → AreCallersOf nodes fresh i row → new ≡ union_of old (given_at s fresh row) → IsMore own_i (flat_map (given_by_links s.down) (real_in u vi)) old new
   more_below row old new kids is =
       let give = given_by_links s.down in
       let count = unwrap_or (children_at vi u) 0 in
@@ -157,13 +158,13 @@ module _ (s : System) (u : LabelTree) (nodes fresh : List (List ℕ)) (i : ℕ) 
       child_within : (w : List ℕ) (n a : ℕ) → Contains (label_in u (w ++ n ∷ [])) a → n < unwrap_or (children_at w u) 0
       child_within w n a in_label = child_number w n u (labelled (w ++ n ∷ []) u a in_label)
 
-  pub more_within : (o : Option ℕ) (row first second third : List ℕ) → IsAbove nodes vi o → AreCallers row → IsMore own_i (given_by_rules s.local own_i) [] first → second ≡ union_of first (given_by_links s.up (set_at fresh o))
+  pub more_within : (o : Option ℕ) (row first second third : List ℕ) → IsAbove nodes vi o → AreCallersOf nodes fresh i row → IsMore own_i (given_by_rules s.local own_i) [] first → second ≡ union_of first (given_by_links s.up (set_at fresh o))
       → third ≡ union_of second (given_at s fresh row) → IsMore own_i (within_page s u vi) [] third
   more_within o row first second third above kids local is_second is_third =
       let both = more_then own_i (given_by_rules s.local own_i) (given_by_links s.up (above_in u vi)) [] first second local (more_above o first second above is_second) in
       more_then own_i (given_by_rules s.local own_i ++ given_by_links s.up (above_in u vi)) (flat_map (given_by_links s.down) (real_in u vi)) [] second third both (more_below row second third kids is_third)
 
-  pub given_more : (own : List ℕ) → label_in u vi ≡ own → (o : Option ℕ) (row start first second third : List ℕ) → start ≡ [] → IsAbove nodes vi o → AreCallers row → IsMore own (given_by_rules s.local own) start first
+  pub given_more : (own : List ℕ) → label_in u vi ≡ own → (o : Option ℕ) (row start first second third : List ℕ) → start ≡ [] → IsAbove nodes vi o → AreCallersOf nodes fresh i row → IsMore own (given_by_rules s.local own) start first
       → second ≡ union_of first (given_by_links s.up (set_at fresh o)) → third ≡ union_of second (given_at s fresh row) → IsMore own (within_page s u vi) [] third
   given_more own same o row start first second third empty above kids local is_second is_third =
       let local' : IsMore own (given_by_rules s.local own) [] first = subst (λ (z : List ℕ). IsMore own (given_by_rules s.local own) z first) empty local in

@@ -10,6 +10,7 @@ use Rattle.tp_base.proofs.Rising.{Contains-none, Contains-here, Contains-behind,
 use Rattle.tree_sem.specs.Trees.{LabelTree}
 use Rattle.row_index.specs.Rows.{row_of}
 use Rattle.closed_page.specs.Labelled.{AreKidsAll, IsHeard}
+use Rattle.closed_page.proofs.CallLemmas.{kids_none}
 use Rattle.class_adding.specs.declared.looking.Look.{Look}
 use Rattle.class_adding.specs.declared.work.Work.{Work}
 use Rattle.class_adding.specs.Filling.{wake_at}
@@ -191,12 +192,13 @@ working_start t nodes w b = record {
   times = b.times;
   within = λ i there. (b.due i).0 there;
   quiet = λ i less. inr ((b.due i).1 less);
-  only = b.only;
-  heard = λ c a less there. b.heard c less;
+  only = kids_none nodes w.callers b.none_called;
+  heard = λ later. let first = b.start in cc;
   awaited = λ i. none_at w.wakes.items i (λ r. Contains (nodes_in w.awaited r) i) (b.none i);
   numbers = λ r i there. absurd (Contains-none i (subst (λ (z : List (ℕ × List ℕ)). Contains (nodes_in z r) i) b.awaited there));
   until = λ i. none_at w.wakes.items i (λ r. r ≤ w.latest) (b.none i);
   bound = omega (arith, b.first);
+  none = b.empty;
 }
 
 pub cases_true : (b : Bool) → IsTrue b ⊎ IsFalse b
@@ -231,7 +233,7 @@ module _ (nodes : List (List ℕ)) (w : Work) (looks : List Look) (latest k : �
       ]
     ];
     only = next.only;
-    heard = λ c a less there. let l = look_of c a less there in subst (λ z. IsHeard nodes w'.callers z) l.2 (next.heard l.0 l.1 l.3);
+    heard = λ later c a less there. let l = look_of c a less there in subst (λ z. IsHeard nodes w'.callers z) l.2 (next.heard l.0 l.1 l.3);
     awaited = λ i. elim (next.wakes.each i) [
       | inl kept ↦
           let old = still_awaited w.awaited w'.awaited i (wake_at w.wakes.items i) next.awaited.kept (f.awaited i) in
@@ -251,4 +253,5 @@ module _ (nodes : List (List ℕ)) (w : Work) (looks : List Look) (latest k : �
         ] in
         subst (λ n. IfSome (wake_at w'.wakes.items i) (λ r. r ≤ n)) (sym next.until) upto;
     bound = omega (arith, next.until, bound);
+    none = next.none ∙ f.none;
   }

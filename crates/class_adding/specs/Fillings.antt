@@ -6,7 +6,7 @@ use Rattle.std.specs.Prelude.{◌≡◌, ◌++◌, ◌+◌, ◌<◌, ◌^◌, �
 use Rattle.std.specs.List.Sorted.{IsStrictlyIncreasing}
 use Rattle.tree_sem.specs.Trees.{LabelTree}
 use Rattle.tree_sem.specs.Order.{paths_of}
-use Rattle.closed_page.specs.Gains.{label_in, starts, with_gains, news}
+use Rattle.closed_page.specs.Gains.{label_in, AreStarts, with_gains, news}
 use Rattle.class_adding.specs.Alike.{AreAlike}
 use Rattle.class_adding.specs.Work.{IsStart, IsNext}
 use Rattle.class_adding.specs.declared.filling.Filling.{Filling}
@@ -15,7 +15,7 @@ use Rattle.class_adding.specs.declared.rounds.Round.{Round}
 pub record IsBegun (t : LabelTree) (f : Filling) : Type 0 where
   pub labels : f.labels.labels ≡ t
   pub nodes : f.labels.nodes ≡ paths_of t
-  pub firsts : f.labels.firsts ≡ starts t f.labels.nodes
+  pub firsts : AreStarts t f.labels.nodes f.labels.firsts
   pub few : f.labels.notes < 2 ^ 63
   pub rising : (v : List ℕ) → Contains f.labels.nodes v → IsStrictlyIncreasing (label_in t v)
   pub alike : AreAlike t f.labels.nodes f.alike.items

@@ -1,10 +1,11 @@
 -- What is still to come to the nodes of a page. Nodes have their numbers in the order of the document.
 --     nodes_in awaited r     the nodes for which something is awaited in the round r
 --     IsNear nodes l due     the list has the node of the look l, its parent and its children where links look at what is new
+--     AreCallersOf nodes fresh i row   the row has children of the i-th node, and each of them at which something is new
 --     IsWritten value looks old new   each of the looks has written its value at its node, and nothing else changed
 --     IsNext nodes w looks k w'   w' is w after looks that end as round k
 --     IsWorking nodes w      what is kept of it between two rounds
-use Rattle.std.specs.Prelude.{◌≡◌, ◌⊎◌, ◌↔◌, ◌≤◌, ◌<◌, ◌^◌, ◌==◌, ℕ, List, [], ◌∷◌, ◌++◌, Option, None, length, get_or, Contains, IsTrue, IfSome}
+use Rattle.std.specs.Prelude.{◌≡◌, ◌⊎◌, ◌↔◌, ◌≤◌, ◌<◌, ◌^◌, ◌==◌, ℕ, List, [], ◌∷◌, ◌++◌, Option, None, length, get_or, Contains, IsTrue, IsFalse, IfSome}
 use Rattle.multimap.specs.Values.{values_at}
 use Rattle.tree_sem.specs.Trees.{LabelTree}
 use Rattle.row_index.specs.Rows.{row_of}
@@ -33,6 +34,10 @@ AreNear nodes looks due = (l : Look) → Contains looks l → IsTrue l.grew → 
 -- the rows of a list where the places of some keys were taken away
 abbrev pub IsLessOf : List (List ℕ) → List (List ℕ) → Type 0
 IsLessOf old new = (i c : ℕ) → Contains (row_of new i) c → Contains (row_of old i) c
+
+pub record AreCallersOf (nodes fresh : List (List ℕ)) (i : ℕ) (row : List ℕ) : Type 0 where
+  pub only : (c : ℕ) → Contains row c → (c < length nodes) × (n : ℕ) × (get_or nodes c [] ≡ get_or nodes i [] ++ n ∷ [])
+  pub heard : (c n a : ℕ) → c < length nodes → get_or nodes c [] ≡ get_or nodes i [] ++ n ∷ [] → Contains (get_or fresh c []) a → Contains row c
 
 -- a node has a look
 abbrev pub IsSeen : List Look → ℕ → Type 0
@@ -69,28 +74,32 @@ pub record IsNext (nodes : List (List ℕ)) (w : Work) (looks : List Look) (late
   pub near : AreNear nodes looks w'.due.items
   pub woken : (i : ℕ) → Contains (nodes_in w'.awaited k) i → Contains w'.due.items i
   pub until : w'.latest ≡ latest
+  pub later : IsFalse w'.is_first
+  pub none : w'.none ≡ w.none
 
 -- What is kept of the nodes between two rounds: only nodes that are due have something new, each such child stands among
--- its parent's callers, and each that wakes is awaited then.
+-- its parent's callers, but for the first round, and each that wakes is awaited then.
 pub record IsWorking (nodes : List (List ℕ)) (w : Work) : Type 0 where
   pub long : length w.fresh.items ≡ length nodes
   pub times : length w.wakes.items ≡ length nodes
   pub within : AreNumbers nodes w.due.items
   pub quiet : (i : ℕ) → i < length nodes → (get_or w.fresh.items i [] ≡ []) ⊎ Contains w.due.items i
   pub only : AreKidsAll nodes w.callers
-  pub heard : (c a : ℕ) → c < length nodes → Contains (get_or w.fresh.items c []) a → IsHeard nodes w.callers c
+  pub heard : IsFalse w.is_first → (c a : ℕ) → c < length nodes → Contains (get_or w.fresh.items c []) a → IsHeard nodes w.callers c
   pub awaited : (i : ℕ) → IfSome (wake_at w.wakes.items i) (λ r. Contains (nodes_in w.awaited r) i)
   pub numbers : (r : ℕ) → AreNumbers nodes (nodes_in w.awaited r)
   pub until : (i : ℕ) → IfSome (wake_at w.wakes.items i) (λ r. r ≤ w.latest)
   pub bound : w.latest < 2 ^ 62
+  pub none : w.none ≡ []
 
 -- before the first round all labels are new, and every node is due
 pub record IsStart (t : LabelTree) (nodes : List (List ℕ)) (w : Work) : Type 0 where
   pub fresh : AreAllLabels t nodes w.fresh.items (length nodes)
-  pub only : AreKidsAll nodes w.callers
-  pub heard : (c : ℕ) → c < length nodes → IsHeard nodes w.callers c
+  pub start : IsTrue w.is_first
+  pub none_called : w.callers ≡ []
   pub times : length w.wakes.items ≡ length nodes
   pub none : (i : ℕ) → wake_at w.wakes.items i ≡ None
   pub awaited : w.awaited ≡ []
   pub first : w.latest ≡ 0
+  pub empty : w.none ≡ []
   pub due : (i : ℕ) → Contains w.due.items i ↔ (i < length nodes)

@@ -70,8 +70,8 @@ fn close_over<S: Summaries>(
 /// one of these or needs none; a child that got the same atoms as the one before it costs a comparison of these. Where an
 /// added child gives more, or a new atom adds a child or can be seen by one, a look costs a few steps for each atom of the
 /// label and of what such a child sees, too. Where a node has the parent and at first the label of the one before it, and
-/// neither has children, it takes over that look by a few steps. A change costs the label's length and the node's depth in
-/// steps that only copy.
+/// neither has children, it takes over that look by a few steps. A change costs the node's depth, and at most its label's
+/// length, in steps that only copy or move.
 pub fn close_page<S: Summaries>(
     alloc: Global,
     page: &Tree,

@@ -3,7 +3,7 @@ ghost use Rattle.std.specs.Prelude.{◌≡◌, ◌≤◌, ◌<◌, ℕ, [], None
 ghost use Rattle.row_index.specs.Rows.{row_of};
 ghost use Rattle.closed_page.specs.Labelled.{AreKidsAll, IsHeard};
 ghost use Rattle.class_adding.specs.declared.looking.Look.{Look};
-ghost use Rattle.class_adding.specs.Work.{IsLessOf, IsWritten, IsAwaited, AreAwaited, AreUntil, AreNumbers, nodes_in, IsNext, IsStart};
+ghost use Rattle.class_adding.specs.Work.{IsWorking, AreCallersOf, IsLessOf, IsWritten, IsAwaited, AreAwaited, AreUntil, AreNumbers, nodes_in, IsNext, IsStart};
 
 use crate::due::next_due;
 use crate::looking::Look;
@@ -11,19 +11,23 @@ use closed_page::{PageLabels, SharedSet};
 use multimap::Multimap;
 use row_index::Index;
 use std::alloc::Global;
-use tp_base::NoMemory;
+use tp_base::{ClassSet, NoMemory};
 
-/// What is still to come to the nodes, by their numbers: the atoms that the last round brought to each; those of its
-/// children to which it brought some; the round in which the children that its label adds give something new, and for each
-/// such round the nodes that wait for it; the last of these rounds; and the nodes that the next round looks at, in order.
+/// What is still to come to the nodes, by their numbers: the atoms that the last round brought to each; whether no round
+/// was taken in yet, so that all atoms are new; those of its children to which the last round brought some; the round in
+/// which the children that its label adds give something new, and for each such round the nodes that wait for it; the last
+/// of these rounds; the nodes that the next round looks at, in order; and the set without atoms, which all nodes share that
+/// got nothing.
 #[derive(Drop)]
 pub(crate) struct Work {
     pub(crate) fresh: Vec<SharedSet>,
+    pub(crate) is_first: bool,
     pub(crate) callers: Index,
     pub(crate) wakes: Vec<Option<u64>>,
     pub(crate) awaited: Multimap<u64, usize>,
     pub(crate) latest: u64,
     pub(crate) due: Vec<usize>,
+    pub(crate) none: SharedSet,
 }
 
 // No round for any node.
@@ -40,23 +44,37 @@ fn no_wakes(alloc: Global, count: usize) -> Result<Vec<Option<u64>>, NoMemory>
     Ok(wakes)
 }
 
-/// Before the first round: all atoms are new, and every node is due.
+/// Before the first round: all atoms are new, and every node is due. No callers are noted yet. Linear in the nodes.
 pub(crate) fn begin_work(alloc: Global, labels: &PageLabels) -> Result<Work, NoMemory>
     ensures { IfOk result (λ w. IsStart labels.now.labels labels.now.nodes w) }
 {
     let fresh = labels.all_own(alloc)?;
-    let callers = labels.all_callers(alloc)?;
     let count = labels.count();
     let wakes = no_wakes(alloc, count)?;
     let due = labels.all_numbers(alloc)?;
     Ok(Work {
         fresh,
-        callers,
+        is_first: true,
+        callers: Index::new(alloc),
         wakes,
         awaited: Multimap::new(alloc),
         latest: 0,
         due,
+        none: SharedSet::new(ClassSet::new(alloc))?,
     })
+}
+
+/// The children of a node that have something new: all of them before the first round, and then those that were noted.
+pub(crate) fn callers_of<'a>(labels: &'a PageLabels, work: &'a Work, number: usize) -> &'a [usize]
+    requires number { number < length labels.now.nodes }
+    requires working { IsWorking labels.now.nodes work.now }
+    ensures { AreCallersOf labels.now.nodes work.now.fresh.items number result.now }
+{
+    if work.is_first {
+        labels.kids(number)
+    } else {
+        work.callers.of(number)
+    }
 }
 
 // Takes the callers of the nodes of these looks away.
@@ -224,6 +242,7 @@ pub(crate) fn take_looks(
     call_all(alloc, labels, looks, &mut work.callers)?;
     let due = next_due(alloc, labels, looks, work.awaited.of(k))?;
     work.due = due;
+    work.is_first = false;
     work.latest = latest;
     Ok(())
 }

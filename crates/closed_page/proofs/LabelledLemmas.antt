@@ -91,3 +91,8 @@ parent_there u nodes own is v k there =
     let node : IsNode u (v ++ k ∷ []) = subst (IsNode u) at (labelled_node u nodes own (length nodes) there.0 is.labels there.1) in
     let family = node_at-child v k u node in
     is.whole v (subst (λ (o : Option LabelTree). IsSome o) (sym family.2) refl)
+
+pub rooted_page : (t : LabelTree) → AreRooted (paths_of t)
+rooted_page t v k there =
+    let family = node_at-child v k t ((Contains-paths_of t (v ++ k ∷ [])).0 there) in
+    (Contains-paths_of t v).1 (subst (λ (o : Option LabelTree). IsSome o) (sym family.2) refl)

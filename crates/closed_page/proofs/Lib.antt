@@ -4,9 +4,9 @@ pub mod ChildLemmas
 pub mod FirstsLemmas
 mod GainLemmas
 pub mod LabelledLemmas
-mod ListTests
 mod NodeLemmas
 mod NoteLemmas
 mod RelabelledLemmas
 mod RowLemmas
 mod RunLemmas
+mod ShapeLemmas

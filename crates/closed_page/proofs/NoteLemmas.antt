@@ -1,11 +1,11 @@
 -- The notes of a page, and the firsts for which they stand.
-use Rattle.std.proofs.Common.{◌≡◌, ◌⊎◌, ℕ, ◌+◌, ◌<◌, ◌≤◌, Bool, not, cond, List, [], ◌∷◌, ◌++◌, map, length, get_or, take, Some, slice_get, Result, Ok, Err, OnOk, inl, inr, Contains, refl, sym, ap, ◌∙◌, arith, subst, append-nil}
+use Rattle.std.proofs.Common.{◌≡◌, ◌⊎◌, ℕ, ◌+◌, ◌<◌, ◌≤◌, Bool, not, cond, List, [], ◌∷◌, ◌++◌, map, length, get_or, take, Some, slice_get, Result, Ok, Err, OnOk, inl, inr, All, Contains, refl, sym, ap, ◌∙◌, arith, subst, append-nil}
 use Rattle.std.specs.List.{filter}
 use Rattle.std.specs.List.Sorted.{IsStrictlyIncreasing}
 use Rattle.std.proofs.lemmas.Bool.{cases_lt, cases_Bool}
 use Rattle.std.proofs.lemmas.Grind.{flat_map-append}
 use Rattle.std.proofs.lemmas.List.{map-append, get_or_default}
-use Rattle.std.proofs.lemmas.List.Elements.{filter-append, Contains-append_cases}
+use Rattle.std.proofs.lemmas.List.Elements.{filter-append, Contains-append_cases, All-contains}
 use Rattle.std.proofs.lemmas.List.Kept.{IsStrictlyIncreasing-filter}
 use Rattle.std.proofs.lemmas.Option.{get_or_from_slice_get}
 use Rattle.tp_base.specs.Classes.{has_class, union_of}
@@ -30,6 +30,21 @@ missing_more xs ys i a at before last x there other =
       | inl early ↦ before x early other
       | inr now ↦ last (subst (Contains ys) (sym (Contains-only a x now)) other)
     ]
+
+-- the same of atoms that are in one of two lists
+pub either_more : (xs ys zs : List ℕ) (i a : ℕ) → slice_get xs i ≡ Some a → ((x : ℕ) → Contains (take i xs) x → Contains ys x ⊎ Contains zs x) → Contains ys a ⊎ Contains zs a
+    → (x : ℕ) → Contains (take (i + 1) xs) x → Contains ys x ⊎ Contains zs x
+either_more xs ys zs i a at before last x there =
+    elim (Contains-append_cases (take i xs) (a ∷ []) x (subst (λ (z : List ℕ). Contains z x) (take_next xs i a at) there)) [
+      | inl early ↦ before x early
+      | inr now ↦ subst (λ z. Contains ys z ⊎ Contains zs z) (Contains-only a x now) last
+    ]
+
+-- a list that rises is the union of two that are in it, and have all of it
+pub joined_set : (xs ys zs : List ℕ) → IsStrictlyIncreasing xs → IsStrictlyIncreasing ys → All (Contains xs) ys → All (Contains xs) zs → ((a : ℕ) → Contains xs a → Contains ys a ⊎ Contains zs a) → xs ≡ union_of ys zs
+joined_set xs ys zs up up_ys first second either =
+    same_members xs (union_of ys zs) up (IsStrictlyIncreasing-union_of ys zs up_ys) (All-from_Contains (Contains (union_of ys zs)) xs (λ a there. (Contains-union_of ys zs a).1 (either a there)))
+    (All-from_Contains (Contains xs) (union_of ys zs) (λ a there. elim ((Contains-union_of ys zs a).0 there) [ inl left ↦ All-contains (Contains xs) ys a first left | inr right ↦ All-contains (Contains xs) zs a second right ]))
 
 -- no atom of xs before the i-th is in ys, and no atom of ys before the j-th is in xs
 abbrev pub AreApartTo : List ℕ → List ℕ → ℕ → ℕ → Type 0

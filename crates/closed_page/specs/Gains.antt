@@ -2,12 +2,15 @@
 --     label_in u v             the label at v
 --     firsts_at at own label round   the atoms of the label that the node doesn't have in `own`, as firsts of that round
 --     new_of own label       the atoms of the label that a node doesn't have in `own`
+--     IsLonger own new         new has what own has, and some atoms more
 --     with_gains u gs          the tree with the gains gs, one after another
 --     news u gs round          the firsts that they bring
 --     starts t nodes           the firsts of these nodes before any round
-use Rattle.std.specs.Prelude.{ℕ, List, [], ◌∷◌, ◌++◌, map, not, unwrap_or}
+--     paths_at nodes ns        the paths of the nodes with these numbers
+--     AreStarts t nodes fs     the firsts fs are those of these nodes before any round, in some order of the nodes
+use Rattle.std.specs.Prelude.{◌≡◌, ℕ, List, [], ◌∷◌, ◌++◌, map, not, unwrap_or, get_or, Contains}
 use Rattle.std.specs.List.{filter}
-use Rattle.tp_base.specs.Classes.{has_class}
+use Rattle.tp_base.specs.Classes.{has_class, union_of}
 use Rattle.tree_sem.specs.Trees.{LabelTree, label_at, edit_at}
 use Rattle.tree_sem.specs.Actions.{add_classes}
 use Rattle.closed_page.specs.declared.gains.Gain.{Gain}
@@ -21,6 +24,9 @@ firsts_at at own label round = map (λ a. record { at = at; atom = a; round = ro
 
 abbrev pub new_of : List ℕ → List ℕ → List ℕ
 new_of own label = filter (λ a. not (has_class a own)) label
+
+abbrev pub IsLonger : List ℕ → List ℕ → Type 0
+IsLonger own new = (more : List ℕ) × (new ≡ union_of own more)
 
 abbrev pub with_gain : LabelTree → Gain → LabelTree
 with_gain u g = edit_at g.at (add_classes g.label) u
@@ -36,3 +42,12 @@ news u (g ∷ gains) round = firsts_at g.at (label_in u g.at) g.label round ++ n
 abbrev pub starts : LabelTree → List (List ℕ) → List PageFirst
 starts t [] = []
 starts t (v ∷ vs) = firsts_at v [] (label_in t v) 0 ++ starts t vs
+
+abbrev pub paths_at : List (List ℕ) → List ℕ → List (List ℕ)
+paths_at nodes ns = map (λ c. get_or nodes c []) ns
+
+pub record AreStarts (t : LabelTree) (nodes : List (List ℕ)) (firsts : List PageFirst) : Type 0 where
+  pub order : List (List ℕ)
+  pub are : firsts ≡ starts t order
+  pub only : (v : List ℕ) → Contains order v → Contains nodes v
+  pub whole : (v : List ℕ) → Contains nodes v → Contains order v

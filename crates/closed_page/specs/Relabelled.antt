@@ -1,7 +1,9 @@
--- A tree with other labels.
+-- A tree with other labels, and the tree that has nodes at given paths.
 --     label_by nodes own v   the label that stands where the path v does
 --     relabelled f t         the tree t, where the node at a path has the label that f gives it
-use Rattle.std.specs.Prelude.{ℕ, suc, List, [], ◌∷◌, if◌then◌else◌}
+--     with_node p row        the row with a node at the path p, and what has to be there for it
+--     shape_of nodes         the tree with nodes at these paths, where all labels are empty
+use Rattle.std.specs.Prelude.{ℕ, zero, suc, List, [], ◌∷◌, if◌then◌else◌}
 use Rattle.std.specs.Str.{bytes_eq}
 use Rattle.tree_sem.specs.Trees.{LabelTree, Row, no_nodes, node}
 
@@ -17,3 +19,21 @@ relabelled_row f k (node l below next) = node (f (k ∷ [])) (relabelled_row (λ
 
 abbrev pub relabelled : (List ℕ → List ℕ) → LabelTree → LabelTree
 relabelled f t = record { label = f []; below = relabelled_row f 0 t.below }
+
+-- the row with f at what is below its k-th tree, and empty trees up to that one where it is shorter
+abbrev pub row_with : (Row → Row) → ℕ → Row → Row
+row_with f zero no_nodes = node [] (f no_nodes) no_nodes
+row_with f zero (node l below next) = node l (f below) next
+row_with f (suc k) no_nodes = node [] no_nodes (row_with f k no_nodes)
+row_with f (suc k) (node l below next) = node l below (row_with f k next)
+
+abbrev pub with_node : List ℕ → Row → Row
+with_node [] row = row
+with_node (k ∷ p) row = row_with (with_node p) k row
+
+abbrev pub with_nodes : List (List ℕ) → Row → Row
+with_nodes [] row = row
+with_nodes (p ∷ nodes) row = with_node p (with_nodes nodes row)
+
+unfoldable pub shape_of : List (List ℕ) → LabelTree
+shape_of nodes = record { label = []; below = with_nodes nodes no_nodes }

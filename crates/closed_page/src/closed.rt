@@ -13,13 +13,11 @@ use crate::shared_set::SharedSet;
 use std::alloc::Global;
 use std::marker::Model;
 use tp_base::{Atom, ClassSet, NoMemory, Path};
-use tree_sem::Tree;
 
-/// A page as it was, for each node its closed label, and for each node and atom the round in which it came. A contract sees
-/// the page with its closed labels.
+/// For each node of a page its closed label, and for each node and atom the round in which it came; no tree is kept. A contract
+/// sees the page with its closed labels.
 #[derive(Drop)]
 pub struct Closed {
-    tree: Tree,
     own: Vec<SharedSet>,
     firsts: FirstRounds,
 }
@@ -29,15 +27,15 @@ impl Model for Closed {
     ghost use Rattle.tree_sem.specs.Trees.{node_at};
     ghost use Rattle.closed_page.specs.ClosedPages.{ClosedPage, closed_code, HasNoOthers};
     ghost use Rattle.closed_page.specs.Labelled.{AreAllLabels, HaveLabels};
-    ghost use Rattle.closed_page.specs.Relabelled.{label_by, relabelled};
+    ghost use Rattle.closed_page.specs.Relabelled.{label_by, relabelled, shape_of};
 
     ghost Value = { ClosedPage };
 
     ghost coded = { closed_code };
 
-    ghost view = { λ c. record { labels = relabelled (label_by c.firsts.nodes c.own.items) c.tree; firsts = c.firsts.firsts } };
+    ghost view = { λ c. record { labels = relabelled (label_by c.firsts.nodes c.own.items) (shape_of c.firsts.nodes); firsts = c.firsts.firsts } };
 
-    ghost invariant = { λ c. HasNoOthers (relabelled (label_by c.firsts.nodes c.own.items) c.tree) c.firsts.firsts × HaveLabels (relabelled (label_by c.firsts.nodes c.own.items) c.tree) c.firsts.nodes c.own.items };
+    ghost invariant = { λ c. HasNoOthers (relabelled (label_by c.firsts.nodes c.own.items) (shape_of c.firsts.nodes)) c.firsts.firsts × HaveLabels (relabelled (label_by c.firsts.nodes c.own.items) (shape_of c.firsts.nodes)) c.firsts.nodes c.own.items };
 }
 
 impl Closed {
@@ -51,7 +49,6 @@ impl Closed {
     {
         let parts = page.into_parts(alloc)?;
         Ok(Closed {
-            tree: parts.tree,
             own: parts.own,
             firsts: parts.firsts,
         })

@@ -184,12 +184,15 @@ fn by_atoms(alloc: Global, notes: &[NodeNews]) -> Result<Vec<FirstRow>, NoMemory
 }
 
 // Puts notes in the order of the nodes' parents, and of the children of each.
-fn in_order(notes: &mut Vec<NodeNews>)
-    ensures sorted { IsSortedByKey (λ n. n.spot) spot_cmp notes.new.items }
-    ensures back { (f : NodeFirst) → Contains (expanded notes.new.items) f → Contains (expanded notes.old.items) f }
-    ensures on { (f : NodeFirst) → Contains (expanded notes.old.items) f → Contains (expanded notes.new.items) f }
+// Those of a round come in the order of the document, so that this sort, which finds what is in order already, costs little
+// where few nodes have nodes below them.
+fn in_order(notes: &mut Vec<NodeNews>) -> Result<(), NoMemory>
+    ensures sorted { OnOk result (IsSortedByKey (λ n. n.spot) spot_cmp notes.new.items) }
+    ensures back { OnOk result ((f : NodeFirst) → Contains (expanded notes.new.items) f → Contains (expanded notes.old.items) f) }
+    ensures on { OnOk result ((f : NodeFirst) → Contains (expanded notes.old.items) f → Contains (expanded notes.new.items) f) }
 {
-    notes.sort_unstable_by_key(|note| note.spot);
+    notes.sort_by_key(|note| note.spot)?;
+    Ok(())
 }
 
 /// The firsts of notes by their atoms, each row in order. It costs a sort of the notes, a comparison of each with the one
@@ -200,7 +203,7 @@ pub(crate) fn in_rows(alloc: Global, notes: Vec<NodeNews>) -> Result<Vec<FirstRo
     ensures sorted { IfOk result (λ r. AreSorted r.items) }
 {
     let mut ordered = notes;
-    in_order(&mut ordered);
+    in_order(&mut ordered)?;
     let rows = by_atoms(alloc, &ordered)?;
     Ok(rows)
 }

@@ -1,13 +1,13 @@
 //! What nodes of a page came to have, node by node and round by round.
 ghost use Rattle.std.specs.Prelude.{◌≡◌, ◌∷◌, ◌++◌, ◌<◌, ◌^◌, ℕ, List, [], length, Contains, IfOk, OnOk, IsTrue};
 ghost use Rattle.std.specs.List.Sorted.{IsStrictlyIncreasing};
-ghost use Rattle.std.specs.Str.{bytes_eq};
 ghost use Rattle.closed_page.specs.Firsts.{IsSpotOf};
 ghost use Rattle.closed_page.specs.Gains.{new_of};
 ghost use Rattle.closed_page.specs.Notes.{IsNoted, AreAtSpots, IsAlike, AreAlike};
 
 use crate::first_rounds::Spot;
 use crate::shared_set::{A_FEW, SharedSet};
+use pair_table::same_atoms;
 use tp_base::{Atom, ClassSet, NoMemory};
 
 /// The atoms that a node came to have in a round, by what stands for the node.
@@ -120,23 +120,6 @@ pub(crate) fn note(
     Ok(())
 }
 
-// Whether the sets are one.
-fn same_set(first: &ClassSet, second: &ClassSet) -> bool
-    ensures { result ≡ bytes_eq first.now second.now }
-{
-    if first.len() != second.len() {
-        return false;
-    }
-    let mut i = 0;
-    'atoms: while i < first.len() {
-        if first.at(i) != second.at(i) {
-            return false;
-        }
-        i += 1;
-    }
-    true
-}
-
 // Whether the second node stands that many steps behind the first, and came to have the same atoms in the same round.
 fn is_alike(first: &NodeNews, second: &NodeNews, by: usize) -> bool
     ensures { IsTrue result → IsAlike first.now by second.now }
@@ -150,7 +133,7 @@ fn is_alike(first: &NodeNews, second: &NodeNews, by: usize) -> bool
     if (second.spot.step - first.spot.step) as usize != by {
         return false;
     }
-    same_set(second.atoms.set(), first.atoms.set())
+    same_atoms(second.atoms.set(), first.atoms.set())
 }
 
 /// Where the notes end that are of one run of children with the i-th, and have the same atoms and the same round. It costs a

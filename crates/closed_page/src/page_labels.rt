@@ -1,20 +1,20 @@
 //! The labels of a page and their first rounds, by the numbers of its nodes in the order of the document.
 ghost use Rattle.std.specs.Prelude.{◌≡◌, ◌<◌, ◌⊎◌, ◌↔◌, ◌++◌, ◌+◌, ◌^◌, ℕ, [], Some, None, length, get_or, IfOk, OnOk, IfSome, IsSome, IsNone, List, Contains};
-ghost use Rattle.tree_sem.specs.Trees.{node_at, label_at, edit_at};
+ghost use Rattle.tree_sem.specs.Trees.{LabelTree, node_at, label_at, edit_at};
 ghost use Rattle.tree_sem.specs.Order.{paths_of};
 ghost use Rattle.tree_sem.specs.Actions.{add_classes};
 ghost use Rattle.std.specs.List.Sorted.{IsStrictlyIncreasing};
 ghost use Rattle.closed_page.specs.ClosedPages.{round_of};
 ghost use Rattle.closed_page.specs.Firsts.{AreOfNodes, IsSpotOf};
-ghost use Rattle.closed_page.specs.Gains.{label_in, firsts_at, starts};
-ghost use Rattle.closed_page.specs.Relabelled.{label_by, relabelled};
+ghost use Rattle.closed_page.specs.Gains.{label_in, firsts_at, AreStarts};
+ghost use Rattle.closed_page.specs.Relabelled.{label_by, relabelled, shape_of};
 ghost use Rattle.closed_page.specs.Views.{firsts_of};
 ghost use Rattle.closed_page.specs.Labelled.{node_of, IsAbove, AreKids, IsParentIn, AreKidsAll, IsHeard, IsCalled, AreAllLabels, HaveLabels};
 
 use crate::first_rounds::{FirstRounds, Spot, spot_of};
 use crate::nodes::PageNodes;
 use crate::notes::{NodeNews, note};
-use crate::shared_set::{SharedSet, copies, joined, shares};
+use crate::shared_set::{SharedSet, copies, joined_before, shares};
 use node_marks::NumberedTree;
 use row_index::Index;
 use std::alloc::Global;
@@ -22,19 +22,17 @@ use std::marker::Model;
 use tp_base::{ClassSet, NoMemory, Path};
 use tree_sem::Tree;
 
-/// A page as it was, the labels of its nodes by their numbers, and the first rounds of the atoms.
+/// The labels of a page's nodes by their numbers, and the first rounds of the atoms.
 #[derive(Drop)]
 pub(crate) struct PageParts {
-    pub(crate) tree: Tree,
     pub(crate) own: Vec<SharedSet>,
     pub(crate) firsts: FirstRounds,
 }
 
-/// A page as it was, its nodes by their numbers, the label of each now, and the first rounds of the atoms, so far. A contract
-/// sees the tree with the labels, the paths of the nodes, and the firsts with these paths.
+/// The nodes of a page by their numbers, the label of each now, and the first rounds of the atoms, so far; no tree is kept. A
+/// contract sees the tree with the labels, the paths of the nodes, and the firsts with these paths.
 #[derive(Drop)]
 pub struct PageLabels {
-    tree: Tree,
     nodes: PageNodes,
     own: Vec<SharedSet>,
     notes: Vec<NodeNews>,
@@ -44,16 +42,16 @@ impl Model for PageLabels {
     ghost use Rattle.closed_page.specs.Labelled.{Labelled, labelled_code, AreRelated};
     ghost use Rattle.closed_page.specs.Firsts.{placed};
     ghost use Rattle.closed_page.specs.Notes.{expanded, AreAtSpots};
-    ghost use Rattle.closed_page.specs.Relabelled.{label_by, relabelled};
+    ghost use Rattle.closed_page.specs.Relabelled.{label_by, relabelled, shape_of};
     ghost use Rattle.std.specs.Prelude.{length};
 
     ghost Value = { Labelled };
 
     ghost coded = { labelled_code };
 
-    ghost view = { λ l. record { labels = relabelled (label_by l.nodes l.own.items) l.tree; nodes = l.nodes; firsts = placed l.nodes (expanded l.notes.items); notes = length l.notes.items } };
+    ghost view = { λ l. record { labels = relabelled (label_by l.nodes l.own.items) (shape_of l.nodes); nodes = l.nodes; firsts = placed l.nodes (expanded l.notes.items); notes = length l.notes.items } };
 
-    ghost invariant = { λ l. AreRelated (relabelled (label_by l.nodes l.own.items) l.tree) l.nodes l.own.items × AreAtSpots l.nodes l.notes.items };
+    ghost invariant = { λ l. AreRelated (relabelled (label_by l.nodes l.own.items) (shape_of l.nodes)) l.nodes l.own.items × AreAtSpots l.nodes l.notes.items };
 }
 
 impl PageLabels {
@@ -61,17 +59,34 @@ impl PageLabels {
     pub fn new(alloc: Global, page: &Tree) -> Result<PageLabels, NoMemory>
         ensures labels { IfOk result (λ l. l.labels ≡ page.now) }
         ensures nodes { IfOk result (λ l. l.nodes ≡ paths_of page.now) }
-        ensures firsts { IfOk result (λ l. l.firsts ≡ starts page.now (paths_of page.now)) }
+        ensures firsts { IfOk result (λ l. AreStarts page.now (paths_of page.now) l.firsts) }
         ensures rising { OnOk result ((v : List ℕ) → Contains (paths_of page.now) v → IsStrictlyIncreasing (label_in page.now v)) }
         ensures few { IfOk result (λ l. l.notes < 2 ^ 63) }
     {
         let mut labels = PageLabels::numbered(alloc, page)?;
         let none = ClassSet::new(alloc);
-        let count = labels.count();
-        for i in 0..count {
-            labels.note_own(i, &none)?;
+        let numbers = labels.by_parents(alloc)?;
+        let order = numbers.as_slice();
+        for i in 0..order.len() {
+            labels.note_own(order[i], &none)?;
         }
         Ok(labels)
+    }
+
+    // The numbers of all nodes, those of each node's children behind one another, and the root's last. So stand the firsts of an
+    // atom in its row, and none of these notes has to be moved there. Linear in the nodes.
+    fn by_parents(&self, alloc: Global) -> Result<Vec<usize>, NoMemory>
+        requires { (t : LabelTree) × (self.now.nodes ≡ paths_of t) }
+        ensures within { IfOk result (λ v. (i : ℕ) → Contains v.items i → i < length self.now.nodes) }
+        ensures whole { IfOk result (λ v. (i : ℕ) → i < length self.now.nodes → Contains v.items i) }
+    {
+        let mut numbers = Vec::new(alloc);
+        let count = self.count();
+        for i in 0..count {
+            numbers.extend_from_slice(self.kids(i))?;
+        }
+        numbers.push(0)?;
+        Ok(numbers)
     }
 
     // Numbers the nodes of a page, of which no firsts are noted yet. Linear in them.
@@ -80,14 +95,12 @@ impl PageLabels {
         ensures nodes { IfOk result (λ l. l.nodes ≡ paths_of page.now) }
         ensures firsts { IfOk result (λ l. l.firsts ≡ []) }
     {
-        let tree = page.copy()?;
         let columns = NumberedTree::new(alloc, page)?.into_columns();
         let parents = columns.parents;
         let steps = columns.steps;
         let own = copies(alloc, &columns.labels)?;
         let nodes = PageNodes::new(alloc, &parents, steps)?;
         Ok(PageLabels {
-            tree,
             nodes,
             own,
             notes: Vec::new(alloc),
@@ -194,19 +207,6 @@ impl PageLabels {
         }
     }
 
-    /// Notes each node at its parent. Linear in the nodes.
-    pub fn all_callers(&self, alloc: Global) -> Result<Index, NoMemory>
-        ensures only { IfOk result (λ t. AreKidsAll self.now.nodes t) }
-        ensures heard { IfOk result (λ t. (c : ℕ) → c < length self.now.nodes → IsHeard self.now.nodes t c) }
-    {
-        let mut callers = Index::new(alloc);
-        let count = self.count();
-        for i in 0..count {
-            self.call(alloc, i, &mut callers)?;
-        }
-        Ok(callers)
-    }
-
     // What stands for a node.
     fn spot(&self, number: usize) -> Spot
         requires { number < length self.now.nodes }
@@ -247,8 +247,9 @@ impl PageLabels {
         note(&mut self.notes, spot, none, &self.own[number], 0)
     }
 
-    /// Adds atoms to the label of a node. Linear in the two labels; a few atoms cost a copy of the label, and a search of each
-    /// one's place.
+    /// Adds atoms to the label of a node. Where the node before it has the label that comes of it, they share that. Else a few
+    /// atoms cost a search of each one's place, and a step for each atom behind it; more cost a walk along both labels, as does
+    /// the first time at a node, when its label is copied.
     pub(crate) fn add(&mut self, number: usize, label: &ClassSet) -> Result<(), NoMemory>
         requires { number < length self.old.nodes }
         ensures labels { OnOk result (self.new.labels ≡ edit_at (node_of self.old number) (add_classes label.now) self.old.labels) }
@@ -256,22 +257,24 @@ impl PageLabels {
         ensures firsts { OnOk result (self.new.firsts ≡ self.old.firsts) }
         ensures notes { OnOk result (self.new.notes ≡ self.old.notes) }
     {
-        let longer = joined(self.own[number].set(), label)?;
-        let own = SharedSet::new(longer)?;
-        self.own[number] = own;
+        if let Some(grown) = joined_before(&self.own, number, label)? {
+            self.own[number] = grown;
+            return Ok(());
+        }
+        let own = &mut self.own[number];
+        own.add(label)?;
         Ok(())
     }
 
-    /// The page as it was, the labels by the numbers of the nodes, and the firsts by their atoms.
+    /// The labels by the numbers of the nodes, and the firsts by their atoms.
     pub(crate) fn into_parts(self, alloc: Global) -> Result<PageParts, NoMemory>
         requires { AreOfNodes self.nodes self.firsts }
-        ensures tree { IfOk result (λ r. relabelled (label_by r.firsts.nodes r.own.items) r.tree ≡ self.labels) }
+        ensures tree { IfOk result (λ r. relabelled (label_by r.firsts.nodes r.own.items) (shape_of r.firsts.nodes) ≡ self.labels) }
         ensures own { IfOk result (λ r. HaveLabels self.labels r.firsts.nodes r.own.items) }
         ensures rounds { IfOk result (λ r. (v : List ℕ) (a : ℕ) → round_of r.firsts.firsts v a ≡ round_of (firsts_of self.firsts) v a) }
     {
         let firsts = FirstRounds::new(alloc, self.nodes, self.notes)?;
         Ok(PageParts {
-            tree: self.tree,
             own: self.own,
             firsts,
         })

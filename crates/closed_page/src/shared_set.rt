@@ -1,11 +1,13 @@
 //! Sets of atoms that several hold.
-ghost use Rattle.std.specs.Prelude.{◌≡◌, map, IfOk, OnOk};
+ghost use Rattle.std.specs.Prelude.{◌≡◌, ◌⊎◌, ◌<◌, ℕ, [], map, length, get_or, Contains, IfOk, IfSome, OnOk, IsTrue};
 ghost use Rattle.tp_base.specs.Classes.{union_of};
+ghost use Rattle.closed_page.specs.Gains.{IsLonger};
 
+use pair_table::same_atoms;
 use std::alloc::Global;
 use std::marker::Model;
 use std::rc::Rc;
-use tp_base::{ClassSet, NoMemory};
+use tp_base::{Atom, ClassSet, NoMemory};
 
 /// A set of atoms, which copies share. A contract sees the set.
 #[derive(Drop)]
@@ -38,6 +40,22 @@ impl SharedSet {
         &self.set
     }
 
+    /// Adds atoms to the set, which is copied where others hold it, too. A few atoms cost a search of each one's place, and a
+    /// step for each atom behind it; more cost a walk along both sets. A refusal may leave some of them there.
+    pub(crate) fn add(&mut self, atoms: &ClassSet) -> Result<(), NoMemory>
+        ensures all { OnOk result (self.new ≡ union_of self.old atoms.now) }
+        ensures longer { IsLonger self.old self.new }
+    {
+        if let Some(set) = Rc::get_mut(&mut self.set) {
+            return add_all(set, atoms);
+        }
+        let mut own = self.set().copy()?;
+        add_all(&mut own, atoms)?;
+        let shared = Rc::new(own.allocator(), own)?;
+        self.set = shared;
+        Ok(())
+    }
+
     /// The same set once more. Constant: both share it.
     pub fn share(&self) -> Result<SharedSet, NoMemory>
         ensures { IfOk result (λ s. s ≡ self.now) }
@@ -61,13 +79,37 @@ pub(crate) fn shares(alloc: Global, sets: &[SharedSet]) -> Result<Vec<SharedSet>
     Ok(shared)
 }
 
-/// Copies of these sets. Linear in them.
+// The last of these sets, if it has the same atoms as another one.
+fn last_if_same<'a>(sets: &'a [SharedSet], set: &ClassSet) -> Option<&'a SharedSet>
+    ensures { IfSome result (λ s. s.now ≡ set.now) }
+{
+    let last = sets.last()?;
+    if same_atoms(last.set(), set) {
+        Some(last)
+    } else {
+        None
+    }
+}
+
+// The set once more; the last of these, if it is the same.
+fn copy_after(sets: &[SharedSet], set: &ClassSet) -> Result<SharedSet, NoMemory>
+    ensures { IfOk result (λ s. s ≡ set.now) }
+{
+    if let Some(last) = last_if_same(sets, set) {
+        let shared = last.share()?;
+        return Ok(shared);
+    }
+    let copy = SharedSet::new(set.copy()?)?;
+    Ok(copy)
+}
+
+/// Copies of these sets, but that those of the same atoms that stand one behind the other share one. Linear in them.
 pub(crate) fn copies(alloc: Global, sets: &[&ClassSet]) -> Result<Vec<SharedSet>, NoMemory>
     ensures { IfOk result (λ v. v.items ≡ map (λ s. s.now) sets.now) }
 {
     let mut shared = Vec::new(alloc);
     for i in 0..sets.len() {
-        let copy = SharedSet::new(sets[i].copy()?)?;
+        let copy = copy_after(&shared, sets[i])?;
         shared.push(copy)?;
     }
     Ok(shared)
@@ -76,9 +118,72 @@ pub(crate) fn copies(alloc: Global, sets: &[&ClassSet]) -> Result<Vec<SharedSet>
 /// So many atoms at most are sought one by one in another set, which for more of them is walked along.
 pub(crate) const A_FEW: usize = 8;
 
+// Whether the atom is in one of the sets.
+fn has_either(first: &ClassSet, second: &ClassSet, atom: Atom) -> bool
+    ensures { IsTrue result → Contains first.now atom ⊎ Contains second.now atom }
+{
+    if first.has(atom) {
+        return true;
+    }
+    second.has(atom)
+}
+
+// Whether each atom is in one of two other sets.
+fn are_in_either(set: &ClassSet, first: &ClassSet, second: &ClassSet) -> bool
+    ensures { IsTrue result → (a : ℕ) → Contains set.now a → Contains first.now a ⊎ Contains second.now a }
+{
+    for i in 0..set.len() {
+        if !has_either(first, second, set.at(i)) {
+            return false;
+        }
+    }
+    true
+}
+
+// Whether a set of a few atoms has those of two other sets, and no others.
+fn is_joined(set: &ClassSet, own: &ClassSet, atoms: &ClassSet) -> bool
+    ensures { IsTrue result → set.now ≡ union_of own.now atoms.now }
+{
+    let count = set.len();
+    let own_count = own.len();
+    if count > A_FEW || own_count > count {
+        return false;
+    }
+    if !own.within(set) {
+        return false;
+    }
+    if !atoms.within(set) {
+        return false;
+    }
+    are_in_either(set, own, atoms)
+}
+
+/// The set before the one with this number, if it has its atoms and these, and no others. A few steps for each of the atoms,
+/// and constant where it has more than a few.
+pub(crate) fn joined_before(
+    sets: &[SharedSet],
+    number: usize,
+    atoms: &ClassSet,
+) -> Result<Option<SharedSet>, NoMemory>
+    requires { number < length sets.now }
+    ensures { IfOk result (λ o. IfSome o (λ s. s ≡ union_of (get_or sets.now number []) atoms.now)) }
+{
+    if number == 0 {
+        return Ok(None);
+    }
+    let before = &sets[number - 1];
+    let own = &sets[number];
+    if !is_joined(before.set(), own.set(), atoms) {
+        return Ok(None);
+    }
+    let shared = before.share()?;
+    Ok(Some(shared))
+}
+
 // Adds these atoms one by one.
 fn add_each(set: &mut ClassSet, atoms: &ClassSet) -> Result<(), NoMemory>
-    ensures { OnOk result (set.new ≡ union_of set.old atoms.now) }
+    ensures all { OnOk result (set.new ≡ union_of set.old atoms.now) }
+    ensures longer { IsLonger set.old set.new }
 {
     for i in 0..atoms.len() {
         set.add(atoms.at(i))?;
@@ -86,16 +191,14 @@ fn add_each(set: &mut ClassSet, atoms: &ClassSet) -> Result<(), NoMemory>
     Ok(())
 }
 
-/// The atoms of both sets. Linear in the two; a few atoms of the second cost a copy of the first, and a search of each one's
-/// place.
-pub(crate) fn joined(set: &ClassSet, atoms: &ClassSet) -> Result<ClassSet, NoMemory>
-    ensures { IfOk result (λ s. s ≡ union_of set.now atoms.now) }
+// Adds these atoms, a few of them one by one.
+fn add_all(set: &mut ClassSet, atoms: &ClassSet) -> Result<(), NoMemory>
+    ensures all { OnOk result (set.new ≡ union_of set.old atoms.now) }
+    ensures longer { IsLonger set.old set.new }
 {
-    let mut both = set.copy()?;
     if atoms.len() <= A_FEW {
-        add_each(&mut both, atoms)?;
-        return Ok(both);
+        return add_each(set, atoms);
     }
-    both.union(atoms)?;
-    Ok(both)
+    set.union(atoms)?;
+    Ok(())
 }

@@ -1,4 +1,4 @@
-use Rattle.std.proofs.Common.{[], List, ℕ, get_or, unwrap_or, sym, ap, ◌∙◌, ◌≡◌, ◌<◌, length, Contains, arith, subst}
+use Rattle.std.proofs.Common.{[], List, ℕ, get_or, unwrap_or, sym, ap, ◌∙◌, ◌≡◌, ◌<◌, length, arith, subst}
 use Rattle.std.proofs.lemmas.List.{get_or_read}
 use Rattle.std.specs.List.Sorted.{IsStrictlyIncreasing}
 use Rattle.tp_base.proofs.ClassLemmas.{IsStrictlyIncreasing-union_of}
@@ -7,7 +7,7 @@ use Rattle.rule_index.specs.Asking.{AreMet}
 use Rattle.closed_page.specs.Gains.{label_in}
 use Rattle.closed_page.specs.Labelled.{node_of}
 use Rattle.class_adding.specs.Fresh.{set_at}
-use Rattle.class_adding.proofs.FreshLemmas.{given_more, AreCallers}
+use Rattle.class_adding.proofs.FreshLemmas.{given_more}
 use Rattle.class_adding.proofs.looking.given_within.Goals as goal
 
 pub add_local-requires : goal.add_local-requires
@@ -35,11 +35,6 @@ returns c =
     let nodes = c.args.filling.now.labels.nodes in
     let fresh = c.args.filling.now.work.fresh.items in
     let number = c.args.number in
-    let row : AreCallers c.args.system.now c.args.filling.now.labels.labels nodes fresh number c.requires.number c.requires.settled c.parent.ensures.whole c.of.result.now =
-    record {
-      only = λ d there. c.requires.working.only number d (subst (λ (z : List ℕ). Contains z d) c.of.ensures there);
-      heard = λ d n a less at there. subst (λ (z : List ℕ). Contains z d) (sym c.of.ensures) (c.requires.working.heard d a less there number n c.requires.number at);
-    } in
     given_more c.args.system.now c.args.filling.now.labels.labels nodes fresh number c.requires.number c.requires.settled c.parent.ensures.whole c.args.own.now (ap (λ o. unwrap_or o []) c.requires.own)
-    c.parent.result c.of.result.now c.new-given.result c.add_local.new.next c.add_above.new.next c.add_each.new.next c.new-given.ensures c.parent.ensures.above row c.in_ok-add_local.ensures
+    c.parent.result c.callers_of-callers.result.now c.new-given.result c.add_local.new.next c.add_above.new.next c.add_each.new.next c.new-given.ensures c.parent.ensures.above c.callers_of-callers.ensures c.in_ok-add_local.ensures
     (rw c.as_slice-fresh.ensures.value at c.in_ok-add_above.ensures) (rw c.as_slice-fresh.ensures.value at c.in_ok-add_each.ensures)

@@ -29,4 +29,6 @@ returns c = record {
   near = c.in_ok-due.ensures.near;
   woken = λ i there. c.in_ok-due.ensures.woken i (subst (λ (z : List ℕ). Contains z i) (sym c.of.ensures) there);
   until = refl;
+  later = refl;
+  none = refl;
 }

@@ -1,4 +1,4 @@
-use Rattle.std.proofs.Common.{◌≡◌, ◌≤◌, List, ℕ, Contains, true, length, arith, sym, subst}
+use Rattle.std.proofs.Common.{◌≡◌, List, ℕ, Contains, true, arith, sym, subst}
 use Rattle.std.proofs.lemmas.List.{take_all}
 use Rattle.tp_base.proofs.Rising.{Contains-none}
 use Rattle.closed_page.proofs.NoteLemmas.{missing_more}
