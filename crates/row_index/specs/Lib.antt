@@ -1,2 +1,4 @@
 -- What public contracts cite.
 pub mod Rows
+-- The states of the code.
+pub mod Held

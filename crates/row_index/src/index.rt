@@ -1,98 +1,112 @@
-//! For each key a row of values: places in a list, say, by a key that stands there.
-ghost use Rattle.std.specs.Prelude.{◌≡◌, ◌≢◌, ◌<◌, ℕ, [], None, length, get_or, IfOk, OnOk};
+//! For each key the places that stand there.
+ghost use Rattle.std.specs.Prelude.{◌≡◌, ◌≢◌, ◌<◌, ℕ, [], ◌∷◌, ◌++◌, None, length, get_or, IfOk, OnOk};
 ghost use Rattle.row_index.specs.Rows.{row_of, IsNoted, IsNotedIf, AreByNumber};
 
+use crate::held::Held;
 use std::alloc::Global;
 use std::marker::Model;
+use std::mem;
 use tp_base::NoMemory;
 
-/// Values in their order. A contract sees the list of them.
+/// Places in their order. A contract sees the list of them.
 #[derive(Drop)]
-pub(crate) struct Row<V> {
-    items: Vec<V>,
+pub(crate) struct Row {
+    held: Held,
 }
 
-impl<V> Model for Row<V> {
-    ghost use Rattle.std.specs.Prelude.{List};
+impl Model for Row {
+    ghost use Rattle.std.specs.Prelude.{List, ℕ};
+    ghost use Rattle.row_index.specs.Held.{places_of};
 
-    ghost Value = { List V };
+    ghost Value = { List ℕ };
 
-    ghost view = { λ r. r.items.items };
+    ghost view = { λ r. places_of r.held };
 }
 
-/// For each key a row of values. A contract sees the rows, by their keys.
+impl Row {
+    // No place.
+    fn new() -> Row
+        ensures { result ≡ [] }
+    {
+        Row { held: Held::Empty }
+    }
+
+    // One place behind these. Constant on average.
+    fn push(&mut self, alloc: Global, place: usize) -> Result<(), NoMemory>
+        ensures { OnOk result (self.new ≡ self.old ++ place ∷ []) }
+    {
+        let held = mem::replace(&mut self.held, Held::Empty);
+        self.held = held.with(alloc, place)?;
+        Ok(())
+    }
+}
+
+/// For each key the places that stand there; where a single one does, it needs no memory but the key's. A contract sees the rows
+/// of places, by their keys.
 #[derive(Drop)]
-pub struct Rows<V> {
-    rows: Vec<Row<V>>,
+pub struct Index {
+    rows: Vec<Row>,
 }
 
-impl<V> Model for Rows<V> {
-    ghost use Rattle.std.specs.Prelude.{List};
+impl Model for Index {
+    ghost use Rattle.std.specs.Prelude.{List, ℕ};
 
-    ghost Value = { List (List V) };
+    ghost Value = { List (List ℕ) };
 
     ghost view = { λ t. t.rows.items };
 }
 
-/// For each key the places that stand there.
-pub type Index = Rows<usize>;
-
-impl<V: Drop> Rows<V> {
-    /// No value at any key.
-    pub fn new(alloc: Global) -> Rows<V>
+impl Index {
+    /// No place at any key.
+    pub fn new(alloc: Global) -> Index
         ensures { result ≡ [] }
     {
-        Rows {
+        Index {
             rows: Vec::new(alloc),
         }
     }
 
-    /// The values at a key. Constant.
-    pub fn of(&self, key: usize) -> &[V]
+    /// The places at a key. Constant.
+    pub fn of(&self, key: usize) -> &[usize]
         ensures { result.now ≡ row_of self.now key }
     {
         match self.rows.get(key) {
-            Some(row) => &row.items,
+            Some(row) => row.held.places(),
             None => &[],
         }
     }
 
     // Makes a row for the key.
-    fn reach(&mut self, alloc: Global, key: usize) -> Result<(), NoMemory>
+    fn reach(&mut self, key: usize) -> Result<(), NoMemory>
         ensures there { OnOk result (key < length self.new) }
         ensures same { OnOk result ((k : ℕ) → row_of self.new k ≡ row_of self.old k) }
     {
         'rows: while self.rows.len() <= key {
-            self.rows.push(Row {
-                items: Vec::new(alloc),
-            })?;
+            self.rows.push(Row::new())?;
         }
         Ok(())
     }
 
-    /// Notes a value at a key, behind those that stand there. Linear in the key, where it is the largest so far.
-    pub fn note(&mut self, alloc: Global, key: usize, value: V) -> Result<(), NoMemory>
-        ensures { OnOk result (IsNoted self.old self.new key value) }
+    /// Notes a place at a key, behind those that stand there. Linear in the key, where it is the largest so far.
+    pub fn note(&mut self, alloc: Global, key: usize, place: usize) -> Result<(), NoMemory>
+        ensures { OnOk result (IsNoted self.old self.new key place) }
     {
-        self.reach(alloc, key)?;
+        self.reach(key)?;
         let row = &mut self.rows[key];
-        row.items.push(value)?;
+        row.push(alloc, place)?;
         Ok(())
     }
 
-    /// Takes the values of a key away. Linear in them.
+    /// Takes the places of a key away.
     pub fn clear(&mut self, key: usize)
         ensures here { row_of self.new key ≡ [] }
         ensures others { (k : ℕ) → k ≢ key → row_of self.new k ≡ row_of self.old k }
     {
         if key < self.rows.len() {
-            let row = &mut self.rows[key];
-            row.items.clear();
+            self.rows[key] = Row::new();
         }
     }
-}
 
-impl Rows<usize> {
     /// Places in a list of numbers, by the numbers that stand there.
     pub fn of_numbers(alloc: Global, numbers: &[Option<usize>]) -> Result<Index, NoMemory>
         ensures { IfOk result (λ t. AreByNumber numbers.now t) }

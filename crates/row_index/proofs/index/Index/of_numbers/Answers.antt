@@ -1,5 +1,5 @@
 use Rattle.row_index.proofs.NumberLemmas.{numbers_start, numbers_next}
-use Rattle.row_index.proofs.index.Rows+usize.of_numbers.Goals as goal
+use Rattle.row_index.proofs.index.Index.of_numbers.Goals as goal
 
 pub loop-i-init : goal.loop-i-init
 loop-i-init c = numbers_start c.new-index.result c.new-index.ensures
