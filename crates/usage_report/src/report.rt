@@ -1,5 +1,5 @@
 //! A report, written to a sink item by item.
-ghost use Rattle.std.specs.Prelude.{◌≡◌, ◌≤◌, length, map, None, option_map, IfOk, OnOk, OnErr};
+ghost use Rattle.std.specs.Prelude.{◌≡◌, ◌≤◌, [], length, map, None, option_map, IfOk, OnOk, OnErr};
 ghost use Rattle.tp_base.specs.Cursor.{IsAt};
 ghost use Rattle.tp_base.specs.declared.places.TheConstants.{MOST_BYTES};
 ghost use Rattle.tp_io.specs.Sinks.{Adds, AddsPrefix, Rose};
@@ -120,40 +120,36 @@ fn write_items<O: Sink>(
     ensures never_falls { O.faults out.old ≤ O.faults out.new }
 {
     let mut cursor = Cursor::new();
+    let mut piece = Piece::new(alloc);
     'items: for i in 0..items.len() {
-        let piece = item_piece(
-            alloc,
-            &mut cursor,
-            sources,
-            &items[i],
-            &answers[i],
-            &traces[i],
-        )?;
+        piece.bytes.clear();
+        piece.item(&mut cursor, sources, &items[i], &answers[i], &traces[i])?;
         put_all(out, &piece.bytes)?;
     }
     Ok(())
 }
 
-// The lines of one item.
-#[tactic(auto, using(crate::proofs::PieceLemmas::reportable_parts))]
-fn item_piece(
-    alloc: Global,
-    cursor: &mut Cursor,
-    sources: &Sources<'_>,
-    item: &SheetItem,
-    answer: &Answer,
-    trace: &Option<RunTrace>,
-) -> Result<Piece, NoMemory>
-    requires here { IsAt sources.now.text.now cursor.old }
-    requires in_limit { length sources.now.text.now ≤ MOST_BYTES }
-    requires reportable { IsReportable sources.now.places.now (item_of item.now).outcome (answer_of answer.now) }
-    requires traceable { IsTraceable sources.now.places.now (option_map trace_of trace.now) }
-    ensures lines { IfOk result (λ p. p.bytes.items ≡ spec.item_text sources.now.text.now sources.now.atoms.now sources.now.places.now (item_of item.now) (answer_of answer.now) (option_map trace_of trace.now)) }
-    ensures here { IsAt sources.now.text.now cursor.new }
-{
-    let mut piece = Piece::new(alloc);
-    piece.place(cursor.place_at(sources.text, item.from))?;
-    piece.head(cursor, sources, &item.outcome, answer)?;
-    piece.trace(sources.places, answer, trace)?;
-    Ok(piece)
+impl Piece {
+    // The lines of one item.
+    #[tactic(auto, using(crate::proofs::PieceLemmas::reportable_parts))]
+    fn item(
+        &mut self,
+        cursor: &mut Cursor,
+        sources: &Sources<'_>,
+        item: &SheetItem,
+        answer: &Answer,
+        trace: &Option<RunTrace>,
+    ) -> Result<(), NoMemory>
+        requires none { self.old.bytes.items ≡ [] }
+        requires here { IsAt sources.now.text.now cursor.old }
+        requires in_limit { length sources.now.text.now ≤ MOST_BYTES }
+        requires reportable { IsReportable sources.now.places.now (item_of item.now).outcome (answer_of answer.now) }
+        requires traceable { IsTraceable sources.now.places.now (option_map trace_of trace.now) }
+        ensures lines { OnOk result (self.new.bytes.items ≡ spec.item_text sources.now.text.now sources.now.atoms.now sources.now.places.now (item_of item.now) (answer_of answer.now) (option_map trace_of trace.now)) }
+        ensures here { IsAt sources.now.text.now cursor.new }
+    {
+        self.place(cursor.place_at(sources.text, item.from))?;
+        self.head(cursor, sources, &item.outcome, answer)?;
+        self.trace(sources.places, answer, trace)
+    }
 }
