@@ -14,15 +14,15 @@ use simple_core::{Kinds, Link, Links, Local, Locals, Spawns, System};
 use std::alloc::Global;
 use tp_base::{ClassSet, NoMemory};
 
-// The atoms that the links look at. Linear in the links, but for the set.
+// The atoms that the links look at, gathered and sorted once. Linear in the links, but for the sort.
 fn left_sides(alloc: Global, links: &[Link]) -> Result<ClassSet, NoMemory>
     ensures { IfOk result (λ s. s ≡ left_sides_of links.now) }
 {
-    let mut set = ClassSet::new(alloc);
+    let mut atoms = Vec::new(alloc);
     'links: for link in links {
-        set.add(link.from)?;
+        atoms.push(link.from)?;
     }
-    Ok(set)
+    ClassSet::of(atoms)
 }
 
 impl<'r> Counted<'r> {

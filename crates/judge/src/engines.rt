@@ -8,7 +8,7 @@ ghost use Rattle.saturation.specs.Budgets.{HasToBeSpent};
 ghost use Rattle.judge.specs.BySeen.{AreSaid};
 ghost use Rattle.judge.specs.Grounds.{IsAnswerable, AreAnswersTo};
 
-use crate::answering::{all_answers, all_spent};
+use crate::answering::{all_answers, all_spent, all_unused, is_any_seen};
 use crate::closing::{close_by_diagrams, close_by_table};
 use crate::grounds::{Ground, Question};
 use class_adding::Closed;
@@ -18,8 +18,8 @@ use simple_core::{AllGivers, GainFault, Summaries};
 use tp_base::NoMemory;
 use usage_report::Answer;
 
-// The answers by a closed page, whose pairs the summaries know.
-fn by_closed_page<S: Summaries>(
+// The answers by a closed page, whose pairs the summaries know, and by proofs, for which the rules are looked up by what they give.
+fn by_proofs<S: Summaries>(
     question: &Question<'_>,
     closed: &Closed,
     sums: &S,
@@ -40,6 +40,26 @@ fn by_closed_page<S: Summaries>(
         limits: question.limits,
     };
     all_answers(&ground, sums, question.made.seen.items())
+}
+
+// The answers by a closed page, whose pairs the summaries know. Where its root has none of the atoms, no rule is looked up.
+fn by_closed_page<S: Summaries>(
+    question: &Question<'_>,
+    closed: &Closed,
+    sums: &S,
+) -> Result<Vec<Answer>, NoMemory>
+    requires answerable { IsAnswerable question.now }
+    requires closed { IsClosedPage question.now.made.now.system question.now.page.now closed.now }
+    requires made { S.system sums.now ≡ question.now.made.now.system }
+    requires known { (q : Pair) → Asked question.now.made.now.system question.now.page.now q → S.known sums.now q }
+    ensures { IfOk result (λ v. AreSaid question.now.made.now.system question.now.page.now question.now.limits.now closed.now.labels.label question.now.made.now.seen (map answer_of v.items)) }
+{
+    let seen = question.made.seen.items();
+    if is_any_seen(question.alloc, closed, seen) {
+        by_proofs(question, closed, sums)
+    } else {
+        all_unused(question.alloc, seen)
+    }
 }
 
 // The answers by a table without pairs, in which those that the page asks stand from then on.
