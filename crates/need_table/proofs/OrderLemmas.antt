@@ -1,12 +1,12 @@
 -- Firsts in the order of their rounds, and what is found among them.
-use Rattle.std.proofs.Common.{◌≡◌, ◌↔◌, ◌⊎◌, ◌&&◌, ℕ, zero, suc, ◌+◌, ◌-◌, ◌<◌, ◌≤◌, true, false, nat_le, nat_lt, List, [], ◌∷◌, ◌++◌, map, length, take, drop, get_or, Bool, Some, None, slice_get, Contains, refl, sym, ap, ◌∙◌, inl, inr, arith, subst}
+use Rattle.std.proofs.Common.{◌≡◌, ◌↔◌, ◌⊎◌, ◌&&◌, ℕ, zero, suc, ◌+◌, ◌-◌, ◌<◌, ◌≤◌, true, false, nat_le, nat_lt, List, [], ◌∷◌, ◌++◌, map, length, take, drop, get_or, Bool, Some, None, slice_get, Contains, refl, sym, ap, ◌∙◌, inl, inr, arith, subst, length-append}
 use Rattle.std.specs.List.{filter}
 use Rattle.std.specs.List.Sorted.{IsStrictlyIncreasing, IsPartitionedBy, IsPartitionPoint}
 use Rattle.std.proofs.lemmas.Bool.{and_from, cases_lt, le-leb, leb-true, lt-ltb, ltb-true, ltb-false}
 use Rattle.std.proofs.lemmas.Option.{slice_get_within, slice_get-get_or, get_or_from_slice_get}
 use Rattle.tp_base.specs.Classes.{union_of}
 use Rattle.tp_base.proofs.ClassLemmas.{same_members, Contains-union_of, IsStrictlyIncreasing-union_of}
-use Rattle.tp_base.proofs.Lists.{Contains-at, at_Contains, past_end, slice_get-take}
+use Rattle.tp_base.proofs.Lists.{Contains-at, at_Contains, past_end, push_cases, slice_get-append_left, slice_get-push, slice_get-take}
 use Rattle.tree_sem.proofs.NodeLemmas.{Contains-map, map-Contains}
 use Rattle.simple_core.specs.Labels.{set_of}
 use Rattle.simple_core.proofs.Members.{among_all, filter-Contains, Contains-filter}
@@ -108,28 +108,49 @@ none_later firsts from place found none f there late =
 
 -- ---- a walk from behind
 
--- those before a place were searched
-pub place_before : (firsts known : List First) (r place m : ℕ) → known ≡ take place firsts → ((i : ℕ) (f : First) → place ≤ i → slice_get firsts i ≡ Some f → r ≤ f.round) → IsPlaceFrom known r m → IsPlaceFrom firsts r m
-place_before firsts known r place m is late found =
-    let few = take_few firsts place in
-    let count : length known ≡ length (take place firsts) = ap length is in
+pub order_before : (firsts others : List First) (last : First) → firsts ≡ others ++ last ∷ [] → AreInOrder firsts → AreInOrder others
+order_before firsts others last is order i j f g le at at' =
+    order i j f g le (still i f at) (still j g at')
+  where
+    still : (i : ℕ) (f : First) → slice_get others i ≡ Some f → slice_get firsts i ≡ Some f
+    still i f at = ap (λ (z : List First). slice_get z i) is ∙ slice_get-append_left others (last ∷ []) i (slice_get_within others i f at) ∙ at
+
+-- the last one comes in the round or later, so that the place is among those before it
+pub place_before : (firsts others : List First) (last : First) (r m : ℕ) → firsts ≡ others ++ last ∷ [] → r ≤ last.round → IsPlaceFrom others r m → IsPlaceFrom firsts r m
+place_before firsts others last r m is le found =
     let within = found.within in
-    let at_known : (i : ℕ) (f : First) → i < place → slice_get firsts i ≡ Some f → slice_get known i ≡ Some f =
-    λ i f less at. ap (λ (z : List First). slice_get z i) is ∙ slice_get-take firsts place i less ∙ at in
+    let cases : (i : ℕ) (f : First) → slice_get firsts i ≡ Some f → (slice_get others i ≡ Some f) ⊎ ((i ≡ length others) × (last ≡ f)) =
+    λ i f at. push_cases others last i f (ap (λ (z : List First). slice_get z i) (sym is) ∙ at) in
     record {
-      within = omega (arith, few.0, count, within);
-      before = λ i f less at. found.before i f less (at_known i f (omega (arith, few.1, count, within)) at);
-      from = λ i f le at. elim (cases_lt i place) [
-        | inl less ↦ found.from i f le (at_known i f less at)
-        | inr behind ↦ late i f behind at
+      within = omega (arith, within, ap length is, length-append others (last ∷ []));
+      before = λ i f less at. elim (cases i f at) [
+        | inl there ↦ found.before i f less there
+        | inr (end, same) ↦ absurd (omega (arith, end, less, within))
+      ];
+      from = λ i f behind at. elim (cases i f at) [
+        | inl there ↦ found.from i f behind there
+        | inr (end, same) ↦ subst (λ (z : First). r ≤ z.round) same le
       ];
     }
-  where
-    take_few : {X : Type 0} (xs : List X) (n : ℕ) → (length (take n xs) ≤ length xs) × (length (take n xs) ≤ n)
-    take_few [] zero = (omega arith, omega arith)
-    take_few [] (suc n) = (omega arith, omega arith)
-    take_few (x ∷ xs) zero = (omega arith, omega arith)
-    take_few (x ∷ xs) (suc n) = let rest = take_few xs n in let a = rest.0 in let b = rest.1 in (omega arith, omega arith)
+
+-- the last one comes before the round, and all others do
+pub place_behind : (firsts others : List First) (last : First) (r : ℕ) → firsts ≡ others ++ last ∷ [] → AreInOrder firsts → last.round < r → IsPlaceFrom firsts r (length firsts)
+place_behind firsts others last r is order early =
+    let count : length firsts ≡ length others + 1 = ap length is ∙ length-append others (last ∷ []) in
+    record {
+      within = omega arith;
+      before = λ i f less at.
+          let le = order i (length others) f last (omega (arith, less, count)) at (ap (λ (z : List First). slice_get z (length others)) is ∙ slice_get-push others last) in
+          omega (arith, le, early);
+      from = λ i f behind at. let less = slice_get_within firsts i f at in absurd (omega (arith, less, behind));
+    }
+
+pub place_none : (firsts : List First) (r : ℕ) → length firsts ≡ 0 → IsPlaceFrom firsts r 0
+place_none firsts r none = record {
+  within = omega arith;
+  before = λ i f less at. absurd (omega arith);
+  from = λ i f behind at. let less = slice_get_within firsts i f at in absurd (omega (arith, less, none));
+}
 
 -- ---- the firsts of some rounds
 

@@ -1,6 +1,7 @@
 -- Rows of places.
 use Rattle.std.proofs.Common.{◌≡◌, ◌≢◌, ◌⊎◌, inl, inr, ℕ, zero, suc, ◌+◌, ◌<◌, ◌≤◌, List, [], ◌∷◌, ◌++◌, map, length, set, take, get_or, Contains, refl, sym, ap, ◌∙◌, arith, subst, length-append}
 use Rattle.std.proofs.lemmas.Bool.{cases_order}
+use Rattle.std.proofs.lemmas.List.{map-append}
 use Rattle.std.proofs.lemmas.List.Elements.{Contains-append_left, Contains-append_right}
 use Rattle.tp_base.proofs.Rising.{Contains-here, Contains-cons, Contains-none}
 use Rattle.std.specs.Global.{Vec}
@@ -15,6 +16,11 @@ row_push (r ∷ rows) zero = refl
 row_push (r ∷ rows) (suc p) = row_push rows p
 
 -- a row in another's place
+pub row_begun : (rows : List (Vec ℕ)) (row : Vec ℕ) (p : ℕ) → row.items ≡ [] → row_in (map (λ v. v.items) (rows ++ row ∷ [])) p ≡ row_in (map (λ v. v.items) rows) p
+row_begun rows row p none =
+    ap (λ (z : List (List ℕ)). row_in z p) (map-append (λ (v : Vec ℕ). v.items) rows (row ∷ []) ∙ ap (λ (z : List ℕ). map (λ (v : Vec ℕ). v.items) rows ++ z ∷ []) none)
+    ∙ row_push (map (λ (v : Vec ℕ). v.items) rows) p
+
 pub row_here : {X : Type 0} (f : X → List ℕ) (rows : List X) (q : ℕ) (r : X) → q < length rows → row_in (map f (set rows q r)) q ≡ f r
 row_here f [] q r less = absurd (omega arith)
 row_here f (x ∷ rows) zero r less = refl

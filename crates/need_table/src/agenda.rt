@@ -174,7 +174,7 @@ pub(crate) fn expect(
 }
 
 /// Makes due whom it concerns that the entry at i has the round after k now: those that ask it and itself, if it got atoms in it,
-/// and itself for what its children got since.
+/// else itself alone, for what its children got since.
 pub(crate) fn tell(
     entries: &[Entry],
     agenda: &mut Agenda,
@@ -194,11 +194,12 @@ pub(crate) fn tell(
     ensures first { agenda.new.first ≡ agenda.old.first }
     ensures kept { agenda.new.askers ≡ agenda.old.askers }
 {
-    let round = k as usize + 1;
-    if grew {
-        let row = i - agenda.first;
-        wake(&mut agenda.due, agenda.askers.row(row), round)?;
-        agenda.due.add(round, i)?;
+    if !grew {
+        return expect(entries, &mut agenda.due, i, k + 1, &entries[i].children);
     }
-    expect(entries, &mut agenda.due, i, k + 1, &entries[i].children)
+    let round = k as usize + 1;
+    let row = i - agenda.first;
+    wake(&mut agenda.due, agenda.askers.row(row), round)?;
+    agenda.due.add(round, i)?;
+    Ok(())
 }

@@ -10,7 +10,8 @@ use simple_core::First;
 use std::alloc::Global;
 use tp_base::{ClassSet, NoMemory};
 
-// So many atoms are put into a label one by one, and so many of the last firsts are looked at before the others.
+// A few atoms, or an eighth as many as a label has, are put into it one by one, and a few of the last firsts are looked at before
+// the others.
 const A_FEW: usize = 8;
 
 /// A pair. `label` is its last label, and `firsts` has the atoms of this in the order of their first rounds. `rounds` is the last
@@ -40,15 +41,19 @@ pub(crate) fn place_from(firsts: &[First], round: u64) -> usize
     requires { AreInOrder firsts.now }
     ensures { IsPlaceFrom firsts.now round result }
 {
-    let seam = firsts.len().saturating_sub(A_FEW);
-    let mut place = firsts.len();
-    'last: while place > seam {
-        if firsts[place - 1].round < round {
-            return place;
+    let mut left = A_FEW;
+    let mut rest = firsts;
+    'last: while let Some((last, others)) = rest.split_last() {
+        if last.round < round {
+            return rest.len();
         }
-        place -= 1;
+        if left == 0 {
+            return search(others, round);
+        }
+        left -= 1;
+        rest = others;
     }
-    search(before(firsts, place), round)
+    0
 }
 
 /// The firsts from this place on.
@@ -79,6 +84,28 @@ pub(crate) fn within(firsts: &[First], from: u64, to: u64) -> &[First]
     behind(known, place_from(known, from))
 }
 
+// Adds to the firsts the atoms of the second label that the first doesn't have, with the round in which they came.
+fn add_fresh(
+    own: &ClassSet,
+    firsts: &mut Vec<First>,
+    next: &ClassSet,
+    round: u64,
+) -> Result<(), NoMemory>
+    ensures fresh { OnOk result (firsts.new.items ≡ firsts.old.items ++ fresh_of own.now round next.now) }
+    ensures rises { OnOk result (IsStrictlyIncreasing next.now) }
+{
+    firsts.reserve(next.len())?;
+    let mut i = 0;
+    'atoms: while i < next.len() {
+        let atom = next.at(i);
+        if !own.has(atom) {
+            firsts.push(First { atom, round })?;
+        }
+        i += 1;
+    }
+    Ok(())
+}
+
 /// The atoms of the second label that the first doesn't have, with the round in which they came.
 pub(crate) fn fresh(
     alloc: Global,
@@ -90,14 +117,7 @@ pub(crate) fn fresh(
     ensures rises { OnOk result (IsStrictlyIncreasing next.now) }
 {
     let mut new = Vec::new(alloc);
-    let mut i = 0;
-    'atoms: while i < next.len() {
-        let atom = next.at(i);
-        if !own.has(atom) {
-            new.push(First { atom, round })?;
-        }
-        i += 1;
-    }
+    add_fresh(own, &mut new, next, round)?;
     Ok(new)
 }
 
@@ -133,13 +153,12 @@ pub(crate) fn grow(
     ensures label { OnOk result (label.new ≡ union_of label.old (set_of (map (λ f. f.atom) (fresh_of label.old round given.now)))) }
     ensures firsts { OnOk result (firsts.new.items ≡ firsts.old.items ++ fresh_of label.old round given.now) }
 {
-    let alloc = label.allocator();
-    if given.len() <= A_FEW {
+    let known = label.len();
+    if given.len() <= A_FEW.max(known / A_FEW) {
         return add_each(label, firsts, given, round);
     }
-    let new = fresh(alloc, label, given, round)?;
+    add_fresh(label, firsts, given, round)?;
     label.union(given)?;
-    firsts.extend_from_slice(&new)?;
     Ok(())
 }
 

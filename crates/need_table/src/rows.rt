@@ -67,14 +67,15 @@ impl Rows {
         }
     }
 
-    // Begins the rows up to this number.
+    // Begins the rows up to this number, the first with room for as many places as the one before it has.
     fn begin(&mut self, q: usize) -> Result<(), NoMemory>
         ensures begun { OnOk result (q < length self.new) }
         ensures same { OnOk result ((p : ℕ) → row_in self.new p ≡ row_in self.old p) }
     {
         let alloc = *self.rows.allocator();
         'rows: while self.rows.len() <= q {
-            self.rows.push(Vec::new(alloc))?;
+            let row = Vec::with_capacity(alloc, last_len(&self.rows))?;
+            self.rows.push(row)?;
         }
         Ok(())
     }
@@ -92,5 +93,13 @@ impl Rows {
         self.begin(q)?;
         self.rows[q].push(place)?;
         Ok(())
+    }
+}
+
+// How many places the last row has.
+fn last_len(rows: &[Vec<usize>]) -> usize {
+    match rows.last() {
+        Some(row) => row.len(),
+        None => 0,
     }
 }
