@@ -10,7 +10,7 @@ use Rattle.simple_core.specs.Rounds.{IsFirst}
 use Rattle.proof_maker.specs.declared.choices.Found.{Found}
 use Rattle.proof_needs.specs.declared.needs.Choice.TheVariants.{Start}
 use Rattle.proof_maker.specs.declared.glances.Glance.{Glance}
-use Rattle.simple_core.specs.declared.summaries.First.{First}
+use Rattle.proof_maker.specs.declared.told.Told.{Told}
 use Rattle.proof_maker.specs.declared.worlds.Place.TheVariants.{Node, Added}
 use Rattle.proof_needs.specs.Choices.{Setting, at_start, stands, ways, chosen}
 use Rattle.proof_maker.specs.Glances.{IsGlanceAt, IsGlance}
@@ -33,7 +33,7 @@ module _ (s : System) (page : LabelTree) (a : ℕ) (g : Glance) where
   page_glance at v same is =
       subst (λ z. IsGlance s page (page_node z) a g) same (record { chosen = record { first = is.first; choice = sym is.choice }; below = is.below })
 
-  pub added_glance : (kind : ℕ) (parent : Bor (List ℕ)) (arrivals : Option (Bor (List First))) (t : Triple) → t.kind ≡ kind → parent.now ≡ t.parent → IsGlanceAt s page (Added kind parent arrivals) a g → IsGlance s page (added t) a g
-  added_glance kind parent arrivals t kinds parents is =
+  pub added_glance : (kind : ℕ) (parent : Bor (List ℕ)) (told : Option (Bor Told)) (t : Triple) → t.kind ≡ kind → parent.now ≡ t.parent → IsGlanceAt s page (Added kind parent told) a g → IsGlance s page (added t) a g
+  added_glance kind parent told t kinds parents is =
       let one : record { kind = kind; parent = parent.now; atom = t.atom } ≡ t = λ i. record { kind = sym kinds i; parent = parents i; atom = t.atom } in
       subst (λ z. IsGlance s page (added z) a g) one (record { chosen = record { first = is.first; choice = sym is.choice }; below = is.below })

@@ -7,6 +7,7 @@ pub mod FindLemmas
 pub mod WorldLemmas
 pub mod ArrivalLemmas
 pub mod MemoLemmas
+pub mod IdleLemmas
 pub mod GlanceLemmas
 pub mod EntryCounts
 pub mod CanonLemmas

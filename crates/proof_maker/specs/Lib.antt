@@ -10,6 +10,7 @@ pub mod Items
 pub mod Making
 pub mod Numbering
 pub mod Reasons
+pub mod Tellings
 pub mod Working
 pub mod Worklist
 pub mod Worlds

@@ -2,9 +2,9 @@
 --     setting_of, path_of      the place as a setting, and as the path of a node in it
 --     labels_of s page place k the label at the place after so many rounds
 --     IsPlace page known place it is a node of the page, or an added node of a known pair
---     HasArrivals s place      what an added node has with it is what comes to it
---     IsReady S world          the page is closed, what it asks is known to the summaries, which S reads, and these and the rules are of
---                              the system
+--     HasArrivals s place      what an added node has with it is what is told of it
+--     IsReady S world          the page is closed, what it asks is known to the summaries, which S reads, and these, the rules and the
+--                              marks are of the system
 use Rattle.std.specs.Prelude.{◌≡◌, ℕ, Bool, ◌&&◌, Some, None, List, [], ◌∷◌, ◌++◌, IsSome, option_map, unwrap_or}
 use Rattle.tp_base.specs.Classes.{has_class}
 use Rattle.tree_sem.specs.Trees.{LabelTree, node_at}
@@ -23,7 +23,7 @@ use Rattle.proof_maker.specs.declared.worlds.World.{World}
 use Rattle.proof_needs.specs.Choices.{Setting, on_page, on_added, spawn_needs, spawn_kind, stands}
 use Rattle.proof_needs.specs.Choices.{Choice as Reason}
 use Rattle.simple_core.specs.Givers.{AreAllGivers}
-use Rattle.proof_maker.specs.Arrivals.{AreArrivals}
+use Rattle.proof_maker.specs.Tellings.{IsTold}
 
 abbrev pub setting_of : System → LabelTree → Place → Setting
 setting_of s page (Node at) = on_page s page
@@ -43,7 +43,7 @@ IsPlace page known (Added j parent arrivals) = known (j, parent.now)
 abbrev pub HasArrivals : System → Place → Type 0
 HasArrivals s (Node at) = Unit {0}
 HasArrivals s (Added j parent None) = Unit {0}
-HasArrivals s (Added j parent (Some arrivals)) = AreArrivals s.visible (λ k. grown s k j parent.now) arrivals.now
+HasArrivals s (Added j parent (Some told)) = IsTold s (λ k. grown s k j parent.now) told.now
 
 -- it is a node of the page, if it is none that is added
 abbrev pub IsNodeOf : LabelTree → Place → Type 0
@@ -64,6 +64,7 @@ pub record IsReady {X : Type 0} (S : Ghosts X) (world : World X) : Type 0 where
   pub closed : IsClosedPage world.system.now world.page.now world.closed.now
   pub asked : (q : Pair) → Asked world.system.now world.page.now q → S.known world.sums.now q
   pub rules : AreAllGivers world.system.now world.rules.now
+  pub marks : world.marks.now ≡ world.system.now.visible
 
 -- whether all premises of the reason stand at the place in a round
 abbrev pub stands_at : {X : Type 0} → World X → Place → ℕ → Reason → Bool

@@ -41,7 +41,7 @@ fn arrived(alloc: Global, arrivals: &[First], round: u64) -> Result<ClassSet, No
     ensures rises { IfOk result IsStrictlyIncreasing }
     ensures atoms { IfOk result (λ l. (a : ℕ) → Contains l a ↔ CameBy arrivals.now round a) }
 {
-    let mut atoms = Vec::new(alloc);
+    let mut atoms = Vec::with_capacity(alloc, arrivals.len())?;
     for i in 0..arrivals.len() {
         let arrival = arrivals[i];
         if arrival.round > round {

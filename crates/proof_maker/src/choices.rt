@@ -1,7 +1,7 @@
 //! The reason that is chosen for an atom at a place: the first one all of whose premises stand in the round before the atom's first round.
 ghost use Rattle.std.specs.Prelude.{◌≡◌, ◌&&◌, ◌-◌, ℕ, false, List, length, find, Contains, IsTrue, IfOk, IfSome, option_map};
 ghost use Rattle.std.specs.List.{flat_map, range_with_len};
-ghost use Rattle.tp_base.specs.Classes.{has_class};
+ghost use Rattle.tp_base.specs.Classes.{has_class, cut_to};
 ghost use Rattle.simple_core.specs.Labels.{visible_in};
 ghost use Rattle.simple_core.specs.Rounds.{grown};
 ghost use Rattle.proof_needs.specs.Choices.{by_local, by_up, ways_down, ways, chosen};
@@ -9,9 +9,10 @@ ghost use Rattle.proof_maker.specs.Worlds.{setting_of, path_of, labels_of, IsPla
 ghost use Rattle.proof_maker.specs.Glances.{HasBelow};
 ghost use Rattle.proof_maker.specs.Reasons.{found_reason};
 
-use crate::worlds::{Place, World, added_has, has, has_all, is_above, visible_at};
+use crate::worlds::{Place, World, added_has, has, has_all, idle_at, is_above, visible_at};
+use class_diagrams::Marks;
 use proof_needs::{Choice, from_of};
-use simple_core::{Spawn, Summaries, System};
+use simple_core::{Spawn, Summaries};
 use std::alloc::Global;
 use tp_base::{Atom, ClassSet, NoMemory};
 
@@ -254,15 +255,18 @@ fn real_child<S: Summaries>(
     }
 }
 
-// The first spawn rule whose child has the atom.
+// The first spawn rule whose child has the atom. Of an added node that was asked about, the first rules are passed over whose atom
+// never comes to it.
 fn added_child<S: Summaries>(world: &World<'_, S>, scene: &Scene<'_>, from: Atom) -> Option<usize>
     requires ready { IsReady S.Summaries world.now }
     requires place { IsPlace world.now.page.now (S.known world.now.sums.now) scene.now.place.now }
+    requires arrivals { HasArrivals world.now.system.now scene.now.place.now }
     requires visible { scene.now.visible.now ≡ visible_in world.now.system.now (labels_of world.now.system.now world.now.page.now scene.now.place.now scene.now.round) }
     ensures { result ≡ find (spawn_has world.now scene.now.place.now scene.now.round from) (range_with_len 0 (length world.now.system.now.child)) }
 {
     let spawns = world.system.child.items();
-    for c in 0..spawns.len() {
+    let first = idle_at(scene.place);
+    for c in first..spawns.len() {
         let spawn = spawns[c];
         if spawn_stands(world, scene, &spawn, from) {
             return Some(c);
@@ -283,7 +287,7 @@ fn spawn_stands<S: Summaries>(
     requires listed { Contains world.now.system.now.child spawn.now }
     ensures { result ≡ (has_class spawn.now.needs (labels_of world.now.system.now world.now.page.now scene.now.place.now scene.now.round) && has_class from (grown world.now.system.now scene.now.round spawn.now.kind scene.now.visible.now)) }
 {
-    if lacks(world.system, scene.visible, spawn.needs) {
+    if lacks(world.marks, scene.visible, spawn.needs) {
         return false;
     }
     if !has(world, scene.place, spawn.needs, scene.round) {
@@ -292,11 +296,11 @@ fn spawn_stands<S: Summaries>(
     added_has(world.sums, spawn.kind, scene.visible, from, scene.round)
 }
 
-// Whether the atom is a visible one that isn't in the visible part of a label.
-fn lacks(system: &System, visible: &ClassSet, atom: Atom) -> bool
-    ensures { IsTrue result → (label : List ℕ) → visible.now ≡ visible_in system.now label → has_class atom label ≡ false }
+// Whether the atom is a marked one that isn't among the atoms of a label that are marked.
+fn lacks(marks: &Marks, visible: &ClassSet, atom: Atom) -> bool
+    ensures { IsTrue result → (label : List ℕ) → visible.now ≡ cut_to marks.now label → has_class atom label ≡ false }
 {
-    if system.visible.has(atom) {
+    if marks.has(atom) {
         !visible.has(atom)
     } else {
         false

@@ -1,6 +1,7 @@
 //! What is looked up of one atom.
-ghost use Rattle.std.specs.Prelude.{◌≡◌, ℕ, List, slice_get, Some, Contains, IfOk, OnOk};
+ghost use Rattle.std.specs.Prelude.{◌≡◌, ℕ, List, slice_get, Some, IfOk, OnOk};
 ghost use Rattle.simple_core.specs.Knowledge.{KeepsAsking};
+ghost use Rattle.simple_core.specs.Rounds.{IsFirst};
 ghost use Rattle.proof_needs.specs.Triples.{page_node, added};
 ghost use Rattle.proof_maker.specs.Worlds.{labels_of, IsPlace, HasArrivals, IsAsking, IsReady};
 ghost use Rattle.proof_maker.specs.PlaceMemos.{IsPlaceMemo};
@@ -24,21 +25,22 @@ pub(crate) struct Glance {
     pub(crate) below: ClassSet,
 }
 
-// Looks at an atom that comes at the place.
+// Looks at an atom whose first round at the place is `round`.
 fn glance_in<S: Summaries>(
     alloc: Global,
     world: &World<'_, S>,
     place: &Place<'_>,
     atom: Atom,
+    round: u64,
 ) -> Result<Glance, NoMemory>
     requires ready { IsReady S.Summaries world.now }
     requires place { IsPlace world.now.page.now (S.known world.now.sums.now) place.now }
     requires arrivals { HasArrivals world.now.system.now place.now }
-    requires comes { (k : ℕ) × Contains (labels_of world.now.system.now world.now.page.now place.now k) atom }
+    requires first { IsFirst (labels_of world.now.system.now world.now.page.now place.now) atom (Some round) }
+    requires asking { IsAsking world.now.system.now (S.known world.now.sums.now) place.now }
     ensures glance { IfOk result (IsGlanceAt world.now.system.now world.now.page.now place.now atom) }
     ensures asking { OnOk result (IsAsking world.now.system.now (S.known world.now.sums.now) place.now) }
 {
-    let round = first(world, place, atom).unwrap_or(0);
     let found = chosen(alloc, world, place, atom, round)?;
     Ok(Glance {
         round,
@@ -60,7 +62,9 @@ pub(crate) fn glance_node<S: Summaries>(
     ensures { IfOk result (λ g. (v : List ℕ) → slice_get (paths_in nodes.now.keys) n ≡ Some v → IsGlance world.now.system.now world.now.page.now (page_node v) atom g) }
 {
     let at = path_of(alloc, nodes, n)?;
-    glance_in(alloc, world, &Place::Node(&at), atom)
+    let place = Place::Node(&at);
+    let round = first(world, &place, atom).unwrap_or(0);
+    glance_in(alloc, world, &place, atom, round)
 }
 
 /// Looks at an atom that comes at the added node of a triple. What comes to that node is asked only where its children are looked at.
@@ -83,10 +87,10 @@ pub(crate) fn glance_added<S: Summaries>(
     let round = first(world, &bare, atom).unwrap_or(0);
     let below = looks_below(world, &bare, atom, round)?;
     if !below {
-        return glance_in(alloc, world, &bare, atom);
+        return glance_in(alloc, world, &bare, atom, round);
     }
-    let row = memo.reach(alloc, world.sums, key.kind, &parent)?;
-    let arrivals = memo.arrivals(row);
-    let place = Place::Added(key.kind, &parent, Some(arrivals));
-    glance_in(alloc, world, &place, atom)
+    let row = memo.reach(alloc, world.system, world.sums, key.kind, &parent)?;
+    let told = memo.told(row);
+    let place = Place::Added(key.kind, &parent, Some(told));
+    glance_in(alloc, world, &place, atom, round)
 }

@@ -9,6 +9,7 @@ mod laws;
 mod looking;
 mod making;
 mod place_memo;
+mod told;
 mod worlds;
 
 pub use laws::{canonical_is_one, canonical_is_valid, canonical_length};

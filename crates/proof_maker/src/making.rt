@@ -15,6 +15,7 @@ use crate::entries::{entries_of, page_items};
 use crate::looking::needs_of;
 use crate::place_memo::PlaceMemo;
 use crate::worlds::World;
+use class_diagrams::Marks;
 use closed_page::Closed;
 use proof_check::Proof;
 use proof_needs::{Needs, numbers_of, orders_of};
@@ -111,11 +112,13 @@ pub fn prove_next<S: Summaries>(
     ensures unshown { IsErrOf result ProveFault.Unshown → UsesMore ground.now.system.now ground.now.page.now target limit }
     ensures memo { IsPlaceMemo ground.now.system.now memo.new }
 {
+    let marks = Marks::of(alloc, &ground.system.visible)?;
     let world = World {
         page: ground.page,
         system: ground.system,
         closed: ground.closed,
         rules: ground.rules,
+        marks: &marks,
         sums,
     };
     match needs_of(alloc, &world, target, limit, memo)? {

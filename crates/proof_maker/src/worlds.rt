@@ -1,35 +1,39 @@
 //! A closed page, and the places at which its labels are looked at.
 ghost use Rattle.std.specs.Prelude.{◌≡◌, IsSome, IfOk};
 ghost use Rattle.tp_base.specs.Classes.{has_class, all_among};
-ghost use Rattle.tree_sem.specs.Trees.{node_at};
+ghost use Rattle.tree_sem.specs.Trees.{LabelTree, node_at};
+ghost use Rattle.simple_core.specs.declared.system.System.{System};
 ghost use Rattle.simple_core.specs.Labels.{visible_in};
 ghost use Rattle.simple_core.specs.Rounds.{grown, IsFirst};
 ghost use Rattle.simple_core.specs.Pages.{page_round};
 ghost use Rattle.simple_core.specs.Knowledge.{KeepsAsking};
+ghost use Rattle.proof_maker.specs.Tellings.{AreIdle};
 ghost use Rattle.proof_maker.specs.Worlds.{setting_of, path_of, labels_of, IsPlace, HasArrivals, above_on, IsNodeOf, IsAsking, IsReady};
 
-use crate::arrivals::Arrivals;
+use crate::told::Told;
+use class_diagrams::Marks;
 use closed_page::Closed;
 use simple_core::{AllGivers, Summaries, System};
 use std::alloc::Global;
 use tp_base::{Atom, ClassSet, NoMemory, Path};
 use tree_sem::Tree;
 
-/// A closed page, the rules of its system by what they give, and the summaries of its added nodes.
+/// A closed page, the rules of its system by what they give, the marks of its visible atoms, and the summaries of its added nodes.
 #[derive(Drop)]
 pub(crate) struct World<'a, S: Summaries> {
     pub(crate) page: &'a Tree,
     pub(crate) system: &'a System,
     pub(crate) closed: &'a Closed,
     pub(crate) rules: &'a AllGivers,
+    pub(crate) marks: &'a Marks,
     pub(crate) sums: &'a S,
 }
 
-/// A node of the page, or an added node of a kind below a parent with this visible label, with what comes to it where that was asked.
+/// A node of the page, or an added node of a kind below a parent with this visible label, with what is told of it where that was asked.
 #[derive(Clone, Copy)]
 pub(crate) enum Place<'a> {
     Node(&'a Path),
-    Added(u32, &'a ClassSet, Option<&'a Arrivals>),
+    Added(u32, &'a ClassSet, Option<&'a Told>),
 }
 
 /// The first round in which the label at the place has the atom.
@@ -155,6 +159,19 @@ fn parent_has<S: Summaries>(
     Ok(node_has(world, &above, atom, round))
 }
 
+/// How many spawn rules there are before the first one whose atom may come to the place, where that was asked.
+pub(crate) fn idle_at(place: &Place<'_>) -> usize
+    ensures { (s : System) (page : LabelTree) → HasArrivals s place.now → AreIdle s (labels_of s page place.now) result }
+{
+    match place {
+        Place::Added(_, _, told) => match told {
+            Some(told) => told.idle,
+            None => 0,
+        },
+        Place::Node(_) => 0,
+    }
+}
+
 /// The visible part of the label at the place in a round. It costs a sort of the atoms that are there, where what comes to the
 /// added node was asked; else a look-up for each visible atom.
 pub(crate) fn visible_at<S: Summaries>(
@@ -170,7 +187,7 @@ pub(crate) fn visible_at<S: Summaries>(
 {
     match place {
         Place::Added(_, _, told) => match told {
-            Some(arrivals) => arrivals.by(alloc, round),
+            Some(told) => told.arrivals.by(alloc, round),
             None => visible_now(alloc, world, place, round),
         },
         Place::Node(_) => visible_now(alloc, world, place, round),

@@ -2,7 +2,7 @@ use Rattle.proof_maker.proofs.ArrivalLemmas.{begun_start, begun_next, begun_cut,
 use Rattle.proof_maker.proofs.arrivals.arrived.Goals as goal
 
 pub loop-i-init : goal.loop-i-init
-loop-i-init c = begun_start c.args.arrivals.now c.args.round c.new-atoms.result.items c.new-atoms.ensures.items
+loop-i-init c = begun_start c.args.arrivals.now c.args.round c.in_ok-atoms.atoms.items c.in_ok-atoms.ensures.items
 
 pub loop-i-preserved : goal.loop-i-preserved
 loop-i-preserved c =

@@ -3,7 +3,13 @@ use Rattle.proof_maker.specs.Worlds.{spawn_has}
 use Rattle.closed_page.proofs.ChildLemmas.{range_found, range_none}
 use Rattle.proof_maker.proofs.FindLemmas.{range_next}
 use Rattle.proof_maker.proofs.WorldLemmas.{spawn_is}
+use Rattle.proof_maker.proofs.IdleLemmas.{idle_spawn}
 use Rattle.proof_maker.proofs.choices.added_child.Goals as goal
+
+pub loop-c-init : goal.loop-c-init
+loop-c-init g c =
+    let w = c.args.world.now in
+    idle_spawn w c.args.scene.now.place.now c.args.scene.now.round c.args.from c.idle_at-first.result (c.idle_at-first.ensures w.system.now w.page.now c.requires.arrivals)
 
 pub returns-then-spawn_stands : goal.returns-then-spawn_stands
 returns-then-spawn_stands g c =

@@ -1,5 +1,5 @@
-use Rattle.std.proofs.Common.{◌&&◌, sym, ap, ◌∙◌}
-use Rattle.tp_base.specs.Classes.{has_class}
+use Rattle.std.proofs.Common.{◌&&◌, List, ℕ, sym, ap, ◌∙◌}
+use Rattle.tp_base.specs.Classes.{has_class, cut_to}
 use Rattle.simple_core.specs.declared.system.System.{System}
 use Rattle.simple_core.specs.Rounds.{grown}
 use Rattle.proof_maker.specs.Worlds.{labels_of}
@@ -25,4 +25,5 @@ returns-then-lacks g c =
     let s = c.args.world.now.system.now in
     let scene = c.args.scene.now in
     let has = has_class c.args.from (grown s scene.round c.args.spawn.now.kind scene.visible.now) in
-    sym (ap (λ b. b && has) (c.lacks.ensures c.if-lacks.true (labels_of s c.args.world.now.page.now scene.place.now scene.round) c.requires.visible))
+    let label = labels_of s c.args.world.now.page.now scene.place.now scene.round in
+    sym (ap (λ b. b && has) (c.lacks.ensures c.if-lacks.true label (c.requires.visible ∙ ap (λ (z : List ℕ). cut_to z label) (sym c.requires.ready.marks))))

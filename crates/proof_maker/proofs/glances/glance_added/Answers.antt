@@ -1,12 +1,12 @@
-use Rattle.std.proofs.Common.{List, ℕ, Contains, refl, sym, subst, ◌∙◌}
+use Rattle.std.proofs.Common.{List, ℕ, Some, Contains, refl, sym, subst, ◌∙◌}
 use Rattle.std.specs.List.Sorted.{IsStrictlyIncreasing}
 use Rattle.simple_core.specs.declared.system.System.{System}
-use Rattle.simple_core.specs.Rounds.{grown}
+use Rattle.simple_core.specs.Rounds.{grown, IsFirst}
 use Rattle.proof_needs.specs.Spots.{triple_of}
 use Rattle.proof_maker.specs.PlaceMemos.{IsPlaceMemo}
 use Rattle.proof_maker.proofs.FindLemmas.{ok_further}
-use Rattle.proof_maker.proofs.GlanceLemmas.{added_glance}
-use Rattle.proof_maker.proofs.MemoLemmas.{row_arrivals, row_bound}
+use Rattle.proof_maker.proofs.GlanceLemmas.{first_some, added_glance}
+use Rattle.proof_maker.proofs.MemoLemmas.{row_told, row_bound}
 use Rattle.proof_maker.proofs.glances.glance_added.Goals as goal
 
 pub reach-requires-clause-known : goal.reach-requires-clause-known
@@ -18,8 +18,8 @@ reach-requires-clause-known g c =
 pub reach-requires-clause-rows : goal.reach-requires-clause-rows
 reach-requires-clause-rows g c = subst (λ (y : System). IsPlaceMemo y c.args.memo.now) (sym c.requires.ready.made) c.requires.memo
 
-pub arrivals-arrivals-requires : goal.arrivals-arrivals-requires
-arrivals-arrivals-requires g c = row_bound c.reach.new.self c.args.key.now.kind c.in_ok-parent.parent c.in_ok-row.row c.in_ok-row.ensures.row
+pub told-told-requires : goal.told-told-requires
+told-told-requires g c = row_bound c.reach.new.self c.args.key.now.kind c.in_ok-parent.parent c.in_ok-row.row c.in_ok-row.ensures.row
 
 pub first-requires-clause-place : goal.first-requires-clause-place
 first-requires-clause-place g c =
@@ -47,20 +47,26 @@ glance_in-requires-2-clause-place g c =
 
 pub glance_in-requires-2-clause-arrivals : goal.glance_in-requires-2-clause-arrivals
 glance_in-requires-2-clause-arrivals g c =
-    row_arrivals c.args.world.now.system.now c.reach.new.self c.args.key.now.kind c.in_ok-parent.parent c.in_ok-row.row c.arrivals-arrivals.result.now
-    (subst (λ (y : System). IsPlaceMemo y c.reach.new.self) c.requires.ready.made c.in_ok-row.ensures.rows) c.in_ok-row.ensures.row c.arrivals-arrivals.ensures
+    row_told c.args.world.now.system.now c.reach.new.self c.args.key.now.kind c.in_ok-parent.parent c.in_ok-row.row c.told-told.result.now
+    (subst (λ (y : System). IsPlaceMemo y c.reach.new.self) c.requires.ready.made c.in_ok-row.ensures.rows) c.in_ok-row.ensures.row c.told-told.ensures
 
-pub glance_in-requires-clause-comes : goal.glance_in-requires-clause-comes
-glance_in-requires-clause-comes g c =
+pub glance_in-requires-clause-first : goal.glance_in-requires-clause-first
+glance_in-requires-clause-first g c =
+    let s = c.args.world.now.system.now in
     let key = c.args.key.now in
     let rises = subst (λ (z : List ℕ). IsStrictlyIncreasing z) (sym c.deref.ensures.value) c.requires.key.rises in
-    subst (λ (z : List ℕ). (k : ℕ) × Contains (grown c.args.world.now.system.now k key.kind z) c.args.atom) (sym (c.in_ok-parent.ensures rises ∙ c.deref.ensures.value)) c.requires.key.comes
+    let labels : ℕ → List ℕ = λ k. grown s k key.kind c.in_ok-parent.parent in
+    let comes = subst (λ (z : List ℕ). (k : ℕ) × Contains (grown s k key.kind z) c.args.atom) (sym (c.in_ok-parent.ensures rises ∙ c.deref.ensures.value)) c.requires.key.comes in
+    subst (λ z. IsFirst labels c.args.atom (Some z)) (sym c.unwrap_or-round.ensures) (first_some labels c.args.atom c.first.result comes c.first.ensures.first)
 
-pub glance_in-requires-2-clause-comes : goal.glance_in-requires-2-clause-comes
-glance_in-requires-2-clause-comes g c =
+pub glance_in-requires-2-clause-first : goal.glance_in-requires-2-clause-first
+glance_in-requires-2-clause-first g c =
+    let s = c.args.world.now.system.now in
     let key = c.args.key.now in
     let rises = subst (λ (z : List ℕ). IsStrictlyIncreasing z) (sym c.deref.ensures.value) c.requires.key.rises in
-    subst (λ (z : List ℕ). (k : ℕ) × Contains (grown c.args.world.now.system.now k key.kind z) c.args.atom) (sym (c.in_ok-parent.ensures rises ∙ c.deref.ensures.value)) c.requires.key.comes
+    let labels : ℕ → List ℕ = λ k. grown s k key.kind c.in_ok-parent.parent in
+    let comes = subst (λ (z : List ℕ). (k : ℕ) × Contains (grown s k key.kind z) c.args.atom) (sym (c.in_ok-parent.ensures rises ∙ c.deref.ensures.value)) c.requires.key.comes in
+    subst (λ z. IsFirst labels c.args.atom (Some z)) (sym c.unwrap_or-round.ensures) (first_some labels c.args.atom c.first.result comes c.first.ensures.first)
 
 pub returns-then-not-below-clause-glance : goal.returns-then-not-below-clause-glance
 returns-then-not-below-clause-glance g c =
