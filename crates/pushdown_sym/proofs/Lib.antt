@@ -3,7 +3,6 @@ pub mod TermLemmas
 pub mod CellLemmas
 pub mod GrownLemmas
 pub mod SameLemmas
-pub mod SkipLemmas
 pub mod AddLemmas
 pub mod SeenLemmas
 pub mod LinkLemmas
@@ -17,3 +16,4 @@ mod PlaceLemmas
 mod StandingLemmas
 mod DoorLemmas
 mod NoteLemmas
+pub mod EndLemmas

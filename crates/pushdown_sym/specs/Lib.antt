@@ -1,6 +1,7 @@
 -- What public contracts cite.
 pub mod Adding
 pub mod CellMap
+pub mod Ends
 pub mod Laws
 pub mod Rounds
 pub mod Terms
@@ -8,4 +9,3 @@ pub mod Terms
 pub mod CellRows
 pub mod Children
 pub mod Givers
-pub mod Reads

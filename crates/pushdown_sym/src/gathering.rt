@@ -1,7 +1,7 @@
 //! The children that links look at and that may be there, each different one once.
 ghost use Rattle.std.specs.Prelude.{◌≡◌, fold, [], IfOk, OnOk};
-ghost use Rattle.std.specs.List.{flat_map};
-ghost use Rattle.pushdown_sym.specs.Children.{standing_by, standing_each, standing_at, with_child};
+ghost use Rattle.std.specs.List.{flat_map, list_any};
+ghost use Rattle.pushdown_sym.specs.Children.{standing_by, standing_each, standing_at, same_child, with_child};
 ghost use Rattle.pushdown_sym.specs.Givers.{of_place, AreMakers};
 
 use crate::cells::{Cells, is_false};
@@ -20,28 +20,54 @@ pub(crate) struct Child {
     pub(crate) diagram: Ref,
 }
 
-/// Different children, in the order in which each came first.
+// Where so many links at most give an atom, and so many spawn rules at most are asked, their children are a few.
+const A_FEW: usize = 4;
+
+/// Different children, in the order in which each came first: in a list where they are a few, and else in a set.
 #[derive(Drop)]
 pub(crate) struct Children {
+    are_many: bool,
+    list: Vec<Child>,
     set: IndexSet<Child>,
 }
 
 impl Model for Children {
-    ghost use Rattle.std.specs.Prelude.{List};
+    ghost use Rattle.std.specs.Prelude.{List, if◌then◌else◌};
     ghost use Rattle.pushdown_sym.specs.declared.gathering.Child.{Child};
 
     ghost Value = { List Child };
 
-    ghost view = { λ c. c.set.keys };
+    ghost view = { λ c. if c.are_many then c.set.keys else c.list.items };
+}
+
+// Whether a child is among these.
+fn is_among(children: &[Child], child: &Child) -> bool
+    ensures { result ≡ list_any (same_child child.now) children.now }
+{
+    children.contains(child)
 }
 
 impl Children {
-    fn new(alloc: Global) -> Self
+    fn new(alloc: Global, are_many: bool) -> Self
         ensures { result ≡ [] }
     {
         Children {
+            are_many,
+            list: Vec::new(alloc),
             set: IndexSet::new(alloc),
         }
+    }
+
+    // The children, and this one last unless it is there.
+    fn add(&mut self, child: &Child) -> Result<(), NoMemory>
+        ensures { OnOk result (self.new ≡ with_child self.old child.now) }
+    {
+        if self.are_many {
+            self.set.insert(*child)?;
+        } else if !is_among(&self.list, child) {
+            self.list.push(*child)?;
+        }
+        Ok(())
     }
 
     // The child of a spawn rule by a link, if its diagram isn't false.
@@ -51,7 +77,7 @@ impl Children {
         let diagram = now.get(spawn.kind, link.from);
         if !is_false(diagram) {
             let needs = spawn.needs;
-            self.set.insert(Child { needs, diagram })?;
+            self.add(&Child { needs, diagram })?;
         }
         Ok(())
     }
@@ -141,7 +167,8 @@ impl Children {
         Ok(())
     }
 
-    /// What the links at these places look at by the spawn rules at `doors`. A look at each of these rules for each link.
+    /// What the links at these places look at by the spawn rules at `doors`. A look at each of these rules for each link,
+    /// and where both are a few, at the children that are there already.
     pub(crate) fn through(
         alloc: Global,
         now: &Cells,
@@ -152,7 +179,8 @@ impl Children {
     ) -> Result<Self, NoMemory>
         ensures { IfOk result (λ c. c ≡ fold with_child [] (flat_map (of_place (standing_at now.now spawns.now doors.now) links.now) places.now)) }
     {
-        let mut children = Children::new(alloc);
+        let are_many = places.len() > A_FEW || doors.len() > A_FEW;
+        let mut children = Children::new(alloc, are_many);
         for i in 0..places.len() {
             let place = places[i];
             children.add_through_at(now, links, place, (spawns, doors))?;
@@ -172,7 +200,7 @@ impl Children {
         requires makers { AreMakers spawns.now makers.now }
         ensures { IfOk result (λ c. c ≡ fold with_child [] (flat_map (of_place (standing_each now.now spawns.now) links.now) places.now)) }
     {
-        let mut children = Children::new(alloc);
+        let mut children = Children::new(alloc, true);
         for i in 0..places.len() {
             let place = places[i];
             children.add_link_at(alloc, now, links, place, spawns, makers)?;
@@ -183,6 +211,10 @@ impl Children {
     pub(crate) fn items(&self) -> &[Child]
         ensures { result.now ≡ self.now }
     {
-        self.set.as_slice()
+        if self.are_many {
+            self.set.as_slice()
+        } else {
+            &self.list
+        }
     }
 }

@@ -5,6 +5,7 @@ mod cell_rows;
 mod cells;
 mod children;
 mod doors;
+mod ends;
 mod equations;
 mod gathering;
 mod laws;
@@ -14,6 +15,7 @@ mod makers;
 mod rounds;
 
 pub use cells::{CellKey, Cells};
+pub use ends::Ends;
 pub use equations::Equations;
 pub use laws::cells_tell;
 pub use rounds::Round;

@@ -1,5 +1,5 @@
 -- One round after another.
-use Rattle.std.proofs.Common.{◌≡◌, ℕ, suc, ◌+◌, ◌*◌, ◌<◌, ◌≤◌, true, false, ◌==◌, List, [], ◌∷◌, length, All, Contains, refl, ◌∙◌, arith, inr}
+use Rattle.std.proofs.Common.{◌≡◌, ℕ, suc, ◌+◌, ◌*◌, ◌<◌, ◌≤◌, true, false, ◌==◌, List, [], ◌∷◌, length, All, Contains, refl, ◌∙◌, arith, inl, inr}
 use Rattle.std.proofs.lemmas.Bool.{both_ways, eqb-true, eq-eqb}
 use Rattle.std.proofs.lemmas.Nat.{mul-le}
 use Rattle.tp_base.specs.declared.atoms.TheConstants.{MOST_ATOMS}
@@ -8,19 +8,21 @@ use Rattle.tp_base.proofs.Rising.{Contains-none, Contains-here}
 use Rattle.class_diagrams.specs.References.{Reference}
 use Rattle.class_diagrams.specs.Arena.{Arena}
 use Rattle.class_diagrams.proofs.ArenaLemmas.{tree_at-further}
+use Rattle.simple_core.specs.declared.rules.Spawn.{Spawn}
 use Rattle.simple_core.specs.declared.system.System.{System}
 use Rattle.simple_core.specs.Systems.{IsSound}
 use Rattle.pushdown_sym.specs.CellMap.{Entries, place_in, trees_in}
 use Rattle.pushdown_sym.specs.Adding.{AreIn}
 use Rattle.pushdown_sym.specs.Rounds.{cell, given_atoms}
 use Rattle.saturation.specs.Budgets.{MayBeSpent}
-use Rattle.saturation.specs.Waking.{CellName, AreReaders}
+use Rattle.saturation.specs.Waking.{CellName, AreReaders, AreEnds, HaveChanged}
 use Rattle.saturation.specs.Saturation.{Histories, AreChanges, AreNotedUpTo, IsFullIn, IsDone, HasSome}
 use Rattle.saturation.proofs.FewRounds.{few_rounds}
 use Rattle.saturation.proofs.GivenLemmas.{atoms_below}
-use Rattle.saturation.proofs.LoopLemmas.{history_further, stays_same, next_round}
+use Rattle.saturation.proofs.LoopLemmas.{history_further, is_changed, stays_same, next_round}
 use Rattle.saturation.proofs.NoteLemmas.{all_noted}
 use Rattle.saturation.proofs.WakingLemmas.{readers_same}
+use Rattle.saturation.proofs.EndsLemmas.{ends_same}
 use Rattle.saturation.proofs.EndLemmas.{spent}
 
 module _ (s : System) (nodes k : ℕ) (old : Arena) (before : Histories) (cells : Entries) (todo : List CellName) (done : IsDone s nodes k old before cells todo) where
@@ -63,9 +65,27 @@ module _ (s : System) (nodes k : ℕ) (old : Arena) (before : Histories) (cells 
         record {
           inside = inside;
           round = next_round s sound (atoms_below s sound) nodes k old new before todo next changes done.round calculated after (λ j a kind. (told j a kind).0) c first
-              (readers_same s (trees_in new.branches later) (cell s (suc k)) (λ j a kind. (told j a kind).1) changes next readers);
+              (readers_same s (λ c there. All-contains (λ (c : Spawn). c.kind < length s.kinds) s.child c sound.spawned there) (trees_in new.branches later) (cell s (suc k)) (λ j a kind. (told j a kind).1) changes next readers);
           tells = λ j a kind. (told j a kind).1;
         }
+
+    -- what holds somewhere did so before, or is among the changes
+    pub since_changed : IsSound s → (after : Histories) (later : Entries) → AreNotedUpTo s new.branches k changes after (trees_in new.branches later)
+        → HaveChanged s (cell s k) (trees_in new.branches later) changes
+    since_changed sound after later noted i b kind some = elim (is_changed changes i b) [
+      | inl there ↦ inr there
+      | inr none ↦
+          let same = stays_same s sound (atoms_below s sound) nodes k old new before todo [] changes done.round calculated in
+          let told = all_noted s new.branches k changes after (trees_in new.branches later) same noted in
+          inl (λ never. some ((told i b kind).1 ∙ same i b kind none ∙ never))
+    ]
+
+    pub ends_later : IsSound s → (after : Histories) (later : Entries) (ends : ℕ → List ℕ) → AreNotedUpTo s new.branches k changes after (trees_in new.branches later)
+        → AreEnds s (trees_in new.branches later) ends → AreEnds s (cell s (suc k)) ends
+    ends_later sound after later ends noted given =
+        let told = all_noted s new.branches k changes after (trees_in new.branches later)
+        (stays_same s sound (atoms_below s sound) nodes k old new before todo [] changes done.round calculated) noted in
+        ends_same s (trees_in new.branches later) (cell s (suc k)) ends (λ c there. All-contains (λ (c : Spawn). c.kind < length s.kinds) s.child c sound.spawned there) (λ j a kind. (told j a kind).1) given
 
     -- what changed is of the system's kinds
     pub changed_kinds : All (λ (c : CellName × Reference). c.0.0 < length s.kinds) changes

@@ -1,19 +1,22 @@
 -- A cell that no rule may change in the first round stays as it is.
-use Rattle.std.proofs.Common.{◌≡◌, ℕ, ◌<◌, true, false, ◌==◌, List, [], ◌∷◌, ◌++◌, filter, length, All, Contains, refl, sym, ap, subst, ◌∙◌, inl, inr}
+use Rattle.std.proofs.Common.{◌≡◌, ℕ, ◌<◌, true, false, ◌==◌, List, [], ◌∷◌, ◌++◌, map, filter, length, All, Contains, refl, sym, ap, subst, ◌∙◌, inl, inr}
 use Rattle.std.proofs.lemmas.Bool.{cases_Bool, eqb-true, false_from_ne_true}
 use Rattle.std.proofs.lemmas.List.{append-nil}
-use Rattle.std.proofs.lemmas.List.Elements.{All-head, All-tail}
+use Rattle.std.proofs.lemmas.List.Elements.{All-head, All-tail, All-append}
 use Rattle.tp_base.specs.Classes.{has_class}
 use Rattle.tp_base.proofs.ClassLemmas.{Contains-has_class}
 use Rattle.tp_base.proofs.Rising.{Contains-here, All-from_Contains}
+use Rattle.tp_base.proofs.Lists.{flat_map-Contains}
 use Rattle.tree_sem.proofs.NodeLemmas.{map-Contains}
 use Rattle.class_diagrams.specs.Trees.{Tree, leaf, tand, tor}
 use Rattle.simple_core.specs.declared.rules.Local.{Local}
+use Rattle.diagram_ops.specs.Compositions.{tcompose}
 use Rattle.simple_core.specs.declared.rules.Link.{Link}
+use Rattle.simple_core.specs.declared.rules.Spawn.{Spawn}
 use Rattle.simple_core.specs.declared.system.System.{System}
 use Rattle.simple_core.specs.Systems.{kind_label}
 use Rattle.simple_core.proofs.Members.{filter-Contains}
-use Rattle.pushdown_sym.specs.Terms.{CellTrees, Term, local_term, local_terms, up_terms, down_terms, terms, conjunction, disjunction, next_tree}
+use Rattle.pushdown_sym.specs.Terms.{CellTrees, Term, local_term, local_terms, up_terms, down_term, down_terms, terms, conjunction, disjunction, next_tree}
 use Rattle.pushdown_sym.specs.Rounds.{cell}
 use Rattle.pushdown_sym.proofs.LinkLemmas.{tor-false, tand-false}
 use Rattle.saturation.specs.Waking.{CellName}
@@ -45,8 +48,26 @@ module _ (s : System) (todo : List CellName) (first : AreFirst s todo) (j a : �
   no_up : up_terms s a ≡ []
   no_up = rw (filter_none (λ (l : Link). l.to == a) s.up (λ l listed. false_from_ne_true (l.to == a) (λ same. none (subst (λ z. Contains {X = CellName} todo (j, z)) (eqb-true l.to a same) (first.up l listed j kind))))) refl
 
-  no_down : down_terms s (cell s 0) j a ≡ []
-  no_down = rw (filter_none (λ (l : Link). l.to == a) s.down (λ l listed. false_from_ne_true (l.to == a) (λ same. none (subst (λ z. Contains {X = CellName} todo (j, z)) (eqb-true l.to a same) (first.down l listed j kind))))) refl
+  -- a child of a kind or by an atom that isn't there adds nothing
+  down_false : (l : Link) → Contains s.down l → l.to ≡ a → (c : Spawn) → Contains s.child c → (down_term (cell s 0) j l c).tree ≡ leaf false
+  down_false l listed to c in_child = elim (cases_Bool (has_class c.needs (kind_label s j))) [
+    | inr missing ↦ ap (λ (t : Tree). tand t (tcompose (cell s 0 c.kind l.from) (cell s 0 j))) (ap leaf missing) ∙ tand-false (tcompose (cell s 0 c.kind l.from) (cell s 0 j))
+    | inl maker ↦ elim (cases_Bool (has_class l.from (kind_label s c.kind))) [
+      | inl child ↦ absurd (none (subst (λ z. Contains {X = CellName} todo (j, z)) to
+          (first.down l listed c in_child j kind (Contains-has_class c.needs (kind_label s j) maker) (Contains-has_class l.from (kind_label s c.kind) child))))
+      | inr missing ↦
+          ap (λ (t : Tree). tand (cell s 0 j c.needs) (tcompose t (cell s 0 j))) (ap leaf missing)
+          ∙ ap (λ (t : Tree). tand t (leaf false)) (ap leaf maker)
+          ∙ true_and_false
+    ]
+  ]
+
+  downs_false : All (λ (t : Term). t.tree ≡ leaf false) (down_terms s (cell s 0) j a)
+  downs_false = All-from_Contains (λ (t : Term). t.tree ≡ leaf false) (down_terms s (cell s 0) j a) (λ t there.
+      let found = flat_map-Contains (λ (l : Link). map (down_term (cell s 0) j l) s.child) (filter (λ (l : Link). l.to == a) s.down) t there in
+      let link = filter-Contains (λ (l : Link). l.to == a) s.down found.0 found.1 in
+      let child = map-Contains (down_term (cell s 0) j found.0) s.child t found.2 in
+      ap (λ (u : Term). u.tree) child.2 ∙ down_false found.0 link.0 (eqb-true found.0.to a link.1) child.0 child.1)
 
   is_false : (r : Local) → Contains s.local r → r.gives ≡ a → (needs : List ℕ) → needs ≡ r.needs → conjunction (cell s 0) j (leaf true) needs ≡ leaf false
   is_false r listed gives [] same = absurd (none (subst (λ z. Contains {X = CellName} todo (j, z)) gives (first.bare r listed (sym same) j kind)))
@@ -62,11 +83,14 @@ module _ (s : System) (todo : List CellName) (first : AreFirst s todo) (j a : �
       let kept = filter-Contains (λ (r : Local). r.gives == a) s.local found.0 found.1 in
       ap (λ (u : Term). u.tree) found.2 ∙ is_false found.0 kept.0 (eqb-true found.0.gives a kept.1) found.0.needs refl)
 
-  local_only : terms s (cell s 0) j a ≡ local_terms s (cell s 0) j a
-  local_only = rw (no_up, no_down) (append-nil (local_terms s (cell s 0) j a ++ []) ∙ append-nil (local_terms s (cell s 0) j a))
+  no_others : terms s (cell s 0) j a ≡ local_terms s (cell s 0) j a ++ down_terms s (cell s 0) j a
+  no_others =
+      ap (λ (ts : List Term). local_terms s (cell s 0) j a ++ ts ++ down_terms s (cell s 0) j a) no_up
+      ∙ ap (λ (ts : List Term). ts ++ down_terms s (cell s 0) j a) (append-nil (local_terms s (cell s 0) j a))
 
   pub idle : cell s 1 j a ≡ cell s 0 j a
   unfolding next_tree
   idle =
-      ap (disjunction (cell s 0 j a)) local_only
-      ∙ nothing_added (cell s 0 j a) (local_terms s (cell s 0) j a) local_false
+      ap (disjunction (cell s 0 j a)) no_others
+      ∙ nothing_added (cell s 0 j a) (local_terms s (cell s 0) j a ++ down_terms s (cell s 0) j a)
+      (All-append (λ (t : Term). t.tree ≡ leaf false) (local_terms s (cell s 0) j a) (down_terms s (cell s 0) j a) local_false downs_false)

@@ -17,6 +17,7 @@ pub mod AskLemmas
 mod TableLemmas
 mod NameLemmas
 mod WakingLemmas
+mod EndsLemmas
 mod FirstCells
 mod MemberLemmas
 mod DoneLemmas

@@ -42,7 +42,7 @@ is_listed (c ∷ cs) j a = elim (same_name j a c.0 c.1) [
   ]
 ]
 
-is_changed : (changes : List (CellName × Reference)) (j a : ℕ) → ((f : Reference) × Contains changes ((j, a), f)) ⊎ ((f : Reference) → Contains changes ((j, a), f) → ⊥)
+pub is_changed : (changes : List (CellName × Reference)) (j a : ℕ) → ((f : Reference) × Contains changes ((j, a), f)) ⊎ ((f : Reference) → Contains changes ((j, a), f) → ⊥)
 is_changed [] j a = inr (λ f there. Contains-none {X = CellName × Reference} ((j, a), f) there)
 is_changed (c ∷ cs) j a = elim (same_name j a c.0.0 c.0.1) [
   | inl here ↦ inl (c.1, Contains-here {X = CellName × Reference} ((j, a), c.1) c cs (λ n. (here n, c.1)))

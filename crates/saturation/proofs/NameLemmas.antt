@@ -39,14 +39,19 @@ given_is s kinds locals ups downs none a b c d kinds_are locals_are ups_are down
     (up_ends ∙ ap (λ (xs : List ℕ). union_of xs (map (λ (l : Link). l.to) s.up)) (gives ∙ ap (λ (xs : List ℕ). union_of xs (map (λ (r : Local). r.gives) s.local)) labels))
     ∙ all
 
+-- one element more of a mapped list
+pub maps_more : {X : Type 0} (f : ℕ → X) (old now new : List X) (atoms : List ℕ) (i a : ℕ) → slice_get atoms i ≡ Some a → now ≡ old ++ map f (take i atoms) → new ≡ now ++ f a ∷ []
+    → new ≡ old ++ map f (take (i + 1) atoms)
+maps_more {X} f old now new atoms i a at before more =
+    more
+    ∙ ap (λ (cs : List X). cs ++ f a ∷ []) before
+    ∙ append_assoc old (map f (take i atoms)) (f a ∷ [])
+    ∙ ap (λ (cs : List X). old ++ cs) (sym (ap (map f) (take_next atoms i a at) ∙ map-append {A = ℕ} {B = X} f (take i atoms) (a ∷ [])))
+
 -- one cell more of a kind
 pub named_more : (old now new : List CellName) (kind : ℕ) (atoms : List ℕ) (i a : ℕ) → slice_get atoms i ≡ Some a → now ≡ old ++ named kind (take i atoms) → new ≡ now ++ (kind, a) ∷ []
     → new ≡ old ++ named kind (take (i + 1) atoms)
-named_more old now new kind atoms i a at before more =
-    more
-    ∙ ap (λ (cs : List CellName). cs ++ (kind, a) ∷ []) before
-    ∙ append_assoc old (named kind (take i atoms)) ((kind, a) ∷ [])
-    ∙ ap (λ (cs : List CellName). old ++ cs) (sym (ap (named kind) (take_next atoms i a at) ∙ map-append {A = ℕ} {B = CellName} (λ b. (kind, b)) (take i atoms) (a ∷ [])))
+named_more old now new kind atoms i a at before more = maps_more {X = CellName} (λ b. (kind, b)) old now new atoms i a at before more
 
 -- one key more
 pub mapped_more : (f : ℕ → List CellName) (old now new : List CellName) (keys : List ℕ) (i key : ℕ) → slice_get keys i ≡ Some key → now ≡ old ++ flat_map f (take i keys) → new ≡ now ++ f key
@@ -59,13 +64,13 @@ mapped_more f old now new keys i key at before more =
     (sym (ap (flat_map f) (take_next keys i key at) ∙ flat_map-append {X = ℕ} {A = CellName} f (take i keys) (key ∷ []) ∙ ap (λ (cs : List CellName). flat_map f (take i keys) ++ cs) (append-nil (f key))))
 
 -- one kind more of the first n
-pub kinds_more : (f : ℕ → List CellName) (i : ℕ) → flat_map f (range_with_len 0 (i + 1)) ≡ flat_map f (range_with_len 0 i) ++ f i
-kinds_more f i =
+pub kinds_more : {X : Type 0} (f : ℕ → List X) (i : ℕ) → flat_map f (range_with_len 0 (i + 1)) ≡ flat_map f (range_with_len 0 i) ++ f i
+kinds_more {X} f i =
     let next : i + 1 ≡ suc i = omega arith in
     let same : 0 + i ≡ i = omega arith in
     ap (flat_map f) (ap (range_with_len 0) next ∙ range_more 0 i ∙ ap (λ b. range_with_len 0 i ++ b ∷ []) same)
-    ∙ flat_map-append {X = ℕ} {A = CellName} f (range_with_len 0 i) (i ∷ [])
-    ∙ ap (λ (cs : List CellName). flat_map f (range_with_len 0 i) ++ cs) (append-nil (f i))
+    ∙ flat_map-append {X = ℕ} {A = X} f (range_with_len 0 i) (i ∷ [])
+    ∙ ap (λ (cs : List X). flat_map f (range_with_len 0 i) ++ cs) (append-nil (f i))
 
 pub at_item : {X : Type 0} (xs : List X) (i : ℕ) (x : X) → i < length xs → x ≡ get_or xs i x → slice_get xs i ≡ Some x
 at_item xs i x less item = slice_get-get_or xs i x less ∙ ap (λ y. Some y) (sym item)

@@ -25,7 +25,7 @@ module _ (s : System) (sound : IsSound s) (none : length s.kinds ≡ 0) (d : Are
   none_first : AreFirst s []
   none_first = record {
     up = λ l there j kind. absurd (omega (arith, none, kind));
-    down = λ l there j kind. absurd (omega (arith, none, kind));
+    down = λ l there c in_child j kind maker child. absurd (omega (arith, none, kind));
     bare = λ r there needs j kind. absurd (omega (arith, none, kind));
     needing = λ r there b j needs kind label. absurd (omega (arith, none, kind));
     cells = all_none (Fits s);

@@ -1,6 +1,6 @@
 -- Cells grow with the rounds, and stay from a round at rest on.
-use Rattle.std.proofs.Common.{◌≡◌, ℕ, zero, suc, ◌+◌, ◌<◌, ◌≤◌, true, ◌||◌, length, List, Contains, refl, sym, ap, subst, ◌∙◌, arith, inl, inr}
-use Rattle.std.proofs.lemmas.Bool.{cases_lt, or_left}
+use Rattle.std.proofs.Common.{◌≡◌, ℕ, zero, suc, ◌+◌, ◌<◌, ◌≤◌, true, length, List, Contains, refl, sym, ap, subst, ◌∙◌, arith, inl, inr}
+use Rattle.std.proofs.lemmas.Bool.{cases_lt}
 use Rattle.std.specs.List.Sorted.{IsStrictlyIncreasing}
 use Rattle.tp_base.specs.Classes.{has_class}
 use Rattle.tp_base.proofs.ClassLemmas.{same_members, has_class-Contains, Contains-has_class}
@@ -13,17 +13,11 @@ use Rattle.simple_core.specs.Systems.{IsSound}
 use Rattle.simple_core.specs.Rounds.{grown, IsRest}
 use Rattle.simple_core.proofs.RoundLemmas.{grown-rises, grown-later}
 use Rattle.pushdown_sym.specs.Rounds.{cell, IsAtRest}
-use Rattle.pushdown_sym.proofs.TermLemmas.{eval-next_tree, by_local_rules, by_up_links, by_down_links}
 use Rattle.pushdown_sym.proofs.CellLemmas.{IsOrdered-cell}
 use Rattle.pushdown_sym.proofs.GrownLemmas.{cell_told}
-use Rattle.saturation.proofs.SkipLemmas.{skipped}
+use Rattle.saturation.proofs.SkipLemmas.{skipped, cell-grows}
 
 -- ### cells grow
-
-cell-grows : (s : System) (k j a : ℕ) → Implies (cell s k j a) (cell s (suc k) j a)
-cell-grows s k j a p holds =
-    eval-next_tree s (cell s k) j a p
-    ∙ or_left (eval (cell s k j a) p) (by_local_rules s (cell s k) j a p || by_up_links s (cell s k) j a p || by_down_links s (cell s k) j a p) holds
 
 pub cell-later : (s : System) (k m j a : ℕ) → k ≤ m → Implies (cell s k j a) (cell s m j a)
 cell-later s k zero j a le p holds = subst (λ z. eval (cell s z j a) p ≡ true) {x = k} {y = zero} (omega arith) holds

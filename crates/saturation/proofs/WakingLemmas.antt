@@ -1,7 +1,7 @@
 -- Which cells are among those that are calculated again.
-use Rattle.std.proofs.Common.{◌≡◌, ◌≢◌, ℕ, ◌+◌, ◌<◌, ◌≤◌, Bool, true, false, List, [], ◌∷◌, ◌++◌, take, length, ◌&&◌, slice_get, Some, append_assoc, append-nil, nat_eq, All, Contains, if◌then◌else◌, refl, sym, ap, subst, ◌∙◌, arith, inl, inr}
-use Rattle.std.proofs.lemmas.Bool.{cases_Bool, eqb-true, and_parts}
-use Rattle.std.proofs.lemmas.List.{take_all, map-append}
+use Rattle.std.proofs.Common.{◌≡◌, ◌≢◌, ◌⊎◌, ℕ, ◌+◌, ◌<◌, ◌≤◌, Bool, true, false, List, [], ◌∷◌, ◌++◌, take, length, ◌&&◌, slice_get, Some, append_assoc, append-nil, get_or, nat_eq, All, Contains, refl, sym, ap, subst, ◌∙◌, arith, inl, inr}
+use Rattle.std.proofs.lemmas.Bool.{cases_lt, both_ways, eqb-true, and_parts}
+use Rattle.std.proofs.lemmas.List.{take_all, map-append, get_or_past}
 use Rattle.std.specs.Cmp.{IsEquivalence}
 use Rattle.std.specs.List.Retain.{IsFiltered, DiffersFromLast}
 use Rattle.std.proofs.lemmas.Cmp.{nat_eq_equiv, on_equiv, and_equiv}
@@ -9,21 +9,23 @@ use Rattle.std.proofs.lemmas.List.Filters.{dedup_is}
 use Rattle.std.proofs.lemmas.List.Kept.{Contains-dedup, Contains-from_dedup}
 use Rattle.std.proofs.lemmas.List.Elements.{All-contains, All-append, Contains-append_left, Contains-append_right, Contains-append_cases}
 use Rattle.std.proofs.lemmas.List.Concat.{flat_map-append}
-use Rattle.tp_base.specs.Classes.{has_class}
 use Rattle.tp_base.proofs.ClassLemmas.{has_class-Contains}
-use Rattle.tp_base.proofs.Rising.{Contains-here, Contains-cons, Contains-none, All-from_Contains}
+use Rattle.tp_base.proofs.Rising.{Contains-here, Contains-none, All-from_Contains}
 use Rattle.tp_base.proofs.Lists.{take_next, Contains-flat_map, flat_map-Contains}
 use Rattle.tree_sem.proofs.NodeLemmas.{Contains-map, map-Contains}
 use Rattle.class_diagrams.specs.References.{Reference, leaf_reference}
 use Rattle.class_diagrams.specs.Arena.{tree_at}
 use Rattle.pushdown_sym.specs.CellMap.{Entries, place_in, trees_in}
 use Rattle.class_diagrams.specs.Trees.{Tree, leaf}
+use Rattle.simple_core.specs.declared.rules.Link.{Link}
+use Rattle.simple_core.specs.declared.rules.Spawn.{Spawn}
 use Rattle.simple_core.specs.declared.system.System.{System}
 use Rattle.pushdown_sym.specs.Terms.{CellTrees}
 use Rattle.pushdown_sym.specs.Rounds.{given_atoms}
-use Rattle.saturation.specs.Reads.{IsRead, by_rule, by_spawn, by_visible, by_child}
+use Rattle.saturation.specs.Reads.{IsRead, by_rule, by_own, by_child}
+use Rattle.pushdown_sym.specs.Ends.{AreEndsNoted}
 use Rattle.saturation.specs.Tables.{AreReads}
-use Rattle.saturation.specs.Waking.{CellName, Fits, named, named_each, by_rules, looking, by_makers, of_each, with_atom, AreMakers, AreAbove, AreReaders}
+use Rattle.saturation.specs.Waking.{CellName, Fits, named, named_each, by_rules, by_makers, of_each, with_atom, AreAllMarked, AreMakers, AreAbove, AreSeen, AreEnds, HaveChanged, AreReaders}
 use Rattle.saturation.proofs.GivenLemmas.{given_local, given_down}
 use Rattle.saturation.proofs.NoteLemmas.{last_cases}
 use Rattle.saturation.proofs.LoopLemmas.{all_one}
@@ -58,71 +60,81 @@ each_of_more {X} f changes i c now new at before more =
     ∙ flat_map-append (λ (d : CellName × Reference). f d.0) (take i changes) (c ∷ [])
     ∙ ap (λ (xs : List X). of_each f (take i changes) ++ xs) (append-nil (f c.0)))
 
-looking_is : (looked : List ℕ) (c : CellName) (k : ℕ) → Contains (looking looked c) k → k ≡ c.0
-looking_is looked c k there =
-    let found : Contains (if has_class c.1 looked then c.0 ∷ [] else []) k = there in
-    elim (cases_Bool (has_class c.1 looked)) [
-      | inl looks ↦ elim ((Contains-cons k c.0 []).0 (rw looks at found)) [ inl here ↦ here | inr none ↦ absurd (Contains-none k none) ]
-      | inr none ↦ absurd (Contains-none k (rw none at found))
-    ]
-
-module _ (s : System) (by_needs by_link makers : ℕ → List ℕ) (ends looked : List ℕ) (reads : AreReads s by_needs by_link makers ends looked) (now : CellTrees)
-    (changes : List (CellName × Reference)) (below : All (λ c. c.0.0 < length s.kinds) changes)
+module _ (s : System) (spawned : (c : Spawn) → Contains s.child c → c.kind < length s.kinds) (by_needs by_link makers : ℕ → List ℕ) (needed looked : List ℕ) (reads : AreReads s by_needs by_link makers needed looked)
+    (before now : CellTrees) (changes : List (CellName × Reference)) (below : All (λ c. c.0.0 < length s.kinds) changes) (changed_from : HaveChanged s before now changes)
     (cells : List CellName) (cells_are : cells ≡ of_each (by_rules by_needs) changes)
-    (kinds : List ℕ) (kinds_kept : (k : ℕ) → Contains (of_each (looking looked) changes) k → Contains kinds k) (kinds_only : (k : ℕ) → Contains kinds k → Contains (of_each (looking looked) changes) k)
+    (marks : List Bool) (marked : AreAllMarked (length s.kinds) looked changes marks)
     (pairs : List CellName) (pairs_kept : (c : CellName) → Contains (of_each (by_makers makers by_link) changes) c → Contains pairs c)
     (pairs_only : (c : CellName) → Contains pairs c → Contains (of_each (by_makers makers by_link) changes) c)
-    (more : List CellName) (more_is : more ≡ cells ++ named_each kinds ends)
-    (todo : List CellName) (above : AreAbove now (length s.kinds) pairs more todo) where
+    (old_ends ends : ℕ → List ℕ) (are_ends : AreEnds s before old_ends) (noted : AreEndsNoted pairs old_ends ends)
+    (more todo : List CellName) (above : AreAbove now (length s.kinds) pairs cells more) (seen : AreSeen now marks needed ends more todo) where
   changed : {X : Type 0} (f : CellName → List X) (c : CellName) (g : Reference) (x : X) → Contains changes (c, g) → Contains (f c) x → Contains (of_each f changes) x
   changed f c g x there found = Contains-flat_map (λ (d : CellName × Reference). f d.0) changes (c, g) x there found
-
-  looked_reader : (i b j a : ℕ) (f : Reference) → Contains changes ((i, b), f) → i ≡ j → Contains looked b → Contains ends a → Contains {X = CellName} todo (j, a)
-  looked_reader i b j a f there same looks end =
-      above.kept (j, a) (subst (λ (cs : List CellName). Contains cs (j, a)) (sym more_is) (Contains-append_right cells (named_each kinds ends) (j, a)
-      (named_there kinds ends j a (kinds_kept j (changed (looking looked) (i, b) f j there
-      (let here : Contains (if has_class b looked then i ∷ [] else []) j = rw (has_class-Contains b looked looks) (Contains-here j i [] (sym same)) in here))) end)))
-
-  reader : (i b j a : ℕ) (f : Reference) → Contains changes ((i, b), f) → j < length s.kinds → IsRead s now i b j a → Contains {X = CellName} todo (j, a)
-  reader i b j a f there kind (by_rule r listed gives needed same) =
-      above.kept (j, a) (subst (λ (cs : List CellName). Contains cs (j, a)) (sym more_is) (Contains-append_left cells (named_each kinds ends) (j, a)
-      (subst (λ (cs : List CellName). Contains cs (j, a)) (sym cells_are) (changed (by_rules by_needs) (i, b) f (j, a) there
-      (named_one i j a (by_needs b) same (subst (λ x. Contains (by_needs b) x) gives (reads.needs.whole r listed b needed)))))))
-  reader i b j a f there kind (by_spawn l listed to c in_child needs same) =
-      looked_reader i b j a f there same (subst (λ x. Contains looked x) needs (reads.making c in_child)) (subst (λ x. Contains ends x) to (reads.to l listed))
-  reader i b j a f there kind (by_visible l listed to seen same) =
-      looked_reader i b j a f there same (reads.visible b seen) (subst (λ x. Contains ends x) to (reads.to l listed))
-  reader i b j a f there kind (by_child l listed to c in_child kind_is from can) =
-      above.whole c.needs a j (pairs_kept (c.needs, a) (changed (by_makers makers by_link) (i, b) f (c.needs, a) there
-      (named_there (makers i) (by_link b) c.needs a (reads.spawns.whole c in_child i kind_is) (subst (λ x. Contains (by_link b) x) to (reads.child.whole l listed b from))))) kind can
-
-  ends_given : (a : ℕ) → Contains ends a → Contains (given_atoms s) a
-  ends_given a there = let l = reads.only_to a there in subst (λ x. Contains (given_atoms s) x) (sym l.2) (given_down s l.0 l.1)
 
   below_one : (d : CellName × Reference) → Contains changes d → d.0.0 < length s.kinds
   below_one d there = All-contains (λ (c : CellName × Reference). c.0.0 < length s.kinds) changes d below there
 
-  fits_more : (c : CellName) → Contains more c → Fits s c
-  fits_more c there = elim (Contains-append_cases cells (named_each kinds ends) c (subst (λ (cs : List CellName). Contains cs c) more_is there)) [
-    | inl ruled ↦
-        let found = flat_map-Contains (λ (d : CellName × Reference). by_rules by_needs d.0) changes c (subst (λ (cs : List CellName). Contains cs c) cells_are ruled) in
-        let one = one_named found.0.0.0 (by_needs found.0.0.1) c found.2 in
-        let r = reads.needs.only found.0.0.1 c.1 one.1 in
-        (subst (λ k. k < length s.kinds) (sym one.0) (below_one found.0 found.1), subst (λ x. Contains (given_atoms s) x) (sym r.2) (given_local s r.0 r.1))
-    | inr seen ↦
-        let both = there_named kinds ends c seen in
-        let found = flat_map-Contains (λ (d : CellName × Reference). looking looked d.0) changes c.0 (kinds_only c.0 both.0) in
-        (subst (λ k. k < length s.kinds) (sym (looking_is looked found.0.0 c.0 found.2)) (below_one found.0 found.1), ends_given c.1 both.1)
+  -- what links may give by a child that changed
+  pair_there : (i b : ℕ) (f : Reference) → Contains changes ((i, b), f) → (l : Link) → Contains s.down l → l.from ≡ b → (c : Spawn) → Contains s.child c → c.kind ≡ i → Contains {X = CellName} pairs (c.needs, l.to)
+  pair_there i b f there l listed from c in_child kind_is = pairs_kept (c.needs, l.to) (changed (by_makers makers by_link) (i, b) f (c.needs, l.to) there
+      (named_there (makers i) (by_link b) c.needs l.to (reads.spawns.whole c in_child i kind_is) (reads.child.whole l listed b from)))
+
+  pair_link : (m a : ℕ) → Contains {X = CellName} pairs (m, a) → (l : Link) × Contains s.down l × (a ≡ l.to)
+  pair_link m a there =
+      let found = flat_map-Contains (λ (d : CellName × Reference). by_makers makers by_link d.0) changes (m, a) (pairs_only (m, a) there) in
+      let both = there_named (makers found.0.0.0) (by_link found.0.0.1) (m, a) found.2 in
+      reads.child.only found.0.0.1 a both.1
+
+  pub ends_now : AreEnds s now ends
+  ends_now = record {
+    whole = λ l listed c in_child some. elim (changed_from c.kind l.from (spawned c in_child) some) [
+      | inl earlier ↦ noted.kept c.needs l.to (are_ends.whole l listed c in_child earlier)
+      | inr there ↦ noted.noted c.needs l.to (pair_there c.kind l.from there.0 there.1 l listed refl c in_child refl)
+    ];
+    only = λ m a there. elim (noted.only m a there) [ inl earlier ↦ are_ends.only m a earlier | inr pair ↦ pair_link m a pair ];
+  }
+
+  looks : (c : Spawn) → Contains s.child c → (b : ℕ) → (c.needs ≡ b) ⊎ Contains s.visible b → Contains looked b
+  looks c in_child b of = elim of [
+    | inl needs ↦ subst (λ x. Contains looked x) needs (reads.making c in_child)
+    | inr sees ↦ reads.visible b sees
+  ]
+
+  reader : (i b j a : ℕ) (f : Reference) → Contains changes ((i, b), f) → j < length s.kinds → IsRead s now i b j a → Contains {X = CellName} todo (j, a)
+  reader i b j a f there kind (by_rule r listed gives needed_there same) =
+      seen.kept (j, a) (above.kept (j, a)
+      (subst (λ (cs : List CellName). Contains cs (j, a)) (sym cells_are) (changed (by_rules by_needs) (i, b) f (j, a) there
+      (named_one i j a (by_needs b) same (subst (λ x. Contains (by_needs b) x) gives (reads.needs.whole r listed b needed_there))))))
+  reader i b j a f there kind (by_own l listed to c in_child maker child of same) =
+      let mark : get_or marks i false ≡ true = marked.marked ((i, b), f) there (has_class-Contains b looked (looks c in_child b of)) (below_one ((i, b), f) there) in
+      seen.whole c.needs a j (reads.all_needed c in_child) maker (subst (λ z. get_or marks z false ≡ true) same mark)
+      (subst (λ x. Contains (ends c.needs) x) to (ends_now.whole l listed c in_child child))
+  reader i b j a f there kind (by_child l listed to c in_child kind_is from can) =
+      seen.kept (j, a) (above.whole c.needs a j (subst (λ x. Contains {X = CellName} pairs (c.needs, x)) to (pair_there i b f there l listed from c in_child kind_is)) kind can)
+
+  link_given : (a : ℕ) → (l : Link) × Contains s.down l × (a ≡ l.to) → Contains (given_atoms s) a
+  link_given a l = subst (λ x. Contains (given_atoms s) x) (sym l.2) (given_down s l.0 l.1)
+
+  fits_ruled : (c : CellName) → Contains cells c → Fits s c
+  fits_ruled c there =
+      let found = flat_map-Contains (λ (d : CellName × Reference). by_rules by_needs d.0) changes c (subst (λ (cs : List CellName). Contains cs c) cells_are there) in
+      let one = one_named found.0.0.0 (by_needs found.0.0.1) c found.2 in
+      let r = reads.needs.only found.0.0.1 c.1 one.1 in
+      (subst (λ k. k < length s.kinds) (sym one.0) (below_one found.0 found.1), subst (λ x. Contains (given_atoms s) x) (sym r.2) (given_local s r.0 r.1))
+
+  marked_below : (j : ℕ) → get_or marks j false ≡ true → j < length s.kinds
+  marked_below j is = elim (cases_lt j (length marks)) [
+    | inl within ↦ omega (arith, within, marked.long)
+    | inr past ↦ absurd (both_ways (get_or marks j false) (get_or_past marks j false past) is)
   ]
 
   fits : (c : CellName) → Contains todo c → Fits s c
-  fits c there = elim (above.only c there) [
-    | inl before ↦ fits_more c before
-    | inr up ↦
-        let found = flat_map-Contains (λ (d : CellName × Reference). by_makers makers by_link d.0) changes (up.0, c.1) (pairs_only (up.0, c.1) up.1) in
-        let both = there_named (makers found.0.0.0) (by_link found.0.0.1) (up.0, c.1) found.2 in
-        let l = reads.child.only found.0.0.1 c.1 both.1 in
-        (up.2, subst (λ x. Contains (given_atoms s) x) (sym l.2) (given_down s l.0 l.1))
+  fits c there = elim (seen.only c there) [
+    | inr own ↦ (marked_below c.0 own.0, link_given c.1 (ends_now.only own.1 c.1 own.2))
+    | inl rest ↦ elim (above.only c rest) [
+      | inl first ↦ fits_ruled c first
+      | inr up ↦ (up.2, link_given c.1 (pair_link up.0 c.1 up.1))
+    ]
   ]
 
   pub readers_are : AreReaders s now changes todo
@@ -140,11 +152,11 @@ readers_kept s now changes todo sorted before kept only = record {
 }
 
 -- cells that agree are read by the same ones
-module _ (s : System) (now other : CellTrees) (same : (j a : ℕ) → j < length s.kinds → now j a ≡ other j a) where
+module _ (s : System) (spawned : (c : Spawn) → Contains s.child c → c.kind < length s.kinds) (now other : CellTrees) (same : (j a : ℕ) → j < length s.kinds → now j a ≡ other j a) where
   read_same : (i b j a : ℕ) → j < length s.kinds → IsRead s other i b j a → IsRead s now i b j a
   read_same i b j a kind (by_rule r listed gives there is) = by_rule r listed gives there is
-  read_same i b j a kind (by_spawn l listed to c in_child needs is) = by_spawn l listed to c in_child needs is
-  read_same i b j a kind (by_visible l listed to there is) = by_visible l listed to there is
+  read_same i b j a kind (by_own l listed to c in_child maker child of is) =
+      by_own l listed to c in_child (λ none. maker (sym (same j c.needs kind) ∙ none)) (λ none. child (sym (same c.kind l.from (spawned c in_child)) ∙ none)) of is
   read_same i b j a kind (by_child l listed to c in_child kind_is from can) =
       by_child l listed to c in_child kind_is from (λ none. can (sym (same j c.needs kind) ∙ none))
 
@@ -259,11 +271,3 @@ once_kept xs ys filtered c there =
 pub once_only : (xs ys : List CellName) → IsFiltered (DiffersFromLast same_cell) [] xs ys → (c : CellName) → Contains ys c → Contains xs c
 once_only xs ys filtered c there =
     Contains-from_dedup same_cell xs c (subst (λ (zs : List CellName). Contains zs c) (dedup_is same_cell xs ys filtered) there)
-
-pub different_kept : (xs ys : List ℕ) → IsFiltered (DiffersFromLast nat_eq) [] xs ys → (k : ℕ) → Contains xs k → Contains ys k
-different_kept xs ys filtered k there =
-    subst (λ (zs : List ℕ). Contains zs k) (sym (dedup_is nat_eq xs ys filtered)) (Contains-dedup nat_eq_equiv (λ x y same. eqb-true x y same) xs k there)
-
-pub different_only : (xs ys : List ℕ) → IsFiltered (DiffersFromLast nat_eq) [] xs ys → (k : ℕ) → Contains ys k → Contains xs k
-different_only xs ys filtered k there =
-    Contains-from_dedup nat_eq xs k (subst (λ (zs : List ℕ). Contains zs k) (dedup_is nat_eq xs ys filtered) there)

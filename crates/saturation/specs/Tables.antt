@@ -34,16 +34,15 @@ abbrev pub OfSpawns : List Spawn → (ℕ → List ℕ) → Type 0
 OfSpawns spawns f = HasAll (λ c b. c.kind ≡ b) (λ c. c.needs) spawns f
 
 -- by_needs: what rules give to a node that has an atom; by_child: what links give to the parent of one that has it; makers: the
--- atoms that make a child of a kind; ends: what links from children give; looked: the atoms that children or links look at
-pub record AreReads (s : System) (by_needs by_child makers : ℕ → List ℕ) (ends looked : List ℕ) : Type 0 where
+-- atoms that make a child of a kind; needed: the atoms that make children; looked: those, and the visible ones
+pub record AreReads (s : System) (by_needs by_child makers : ℕ → List ℕ) (needed looked : List ℕ) : Type 0 where
   pub needs : OfNeeds s.local by_needs
   pub child : OfLinks s.down by_child
   pub spawns : OfSpawns s.child makers
-  pub to : (l : Link) → Contains s.down l → Contains ends l.to
-  pub only_to : (a : ℕ) → Contains ends a → (l : Link) × Contains s.down l × (a ≡ l.to)
+  pub all_needed : (c : Spawn) → Contains s.child c → Contains needed c.needs
   pub making : (c : Spawn) → Contains s.child c → Contains looked c.needs
   pub visible : (b : ℕ) → Contains s.visible b → Contains looked b
 
 -- the same of a system's rules as the code keeps them
 abbrev pub AreReadsOf : System → Reads → Type 0
-AreReadsOf s r = AreReads s (noted_in r.by_needs) (noted_in r.by_child) (noted_in r.makers) r.ends r.looked
+AreReadsOf s r = AreReads s (noted_in r.by_needs) (noted_in r.by_child) (noted_in r.makers) r.needs r.looked

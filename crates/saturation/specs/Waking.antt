@@ -1,9 +1,11 @@
 -- Which cells are calculated again after some changes.
-use Rattle.std.specs.Prelude.{◌≢◌, ℕ, ◌<◌, false, List, [], ◌∷◌, map, length, All, Contains, if◌then◌else◌, ◌⊎◌}
+use Rattle.std.specs.Prelude.{◌≡◌, ◌≢◌, ℕ, ◌<◌, Bool, true, false, get_or, List, [], map, length, All, Contains, if◌then◌else◌, ◌⊎◌}
 use Rattle.std.specs.List.{flat_map}
 use Rattle.tp_base.specs.Classes.{has_class}
 use Rattle.class_diagrams.specs.References.{Reference}
 use Rattle.class_diagrams.specs.Trees.{leaf}
+use Rattle.simple_core.specs.declared.rules.Link.{Link}
+use Rattle.simple_core.specs.declared.rules.Spawn.{Spawn}
 use Rattle.simple_core.specs.declared.system.System.{System}
 use Rattle.pushdown_sym.specs.Terms.{CellTrees}
 use Rattle.pushdown_sym.specs.Rounds.{given_atoms}
@@ -22,10 +24,6 @@ named_each kinds atoms = flat_map (λ kind. named kind atoms) kinds
 -- what rules give to a node that has the atom
 abbrev pub by_rules : (ℕ → List ℕ) → CellName → List CellName
 by_rules by_needs c = named c.0 (by_needs c.1)
-
--- the kind, where children or links from them look at the atom
-abbrev pub looking : List ℕ → CellName → List ℕ
-looking looked c = if has_class c.1 looked then c.0 ∷ [] else []
 
 -- what links give to the parent of such a node, each atom with those that make a child of the kind
 abbrev pub by_makers : (ℕ → List ℕ) → (ℕ → List ℕ) → CellName → List CellName
@@ -48,6 +46,39 @@ pub record AreAbove (now : CellTrees) (count : ℕ) (pairs old new : List CellNa
   pub kept : (c : CellName) → Contains old c → Contains new c
   pub whole : (m a j : ℕ) → Contains pairs (m, a) → j < count → now j m ≢ leaf false → Contains new (j, a)
   pub only : (c : CellName) → Contains new c → Contains old c ⊎ ((m : ℕ) × Contains pairs (m, c.1) × (c.0 < count))
+
+-- the kind of a cell is marked, where its atom is looked at
+pub record AreMarked (looked : List ℕ) (name : CellName) (old new : List Bool) : Type 0 where
+  pub count : length new ≡ length old
+  pub kept : (j : ℕ) → get_or old j false ≡ true → get_or new j false ≡ true
+  pub here : has_class name.1 looked ≡ true → name.0 < length old → get_or new name.0 false ≡ true
+
+-- so is that of each changed cell
+pub record AreAllMarked (count : ℕ) (looked : List ℕ) (changes : List (CellName × Reference)) (marks : List Bool) : Type 0 where
+  pub long : length marks ≡ count
+  pub marked : (c : CellName × Reference) → Contains changes c → has_class c.0.1 looked ≡ true → c.0.0 < count → get_or marks c.0.0 false ≡ true
+
+-- the marked ones of some kinds, each with these atoms
+abbrev pub seen_by : List Bool → List ℕ → ℕ → List CellName
+seen_by marks atoms kind = if get_or marks kind false then named kind atoms else []
+
+abbrev pub seen_each : List Bool → List ℕ → List ℕ → List CellName
+seen_each marks atoms kinds = flat_map (seen_by marks atoms) kinds
+
+-- the cells, and for each of these atoms the marked kinds whose nodes may have it with its ends
+pub record AreSeen (now : CellTrees) (marks : List Bool) (atoms : List ℕ) (ends : ℕ → List ℕ) (old new : List CellName) : Type 0 where
+  pub kept : (c : CellName) → Contains old c → Contains new c
+  pub whole : (m a j : ℕ) → Contains atoms m → now j m ≢ leaf false → get_or marks j false ≡ true → Contains (ends m) a → Contains new (j, a)
+  pub only : (c : CellName) → Contains new c → Contains old c ⊎ ((get_or marks c.0 false ≡ true) × (m : ℕ) × Contains (ends m) c.1)
+
+-- for each atom that makes children, all that links may give to a node that has it by what these may have
+pub record AreEnds (s : System) (now : CellTrees) (ends : ℕ → List ℕ) : Type 0 where
+  pub whole : (l : Link) → Contains s.down l → (c : Spawn) → Contains s.child c → now c.kind l.from ≢ leaf false → Contains (ends c.needs) l.to
+  pub only : (m a : ℕ) → Contains (ends m) a → (l : Link) × Contains s.down l × (a ≡ l.to)
+
+-- a cell that holds somewhere did so before, or is among the changes
+abbrev pub HaveChanged : System → CellTrees → CellTrees → List (CellName × Reference) → Type 0
+HaveChanged s before now changes = (i b : ℕ) → i < length s.kinds → now i b ≢ leaf false → (before i b ≢ leaf false) ⊎ ((f : Reference) × Contains changes ((i, b), f))
 
 abbrev pub Fits : System → CellName → Type 0
 Fits s c = (c.0 < length s.kinds) × Contains (given_atoms s) c.1

@@ -1,17 +1,22 @@
 //! The cells that rules can change.
-ghost use Rattle.std.specs.Prelude.{◌≡◌, ◌≤◌, ◌<◌, ◌++◌, [], length, IfOk, OnOk, map};
-ghost use Rattle.std.specs.List.{flat_map};
+ghost use Rattle.std.specs.Prelude.{◌≡◌, ◌≤◌, ◌<◌, ◌++◌, ℕ, [], length, IfOk, OnOk, map};
+ghost use Rattle.std.specs.List.{flat_map, range_with_len};
 ghost use Rattle.tp_base.specs.Classes.{union_of};
-ghost use Rattle.simple_core.specs.Systems.{kind_label};
-ghost use Rattle.pushdown_sym.specs.Rounds.{given_atoms};
+ghost use Rattle.row_index.specs.Rows.{row_of};
+ghost use Rattle.simple_core.specs.Systems.{kind_label, IsSound};
+ghost use Rattle.pushdown_sym.specs.CellMap.{place_in};
+ghost use Rattle.pushdown_sym.specs.Rounds.{cell, given_atoms};
 ghost use Rattle.simple_core.specs.declared.rules.Link.{Link};
-ghost use Rattle.saturation.specs.Tables.{noted_in, AreReadsOf};
-ghost use Rattle.saturation.specs.Waking.{named};
-ghost use Rattle.saturation.specs.Starting.{bare_gives, named_by, first_named, first_named_each, AreFirst};
+ghost use Rattle.saturation.specs.Histories.{start_place};
+ghost use Rattle.saturation.specs.Tables.{AreReadsOf};
+ghost use Rattle.saturation.specs.Waking.{named, named_each, AreEnds};
+ghost use Rattle.saturation.specs.Starting.{bare_gives, labelled, labelled_each, AreFirst};
 
 use crate::reads::Reads;
-use crate::waking::{add_named, sorted};
+use crate::waking::{readers, sorted};
+use class_diagrams::{Diagrams, Ref};
 use gathered::Gathered;
+use pushdown_sym::{Cells, Ends};
 use simple_core::{Kind, Link, Local, MOST_KINDS, System};
 use std::alloc::Global;
 use tp_base::{Atom, ClassSet, NoMemory};
@@ -75,80 +80,77 @@ fn add_bare(rules: &[Local], atoms: &mut Gathered) -> Result<(), NoMemory>
     Ok(())
 }
 
-// The atoms that links give, or rules that need nothing.
+// The atoms that links from the parent give, or rules that need nothing.
 fn given_anywhere(alloc: Global, system: &System) -> Result<ClassSet, NoMemory>
-    ensures { IfOk result (λ atoms. atoms ≡ union_of (union_of (union_of [] (map (λ (l : Link). l.to) system.now.up)) (map (λ (l : Link). l.to) system.now.down)) (bare_gives system.now.local)) }
+    ensures { IfOk result (λ atoms. atoms ≡ union_of (union_of [] (map (λ (l : Link). l.to) system.now.up)) (bare_gives system.now.local)) }
 {
     let mut atoms = Gathered::new(alloc);
     add_ends(system.up.items(), &mut atoms)?;
-    add_ends(system.down.items(), &mut atoms)?;
     add_bare(system.local.items(), &mut atoms)?;
     atoms.into_set()
 }
 
-// What rules give to a node of the kind that has an atom of its label.
-fn add_by_label(
+// The cells of a kind's label, which hold from the beginning.
+fn add_label(
+    system: &System,
     kind: u32,
-    label: &ClassSet,
-    reads: &Reads,
-    cells: &mut Vec<(u32, Atom)>,
+    cells: &mut Vec<((u32, Atom), Ref)>,
 ) -> Result<(), NoMemory>
-    ensures { OnOk result (cells.new.items ≡ cells.old.items ++ named_by (noted_in reads.now.by_needs) kind label.now) }
+    requires { kind < length system.now.kinds }
+    ensures { OnOk result (cells.new.items ≡ cells.old.items ++ labelled kind (kind_label system.now kind)) }
 {
+    let kinds = system.kinds.items();
+    let label = &kinds[kind as usize].label;
     for i in 0..label.len() {
-        add_named(cells, kind, reads.by_needs.of(label.at(i).0))?;
+        cells.push(((kind, label.at(i)), Diagrams::leaf(true)))?;
     }
     Ok(())
 }
 
-// The cells of a kind that the first round may change.
-fn add_first(
-    system: &System,
-    kind: u32,
-    anywhere: &ClassSet,
-    reads: &Reads,
-    cells: &mut Vec<(u32, Atom)>,
-) -> Result<(), NoMemory>
-    requires { kind < length system.now.kinds }
-    ensures { OnOk result (cells.new.items ≡ cells.old.items ++ first_named (noted_in reads.now.by_needs) anywhere.now kind (kind_label system.now kind)) }
-{
-    let kinds = system.kinds.items();
-    let label = &kinds[kind as usize].label;
-    add_by_label(kind, label, reads, cells)?;
-    add_kind(kind, anywhere, cells)?;
-    Ok(())
-}
-
-// The same of each kind.
-fn all_first(
-    alloc: Global,
-    system: &System,
-    anywhere: &ClassSet,
-    reads: &Reads,
-) -> Result<Vec<(u32, Atom)>, NoMemory>
+// Those of each kind.
+fn label_cells(alloc: Global, system: &System) -> Result<Vec<((u32, Atom), Ref)>, NoMemory>
     requires { length system.now.kinds ≤ MOST_KINDS }
-    ensures { IfOk result (λ cs. cs.items ≡ first_named_each system.now (noted_in reads.now.by_needs) anywhere.now (length system.now.kinds)) }
+    ensures { IfOk result (λ cs. cs.items ≡ labelled_each system.now (length system.now.kinds)) }
 {
     let mut cells = Vec::new(alloc);
     for i in 0..system.kinds.items().len() {
-        add_first(system, i as u32, anywhere, reads, &mut cells)?;
+        add_label(system, i as u32, &mut cells)?;
     }
     Ok(cells)
 }
 
-/// The cells that the first round may change: of each kind those of the atoms that a link gives or a rule that needs
-/// nothing, and those of what a rule gives to a node with an atom of the kind's label.
+// Each of so many kinds with these atoms.
+fn add_kinds(count: usize, atoms: &ClassSet, cells: &mut Vec<(u32, Atom)>) -> Result<(), NoMemory>
+    requires { count ≤ MOST_KINDS }
+    ensures { OnOk result (cells.new.items ≡ cells.old.items ++ named_each (range_with_len 0 count) atoms.now) }
+{
+    for i in 0..count {
+        add_kind(i as u32, atoms, cells)?;
+    }
+    Ok(())
+}
+
+/// The cells that the first round may change: those that read one of a kind's label, and of each kind those of the atoms
+/// that a link from the parent gives or a rule that needs nothing.
 pub(crate) fn first_cells(
     alloc: Global,
     system: &System,
+    now: &Cells,
     reads: &Reads,
+    ends: &mut Ends,
 ) -> Result<Vec<(u32, Atom)>, NoMemory>
-    requires kinds { length system.now.kinds ≤ MOST_KINDS }
+    requires sound { IsSound system.now }
     requires reads { AreReadsOf system.now reads.now }
-    ensures { IfOk result (λ cs. AreFirst system.now cs.items) }
+    requires cells { (j a : ℕ) → place_in now.now j a ≡ start_place system.now j a }
+    requires none { ends.old ≡ [] }
+    ensures first { IfOk result (λ cs. AreFirst system.now cs.items) }
+    ensures ends { IfOk result (λ cs. AreEnds system.now (cell system.now 0) (row_of ends.new)) }
 {
+    let count = system.kinds.items().len();
+    let labels = label_cells(alloc, system)?;
+    let mut cells = readers(alloc, now, count, reads, ends, &labels)?;
     let anywhere = given_anywhere(alloc, system)?;
-    let cells = all_first(alloc, system, &anywhere, reads)?;
+    add_kinds(count, &anywhere, &mut cells)?;
     let once = sorted(cells)?;
     Ok(once)
 }

@@ -1,12 +1,14 @@
 //! The kinds that can make a child.
-ghost use Rattle.std.specs.Prelude.{◌≡◌, ◌++◌, List, IfOk, OnOk};
+ghost use Rattle.std.specs.Prelude.{◌≡◌, ◌++◌, false, get_or, List, IfOk, OnOk};
 ghost use Rattle.class_diagrams.specs.Trees.{Tree};
 ghost use Rattle.pushdown_sym.specs.CellMap.{trees_in};
-ghost use Rattle.saturation.specs.Waking.{with_atom, AreMakers, AreAbove};
+ghost use Rattle.row_index.specs.Rows.{row_of};
+ghost use Rattle.saturation.specs.Waking.{with_atom, seen_each, AreMakers, AreAbove, AreSeen};
 
-use pushdown_sym::Cells;
+use crate::names::add_kind;
+use pushdown_sym::{Cells, Ends};
 use std::alloc::Global;
-use tp_base::{Atom, NoMemory};
+use tp_base::{Atom, ClassSet, NoMemory};
 
 // The atom with each of these kinds.
 fn add_atom(todo: &mut Vec<(u32, Atom)>, kinds: &[u32], atom: Atom) -> Result<(), NoMemory>
@@ -47,6 +49,54 @@ pub(crate) fn add_above(
     for pair in pairs {
         let makers = makers_of(alloc, now, count, Atom(pair.0))?;
         add_atom(todo, &makers, pair.1)?;
+    }
+    Ok(())
+}
+
+// Those of these kinds that are marked, each with these atoms.
+fn add_marked(
+    kinds: &[u32],
+    marks: &[bool],
+    atoms: &ClassSet,
+    todo: &mut Vec<(u32, Atom)>,
+) -> Result<(), NoMemory>
+    ensures { OnOk result (todo.new.items ≡ todo.old.items ++ seen_each marks.now atoms.now kinds.now) }
+{
+    for i in 0..kinds.len() {
+        let kind = kinds[i];
+        if is_marked(marks, kind) {
+            add_kind(kind, atoms, todo)?;
+        }
+    }
+    Ok(())
+}
+
+// Whether a kind is marked.
+fn is_marked(marks: &[bool], kind: u32) -> bool
+    ensures { result ≡ get_or marks.now kind false }
+{
+    match marks.get(kind as usize) {
+        Some(mark) => *mark,
+        None => false,
+    }
+}
+
+/// The marked kinds, each with the ends of those of these atoms that its nodes may have. A look at each kind that may have
+/// one of the atoms.
+pub(crate) fn add_seen(
+    now: &Cells,
+    marks: &[bool],
+    atoms: &ClassSet,
+    ends: &Ends,
+    todo: &mut Vec<(u32, Atom)>,
+) -> Result<(), NoMemory>
+    ensures { (branches : List Tree) → OnOk result (AreSeen (trees_in branches now.now) marks.now atoms.now (row_of ends.now) todo.old.items todo.new.items) }
+{
+    for i in 0..atoms.len() {
+        let atom = atoms.at(i);
+        if let Some(given) = ends.of(atom) {
+            add_marked(now.kinds_with(atom), marks, given, todo)?;
+        }
     }
     Ok(())
 }

@@ -1,26 +1,25 @@
 //! Which cells read a cell.
 ghost use Rattle.std.specs.Prelude.{◌≡◌, [], map, IfOk, OnOk};
 ghost use Rattle.tp_base.specs.Classes.{union_of};
-ghost use Rattle.simple_core.specs.declared.rules.Link.{Link};
 ghost use Rattle.simple_core.specs.declared.rules.Spawn.{Spawn};
 ghost use Rattle.saturation.specs.Tables.{AreReadsOf};
 
-use crate::names::add_ends;
 use crate::tables::Table;
+use class_diagrams::Marks;
 use gathered::Gathered;
-use simple_core::{Link, Spawn, System};
+use simple_core::{Spawn, System};
 use std::alloc::Global;
 use tp_base::{ClassSet, NoMemory};
 
-/// The rules of a system by what they look at, but for `makers`, which has the spawns by the kind that they make. `ends` are
-/// the atoms that links from children give, and `looked` those at which a link or a spawn looks.
+/// The rules of a system by what they look at, but for `makers`, which has the spawns by the kind that they make. `needs` are
+/// the atoms that make children, and `looked` these and those that children see.
 #[derive(Drop)]
 pub(crate) struct Reads {
     pub(crate) by_needs: Table,
     pub(crate) by_child: Table,
     pub(crate) makers: Table,
-    pub(crate) ends: ClassSet,
-    pub(crate) looked: ClassSet,
+    pub(crate) needs: ClassSet,
+    pub(crate) looked: Marks,
 }
 
 impl Reads {
@@ -30,25 +29,25 @@ impl Reads {
         let by_needs = Table::of_needs(alloc, system.local.items())?;
         let by_child = Table::of_links(alloc, system.down.items())?;
         let makers = Table::of_spawns(alloc, system.child.items())?;
-        let ends = ends_of(alloc, system.down.items())?;
-        let looked = looked_at(alloc, system)?;
+        let needs = needs_of(alloc, system.child.items())?;
+        let looked = Marks::of(alloc, &looked_at(alloc, system)?)?;
         Ok(Reads {
             by_needs,
             by_child,
             makers,
-            ends,
+            needs,
             looked,
         })
     }
 }
 
-// What links give.
-fn ends_of(alloc: Global, links: &[Link]) -> Result<ClassSet, NoMemory>
-    ensures { IfOk result (λ ends. ends ≡ union_of [] (map (λ (l : Link). l.to) links.now)) }
+// The atoms that make children.
+fn needs_of(alloc: Global, spawns: &[Spawn]) -> Result<ClassSet, NoMemory>
+    ensures { IfOk result (λ needs. needs ≡ union_of [] (map (λ (c : Spawn). c.needs) spawns.now)) }
 {
-    let mut ends = Gathered::new(alloc);
-    add_ends(links, &mut ends)?;
-    ends.into_set()
+    let mut needs = Gathered::new(alloc);
+    add_makers(spawns, &mut needs)?;
+    needs.into_set()
 }
 
 // The visible atoms, and those that make children.

@@ -9,14 +9,15 @@ ghost use Rattle.pushdown_sym.specs.Adding.{AreIn};
 ghost use Rattle.pushdown_sym.specs.Rounds.{cell};
 ghost use Rattle.saturation.specs.HistoryMap.{history_in};
 ghost use Rattle.saturation.specs.Tables.{AreReadsOf};
-ghost use Rattle.saturation.specs.Waking.{CellName};
+ghost use Rattle.row_index.specs.Rows.{row_of};
+ghost use Rattle.saturation.specs.Waking.{CellName, AreEnds};
 ghost use Rattle.saturation.specs.Saturation.{AreChanges, AreNotedUpTo, IsDone};
 
 use crate::histories::Log;
 use crate::reads::Reads;
 use crate::waking::readers;
 use class_diagrams::{Diagrams, Ref};
-use pushdown_sym::Cells;
+use pushdown_sym::{Cells, Ends};
 use std::alloc::Global;
 use tp_base::{Atom, NoMemory};
 
@@ -73,17 +74,18 @@ pub(crate) fn noted(
     round: u64,
     count: usize,
     reads: &Reads,
+    ends: &mut Ends,
     changes: &[((u32, Atom), Ref)],
 ) -> Result<Vec<(u32, Atom)>, NoMemory>
     requires cells { AreIn d.now.branches cells.old }
     requires inside { All (λ c. IsIn d.now.branches c.1) changes.now }
     ensures { (s : System) (nodes k : ℕ) (old : Arena) (todo : List CellName) → round ≡ suc k → IsSound s → count ≡ length s.kinds
-        → AreReadsOf s reads.now
+        → AreReadsOf s reads.now → AreEnds s (cell s k) (row_of ends.old)
         → IsDone s nodes k old (history_in log.old) cells.old todo → AreChanges s k old d.now todo changes.now
         → (c : CellName × Reference) → Contains changes.now c
-        → IfOk result (λ next. IsDone s nodes (suc k) d.now (history_in log.new) cells.new next.items) }
+        → IfOk result (λ next. IsDone s nodes (suc k) d.now (history_in log.new) cells.new next.items × AreEnds s (cell s (suc k)) (row_of ends.new)) }
 {
     note_all(d, cells, log, round, changes)?;
-    let next = readers(alloc, cells, count, reads, changes)?;
+    let next = readers(alloc, cells, count, reads, ends, changes)?;
     Ok(next)
 }

@@ -4,6 +4,9 @@ ghost use Rattle.class_diagrams.specs.Arena.{IsArena};
 ghost use Rattle.simple_core.specs.Systems.{IsSound};
 ghost use Rattle.pushdown_sym.specs.Adding.{AreIn};
 ghost use Rattle.pushdown_sym.specs.CellMap.{place_in};
+ghost use Rattle.pushdown_sym.specs.Rounds.{cell};
+ghost use Rattle.row_index.specs.Rows.{row_of};
+ghost use Rattle.saturation.specs.Waking.{AreEnds};
 ghost use Rattle.saturation.specs.Budgets.{MayBeSpent, HasToBeSpent};
 ghost use Rattle.saturation.specs.HistoryMap.{history_in};
 ghost use Rattle.saturation.specs.Histories.{start_place};
@@ -16,7 +19,7 @@ use crate::names::first_cells;
 use crate::reads::Reads;
 use crate::rounds::noted;
 use class_diagrams::{Diagrams, Ref};
-use pushdown_sym::{Cells, Equations};
+use pushdown_sym::{Cells, Ends, Equations};
 use simple_core::{GainFault, System};
 use std::alloc::Global;
 use tp_base::Atom;
@@ -33,6 +36,7 @@ fn saturate_from(
     equations: &Equations,
     count: usize,
     reads: &Reads,
+    ends: &mut Ends,
     d: &mut Diagrams,
     cells: &mut Cells,
     log: &mut Log,
@@ -41,6 +45,7 @@ fn saturate_from(
     requires sound { IsSound equations.now }
     requires count { count ≡ length equations.now.kinds }
     requires reads { AreReadsOf equations.now reads.now }
+    requires ends { AreEnds equations.now (cell equations.now 0) (row_of ends.old) }
     requires done { IsDone equations.now d.old.limit 0 d.old (history_in log.old) cells.old start.items }
     ensures inside { OnOk result (AreIn d.new.branches cells.new) }
     ensures built { OnOk result (IsBuilt equations.now d.new (history_in log.new) cells.new) }
@@ -56,7 +61,7 @@ fn saturate_from(
             return Ok(());
         }
         round += 1;
-        let next = noted(alloc, d, cells, log, round, count, reads, list)?;
+        let next = noted(alloc, d, cells, log, round, count, reads, ends, list)?;
         todo = next;
     }
 }
@@ -83,8 +88,11 @@ fn saturate_by(
 {
     let reads = Reads::new(alloc, system)?;
     let count = system.kinds.items().len();
-    let start = first_cells(alloc, system, &reads)?;
-    saturate_from(alloc, equations, count, &reads, d, cells, log, start)
+    let mut ends = Ends::new(alloc);
+    let start = first_cells(alloc, system, cells, &reads, &mut ends)?;
+    saturate_from(
+        alloc, equations, count, &reads, &mut ends, d, cells, log, start,
+    )
 }
 
 // Whether the system adds no nodes.

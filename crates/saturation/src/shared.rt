@@ -101,7 +101,8 @@ impl Model for SharedSummaries {
 
 impl SharedSummaries {
     /// The summaries of a system, in at most so many branches. Rounds go on until no cell changes, the first over the cells
-    /// that a rule may change then, each other over those that read one that changed in the round before. Behind them
+    /// that a rule may change then, each other over those that read one that changed in the round before. Where what
+    /// children see changed, a kind costs a look at each atom that makes children and that its nodes may have. Behind them
     /// there is one look into the histories for each kind and visible atom.
     pub fn build(alloc: Global, system: &System, nodes: u32) -> Result<Self, GainFault>
         requires sound { IsSound system.now }
