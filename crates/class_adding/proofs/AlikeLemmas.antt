@@ -18,7 +18,7 @@ use Rattle.simple_core.proofs.Members.{Contains-range}
 use Rattle.simple_core.proofs.PageRest.{counted_child}
 use Rattle.closed_page.specs.Gains.{label_in}
 use Rattle.closed_page.specs.Labelled.{IsAbove, AreKids}
-use Rattle.closed_page.specs.declared.gains.Gain.{Gain}
+use Rattle.closed_page.specs.Gains.{Gain}
 use Rattle.class_adding.specs.declared.looking.Look.{Look}
 use Rattle.class_adding.specs.Alike.{IsLeaf, IsAlike, AreAlike}
 use Rattle.class_adding.specs.Filling.{above_in, real_in, label_next, IsAfter}

@@ -5,7 +5,8 @@ use Rattle.tree_sem.specs.Trees.{LabelTree}
 use Rattle.tree_sem.specs.Order.{paths_of}
 use Rattle.simple_core.specs.declared.system.System.{System}
 use Rattle.simple_core.specs.Pairs.{Pair}
-use Rattle.closed_page.specs.declared.gains.Gain.{Gain}
+use Rattle.closed_page.specs.declared.gains.NodeGain.{NodeGain}
+use Rattle.closed_page.specs.Gains.{Gain, gains_at}
 use Rattle.class_adding.specs.declared.looking.Look.{Look}
 use Rattle.class_adding.specs.Alike.{AreAlike}
 use Rattle.class_adding.specs.Filling.{AreLooked, AreFresh, IsNews, IsLooked, IsAfter, wake_at, wakes_in}
@@ -57,17 +58,17 @@ module _ (s : System) (u : LabelTree) (nodes : List (List ℕ)) (k : ℕ) (known
   undue : (i : ℕ) → i < length nodes → (Contains w.due.items i → ⊥) → IsLooked s u k known [] (wake_at w.wakes.items i) (get_or nodes i [])
   undue i less never = elim (rests i less) [ inl there ↦ absurd (never there) | inr look ↦ look ]
 
-  still : (i : ℕ) → i < length nodes → (Contains w.due.items i → ⊥) → IsLooked s u k known' r.gains.items (wake_at w.wakes.items i) (get_or nodes i [])
-  still i less never = looked_more s u k known known' [] r.gains.items (wake_at w.wakes.items i) (get_or nodes i []) more (λ g none. absurd (no_gain g none)) (undue i less never)
+  still : (i : ℕ) → i < length nodes → (Contains w.due.items i → ⊥) → IsLooked s u k known' (gains_at nodes r.gains.items) (wake_at w.wakes.items i) (get_or nodes i [])
+  still i less never = looked_more s u k known known' [] (gains_at nodes r.gains.items) (wake_at w.wakes.items i) (get_or nodes i []) more (λ g none. absurd (no_gain g none)) (undue i less never)
     where
       no_gain : (g : Gain) → Contains [] g → ⊥
       no_gain g (j, less, at) = omega (arith, less)
 
-  pub all_seen : w.latest ≤ latest → AreUntil r.looks.items latest → AreSeen s u k known' r.gains.items latest nodes
+  pub all_seen : w.latest ≤ latest → AreUntil r.looks.items latest → AreSeen s u k known' (gains_at nodes r.gains.items) latest nodes
   all_seen before until i less = elim (is_due i w.due.items) [
     | inl there ↦
         let l = found.covers i there in
-        let at : IsLooked s u k known' r.gains.items l.0.wake (get_or nodes i []) = subst (λ n. IsLooked s u k known' r.gains.items l.0.wake (get_or nodes n [])) l.2 (looked_now s u k known' r.gains.items nodes l.0 (found.looks_are l.0 l.1)) in
+        let at : IsLooked s u k known' (gains_at nodes r.gains.items) l.0.wake (get_or nodes i []) = subst (λ n. IsLooked s u k known' (gains_at nodes r.gains.items) l.0.wake (get_or nodes n [])) l.2 (looked_now s u k known' (gains_at nodes r.gains.items) nodes l.0 (found.looks_are l.0 l.1)) in
         (l.0.wake, at, until l.0 l.1)
     | inr never ↦ (wake_at w.wakes.items i, still i less never, sooner (wake_at w.wakes.items i) before (working.until i))
   ]
@@ -87,14 +88,14 @@ module _ (s : System) (u : LabelTree) (nodes : List (List ℕ)) (k : ℕ) (known
         subst (λ (z : List ℕ). IsNews s u k (get_or nodes i []) z) (sym l.3) (subst (λ n. IsNews s u k (get_or nodes n []) l.0.news) l.2 (found.looks_are l.0 l.1).tells.is_news)
   ]
 
-  pub all_looked : (wakes : List (Option ℕ)) → IsWritten (λ (l : Look). l.wake) None r.looks.items w.wakes.items wakes → AreLooked s u k known' r.gains.items wakes nodes
+  pub all_looked : (wakes : List (Option ℕ)) → IsWritten (λ (l : Look). l.wake) None r.looks.items w.wakes.items wakes → AreLooked s u k known' (gains_at nodes r.gains.items) wakes nodes
   all_looked wakes written i less = elim (written.each i) [
     | inl kept ↦
         let never : Contains w.due.items i → ⊥ = λ there. let l = found.covers i there in kept.1 l.0 l.1 l.2 in
-        subst (λ (z : Option ℕ). IsLooked s u k known' r.gains.items z (get_or nodes i [])) (sym kept.0) (still i less never)
+        subst (λ (z : Option ℕ). IsLooked s u k known' (gains_at nodes r.gains.items) z (get_or nodes i [])) (sym kept.0) (still i less never)
     | inr l ↦
-        subst (λ (z : Option ℕ). IsLooked s u k known' r.gains.items z (get_or nodes i [])) (sym l.3)
-        (subst (λ n. IsLooked s u k known' r.gains.items l.0.wake (get_or nodes n [])) l.2 (looked_now s u k known' r.gains.items nodes l.0 (found.looks_are l.0 l.1)))
+        subst (λ (z : Option ℕ). IsLooked s u k known' (gains_at nodes r.gains.items) z (get_or nodes i [])) (sym l.3)
+        (subst (λ n. IsLooked s u k known' (gains_at nodes r.gains.items) l.0.wake (get_or nodes n [])) l.2 (looked_now s u k known' (gains_at nodes r.gains.items) nodes l.0 (found.looks_are l.0 l.1)))
   ]
 
 not_woken : (wake : Option ℕ) (n : ℕ) → (wake ≡ Some n → ⊥) → wakes_in n wake ≡ false
@@ -131,11 +132,11 @@ rests_next s t u u' k k' latest known gains nodes w w' looks all after after' fr
 ]
 
 -- how many rounds there are: each has a gain, or comes before the last one in which a node wakes
-some_gains : (gains : List Gain) → (gains ≡ [] → ⊥) → 0 < length gains
+some_gains : (gains : List NodeGain) → (gains ≡ [] → ⊥) → 0 < length gains
 some_gains [] some = absurd (some refl)
 some_gains (g ∷ gains) some = omega arith
 
-few_next : (k k' latest notes notes' : ℕ) (gains : List Gain) → (gains ≢ []) ⊎ (k < latest) → latest < 2 ^ 62 → k ≤ 2 ^ 62 + notes → k' ≡ suc k → notes' ≡ notes + length gains → k' ≤ 2 ^ 62 + notes'
+few_next : (k k' latest notes notes' : ℕ) (gains : List NodeGain) → (gains ≢ []) ⊎ (k < latest) → latest < 2 ^ 62 → k ≤ 2 ^ 62 + notes → k' ≡ suc k → notes' ≡ notes + length gains → k' ≤ 2 ^ 62 + notes'
 few_next k k' latest notes notes' gains cases bound few next more = elim cases [
   | inl some ↦ let one : 0 < length gains = some_gains gains some in omega (arith, one, few, next, more)
   | inr waits ↦ let less : k < latest = waits in omega (arith, less, bound, next)
@@ -149,7 +150,7 @@ filled_next s t k k' latest known known' f f' r filled more found before until b
     let u' = f'.labels.labels in
     let nodes = f.labels.nodes in
     let nodes' = f'.labels.nodes in
-    let gains = r.gains.items in
+    let gains = gains_at nodes r.gains.items in
     let looks = r.looks.items in
     let wakes = f'.work.wakes.items in
     let fresh = f'.work.fresh.items in
@@ -174,6 +175,6 @@ filled_next s t k k' latest known known' f f' r filled more found before until b
       alike = subst (λ (z : List (List ℕ)). AreAlike u' z f'.alike.items) (sym same)
           (all_alike_next s t u u' k nodes f.alike.items f'.alike.items filled.nodes filled.closing.after after' (ap (λ z. z.items) taken.alike) filled.alike);
       nodes = same ∙ filled.nodes;
-      few = few_next k k' latest f.labels.notes f'.labels.notes gains cases bound filled.few next taken.notes;
+      few = few_next k k' latest f.labels.notes f'.labels.notes r.gains.items cases bound filled.few next taken.notes;
       room = taken.few filled.room;
     }

@@ -24,7 +24,7 @@ use Rattle.simple_core.proofs.PageRest.{counted_child}
 use Rattle.simple_core.proofs.LabelLemmas.{given_by_rules-is, is-given_by_rules, given_by_links-is, is-given_by_links, kinds_at-is, is-kinds_at}
 use Rattle.simple_core.proofs.PageLemmas.{page-rises}
 use Rattle.rule_index.specs.Asking.{AreUnseen}
-use Rattle.closed_page.specs.declared.gains.Gain.{Gain}
+use Rattle.closed_page.specs.Gains.{Gain}
 use Rattle.class_adding.specs.Filling.{above_in, real_in, within_page, label_next, IsAfter, AreFresh, IsBefore, IsLooked, AreLooked, wake_at, wakes_in}
 use Rattle.closed_page.specs.Gains.{label_in}
 use Rattle.closed_page.specs.Labelled.{AreAllLabels}

@@ -6,7 +6,7 @@ use Rattle.std.specs.Prelude.{◌≡◌, ◌++◌, ◌+◌, ◌<◌, ◌^◌, �
 use Rattle.std.specs.List.Sorted.{IsStrictlyIncreasing}
 use Rattle.tree_sem.specs.Trees.{LabelTree}
 use Rattle.tree_sem.specs.Order.{paths_of}
-use Rattle.closed_page.specs.Gains.{label_in, AreStarts, with_gains, news}
+use Rattle.closed_page.specs.Gains.{label_in, AreStarts, gains_at, with_gains, news}
 use Rattle.class_adding.specs.Alike.{AreAlike}
 use Rattle.class_adding.specs.Work.{IsStart, IsNext}
 use Rattle.class_adding.specs.declared.filling.Filling.{Filling}
@@ -22,9 +22,9 @@ pub record IsBegun (t : LabelTree) (f : Filling) : Type 0 where
   pub start : IsStart t f.labels.nodes f.work
 
 pub record IsTaken (f : Filling) (r : Round) (latest k : ℕ) (f' : Filling) : Type 0 where
-  pub labels : f'.labels.labels ≡ with_gains f.labels.labels r.gains.items
+  pub labels : f'.labels.labels ≡ with_gains f.labels.labels (gains_at f.labels.nodes r.gains.items)
   pub nodes : f'.labels.nodes ≡ f.labels.nodes
-  pub firsts : f'.labels.firsts ≡ f.labels.firsts ++ news f.labels.labels r.gains.items k
+  pub firsts : f'.labels.firsts ≡ f.labels.firsts ++ news f.labels.labels (gains_at f.labels.nodes r.gains.items) k
   pub notes : f'.labels.notes ≡ f.labels.notes + length r.gains.items
   pub few : f.labels.notes < 2 ^ 63 → f'.labels.notes < 2 ^ 63
   pub alike : f'.alike ≡ f.alike

@@ -1,4 +1,5 @@
 -- What a round found at the nodes that were due.
+--     gain_of c news         the node with the number c gains these atoms
 --     MayLook S a f k number a look at the node with this number tells what is new there after one more round than k
 --     IsLookAt .. number l   the look l says what is new at the node with this number, and when it wakes
 --     IsLook .. nodes l      l is such a look at its node, and what is new there is among the gains
@@ -12,8 +13,8 @@ use Rattle.simple_core.specs.declared.system.System.{System}
 use Rattle.simple_core.specs.Pairs.{Pair}
 use Rattle.simple_core.specs.declared.summaries.Summaries.{Ghosts}
 use Rattle.rule_index.specs.Asking.{AreUnseen}
-use Rattle.closed_page.specs.declared.gains.Gain.{Gain}
-use Rattle.closed_page.specs.Gains.{label_in}
+use Rattle.closed_page.specs.declared.gains.NodeGain.{NodeGain}
+use Rattle.closed_page.specs.Gains.{Gain, gains_at, label_in}
 use Rattle.closed_page.specs.Labelled.{node_of}
 use Rattle.class_adding.specs.declared.asker.Asker.{Asker}
 use Rattle.class_adding.specs.declared.filling.Filling.{Filling}
@@ -24,6 +25,9 @@ use Rattle.class_adding.specs.Alike.{IsAlike, AreAlike}
 use Rattle.class_adding.specs.Filling.{IsGained, IsLooked, IsNews, AreRight, AreNew, wake_at}
 use Rattle.class_adding.specs.Fresh.{IsSettled, IsAsleep, IsResting}
 use Rattle.class_adding.specs.Work.{IsWorking, IsSeen}
+
+abbrev pub gain_of : ℕ → List ℕ → NodeGain
+gain_of c news = record { number = c; label = news }
 
 -- the asker may look at the node with this number
 pub record MayLook {X : Type 0} (S : Ghosts X) (a : Asker X) (f : Filling) (k number : ℕ) : Type 0 where
@@ -65,7 +69,8 @@ RestUndue s u k known due wakes nodes = (i : ℕ) → i < length nodes → Conta
 
 -- a round found what is new at each node that was due
 pub record AreFound (s : System) (u : LabelTree) (nodes : List (List ℕ)) (k : ℕ) (known : Pair → Type 0) (due : List ℕ) (r : Round) : Type 0 where
-  pub right : AreRight s u k r.gains.items
-  pub news : AreNew u r.gains.items
-  pub looks_are : AreLooks s u k known r.gains.items nodes r.looks.items
+  pub right : AreRight s u k (gains_at nodes r.gains.items)
+  pub news : AreNew u (gains_at nodes r.gains.items)
+  pub looks_are : AreLooks s u k known (gains_at nodes r.gains.items) nodes r.looks.items
+  pub numbers : All (λ g. g.number < length nodes) r.gains.items
   pub covers : (i : ℕ) → Contains due i → IsSeen r.looks.items i

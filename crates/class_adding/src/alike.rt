@@ -3,7 +3,7 @@ ghost use Rattle.std.specs.Prelude.{◌≡◌, ◌<◌, ℕ, suc, List, false, l
 ghost use Rattle.tree_sem.specs.Paths.{parent_of};
 ghost use Rattle.simple_core.specs.Pairs.{Asks};
 ghost use Rattle.closed_page.specs.Gains.{label_in};
-ghost use Rattle.closed_page.specs.declared.gains.Gain.{Gain};
+ghost use Rattle.closed_page.specs.Gains.{Gain};
 ghost use Rattle.closed_page.specs.Labelled.{node_of};
 ghost use Rattle.class_adding.specs.Alike.{IsLeaf, IsAlike, AreAlike};
 ghost use Rattle.class_adding.specs.Asking.{Went, TellsSpent};

@@ -3,18 +3,20 @@ ghost use Rattle.std.specs.Prelude.{◌≡◌, ◌<◌, length, Contains, All, O
 ghost use Rattle.class_adding.specs.Asking.{IsReady, Went, TellsSpent};
 
 use crate::gifts::Gift;
+use closed_page::SharedSets;
 use pair_table::PairTable;
 use rule_index::IndexedSystem;
 use simple_core::{GainFault, Summaries};
 use tp_base::{ClassSet, Items};
 
-/// The rules of a system, the summaries that are asked for added children, and what is remembered of these: a row for each kind below
-/// a visible label, with what it gives.
+/// The rules of a system, the summaries that are asked for added children, what is remembered of these, which is a row for each
+/// kind below a visible label with what it gives, and sets of atoms that nodes share.
 #[derive(Drop)]
 pub(crate) struct Asker<'a, 's, S: Summaries> {
     pub(crate) system: &'a IndexedSystem<'s>,
     pub(crate) sums: &'a mut S,
     pub(crate) remembered: &'a mut PairTable<Items<Gift>>,
+    pub(crate) sets: &'a mut SharedSets,
 }
 
 impl<'a, 's, S: Summaries> Asker<'a, 's, S> {

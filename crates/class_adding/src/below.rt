@@ -45,6 +45,10 @@ impl<'a, 's, S: Summaries> Asker<'a, 's, S> {
         ensures spent { TellsSpent S.Summaries result self.old self.new }
     {
         let system = self.system;
+        let kinds = system.kinds();
+        if kinds.len() == 0 {
+            return Ok(None);
+        }
         if !is_due(system, fresh, wake, k) {
             return Ok(wake);
         }

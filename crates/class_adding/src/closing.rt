@@ -9,7 +9,7 @@ ghost use Rattle.closed_page.specs.Views.{firsts_of};
 
 use crate::asker::Asker;
 use crate::filling::{Filling, begin};
-use closed_page::Closed;
+use closed_page::{Closed, SharedSets};
 use pair_table::PairTable;
 use rule_index::IndexedSystem;
 use simple_core::{GainFault, Summaries, System};
@@ -53,10 +53,12 @@ fn close_over<S: Summaries>(
 {
     let mut filling = begin(alloc, page)?;
     let mut remembered = PairTable::new(alloc);
+    let mut sets = SharedSets::new(alloc)?;
     let mut asker = Asker {
         system,
         sums,
         remembered: &mut remembered,
+        sets: &mut sets,
     };
     asker.fill(alloc, page, &mut filling)?;
     let closed = closed_of(alloc, filling)?;
@@ -70,8 +72,8 @@ fn close_over<S: Summaries>(
 /// one of these or needs none; a child that got the same atoms as the one before it costs a comparison of these. Where an
 /// added child gives more, or a new atom adds a child or can be seen by one, a look costs a few steps for each atom of the
 /// label and of what such a child sees, too. Where a node has the parent and at first the label of the one before it, and
-/// neither has children, it takes over that look by a few steps. A change costs the node's depth, and at most its label's
-/// length, in steps that only copy or move.
+/// neither has children, it takes over that look by a few steps. A change costs at most the length of the node's label, in
+/// steps that only copy or move.
 pub fn close_page<S: Summaries>(
     alloc: Global,
     page: &Tree,

@@ -51,7 +51,7 @@ fn take_round(
     latest: u64,
     k: u64,
 ) -> Result<(), NoMemory>
-    requires gains { All (λ g. Contains filling.old.labels.nodes g.at) round.now.gains.items }
+    requires gains { All (λ g. g.number < length filling.old.labels.nodes) round.now.gains.items }
     requires numbers { (l : Look) → Contains round.now.looks.items l → l.number < length filling.old.labels.nodes }
     requires working { IsWorking filling.old.labels.nodes filling.old.work }
     ensures { OnOk result (IsTaken filling.old round.now latest k filling.new) }

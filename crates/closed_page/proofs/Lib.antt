@@ -2,7 +2,7 @@ pub mod AddLemmas
 pub mod CallLemmas
 pub mod ChildLemmas
 pub mod FirstsLemmas
-mod GainLemmas
+pub mod GainLemmas
 pub mod LabelledLemmas
 mod NodeLemmas
 mod NoteLemmas

@@ -3,6 +3,8 @@
 --     firsts_at at own label round   the atoms of the label that the node doesn't have in `own`, as firsts of that round
 --     new_of own label       the atoms of the label that a node doesn't have in `own`
 --     IsLonger own new         new has what own has, and some atoms more
+--     Gain                   a node's path, and what the node gains
+--     gains_at nodes gs        what the nodes with these numbers gain, by their paths
 --     with_gains u gs          the tree with the gains gs, one after another
 --     news u gs round          the firsts that they bring
 --     starts t nodes           the firsts of these nodes before any round
@@ -13,7 +15,7 @@ use Rattle.std.specs.List.{filter}
 use Rattle.tp_base.specs.Classes.{has_class, union_of}
 use Rattle.tree_sem.specs.Trees.{LabelTree, label_at, edit_at}
 use Rattle.tree_sem.specs.Actions.{add_classes}
-use Rattle.closed_page.specs.declared.gains.Gain.{Gain}
+use Rattle.closed_page.specs.declared.gains.NodeGain.{NodeGain}
 use Rattle.closed_page.specs.Views.{PageFirst}
 
 abbrev pub label_in : LabelTree → List ℕ → List ℕ
@@ -27,6 +29,16 @@ new_of own label = filter (λ a. not (has_class a own)) label
 
 abbrev pub IsLonger : List ℕ → List ℕ → Type 0
 IsLonger own new = (more : List ℕ) × (new ≡ union_of own more)
+
+pub record Gain : Type 0 where
+  pub at : List ℕ
+  pub label : List ℕ
+
+abbrev pub gain_at : List (List ℕ) → NodeGain → Gain
+gain_at nodes g = record { at = get_or nodes g.number []; label = g.label }
+
+abbrev pub gains_at : List (List ℕ) → List NodeGain → List Gain
+gains_at nodes gs = map (gain_at nodes) gs
 
 abbrev pub with_gain : LabelTree → Gain → LabelTree
 with_gain u g = edit_at g.at (add_classes g.label) u

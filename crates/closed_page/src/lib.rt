@@ -11,6 +11,6 @@ mod page_labels;
 mod shared_set;
 
 pub use closed::Closed;
-pub use gains::{Gain, apply_gains};
+pub use gains::{NodeGain, apply_gains};
 pub use page_labels::PageLabels;
-pub use shared_set::SharedSet;
+pub use shared_set::{SharedSet, SharedSets};

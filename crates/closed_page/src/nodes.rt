@@ -1,5 +1,5 @@
 //! The nodes of a page, by their numbers in the order of the document.
-ghost use Rattle.std.specs.Prelude.{◌≡◌, ◌<◌, ◌++◌, ◌∷◌, ℕ, List, [], Some, length, get_or, slice_get, reverse, Contains, ◌↔◌, IsTrue, IfSome, IsNone, IfOk};
+ghost use Rattle.std.specs.Prelude.{◌≡◌, ◌<◌, ◌++◌, ◌∷◌, ℕ, List, [], Some, length, get_or, slice_get, Contains, ◌↔◌, IsTrue, IfSome, IsNone, IfOk};
 ghost use Rattle.tree_sem.specs.Trees.{LabelTree};
 ghost use Rattle.tree_sem.specs.Order.{paths_of};
 ghost use Rattle.row_index.specs.Rows.{row_of};
@@ -83,33 +83,6 @@ impl PageNodes {
         ensures { AreKids self.now number result.now }
     {
         self.kids.of(number)
-    }
-
-    /// The path of a node. Linear in its length.
-    pub(crate) fn path(&self, number: usize) -> Result<Path, NoMemory>
-        requires { number < length self.now }
-        ensures { IfOk result (λ p. p ≡ get_or self.now number []) }
-    {
-        let mut steps = self.steps_up(number)?;
-        let mut at = Path::root(*self.steps.allocator());
-        'steps: while let Some(step) = steps.pop() {
-            at.push(step)?;
-        }
-        Ok(at)
-    }
-
-    // The steps of a node's path, the last one first.
-    fn steps_up(&self, number: usize) -> Result<Vec<u32>, NoMemory>
-        requires { number < length self.now }
-        ensures { IfOk result (λ s. reverse s.items ≡ get_or self.now number []) }
-    {
-        let mut steps = Vec::new(*self.steps.allocator());
-        let mut at = number;
-        'nodes: while let Some(parent) = self.parent(at) {
-            steps.push(self.step(at))?;
-            at = parent;
-        }
-        Ok(steps)
     }
 
     /// The number of a path. Linear in its length where it is there, and else linear in the children of a node, too.

@@ -19,7 +19,7 @@ use node_marks::NumberedTree;
 use row_index::Index;
 use std::alloc::Global;
 use std::marker::Model;
-use tp_base::{ClassSet, NoMemory, Path};
+use tp_base::{ClassSet, NoMemory};
 use tree_sem::Tree;
 
 /// The labels of a page's nodes by their numbers, and the first rounds of the atoms.
@@ -112,22 +112,6 @@ impl PageLabels {
         ensures { result ≡ length self.now.nodes }
     {
         self.nodes.count()
-    }
-
-    /// The path of a node. Linear in its length: it is made of the steps from the node up.
-    pub fn path(&self, number: usize) -> Result<Path, NoMemory>
-        requires { number < length self.now.nodes }
-        ensures { IfOk result (λ p. p ≡ node_of self.now number) }
-    {
-        self.nodes.path(number)
-    }
-
-    /// The number of a node. Linear in its path's length where the node is there, and else linear in the children of a node, too.
-    pub fn number_of(&self, at: &Path) -> Option<usize>
-        ensures some { IfSome result (λ i. (i < length self.now.nodes) × (node_of self.now i ≡ at.now)) }
-        ensures none { IsNone result → ¬ Contains self.now.nodes at.now }
-    {
-        self.nodes.number_of(at)
     }
 
     /// The numbers of all nodes. Linear in them.

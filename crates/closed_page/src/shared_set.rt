@@ -66,6 +66,70 @@ impl SharedSet {
     }
 }
 
+// Whether a set has the same atoms as another one.
+fn is_same(known: &SharedSet, set: &ClassSet) -> bool
+    ensures { IsTrue result → known.now ≡ set.now }
+{
+    same_atoms(known.set(), set)
+}
+
+/// Sets of one atom each, by the atom, and the set without atoms where none is known.
+#[derive(Drop)]
+pub struct SharedSets {
+    none: SharedSet,
+    ones: Vec<SharedSet>,
+}
+
+impl SharedSets {
+    /// No set is known yet.
+    pub fn new(alloc: Global) -> Result<SharedSets, NoMemory> {
+        Ok(SharedSets {
+            none: SharedSet::new(ClassSet::new(alloc))?,
+            ones: Vec::new(alloc),
+        })
+    }
+
+    // Makes a place for the atom.
+    fn reach(&mut self, place: usize) -> Result<(), NoMemory>
+        ensures { OnOk result (place < length self.new.ones.items) }
+    {
+        'ones: while self.ones.len() <= place {
+            let none = self.none.share()?;
+            self.ones.push(none)?;
+        }
+        Ok(())
+    }
+
+    // The set, which is the one that is known at the place, or is known there from now on.
+    fn one(&mut self, set: ClassSet, place: usize) -> Result<SharedSet, NoMemory>
+        ensures { IfOk result (λ s. s ≡ set) }
+    {
+        self.reach(place)?;
+        let known = &self.ones[place];
+        if is_same(known, &set) {
+            let again = known.share()?;
+            return Ok(again);
+        }
+        let shared = SharedSet::new(set)?;
+        let kept = shared.share()?;
+        self.ones[place] = kept;
+        Ok(shared)
+    }
+
+    /// The set, kept as it is. One of a single atom is shared with those before it that had this atom alone. Constant, but linear
+    /// in the atom's number where it is the largest so far.
+    pub fn share_of(&mut self, set: ClassSet) -> Result<SharedSet, NoMemory>
+        ensures { IfOk result (λ s. s ≡ set) }
+    {
+        if set.len() == 1 {
+            let atom = set.at(0);
+            return self.one(set, atom.0 as usize);
+        }
+        let shared = SharedSet::new(set)?;
+        Ok(shared)
+    }
+}
+
 /// These sets, once more. Linear in their number.
 pub(crate) fn shares(alloc: Global, sets: &[SharedSet]) -> Result<Vec<SharedSet>, NoMemory>
     ensures { IfOk result (λ v. v.items ≡ sets.now) }

@@ -20,6 +20,9 @@ fill-requires-clause-ready g c = record {
 pub returns-in_err-filling-clause-within : goal.returns-in_err-filling-clause-within
 returns-in_err-filling-clause-within g c = on_err (TellsWithin c.args.system.now (g.S.Summaries.told c.args.sums.now) (g.S.Summaries.told c.args.sums.now) (Asked c.args.system.now c.args.page.now)) c.from_residual.result (tells_within-start c.args.system.now (g.S.Summaries.told c.args.sums.now) (Asked c.args.system.now c.args.page.now))
 
+pub returns-in_err-sets-clause-within : goal.returns-in_err-sets-clause-within
+returns-in_err-sets-clause-within g c = on_err (TellsWithin c.args.system.now (g.S.Summaries.told c.args.sums.now) (g.S.Summaries.told c.args.sums.now) (Asked c.args.system.now c.args.page.now)) c.from_residual-in_err-sets.result (tells_within-start c.args.system.now (g.S.Summaries.told c.args.sums.now) (Asked c.args.system.now c.args.page.now))
+
 pub returns-in_err-fill-clause-within : goal.returns-in_err-fill-clause-within
 returns-in_err-fill-clause-within g c = on_err (TellsWithin c.args.system.now (g.S.Summaries.told c.args.sums.now) _ (Asked c.args.system.now c.args.page.now)) c.from_residual-in_err-fill.result (search rules)
 

@@ -1,6 +1,7 @@
-use Rattle.std.proofs.Common.{List, Contains, ◌+◌, ◌^◌, sym, refl, ◌∙◌, arith, subst}
+use Rattle.std.proofs.Common.{List, Contains, ◌+◌, ◌^◌, sym, refl, ap, ◌∙◌, arith, subst}
 use Rattle.simple_core.specs.declared.system.System.{System}
 use Rattle.simple_core.specs.Pairs.{Asked}
+use Rattle.closed_page.specs.Gains.{gains_at}
 use Rattle.class_adding.specs.declared.looking.Look.{Look}
 use Rattle.class_adding.specs.Fresh.{AreSettled, AreResting}
 use Rattle.class_adding.specs.Looks.{AreFound}
@@ -9,7 +10,6 @@ use Rattle.class_adding.proofs.WentLemmas.{went_start, ok_spent, err_spent}
 use Rattle.class_adding.proofs.EndLemmas.{closing_end, all_known, looked_nodes, went_page, told_page}
 use Rattle.class_adding.proofs.FirstsLemmas.{firsts_placed}
 use Rattle.class_adding.proofs.FillingLemmas.{filled_start, all_seen, filled_next}
-use Rattle.class_adding.proofs.ThereLemmas.{gains_there}
 use Rattle.class_adding.proofs.asker.Asker.fill.Goals as goal
 
 pub rounds-init : goal.rounds-init
@@ -69,7 +69,7 @@ returns-then-is_last-clause-closed g c =
     let f = c.rounds.invariant.filled in
     let until : AreUntil c.in_ok-round.round.looks.items latest = subst (λ (z : List Look). AreUntil z latest) c.deref.ensures.value c.latest_of-latest.ensures.until in
     let seen = all_seen s labels.labels labels.nodes c.rounds.k known known' c.rounds.filling.work c.in_ok-round.round latest f.rests f.working found c.look_at_all.ensures.went.kept c.latest_of-latest.ensures.least until in
-    closing_end s c.args.page.now labels.labels labels.firsts c.rounds.k known known' labels.nodes c.in_ok-round.round.gains.items latest f.nodes f.closing found.right seen c.look_at_all.ensures.went.kept last.0 last.1
+    closing_end s c.args.page.now labels.labels labels.firsts c.rounds.k known known' labels.nodes (gains_at labels.nodes c.in_ok-round.round.gains.items) latest f.nodes f.closing found.right seen c.look_at_all.ensures.went.kept (ap (gains_at labels.nodes) last.0) last.1
 
 pub returns-then-is_last-clause-nodes : goal.returns-then-is_last-clause-nodes
 returns-then-is_last-clause-nodes g c =
@@ -90,7 +90,7 @@ returns-then-is_last-clause-asked g c =
     let f = c.rounds.invariant.filled in
     let until : AreUntil c.in_ok-round.round.looks.items latest = subst (λ (z : List Look). AreUntil z latest) c.deref.ensures.value c.latest_of-latest.ensures.until in
     let seen = all_seen s labels.labels labels.nodes c.rounds.k known known' c.rounds.filling.work c.in_ok-round.round latest f.rests f.working found c.look_at_all.ensures.went.kept c.latest_of-latest.ensures.least until in
-    all_known s c.args.page.now labels.labels labels.firsts c.rounds.k known known' labels.nodes c.in_ok-round.round.gains.items latest f.nodes f.closing found.right seen c.look_at_all.ensures.went.kept last.0 last.1
+    all_known s c.args.page.now labels.labels labels.firsts c.rounds.k known known' labels.nodes (gains_at labels.nodes c.in_ok-round.round.gains.items) latest f.nodes f.closing found.right seen c.look_at_all.ensures.went.kept (ap (gains_at labels.nodes) last.0) last.1
 
 pub returns-then-is_last-clause-told : goal.returns-then-is_last-clause-told
 returns-then-is_last-clause-told g c =
@@ -106,7 +106,7 @@ returns-then-is_last-clause-told g c =
     let seen = all_seen s labels.labels labels.nodes c.rounds.k known known' c.rounds.filling.work c.in_ok-round.round latest f.rests f.working found c.look_at_all.ensures.went.kept c.latest_of-latest.ensures.least until in
     let went = went_page g.S.Summaries c.args.page.now c.rounds.filling.labels.labels c.rounds.filling.labels.firsts c.rounds.k c.args.self.now c.rounds.self c.look_at_all.new.self c.rounds.invariant.filled.closing c.rounds.invariant.went c.look_at_all.ensures.went in
     told_page g.S.Summaries c.args.page.now c.args.self.now c.look_at_all.new.self c.requires.ready went
-    (all_known s c.args.page.now labels.labels labels.firsts c.rounds.k known known' labels.nodes c.in_ok-round.round.gains.items latest f.nodes f.closing found.right seen c.look_at_all.ensures.went.kept last.0 last.1)
+    (all_known s c.args.page.now labels.labels labels.firsts c.rounds.k known known' labels.nodes (gains_at labels.nodes c.in_ok-round.round.gains.items) latest f.nodes f.closing found.right seen c.look_at_all.ensures.went.kept (ap (gains_at labels.nodes) last.0) last.1)
 
 pub returns-then-is_last-clause-went : goal.returns-then-is_last-clause-went
 returns-then-is_last-clause-went g c = went_page g.S.Summaries c.args.page.now c.rounds.filling.labels.labels c.rounds.filling.labels.firsts c.rounds.k c.args.self.now c.rounds.self c.look_at_all.new.self c.rounds.invariant.filled.closing c.rounds.invariant.went c.look_at_all.ensures.went
@@ -135,13 +135,7 @@ rounds-preserved g c =
     }
 
 pub take_round-requires-clause-gains : goal.take_round-requires-clause-gains
-take_round-requires-clause-gains g c =
-    let s = c.args.self.now.system.now in
-    let labels = c.rounds.filling.labels in
-    let known = g.S.Summaries.known c.rounds.self.sums.now in
-    let known' = g.S.Summaries.known c.look_at_all.new.self.sums.now in
-    let found = subst (λ (z : System). AreFound z labels.labels labels.nodes c.rounds.k known' c.rounds.filling.work.due.items c.in_ok-round.round) c.rounds.invariant.went.same_system c.in_ok-round.ensures.found in
-    gains_there s c.args.page.now labels.labels labels.firsts c.rounds.k known labels.nodes c.in_ok-round.round.gains.items c.rounds.invariant.filled.nodes c.rounds.invariant.filled.closing found.right
+take_round-requires-clause-gains g c = c.in_ok-round.ensures.found.numbers
 
 pub take_round-requires-clause-numbers : goal.take_round-requires-clause-numbers
 take_round-requires-clause-numbers g c = λ l there. (c.in_ok-round.ensures.found.looks_are l there).within

@@ -6,7 +6,7 @@ use Rattle.class_adding.specs.Filling.{wake_at}
 use Rattle.closed_page.specs.Gains.{label_in}
 use Rattle.closed_page.specs.Labelled.{node_of}
 use Rattle.class_adding.specs.Fresh.{IsAsleep, IsResting}
-use Rattle.class_adding.proofs.WentLemmas.{went_start}
+use Rattle.class_adding.proofs.WentLemmas.{went_start, went_rows, went_here}
 use Rattle.class_adding.proofs.FreshLemmas.{is_news, some_new, none_new, was_some}
 use Rattle.class_adding.proofs.asker.Asker.look_at.Goals as goal
 
@@ -44,3 +44,15 @@ returns-clause-look g c =
       other = λ grew. subst (λ (z : List ℕ). All (Contains z) c.in_ok-news.news → ⊥) (sym own) (some_new c.own-own.result.now c.look_below.new.next c.in_ok-news.news c.len-grew.result c.in_ok-news.ensures count (was_some c.len-grew.result grew));
       asleep = subst (λ (z : List ℕ). IsAsleep c.args.self.now.system.now c.args.k (g.S.Summaries.known c.look_below.new.self.sums.now) z c.in_ok-later.later) (sym own) c.in_ok-later.ensures.asleep;
     }
+
+pub returns-in_err-news-clause-went : goal.returns-in_err-news-clause-went
+returns-in_err-news-clause-went g c =
+    went_rows g.S.Summaries (Asks c.args.self.now.system.now (label_in c.args.filling.now.labels.labels (node_of c.args.filling.now.labels c.args.number))) c.args.self.now c.look_below.new.self _
+    (went_here g.S.Summaries c.args.self.now c.look_below.new.self (label_in c.args.filling.now.labels.labels (node_of c.args.filling.now.labels c.args.number)) c.own-own.result.now (ap (λ o. unwrap_or o []) c.own-own.ensures) c.look_below.ensures.went)
+    refl refl refl c.look_below.ensures.went.ready.remembered
+
+pub returns-clause-went : goal.returns-clause-went
+returns-clause-went g c =
+    went_rows g.S.Summaries (Asks c.args.self.now.system.now (label_in c.args.filling.now.labels.labels (node_of c.args.filling.now.labels c.args.number))) c.args.self.now c.look_below.new.self _
+    (went_here g.S.Summaries c.args.self.now c.look_below.new.self (label_in c.args.filling.now.labels.labels (node_of c.args.filling.now.labels c.args.number)) c.own-own.result.now (ap (λ o. unwrap_or o []) c.own-own.ensures) c.look_below.ensures.went)
+    refl refl refl c.look_below.ensures.went.ready.remembered

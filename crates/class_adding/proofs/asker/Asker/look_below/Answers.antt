@@ -1,10 +1,32 @@
+use Rattle.std.proofs.Common.{List, None, length, arith, ap}
 use Rattle.std.specs.List.{flat_map}
+use Rattle.simple_core.specs.declared.rules.Kind.{Kind}
 use Rattle.simple_core.specs.Labels.{given_by_links, labels_below}
 use Rattle.simple_core.specs.Rounds.{grown}
 use Rattle.simple_core.specs.Pairs.{Asks}
+use Rattle.class_adding.proofs.AddedLemmas.{no_kinds_at, given_by_none, asks_none}
+use Rattle.class_adding.proofs.WakeLemmas.{sleeps_none}
 use Rattle.class_adding.proofs.WentLemmas.{went_start}
 use Rattle.class_adding.proofs.FreshLemmas.{more_none, more_all}
 use Rattle.class_adding.proofs.asker.Asker.look_below.Goals as goal
+
+pub returns-then-kinds-eq0-clause-more : goal.returns-then-kinds-eq0-clause-more
+returns-then-kinds-eq0-clause-more g c =
+    let s = c.args.self.now.system.now in
+    let count = ap (λ (z : List Kind). length z) c.kinds-kinds.ensures in
+    let none = no_kinds_at s c.args.own.now c.requires.ready.sound (omega (arith, c.if-kinds-eq0.true, count)) in
+    more_none c.args.own.now (flat_map (given_by_links s.down) (labels_below s (grown s c.args.k) c.args.own.now)) c.args.next.now (given_by_none s c.args.k c.args.own.now none)
+
+pub returns-then-kinds-eq0-clause-asleep : goal.returns-then-kinds-eq0-clause-asleep
+returns-then-kinds-eq0-clause-asleep g c =
+    let s = c.args.self.now.system.now in
+    let own = c.args.own.now in
+    let count = ap (λ (z : List Kind). length z) c.kinds-kinds.ensures in
+    let none = no_kinds_at s own c.requires.ready.sound (omega (arith, c.if-kinds-eq0.true, count)) in
+    record { sleeps = sleeps_none s c.args.k own None none; after = tt; bound = tt; told = λ q asks. absurd (asks_none s own q none asks) }
+
+pub returns-then-kinds-eq0-clause-went : goal.returns-then-kinds-eq0-clause-went
+returns-then-kinds-eq0-clause-went g c = went_start g.S.Summaries (Asks c.args.self.now.system.now c.args.own.now) c.args.self.now c.requires.ready
 
 pub returns-then-not-is_due-clause-more : goal.returns-then-not-is_due-clause-more
 returns-then-not-is_due-clause-more g c =
