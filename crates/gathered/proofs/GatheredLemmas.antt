@@ -21,13 +21,13 @@ set_more old now new set i a at before more =
 
 -- ---- the set of atoms
 
-set_rises : (atoms : List ℕ) → IsStrictlyIncreasing (union_of [] atoms)
+pub set_rises : (atoms : List ℕ) → IsStrictlyIncreasing (union_of [] atoms)
 set_rises atoms = IsStrictlyIncreasing-union_of [] atoms (λ k within. absurd (omega arith))
 
-in_set : (atoms : List ℕ) (a : ℕ) → Contains atoms a → Contains (union_of [] atoms) a
+pub in_set : (atoms : List ℕ) (a : ℕ) → Contains atoms a → Contains (union_of [] atoms) a
 in_set atoms a there = (Contains-union_of [] atoms a).1 (inr there)
 
-of_set : (atoms : List ℕ) (a : ℕ) → Contains (union_of [] atoms) a → Contains atoms a
+pub of_set : (atoms : List ℕ) (a : ℕ) → Contains (union_of [] atoms) a → Contains atoms a
 of_set atoms a there = elim ((Contains-union_of [] atoms a).0 there) [
   | inl none ↦ absurd (Contains-none a none)
   | inr listed ↦ listed
@@ -39,7 +39,7 @@ set_itself atoms up =
     same_members (union_of [] atoms) atoms (set_rises atoms) up (All-from_Contains (Contains atoms) (union_of [] atoms) (of_set atoms)) (All-from_Contains (Contains (union_of [] atoms)) atoms (in_set atoms))
 
 -- a set with the numbers of a list, or of its set
-with_set : (start atoms : List ℕ) → IsStrictlyIncreasing start → union_of start atoms ≡ union_of start (union_of [] atoms)
+pub with_set : (start atoms : List ℕ) → IsStrictlyIncreasing start → union_of start atoms ≡ union_of start (union_of [] atoms)
 with_set start atoms up =
     same_members (union_of start atoms) (union_of start (union_of [] atoms)) (IsStrictlyIncreasing-union_of start atoms up) (IsStrictlyIncreasing-union_of start (union_of [] atoms) up)
     (All-from_Contains (Contains (union_of start (union_of [] atoms))) (union_of start atoms) (λ a there. elim ((Contains-union_of start atoms a).0 there) [

@@ -1,10 +1,16 @@
 //! Atoms as they come, of which a set is made by one sort.
-ghost use Rattle.std.specs.Prelude.{◌≡◌, [], IfOk, OnOk};
-ghost use Rattle.tp_base.specs.Classes.{with_class, union_of};
+ghost use Rattle.std.specs.Prelude.{◌≡◌, [], not, IfOk, OnOk};
+ghost use Rattle.std.specs.List.{filter};
+ghost use Rattle.std.specs.List.Sorted.{IsStrictlyIncreasing};
+ghost use Rattle.tp_base.specs.Classes.{has_class, with_class, union_of};
 
+use crate::moving::{move_few, move_many};
 use std::alloc::Global;
 use std::marker::Model;
 use tp_base::{Atom, ClassSet, NoMemory};
+
+// So many atoms, or an eighth as many as a set has, are moved into it one by one.
+const A_FEW: usize = 8;
 
 /// Atoms in the order in which they come, of which one may come twice. A contract sees the set of them.
 #[derive(Drop)]
@@ -64,5 +70,30 @@ impl Gathered {
         ensures { IfOk result (λ s. s ≡ self) }
     {
         ClassSet::of(self.atoms)
+    }
+
+    /// Forgets all, and keeps the room for others.
+    pub fn clear(&mut self)
+        ensures { self.new ≡ [] }
+    {
+        self.atoms.clear();
+    }
+
+    /// Moves all into a set, and those that it didn't have to `news`, in increasing order and in the place of what stood there. A
+    /// few cost a search of the set for each, and a move of its atoms for each that is new; many cost a sort and a copy of the set.
+    pub fn move_to(&mut self, set: &mut ClassSet, news: &mut Vec<Atom>) -> Result<(), NoMemory>
+        ensures set { OnOk result (set.new ≡ union_of set.old self.old) }
+        ensures news { OnOk result (news.new.items ≡ filter (λ a. not (has_class a set.old)) self.old) }
+        ensures rises { OnOk result (IsStrictlyIncreasing self.old) }
+        ensures none { OnOk result (self.new ≡ []) }
+    {
+        news.clear();
+        if self.atoms.len() <= A_FEW.max(set.len() / A_FEW) {
+            move_few(&self.atoms, set, news)?;
+        } else {
+            move_many(&self.atoms, set, news)?;
+        }
+        self.atoms.clear();
+        Ok(())
     }
 }

@@ -2,5 +2,6 @@
 #![tactic(auto)]
 
 mod gathered;
+mod moving;
 
 pub use gathered::Gathered;
