@@ -27,6 +27,7 @@ pub mod MovedLemmas
 pub mod PartLemmas
 pub mod PieceEdges
 pub mod PieceOrder
+pub mod Plains
 pub mod PlanLemmas
 pub mod PrunedLemmas
 pub mod PrunedText

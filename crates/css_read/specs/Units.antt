@@ -1,7 +1,7 @@
 -- Strings, comments, brackets, and what stands outside them.
 --     behind_unit    behind the string, the comment or the byte that the text begins with
 --     from_first     the text from the first of some bytes on, outside brackets, strings and comments
-use Rattle.std.specs.Prelude.{ℕ, zero, suc, ◌-◌, ◌==◌, ◌&&◌, ◌||◌, Bool, true, false, if◌then◌else◌, nat_eq, List, [], ◌∷◌, length, drop, Option, Some, None, codes}
+use Rattle.std.specs.Prelude.{ℕ, zero, suc, ◌-◌, ◌==◌, ◌&&◌, ◌||◌, Bool, true, false, if◌then◌else◌, nat_eq, nat_lt, List, [], ◌∷◌, length, drop, Option, Some, None, codes}
 use Rattle.std.specs.List.{starts_with, list_any}
 use denote.Enum.Bare.{sameb}
 use Rattle.text_bytes.specs.Blanks.{is_blank}
@@ -28,6 +28,10 @@ unfoldable pub behind_unit : List ℕ → List ℕ
 behind_unit [] = []
 behind_unit (b ∷ bs) =
     if is_quote b then behind_string b false bs else (if begins_comment (b ∷ bs) then behind_close (drop 1 bs) else bs)
+
+-- some of the bytes that are no bracket and no quote, and begin no comment: from `0` to `Z`, from `^` to `z`, the full stop and the space
+abbrev pub is_plain : ℕ → Bool
+is_plain b = nat_lt 47 b && nat_lt b 91 || nat_lt 93 b && nat_lt b 123 || b == 46 || b == 32
 
 -- whether the text begins with white space or a comment
 abbrev pub begins_gap : List ℕ → Bool

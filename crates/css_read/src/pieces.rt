@@ -4,24 +4,30 @@ ghost use Rattle.text_bytes.specs.Rests.{IsRest};
 ghost use Rattle.css_read.specs.Pieces as spec;
 
 use crate::sheets::Range;
-use crate::units::{begins_gap, behind_unit, from_first};
+use crate::units::{begins_gap, behind_unit, from_first, is_plain};
 use sel_text::behind_gap;
 use std::alloc::{AllocError, Global};
+use text_bytes::is_blank;
 
 // How many bytes there are up to the white space and the comments at the end. Linear.
-#[tactic(auto, using(crate::proofs::Solids::begins, crate::proofs::Solids::passes_gap, crate::proofs::Solids::passes_solid, crate::proofs::Solids::ends, text_bytes::proofs::Rests::of_rest, text_bytes::proofs::Rests::itself))]
+#[tactic(auto, using(crate::proofs::Solids::begins, crate::proofs::Solids::goes_gap, crate::proofs::Solids::goes_solid, crate::proofs::Solids::passes_plain, crate::proofs::Solids::ends, text_bytes::proofs::Rests::of_rest, text_bytes::proofs::Rests::behind_first, text_bytes::proofs::Rests::itself))]
 fn solid_len(text: &[u8]) -> usize
     ensures gives { result ≡ spec.solid_len 0 text.now }
     ensures within { result ≤ length text.now }
 {
     let mut len = 0;
     let mut rest = text;
-    'units: while !rest.is_empty() {
-        let behind = behind_unit(rest);
-        if !begins_gap(rest) {
-            len = text.len() - behind.len();
+    'units: while let Some((first, later)) = rest.split_first() {
+        if is_plain(*first) && !is_blank(*first) {
+            len = text.len() - later.len();
+            rest = later;
+        } else {
+            let behind = behind_unit(rest);
+            if !begins_gap(rest) {
+                len = text.len() - behind.len();
+            }
+            rest = behind;
         }
-        rest = behind;
     }
     len
 }

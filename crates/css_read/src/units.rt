@@ -43,6 +43,13 @@ fn begins_comment(text: &[u8]) -> bool
     text.starts_with(b"/*")
 }
 
+/// Whether a byte is no bracket and no quote, and begins no comment: what letters, digits, full stops and spaces are.
+pub(crate) fn is_plain(byte: u8) -> bool
+    ensures { result ≡ spec.is_plain byte }
+{
+    (byte > b'/' && byte < b'[') || (byte > b']' && byte < b'{') || byte == b'.' || byte == b' '
+}
+
 /// The text behind the string, the comment or the byte that it begins with.
 #[tactic(auto, unfolding(crate::specs::Units::behind_unit), using(text_bytes::proofs::Rests::of_rest, text_bytes::proofs::Rests::behind_first, text_bytes::proofs::Rests::dropped))]
 pub(crate) fn behind_unit(text: &[u8]) -> &[u8]
@@ -72,14 +79,25 @@ pub(crate) fn begins_gap(text: &[u8]) -> bool
     }
 }
 
+// Whether a byte is one of a few.
+fn is_one(bytes: &[u8], byte: u8) -> bool
+    ensures { result ≡ spec.is_one bytes.now byte }
+{
+    match bytes {
+        [only] => byte == *only,
+        [one, other] => byte == *one || byte == *other,
+        _ => bytes.contains(&byte),
+    }
+}
+
 fn stops_at(bytes: &[u8], byte: u8, brackets: &[Bracket]) -> bool
     ensures { result ≡ spec.stops_at bytes.now byte (reverse brackets.now) }
 {
-    bytes.contains(&byte) && brackets.is_empty()
+    is_one(bytes, byte) && brackets.is_empty()
 }
 
 /// The text from the first of some bytes on, outside brackets, strings and comments. Linear in what is passed over.
-#[tactic(auto, using(crate::proofs::Firsts::goes_on, crate::proofs::Firsts::found, crate::proofs::Firsts::ends, text_bytes::proofs::Rests::of_rest))]
+#[tactic(auto, using(crate::proofs::Firsts::goes_on, crate::proofs::Firsts::found, crate::proofs::Firsts::ends, crate::proofs::Plains::passes, text_bytes::proofs::Rests::of_rest, text_bytes::proofs::Rests::behind_first))]
 pub(crate) fn from_first<'a>(
     alloc: Global,
     bytes: &[u8],
@@ -90,12 +108,16 @@ pub(crate) fn from_first<'a>(
 {
     let mut brackets = Vec::new(alloc);
     let mut rest = text;
-    'units: while let Some((first, _)) = rest.split_first() {
+    'units: while let Some((first, behind)) = rest.split_first() {
         if stops_at(bytes, *first, &brackets) {
             return Ok(rest);
         }
-        track(&mut brackets, *first)?;
-        rest = behind_unit(rest);
+        if is_plain(*first) {
+            rest = behind;
+        } else {
+            track(&mut brackets, *first)?;
+            rest = behind_unit(rest);
+        }
     }
     Ok(rest)
 }

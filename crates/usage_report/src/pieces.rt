@@ -1,5 +1,5 @@
 //! Pieces of the report: numbers, places and paths.
-ghost use Rattle.std.specs.Prelude.{◌≡◌, ◌++◌, [], codes, OnOk};
+ghost use Rattle.std.specs.Prelude.{◌≡◌, ◌<◌, ◌++◌, [], codes, OnOk};
 ghost use Rattle.std.specs.List.{flat_map};
 ghost use Rattle.std.specs.Fmt.{decimal};
 ghost use Rattle.usage_report.specs.Report as spec;
@@ -34,12 +34,26 @@ impl Piece {
         Ok(())
     }
 
-    /// A number, by its decimal digits.
+    // A number below ten, by its digit.
+    #[tactic(auto, using(std::proofs::lemmas::Fmt::decimal_digit))]
+    fn digit(&mut self, digit: u64) -> Result<(), NoMemory>
+        requires { digit < 10 }
+        ensures { OnOk result (self.new.bytes.items ≡ self.old.bytes.items ++ decimal digit) }
+    {
+        self.bytes.push(b'0' + digit as u8)?;
+        Ok(())
+    }
+
+    /// A number, by its decimal digits. Linear in them.
+    #[tactic(auto, using(crate::proofs::PieceLemmas::last_digit))]
     pub fn number(&mut self, number: u64) -> Result<(), NoMemory>
         ensures { OnOk result (self.new.bytes.items ≡ self.old.bytes.items ++ decimal number) }
     {
-        let digits = number.to_string(*self.bytes.allocator())?;
-        self.put(digits.as_bytes())
+        if number < 10 {
+            return self.digit(number);
+        }
+        self.number(number / 10)?;
+        self.digit(number % 10)
     }
 
     /// `line:column`.

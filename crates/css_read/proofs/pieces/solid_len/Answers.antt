@@ -1,7 +1,9 @@
-use Rattle.std.proofs.Common.{length, sym, ◌∙◌}
-use Rattle.std.proofs.lemmas.Bool.{eqb-true}
-use Rattle.css_read.proofs.Solids.{ends}
+use Rattle.std.proofs.Common.{◌≡◌, ◌-◌, length, arith}
+use Rattle.text_bytes.proofs.Rests.{itself}
+use Rattle.css_read.proofs.Solids.{begins}
 use Rattle.css_read.proofs.pieces.solid_len.Goals as goal
 
-pub returns-clause-gives : goal.returns-clause-gives
-returns-clause-gives c = sym (ends _ _ c.units.rest.now (eqb-true (length c.units.rest.now) 0 (sym c.is_empty.ensures ∙ c.units-test.false))) ∙ c.units.invariant.counts
+pub units-init : goal.units-init
+units-init c =
+    let none : length c.args.text.now - length c.args.text.now ≡ 0 = omega arith in
+    record { rest = itself c.args.text.now; within = omega arith; counts = rw none (begins c.args.text.now) }
