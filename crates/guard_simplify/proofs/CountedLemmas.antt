@@ -101,7 +101,7 @@ module _ (rules : List Rule) (guards : List Guard) (n : ℕ) where
 
   pub numbering_is : (mid : List Key) (f : Formulas) → All (IsRuleOver n) rules → All (IsOver n) guards
       → AreNumbered n [] mid (guards_of (map (λ (r : Rule). r.guard) rules)) f.of_rules.items → AreNumbered n mid f.keys.keys (guards_of guards) f.of_guards.items
-      → f.seen.keys ≡ different (λ (a b : ℕ). a == b) f.of_guards.items → IsNumbering rules guards n f
+      → f.seen ≡ different (λ (a b : ℕ). a == b) f.of_guards.items → IsNumbering rules guards n f
   numbering_is mid f rules_over guards_over first second seen' =
       let outer : List Guard = map (λ (r : Rule). r.guard) rules in
       let empty : IsTable n [] [] = record { closed = λ f is. absurd (Contains-none f is); formulas = λ f is. absurd (Contains-none f is); are = refl } in

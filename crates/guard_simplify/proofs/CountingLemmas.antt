@@ -34,10 +34,10 @@ module _ (rules : List Rule) (fs : List RuleForest) (are : map planted fs ≡ pl
       omega (arith, left, same, few)
 
   pub too_many : (guards : List Guard) (n : ℕ) (f : Formulas) → IsNumbering rules guards n f → (os : List ForestNode) → map placed os ≡ different same_place (flat_map owners_of fs)
-      → (b : Bool) → (b ≡ true) ↔ (n + length f.keys.keys + length os + length f.seen.keys ≤ MOST_ATOMS) → b ≡ false → MOST_ATOMS < n + length (auxiliaries rules guards)
+      → (b : Bool) → (b ≡ true) ↔ (n + length f.keys.keys + length os + length f.seen ≤ MOST_ATOMS) → b ≡ false → MOST_ATOMS < n + length (auxiliaries rules guards)
   too_many guards n f is os own b test no' =
       let all' = all_counted rules guards n f is os (owners_are os own) in
-      let more : MOST_ATOMS < n + length f.keys.keys + length os + length f.seen.keys = elim (cases_lt MOST_ATOMS (n + length f.keys.keys + length os + length f.seen.keys)) [
+      let more : MOST_ATOMS < n + length f.keys.keys + length os + length f.seen = elim (cases_lt MOST_ATOMS (n + length f.keys.keys + length os + length f.seen)) [
         | inl past ↦ past
         | inr few ↦ absurd (both_ways b no' (test.1 few))
       ] in

@@ -17,6 +17,7 @@ pub mod Keyed
 pub mod NumberedLemmas
 pub mod KeyRuleLemmas
 pub mod NodeSets
+pub mod NumberSetLemmas
 pub mod Distinct
 pub mod RuleLists
 pub mod PlantedLemmas

@@ -71,17 +71,3 @@ node_found ks k i is = found_at (node_eq k) ks i is ∙ place_same ks k
 
 pub node_missing : (ks : List ForestNode) (k : ForestNode) → position (node_eq k) ks ≡ None → length ks ≡ place_of same_place (placed k) (map placed ks)
 node_missing ks k is = not_found (node_eq k) ks is ∙ place_same ks k
-
--- numbers in a set
-number_place : (ks : List ℕ) (k : ℕ) → position_or_len (λ x. k == x) ks ≡ place_of (λ x y. x == y) k ks
-number_place [] k = refl
-number_place (l ∷ ks) k = elim (cases_Bool (k == l)) [
-  | inl yes' ↦ rw yes' refl
-  | inr no' ↦ let rest = number_place ks k in rw no' (omega (arith, rest))
-]
-
-pub number_found : (ks : List ℕ) (k i : ℕ) → position (λ x. k == x) ks ≡ Some i → i ≡ place_of (λ x y. x == y) k ks
-number_found ks k i is = found_at (λ x. k == x) ks i is ∙ number_place ks k
-
-pub number_missing : (ks : List ℕ) (k : ℕ) → position (λ x. k == x) ks ≡ None → length ks ≡ place_of (λ x y. x == y) k ks
-number_missing ks k is = not_found (λ x. k == x) ks is ∙ number_place ks k

@@ -179,7 +179,7 @@ module _ (rules : List Rule) (guards : List Guard) (n : ℕ) where
         let right : length (map (kept_of (atom_in n fs)) fs) ≡ length fs = length-map fs (kept_of (atom_in n fs)) in
         sym left ∙ ap length is.table.are ∙ right
 
-    count_seen : length f.seen.keys ≡ length once
+    count_seen : length f.seen ≡ length once
     count_seen = ap length is.seen ∙ length-map once at
 
     pub as_many : length f.of_rules.items ≡ length rules
@@ -189,7 +189,7 @@ module _ (rules : List Rule) (guards : List Guard) (n : ℕ) where
       count_owners : length os ≡ length (owners rules)
       count_owners = let left : length (map placed os) ≡ length os = length-map os placed in sym left ∙ ap length owners'
 
-      pub all_counted : n + length (auxiliaries rules guards) ≡ n + length f.keys.keys + length os + length f.seen.keys
+      pub all_counted : n + length (auxiliaries rules guards) ≡ n + length f.keys.keys + length os + length f.seen
       all_counted =
           let all' = count_auxiliaries rules guards n in
           let formulas' = count_formulas in
@@ -224,7 +224,7 @@ module _ (guards : List Guard) (c : Counted) (is : IsCounted guards c) where
   locals_same =
       let formulas' = locals_by_keys rules guards n f.keys.keys is.numbering.table in
       let classes' = class_same rules guards n f.of_rules.items is.numbering.of_rules in
-      let seen' : map (seen_local rules guards n) (once rules guards n) ≡ seen_rules (first_seen c) f.seen.keys =
+      let seen' : map (seen_local rules guards n) (once rules guards n) ≡ seen_rules (first_seen c) f.seen =
       seen_rules_are (seen_from rules guards n) (at rules guards n) (λ g. atom_for rules guards n (seen g)) (once rules guards n) (seen_place rules guards n)
       ∙ ap (λ k. seen_rules k (map (at rules guards n) (once rules guards n))) (sym start_is) ∙ ap (seen_rules (first_seen c)) (sym is.numbering.seen) in
       λ i. (sym formulas' i ++ classes' i) ++ sym seen' i
@@ -232,7 +232,7 @@ module _ (guards : List Guard) (c : Counted) (is : IsCounted guards c) where
   downs_same : counted_downs c ≡ (system rules guards n).down
   downs_same =
       let formulas' = downs_by_keys rules guards n f.keys.keys is.numbering.table in
-      let seen' : map (seen_down rules guards n) (once rules guards n) ≡ seen_links (first_seen c) f.seen.keys =
+      let seen' : map (seen_down rules guards n) (once rules guards n) ≡ seen_links (first_seen c) f.seen =
       seen_links_are (seen_from rules guards n) (λ g. atom_for rules guards n (seen g)) (at rules guards n) (once rules guards n) (seen_place rules guards n)
       ∙ ap (λ k. seen_links k (map (at rules guards n) (once rules guards n))) (sym start_is) ∙ ap (seen_links (first_seen c)) (sym is.numbering.seen) in
       λ i. sym formulas' i ++ sym seen' i
@@ -262,9 +262,9 @@ module _ (guards : List Guard) (c : Counted) (is : IsCounted guards c) where
       let kinds' = kinds_are in
       λ i. record { local = local' i; up = up' i; down = down' i; child = child' i; kinds = kinds' i; visible = left_sides_of (up' i) }
 
-  seen_one : (g : Guard) → Contains guards g → first_seen c + place_of (λ (x y : ℕ). x == y) (at rules guards n g) f.seen.keys ≡ atom_for rules guards n (seen g)
+  seen_one : (g : Guard) → Contains guards g → first_seen c + place_of (λ (x y : ℕ). x == y) (at rules guards n g) f.seen ≡ atom_for rules guards n (seen g)
   seen_one g listed =
-      let place : place_of (λ (x y : ℕ). x == y) (at rules guards n g) f.seen.keys ≡ place_of same_guard g (once rules guards n) =
+      let place : place_of (λ (x y : ℕ). x == y) (at rules guards n g) f.seen ≡ place_of same_guard g (once rules guards n) =
       ap (place_of (λ (x y : ℕ). x == y) (at rules guards n g)) is.numbering.seen
       ∙ place_numbers same_guard same_guard-sound same_guard-itself (at rules guards n) (once rules guards n) g
       (λ h in_once. one_guard rules guards n g h (is.numbering.known g listed) (is.numbering.known h ((different-Contains same_guard same_guard-sound same_guard-itself guards h).0 in_once))) in
@@ -274,9 +274,9 @@ module _ (guards : List Guard) (c : Counted) (is : IsCounted guards c) where
 
   seen_same : counted_seen c ≡ seen_atoms rules guards n
   seen_same =
-      ap (seen_of (first_seen c) f.seen.keys) is.numbering.of_guards
-      ∙ map_map (at rules guards n) (λ a. first_seen c + place_of (λ (x y : ℕ). x == y) a f.seen.keys) guards
-      ∙ map_alike (λ g. first_seen c + place_of (λ (x y : ℕ). x == y) (at rules guards n g) f.seen.keys) (λ g. atom_for rules guards n (seen g)) guards seen_one
+      ap (seen_of (first_seen c) f.seen) is.numbering.of_guards
+      ∙ map_map (at rules guards n) (λ a. first_seen c + place_of (λ (x y : ℕ). x == y) a f.seen) guards
+      ∙ map_alike (λ g. first_seen c + place_of (λ (x y : ℕ). x == y) (at rules guards n g) f.seen) (λ g. atom_for rules guards n (seen g)) guards seen_one
 
   -- what the whole answers
   visible_same : left_sides_of (counted_ups c) ≡ (system rules guards n).visible

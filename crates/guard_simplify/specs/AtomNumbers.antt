@@ -23,7 +23,7 @@ AreAtoms (a ∷ numbers) = IsAtom a × AreAtoms numbers
 pub record HasAtoms (f : Formulas) : Type 0 where
   pub formulas : HaveAtomParts f.keys.keys
   pub rules : All IsAtom f.of_rules.items
-  pub seen : AreAtoms f.seen.keys
+  pub seen : AreAtoms f.seen
 
 -- each of these is so in one way
 all_atoms-prop : (xs : List ℕ) → IsProp (All IsAtom xs)
@@ -41,7 +41,7 @@ pub HasAtoms-prop : (f : Formulas) → IsProp (HasAtoms f)
 HasAtoms-prop f a b =
     let parts' = parts-prop f.keys.keys a.formulas b.formulas in
     let rules' = all_atoms-prop f.of_rules.items a.rules b.rules in
-    let seen' = atoms-prop f.seen.keys a.seen b.seen in
+    let seen' = atoms-prop f.seen a.seen b.seen in
     λ i. record { formulas = parts' i; rules = rules' i; seen = seen' i }
 
 -- the forest has no more nodes than there may be kinds

@@ -32,7 +32,7 @@ pub record IsNumbering (rules : List Rule) (guards : List Guard) (n : ℕ) (f : 
   pub of_guards : f.of_guards.items ≡ map (atom_of rules guards n) guards
   pub known_rules : (g : Guard) → Contains (map (λ r. r.guard) rules) g → HasNumber n (formulas rules guards) g
   pub known : (g : Guard) → Contains guards g → HasNumber n (formulas rules guards) g
-  pub seen : f.seen.keys ≡ map (atom_of rules guards n) (different same_guard guards)
+  pub seen : f.seen ≡ map (atom_of rules guards n) (different same_guard guards)
 
 pub record IsCounted (guards : List Guard) (c : Counted) : Type 0 where
   pub numbering : IsNumbering c.rules.now guards c.first c.formulas
@@ -49,13 +49,13 @@ abbrev pub first_seen : Counted → ℕ
 first_seen c = c.nodes.first_owner + length c.nodes.owners.keys
 
 abbrev pub counted_locals : Counted → List Local
-counted_locals c = by_number key_locals c.first (map stored c.formulas.keys.keys) ++ by_rule (class_rules c.formulas.of_rules.items) 0 c.rules.now ++ seen_rules (first_seen c) c.formulas.seen.keys
+counted_locals c = by_number key_locals c.first (map stored c.formulas.keys.keys) ++ by_rule (class_rules c.formulas.of_rules.items) 0 c.rules.now ++ seen_rules (first_seen c) c.formulas.seen
 
 abbrev pub counted_ups : Counted → List Link
 counted_ups c = by_number key_ups c.first (map stored c.formulas.keys.keys)
 
 abbrev pub counted_downs : Counted → List Link
-counted_downs c = by_number key_downs c.first (map stored c.formulas.keys.keys) ++ seen_links (first_seen c) c.formulas.seen.keys
+counted_downs c = by_number key_downs c.first (map stored c.formulas.keys.keys) ++ seen_links (first_seen c) c.formulas.seen
 
 abbrev pub counted_spawns : Counted → List Spawn
 counted_spawns c = flat_map (spawns_by c.nodes c.formulas.of_rules.items) c.forests.items
@@ -77,7 +77,7 @@ counted_system c = record {
 }
 
 abbrev pub counted_seen : Counted → List ℕ
-counted_seen c = seen_of (first_seen c) c.formulas.seen.keys c.formulas.of_guards.items
+counted_seen c = seen_of (first_seen c) c.formulas.seen c.formulas.of_guards.items
 
 -- nothing where too many atoms are visible
 abbrev pub counted_visibly : Counted → Option Simplified

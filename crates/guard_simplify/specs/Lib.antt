@@ -12,4 +12,6 @@ pub mod Simplified
 pub mod Counted
 pub mod ForestRules
 pub mod Forests
+pub mod Mixed
+pub mod NumberSets
 pub mod SeenRules

@@ -42,7 +42,7 @@ impl<'r> Counted<'r> {
         add_seen(
             alloc,
             self.first_seen(),
-            self.formulas.seen.as_slice(),
+            self.formulas.seen.numbers(),
             &mut locals,
         )?;
         Ok(locals)
@@ -53,7 +53,7 @@ impl<'r> Counted<'r> {
         ensures { IfOk result (λ v. v.items ≡ counted_downs self.now) }
     {
         let mut downs = downs_of(alloc, self.first, self.formulas.keys.as_slice())?;
-        hand_up(self.first_seen(), self.formulas.seen.as_slice(), &mut downs)?;
+        hand_up(self.first_seen(), self.formulas.seen.numbers(), &mut downs)?;
         Ok(downs)
     }
 

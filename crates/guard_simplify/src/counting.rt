@@ -25,7 +25,7 @@ pub(crate) struct Counted<'r> {
     ghost each: { length formulas.of_rules.items ≡ length rules.now },
     ghost below: { AreBelow (length rules.now) forests.items },
     ghost behind: { nodes.first_owner ≡ first + length formulas.keys.keys },
-    ghost within: { nodes.first_owner + length nodes.owners.keys + length formulas.seen.keys ≤ MOST_ATOMS },
+    ghost within: { nodes.first_owner + length nodes.owners.keys + length formulas.seen ≤ MOST_ATOMS },
     ghost atoms: { HasAtoms formulas } by { HasAtoms-prop formulas },
 }
 

@@ -25,20 +25,20 @@ fn set_of_parts(alloc: Global, parts: &[usize]) -> Result<ClassSet, NoMemory>
     requires { All IsAtom parts.now }
     ensures { IfOk result (λ s. s ≡ set_of parts.now) }
 {
-    let mut set = ClassSet::new(alloc);
+    let mut atoms = Vec::with_capacity(alloc, parts.len())?;
     'parts: for p in parts {
-        set.add(atom_of(*p))?;
+        atoms.push(atom_of(*p))?;
     }
-    Ok(set)
+    ClassSet::of(atoms)
 }
 
 /// The set of one atom.
 pub(crate) fn set_of_one(alloc: Global, atom: Atom) -> Result<ClassSet, NoMemory>
     ensures { IfOk result (λ s. s ≡ set_of (atom ∷ [])) }
 {
-    let mut set = ClassSet::new(alloc);
-    set.add(atom)?;
-    Ok(set)
+    let mut atoms = Vec::with_capacity(alloc, 1)?;
+    atoms.push(atom)?;
+    ClassSet::of(atoms)
 }
 
 // Each part gives the atom.

@@ -7,7 +7,7 @@ ghost use Rattle.guard_simplify.specs.Counted.{IsNumbering};
 
 use crate::formula_numbers::{number, numbers};
 use crate::keys::Key;
-use crate::seen_rules::each_once;
+use crate::number_set::NumberSet;
 use guard_sem::{Guard, Rule};
 use indexmap::IndexSet;
 use std::alloc::Global;
@@ -20,7 +20,7 @@ pub(crate) struct Formulas {
     pub keys: IndexSet<Key>,
     pub of_rules: Vec<usize>,
     pub of_guards: Vec<usize>,
-    pub seen: IndexSet<usize>,
+    pub seen: NumberSet,
 }
 
 // The numbers of the atoms of the rules' guards, one after another.
@@ -54,10 +54,10 @@ impl Formulas {
         requires guards_over { All (IsOver first) guards.now }
         ensures { IfOk result (λ f. IsNumbering rules.now guards.now first f) }
     {
-        let mut keys = IndexSet::new(alloc);
+        let mut keys = IndexSet::with_capacity(alloc, guards.len())?;
         let of_rules = rule_numbers(alloc, first, &mut keys, rules)?;
         let of_guards = numbers(alloc, first, &mut keys, guards)?;
-        let seen = each_once(alloc, &of_guards)?;
+        let seen = NumberSet::of(alloc, &of_guards)?;
         Ok(Formulas {
             keys,
             of_rules,

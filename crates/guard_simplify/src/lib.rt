@@ -11,6 +11,7 @@ mod formulas;
 mod keys;
 mod kinds;
 mod node_numbers;
+mod number_set;
 mod seen_rules;
 mod simplification;
 mod simplified;
