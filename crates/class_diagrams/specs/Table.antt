@@ -1,14 +1,19 @@
 -- The stored branches, and the trees that they stand for.
-use Rattle.std.specs.Prelude.{◌≡◌, ℕ, ◌<◌, List, [], ◌∷◌, ◌++◌, slice_get, Some}
+use Rattle.std.specs.Prelude.{◌≡◌, ℕ, ◌+◌, ◌*◌, ◌<◌, List, [], ◌∷◌, ◌++◌, slice_get, Some}
 use Rattle.class_diagrams.specs.declared.table.BranchNode.{BranchNode}
 use Rattle.class_diagrams.specs.declared.refs.Target.{Target}
 use Rattle.class_diagrams.specs.declared.refs.Target.TheVariants.{Leaf, Branch}
+use Rattle.class_diagrams.specs.Numbers.{number_of}
 use Rattle.class_diagrams.specs.Trees.{Tree, branch}
 use Rattle.class_diagrams.specs.Arena.{tree_at, Arena, IsArena}
 
 -- the tree of a stored branch
 abbrev pub tree_by : List Tree → BranchNode → Tree
 tree_by branches b = branch b.atom (tree_at branches b.low) (tree_at branches b.high)
+
+-- the branch as one number
+abbrev pub branch_key : BranchNode → ℕ
+branch_key b = b.atom * 18446744073709551616 + number_of b.low * 4294967296 + number_of b.high
 
 -- the trees of stored branches, behind those of the ones before
 abbrev pub trees_behind : List Tree → List BranchNode → List Tree

@@ -165,7 +165,7 @@ impl Diagrams {
         ensures limit { self.new.limit ≡ self.old.limit }
         ensures arena { IsArena self.new }
     {
-        self.combined(Operation::And, f, g)
+        self.operated(Operation::And, f, g)
     }
 
     /// The diagram of the sets that satisfy one or both. At most the product of the two sizes while the memo
@@ -187,7 +187,7 @@ impl Diagrams {
         ensures limit { self.new.limit ≡ self.old.limit }
         ensures arena { IsArena self.new }
     {
-        self.combined(Operation::Or, f, g)
+        self.operated(Operation::Or, f, g)
     }
 
     fn variable(&mut self, atom: Atom) -> Result<Ref, DiagramFault>
@@ -195,6 +195,30 @@ impl Diagrams {
     {
         self.table
             .join(atom, Diagrams::leaf(false), Diagrams::leaf(true))
+    }
+
+    // The diagram of an operation, at once where one of the two is a leaf.
+    fn operated(&mut self, operation: Operation, f: Ref, g: Ref) -> Result<Ref, DiagramFault>
+        requires first { IsIn self.old.branches f }
+        requires second { IsIn self.old.branches g }
+        ensures { Gives self.old self.new (tree_of operation (tree_at self.old.branches f) (tree_at self.old.branches g)) result }
+    {
+        match self.by_leaf(operation, f, g) {
+            Some(known) => Ok(known),
+            None => self.combined(operation, f, g),
+        }
+    }
+
+    // The diagram of an operation where one of the two is a leaf.
+    fn by_leaf(&self, operation: Operation, f: Ref, g: Ref) -> Option<Ref>
+        requires first { IsIn self.now.branches f }
+        requires second { IsIn self.now.branches g }
+        ensures { IfSome result (λ r. Gives self.now self.now (tree_of operation (tree_at self.now.branches f) (tree_at self.now.branches g)) (Ok r)) }
+    {
+        match self.table.pair(f, g) {
+            Pair::WithLeaf { value, other } => Some(with_leaf(operation, value, other)),
+            Pair::Branches { .. } => None,
+        }
     }
 
     fn combined(&mut self, operation: Operation, f: Ref, g: Ref) -> Result<Ref, DiagramFault>

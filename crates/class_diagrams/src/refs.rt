@@ -1,5 +1,6 @@
 //! References to diagrams.
 ghost use Rattle.std.specs.Prelude.{◌≡◌, ◌↔◌, ◌≤◌, ◌<◌, IsTrue};
+ghost use Rattle.class_diagrams.specs.Numbers.{number_of};
 
 use limits::MOST_BRANCHES;
 use std::marker::Model;
@@ -51,6 +52,12 @@ impl Ref {
             1 => Target::Leaf(true),
             number => Target::Branch(number - 2),
         }
+    }
+
+    pub(crate) fn number(self) -> u32
+        ensures { result ≡ number_of self }
+    {
+        self.0
     }
 
     pub(crate) fn is(self, other: Ref) -> bool

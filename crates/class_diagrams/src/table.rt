@@ -2,9 +2,11 @@
 ghost use Rattle.std.specs.Prelude.{◌≡◌, ◌<◌, ◌≤◌, length, [], Ok, Err, IfSome, IfNone, IsNone, IsTrue, ◌↔◌};
 ghost use Rattle.class_diagrams.specs.Trees.{branch, join, IsLeaf, IsOrdered};
 ghost use Rattle.class_diagrams.specs.Arena.{tree_at, IsIn, IsArena};
-ghost use Rattle.class_diagrams.specs.Table.{tree_by};
+ghost use Rattle.class_diagrams.specs.Table.{tree_by, branch_key};
 ghost use Rattle.class_diagrams.specs.Answers.{Gives};
 ghost use Rattle.class_diagrams.specs.Pairs.{IsPair};
+ghost use Rattle.std.specs.Hash.{u128};
+ghost use borrow.Author.Rules.{rules};
 
 use crate::faults::DiagramFault;
 use crate::refs::{Ref, Target};
@@ -12,17 +14,40 @@ use indexmap::IndexSet;
 use limits::MOST_BRANCHES;
 use std::alloc::Global;
 use std::cmp::Ordering;
+use std::hash::{Hash, Hasher};
 use std::marker::Model;
 use tp_base::Atom;
 
-#[derive(Clone, Copy, Debug, PartialEq, Eq, Hash)]
+#[derive(Clone, Copy, Debug, PartialEq, Eq)]
 pub(crate) struct BranchNode {
     atom: Atom,
     low: Ref,
     high: Ref,
 }
 
+impl BranchNode {
+    // The branch as one number.
+    fn key(&self) -> u128
+        ensures { result ≡ branch_key self.now }
+    {
+        self.atom.0 as u128 * 0x1_0000_0000_0000_0000
+            + self.low.number() as u128 * 0x1_0000_0000
+            + self.high.number() as u128
+    }
+}
+
+impl Hash for BranchNode {
+    ghost hash_input = { λ b. u128 (branch_key b) };
+
+    ghost respects_eq = { Prim.search rules };
+
+    fn hash<H: Hasher>(&self, state: &mut H) {
+        state.write_u128(self.key());
+    }
+}
+
 /// Two diagrams: one is a leaf, or both are branches, with their low and their high parts at the smaller atom.
+#[derive(Drop)]
 pub(crate) enum Pair {
     WithLeaf {
         value: bool,

@@ -12,14 +12,14 @@ use Rattle.class_diagrams.specs.Trees.{Tree, leaf, tand, tor, IsBranchOf}
 use Rattle.class_diagrams.specs.Arena.{StartsWith, tree_at, IsIn, Arena, IsArena}
 use Rattle.class_diagrams.proofs.ArenaLemmas.{tree_at-further, IsIn-further}
 use Rattle.diagram_ops.specs.Steps.{Brings, Calculates}
-use Rattle.diagram_ops.specs.Compositions.{tcompose, inner_results, tree_by}
+use Rattle.diagram_ops.specs.Compositions.{tcompose, inner_results}
 use Rattle.diagram_ops.proofs.HeldLemmas.{AreCovered, IsBranchOfOne, covered_left, covered_right}
 use Rattle.diagram_ops.proofs.StepLemmas.{brings_itself, brings_part, brings_then, calculates_last, calculates_failed, calculates_same_error}
 use Rattle.simple_core.specs.declared.rules.Local.{Local}
 use Rattle.simple_core.specs.declared.system.System.{System}
 use Rattle.pushdown_sym.specs.CellMap.{Entries, place_in, trees_in}
 use Rattle.pushdown_sym.specs.Terms.{CellTrees, Term, local_term, conjunction, conjunctions, terms, disjunction, disjunctions, next_tree}
-use Rattle.pushdown_sym.specs.Adding.{AreIn, Adds, next_in, results_in, of_local, child_term}
+use Rattle.pushdown_sym.specs.Adding.{AreIn, Adds, next_in, results_in, of_local, term_at}
 
 -- ### a list at one of its places
 
@@ -283,53 +283,53 @@ module _ {X : Type 0} (f : CellTrees → X → List Term) (old : Arena) (cells :
 
 -- ### the term of a child
 
-module _ (a : Arena) (there child : Reference) (by : List (ℕ × Reference)) (sofar : Reference) (arena : IsArena a) (there_in : IsIn a.branches there) (sofar_in : IsIn a.branches sofar) where
+module _ (a : Arena) (there child : Reference) (by : ℕ → Tree) (sofar : Reference) (arena : IsArena a) (there_in : IsIn a.branches there) (sofar_in : IsIn a.branches sofar) where
   term_of : Term
-  term_of = child_term a there child by
+  term_of = term_at a.branches there child by
 
-  composed_covered : AreCovered (inner_results (tree_at a.branches child) (tree_by a.branches by)) (disjunctions (tree_at a.branches sofar) (child_term a there child by ∷ []))
-  composed_covered x within = inr (covered_left (inner_results (tree_at a.branches child) (tree_by a.branches by)) _ x within)
+  composed_covered : AreCovered (inner_results (tree_at a.branches child) by) (disjunctions (tree_at a.branches sofar) (term_at a.branches there child by ∷ []))
+  composed_covered x within = inr (covered_left (inner_results (tree_at a.branches child) by) _ x within)
 
   pub child_failed : (b : Arena) (r : Result Reference DiagramFault) (t u : Tree) (e : DiagramFault) → IsErrAnd r (λ y. y ≡ e)
-      → Calculates a b (inner_results (tree_at a.branches child) (tree_by a.branches by)) t (Err e) → Calculates a b (disjunctions (tree_at a.branches sofar) (child_term a there child by ∷ [])) u r
+      → Calculates a b (inner_results (tree_at a.branches child) by) t (Err e) → Calculates a b (disjunctions (tree_at a.branches sofar) (term_at a.branches there child by ∷ [])) u r
   child_failed b r t u e is failed =
-      calculates_same_error a b (disjunctions (tree_at a.branches sofar) (child_term a there child by ∷ [])) u r e is
-      (calculates_failed a a b (inner_results (tree_at a.branches child) (tree_by a.branches by)) (disjunctions (tree_at a.branches sofar) (child_term a there child by ∷ [])) t u e composed_covered
-      (brings_itself a (disjunctions (tree_at a.branches sofar) (child_term a there child by ∷ [])) arena) failed)
+      calculates_same_error a b (disjunctions (tree_at a.branches sofar) (term_at a.branches there child by ∷ [])) u r e is
+      (calculates_failed a a b (inner_results (tree_at a.branches child) by) (disjunctions (tree_at a.branches sofar) (term_at a.branches there child by ∷ [])) t u e composed_covered
+      (brings_itself a (disjunctions (tree_at a.branches sofar) (term_at a.branches there child by ∷ [])) arena) failed)
 
   module _ (b : Arena) (g : Reference)
-      (first : Calculates a b (inner_results (tree_at a.branches child) (tree_by a.branches by)) (tcompose (tree_at a.branches child) (tree_by a.branches by)) (Ok g)) where
-    first_brings : Brings a b (disjunctions (tree_at a.branches sofar) (child_term a there child by ∷ []))
-    first_brings = brings_part a b (inner_results (tree_at a.branches child) (tree_by a.branches by)) (disjunctions (tree_at a.branches sofar) (child_term a there child by ∷ [])) composed_covered first.brings
+      (first : Calculates a b (inner_results (tree_at a.branches child) by) (tcompose (tree_at a.branches child) by) (Ok g)) where
+    first_brings : Brings a b (disjunctions (tree_at a.branches sofar) (term_at a.branches there child by ∷ []))
+    first_brings = brings_part a b (inner_results (tree_at a.branches child) by) (disjunctions (tree_at a.branches sofar) (term_at a.branches there child by ∷ [])) composed_covered first.brings
 
-    conjunction_tree : tand (tree_at b.branches there) (tree_at b.branches g) ≡ tand (tree_at a.branches there) (tcompose (tree_at a.branches child) (tree_by a.branches by))
+    conjunction_tree : tand (tree_at b.branches there) (tree_at b.branches g) ≡ tand (tree_at a.branches there) (tcompose (tree_at a.branches child) by)
     conjunction_tree = λ k. tand (tree_at-further a.branches b.branches there first.brings.stays there_in k) (first.answer.1 k)
 
-    term_covered : AreCovered (tand (tree_at b.branches there) (tree_at b.branches g) ∷ []) (disjunctions (tree_at a.branches sofar) (child_term a there child by ∷ []))
+    term_covered : AreCovered (tand (tree_at b.branches there) (tree_at b.branches g) ∷ []) (disjunctions (tree_at a.branches sofar) (term_at a.branches there child by ∷ []))
     term_covered x within =
-        inr (covered_right (inner_results (tree_at a.branches child) (tree_by a.branches by)) _ x
+        inr (covered_right (inner_results (tree_at a.branches child) by) _ x
         (elim within [ inl here ↦ inl (subst (λ t. IsBranchOf x t) conjunction_tree here) | inr none ↦ absurd none ]))
 
     pub and_failed : (c : Arena) (r : Result Reference DiagramFault) (t u : Tree) (e : DiagramFault) → IsErrAnd r (λ y. y ≡ e)
-        → Calculates b c (tand (tree_at b.branches there) (tree_at b.branches g) ∷ []) t (Err e) → Calculates a c (disjunctions (tree_at a.branches sofar) (child_term a there child by ∷ [])) u r
+        → Calculates b c (tand (tree_at b.branches there) (tree_at b.branches g) ∷ []) t (Err e) → Calculates a c (disjunctions (tree_at a.branches sofar) (term_at a.branches there child by ∷ [])) u r
     and_failed c r t u e is failed =
-        calculates_same_error a c (disjunctions (tree_at a.branches sofar) (child_term a there child by ∷ [])) u r e is
-        (calculates_failed a b c (tand (tree_at b.branches there) (tree_at b.branches g) ∷ []) (disjunctions (tree_at a.branches sofar) (child_term a there child by ∷ [])) t u e term_covered first_brings failed)
+        calculates_same_error a c (disjunctions (tree_at a.branches sofar) (term_at a.branches there child by ∷ [])) u r e is
+        (calculates_failed a b c (tand (tree_at b.branches there) (tree_at b.branches g) ∷ []) (disjunctions (tree_at a.branches sofar) (term_at a.branches there child by ∷ [])) t u e term_covered first_brings failed)
 
     module _ (c : Arena) (h : Reference)
         (second : Calculates b c (tand (tree_at b.branches there) (tree_at b.branches g) ∷ []) (tand (tree_at b.branches there) (tree_at b.branches g)) (Ok h)) where
-      both_brings : Brings a c (disjunctions (tree_at a.branches sofar) (child_term a there child by ∷ []))
-      both_brings = brings_then a b c (tand (tree_at b.branches there) (tree_at b.branches g) ∷ []) (disjunctions (tree_at a.branches sofar) (child_term a there child by ∷ [])) term_covered first_brings second.brings
+      both_brings : Brings a c (disjunctions (tree_at a.branches sofar) (term_at a.branches there child by ∷ []))
+      both_brings = brings_then a b c (tand (tree_at b.branches there) (tree_at b.branches g) ∷ []) (disjunctions (tree_at a.branches sofar) (term_at a.branches there child by ∷ [])) term_covered first_brings second.brings
 
-      whole_tree : tor (tree_at c.branches sofar) (tree_at c.branches h) ≡ tor (tree_at a.branches sofar) (tand (tree_at a.branches there) (tcompose (tree_at a.branches child) (tree_by a.branches by)))
+      whole_tree : tor (tree_at c.branches sofar) (tree_at c.branches h) ≡ tor (tree_at a.branches sofar) (tand (tree_at a.branches there) (tcompose (tree_at a.branches child) by))
       whole_tree = λ k. tor (tree_at-further a.branches c.branches sofar both_brings.stays sofar_in k) ((second.answer.1 ∙ conjunction_tree) k)
 
       pub child_added : (d : Arena) (r : Result Reference DiagramFault)
           → Calculates c d (tor (tree_at c.branches sofar) (tree_at c.branches h) ∷ []) (tor (tree_at c.branches sofar) (tree_at c.branches h)) r
-          → Adds a d sofar (child_term a there child by ∷ []) r
+          → Adds a d sofar (term_at a.branches there child by ∷ []) r
       child_added d r third =
-          calculates_last a c d (tor (tree_at c.branches sofar) (tree_at c.branches h) ∷ []) (disjunctions (tree_at a.branches sofar) (child_term a there child by ∷ []))
-          (tor (tree_at c.branches sofar) (tree_at c.branches h)) (disjunction (tree_at a.branches sofar) (child_term a there child by ∷ [])) r
-          (λ x within. inr (covered_right (inner_results (tree_at a.branches child) (tree_by a.branches by)) _ x
+          calculates_last a c d (tor (tree_at c.branches sofar) (tree_at c.branches h) ∷ []) (disjunctions (tree_at a.branches sofar) (term_at a.branches there child by ∷ []))
+          (tor (tree_at c.branches sofar) (tree_at c.branches h)) (disjunction (tree_at a.branches sofar) (term_at a.branches there child by ∷ [])) r
+          (λ x within. inr (covered_right (inner_results (tree_at a.branches child) by) _ x
           (elim within [ inl here ↦ inr (inl (subst (λ t. IsBranchOf x t) whole_tree here)) | inr none ↦ absurd none ])))
           both_brings whole_tree third

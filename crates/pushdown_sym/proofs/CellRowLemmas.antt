@@ -8,12 +8,13 @@ use Rattle.std.specs.List.{insert}
 use Rattle.std.specs.List.Sorted.{IsSearchInRange, IsBinarySearchResult, IsNonDecreasingBy, IsStrictlyIncreasing}
 use Rattle.std.specs.Ordering.{nat_cmp, ordering_index}
 use Rattle.std.proofs.lemmas.Cmp.{ranked}
-use Rattle.std.proofs.lemmas.Bool.{cases_Bool, eqb-true, ltb-true, ltb-false, eq-eqb, ne_eqb, both_ways}
+use Rattle.std.proofs.lemmas.Bool.{cases_Bool, cases_lt, eqb-true, ltb-true, ltb-false, eq-eqb, ne_eqb, both_ways}
 use Rattle.std.proofs.lemmas.Bool.Decides.{nat_tests}
 use Rattle.std.proofs.lemmas.List.{get_or-map, length-map, get_or_default, get_or_past, get_or-set_same, get_or-set_other}
 use Rattle.std.proofs.lemmas.List.Elements.{All-contains, Contains-append_left, Contains-append_right}
+use Rattle.std.proofs.lemmas.List.Kept.{AllPairs-from_increasing}
 use Rattle.std.proofs.lemmas.List.Sorted.{IsNonDecreasingBy-from_default}
-use Rattle.std.proofs.lemmas.Option.{same_Some, slice_get-get_or, slice_get_read, get_or_from_slice_get}
+use Rattle.std.proofs.lemmas.Option.{same_Some, slice_get-get_or, slice_get_within, slice_get_read, get_or_from_slice_get}
 use Rattle.tp_base.specs.Classes.{with_class}
 use Rattle.tp_base.proofs.ClassLemmas.{Contains-with_class, IsStrictlyIncreasing-with_class, with_class-below, with_class-above}
 use Rattle.tp_base.proofs.Lists.{Contains-at, map_at}
@@ -224,6 +225,50 @@ module _ (row : KindRow) (rises : IsStrictlyIncreasing (kinds_of row)) (kind : �
 pub own_place : (row : KindRow) (kind : ℕ) (x : ℕ × Reference) → true ≡ ltb kind (length row) → x ≡ get_or row kind x → eqb x.0 kind ≡ true → IsAt row kind kind
 own_place row kind x inside is same =
     (x.1, slice_get_read row (length row) kind x refl (ltb-true kind (length row) (sym inside)) is ∙ ap (λ k. Some (k, x.1)) (eqb-true x.0 kind same))
+
+pub other_place : (row : KindRow) (kind : ℕ) (x : ℕ × Reference) → x ≡ get_or row kind x → eqb x.0 kind ≡ false → kind < length row → get_or (kinds_of row) kind 0 ≢ kind
+other_place row kind x is other within = λ same.
+    let at : get_or (kinds_of row) kind 0 ≡ x.0 = get_or-map (λ (e : ℕ × Reference). e.0) row kind x 0 within ∙ ap (λ (e : ℕ × Reference). e.0) (sym is) in
+    both_ways (eqb x.0 kind) other (eq-eqb x.0 kind (sym at ∙ same))
+
+-- where all smaller kinds are there, and the kind isn't, it would stand at the place of its number
+module _ (row : KindRow) (rises : IsStrictlyIncreasing (kinds_of row)) where
+  last_before : (k : ℕ) → IsAt row k k → (k < length row) × (get_or (kinds_of row) k 0 ≡ k)
+  last_before k at =
+      let within = slice_get_within row k (k, at.0) at.1 in
+      (within, get_or-map (λ (e : ℕ × Reference). e.0) row k (k, at.0) 0 within ∙ ap (λ (e : ℕ × Reference). e.0) (get_or_from_slice_get row k (k, at.0) (k, at.0) at.1))
+
+  own_least : (kind : ℕ) → ((k : ℕ) → kind ≡ suc k → IsAt row k k) → kind < length row → kind ≤ get_or (kinds_of row) kind 0
+  own_least zero before within = omega arith
+  own_least (suc k) before within =
+      let last = last_before k (before k refl) in
+      let up = AllPairs-from_increasing (kinds_of row) rises k (suc k) 0 (omega arith) (omega (arith, within, length-map row (λ (e : ℕ × Reference). e.0))) in
+      omega (arith, last.1, up)
+
+  own_smaller : (kind : ℕ) → ((k : ℕ) → kind ≡ suc k → IsAt row k k) → (k : ℕ) → k < kind → get_or (kinds_of row) k 0 < kind
+  own_smaller zero before k less = absurd (omega (arith, less))
+  own_smaller (suc m) before k less =
+      let last = last_before m (before m refl) in
+      let up = rises_between (kinds_of row) rises k m (omega (arith, less)) (omega (arith, last.0, length-map row (λ (e : ℕ × Reference). e.0))) in
+      omega (arith, last.1, up)
+
+  own_within : (kind : ℕ) → ((k : ℕ) → kind ≡ suc k → IsAt row k k) → kind ≤ length row
+  own_within zero before = omega arith
+  own_within (suc k) before = let last = last_before k (before k refl) in omega (arith, last.0)
+
+  pub own_gap : (kind : ℕ) → (kind < length row → get_or (kinds_of row) kind 0 ≢ kind) → ((k : ℕ) → kind ≡ suc k → IsAt row k k) → IsGapOf row kind kind
+  own_gap kind other before = record {
+    in_range = own_within kind before;
+    smaller = own_smaller kind before;
+    greater = λ k le within.
+        let here : kind < length row = omega (arith, le, within) in
+        let least = own_least kind before here in
+        let up = rises_between (kinds_of row) rises kind k le (omega (arith, within, length-map row (λ (e : ℕ × Reference). e.0))) in
+        elim (cases_lt kind (get_or (kinds_of row) kind 0)) [
+          | inl above ↦ omega (arith, above, up)
+          | inr below ↦ absurd (other here (omega (arith, least, below)))
+        ];
+  }
 
 -- ### the rows of all atoms
 

@@ -5,6 +5,7 @@ pub mod GrownLemmas
 pub mod SameLemmas
 pub mod AddLemmas
 pub mod SeenLemmas
+pub mod SmallLemmas
 pub mod LinkLemmas
 mod DifferentLemmas
 mod ChildLemmas

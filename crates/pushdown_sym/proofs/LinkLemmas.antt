@@ -20,7 +20,7 @@ use Rattle.simple_core.specs.declared.system.System.{System}
 use Rattle.pushdown_sym.specs.CellMap.{Entries, place_in, trees_in}
 use Rattle.pushdown_sym.specs.Terms.{CellTrees, Term, terms, local_term, up_term, down_term, disjunction, disjunctions, next_tree, partial_results}
 use Rattle.pushdown_sym.specs.declared.gathering.Child.{Child}
-use Rattle.pushdown_sym.specs.Adding.{AreIn, Adds, of_local, of_up, of_down, paired, child_term}
+use Rattle.pushdown_sym.specs.Adding.{AreIn, Adds, of_local, of_up, of_down, paired, term_at, child_term}
 use Rattle.pushdown_sym.specs.Children.{term_of}
 use Rattle.pushdown_sym.proofs.SeenLemmas.{child_is}
 use Rattle.pushdown_sym.proofs.AddLemmas.{IsAdding, add_more, disjunctions_first, cells_same}
@@ -91,6 +91,12 @@ child_there a b cells j c sofar there by r there_is by_is adds =
     subst (λ (t : Term). Adds a b sofar (t ∷ []) r)
     ((λ i. child_term a (there_is i) c.diagram (by_is i)) ∙ child_is a cells j c)
     adds
+
+pub small_there : (a b : Arena) (cells : Entries) (j : ℕ) (c : Child) (sofar there : Reference) (r : Result Reference DiagramFault)
+    → there ≡ place_in cells j c.needs
+    → Adds a b sofar (term_at a.branches there c.diagram (trees_in a.branches cells j) ∷ []) r → Adds a b sofar (term_of a.branches cells j c ∷ []) r
+small_there a b cells j c sofar there r there_is adds =
+    subst (λ (t : Term). Adds a b sofar (t ∷ []) r) (λ i. term_at a.branches (there_is i) c.diagram (trees_in a.branches cells j)) adds
 
 -- ### all terms
 

@@ -38,12 +38,16 @@ of_up a l = if l.to == a then up_term l ∷ [] else []
 abbrev pub of_down : List Spawn → CellTrees → ℕ → ℕ → Link → List Term
 of_down spawns now j a l = if l.to == a then map (down_term now j l) spawns else []
 
--- the term of a child, where these diagrams stand for the atoms that it sees
-abbrev pub child_term : Arena → Reference → Reference → List (ℕ × Reference) → Term
-child_term a there child by = record {
-  tree = tand (tree_at a.branches there) (tcompose (tree_at a.branches child) (tree_by a.branches by));
-  before = tree_at a.branches there ∷ inner_results (tree_at a.branches child) (tree_by a.branches by);
+-- the term of a child, where these trees stand for the atoms that it sees
+abbrev pub term_at : List Tree → Reference → Reference → (ℕ → Tree) → Term
+term_at branches there child by = record {
+  tree = tand (tree_at branches there) (tcompose (tree_at branches child) by);
+  before = tree_at branches there ∷ inner_results (tree_at branches child) by;
 }
+
+-- the same with diagrams
+abbrev pub child_term : Arena → Reference → Reference → List (ℕ × Reference) → Term
+child_term a there child by = term_at a.branches there child (tree_by a.branches by)
 
 -- each atom with its diagram
 abbrev pub paired : (ℕ → Reference) → List ℕ → List (ℕ × Reference)

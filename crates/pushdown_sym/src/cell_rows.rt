@@ -1,5 +1,5 @@
 //! The cells of one atom.
-ghost use Rattle.std.specs.Prelude.{◌≡◌, ◌≢◌, ℕ, true, false, ◌==◌, if◌then◌else◌, [], Contains, IfOk, IfErr, OnOk, OnErr};
+ghost use Rattle.std.specs.Prelude.{◌≡◌, ◌≢◌, ℕ, suc, ◌<◌, true, false, ◌==◌, length, get_or, if◌then◌else◌, [], Contains, IfOk, IfErr, OnOk, OnErr};
 ghost use Rattle.std.specs.List.Sorted.{IsStrictlyIncreasing};
 ghost use Rattle.class_diagrams.specs.References.{leaf_reference};
 ghost use Rattle.pushdown_sym.specs.CellRows.{kinds_of, diagram_in, IsAt, IsGapOf};
@@ -31,11 +31,22 @@ impl Model for Row {
 
 // Whether a kind stands at the place of its own number, as it does where all smaller ones are there.
 fn is_own_place(cells: &[(u32, Ref)], kind: u32) -> bool
-    ensures { result ≡ true → IsAt cells.now kind kind }
+    ensures own { result ≡ true → IsAt cells.now kind kind }
+    ensures other { result ≡ false → kind < length cells.now → get_or (kinds_of cells.now) kind 0 ≢ kind }
 {
     match cells.get(kind as usize) {
         Some(cell) => cell.0 == kind,
         None => false,
+    }
+}
+
+// Whether all smaller kinds are there.
+fn has_all_before(cells: &[(u32, Ref)], kind: u32) -> bool
+    ensures { result ≡ true → (k : ℕ) → kind ≡ suc k → IsAt cells.now k k }
+{
+    match kind.checked_sub(1) {
+        Some(last) => is_own_place(cells, last),
+        None => true,
     }
 }
 
@@ -48,6 +59,9 @@ fn place_of(cells: &[(u32, Ref)], kind: u32) -> Result<usize, usize>
 {
     if is_own_place(cells, kind) {
         return Ok(kind as usize);
+    }
+    if has_all_before(cells, kind) {
+        return Err(kind as usize);
     }
     cells.binary_search_by_key(&kind, |cell| cell.0)
 }

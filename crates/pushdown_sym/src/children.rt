@@ -3,9 +3,10 @@ ghost use Rattle.std.specs.Prelude.{◌≡◌, true, [], ◌∷◌, All, map, If
 ghost use Rattle.std.specs.List.{flat_map};
 ghost use Rattle.std.specs.List.Sorted.{IsStrictlyIncreasing};
 ghost use Rattle.class_diagrams.specs.Arena.{tree_at, IsIn, IsArena};
-ghost use Rattle.diagram_ops.specs.Compositions.{atoms_of};
-ghost use Rattle.pushdown_sym.specs.CellMap.{place_in, may_have};
-ghost use Rattle.pushdown_sym.specs.Adding.{AreIn, Adds, paired, child_term};
+ghost use Rattle.diagram_ops.specs.Compositions.{atoms_of, tcompose, inner_results};
+ghost use Rattle.diagram_ops.specs.Steps.{Calculates, joined_tree, joined_results};
+ghost use Rattle.pushdown_sym.specs.CellMap.{place_in, trees_in, may_have};
+ghost use Rattle.pushdown_sym.specs.Adding.{AreIn, Adds, paired, term_at, child_term};
 ghost use Rattle.pushdown_sym.specs.Children.{terms_by, beneath};
 
 use crate::cells::{Cells, is_false};
@@ -35,6 +36,77 @@ fn add_child(
 {
     let composed = compose(alloc, d, child, by)?;
     let term = d.and(there, composed)?;
+    d.or(sofar, term)
+}
+
+// What a branch becomes, from what its two diagrams became.
+fn joined(d: &mut Diagrams, put: Ref, low: Ref, high: Ref) -> Result<Ref, DiagramFault>
+    requires put { IsIn d.old.branches put }
+    requires low { IsIn d.old.branches low }
+    requires high { IsIn d.old.branches high }
+    requires arena { IsArena d.old }
+    ensures { Calculates d.old d.new (joined_results d.old put low high) (joined_tree d.old put low high) result }
+{
+    let both = d.and(put, high)?;
+    d.or(low, both)
+}
+
+// A child's diagram with the diagrams of a node in the place of the atoms that it sees, where nothing is remembered: for small
+// ones.
+fn composed(d: &mut Diagrams, now: &Cells, kind: u32, f: Ref) -> Result<Ref, DiagramFault>
+    requires inside { AreIn d.old.branches now.now }
+    requires first { IsIn d.old.branches f }
+    requires arena { IsArena d.old }
+    ensures { Calculates d.old d.new (inner_results (tree_at d.old.branches f) (trees_in d.old.branches now.now kind)) (tcompose (tree_at d.old.branches f) (trees_in d.old.branches now.now kind)) result }
+{
+    match d.branch(f) {
+        None => Ok(f),
+        Some(branch) => {
+            let by_low = composed(d, now, kind, branch.1)?;
+            let by_high = composed(d, now, kind, branch.2)?;
+            let put = now.get(kind, branch.0);
+            joined(d, put, by_low, by_high)
+        }
+    }
+}
+
+// Whether a diagram has one branch at most.
+fn has_one(d: &Diagrams, f: Ref) -> bool
+    requires { IsIn d.now.branches f }
+{
+    match d.branch(f) {
+        None => true,
+        Some((_, low, high)) => d.branch(low).is_none() && d.branch(high).is_none(),
+    }
+}
+
+// Whether a diagram has three branches at most. A no costs time alone.
+fn is_small(d: &Diagrams, f: Ref) -> bool
+    requires { IsIn d.now.branches f }
+{
+    match d.branch(f) {
+        None => true,
+        Some((_, low, high)) => has_one(d, low) && has_one(d, high),
+    }
+}
+
+// The disjunction so far and the term of a child with a small diagram: that it may be there, and its cell.
+fn add_small(
+    d: &mut Diagrams,
+    now: &Cells,
+    kind: u32,
+    parts: (Ref, Ref),
+    sofar: Ref,
+) -> Result<Ref, DiagramFault>
+    requires inside { AreIn d.old.branches now.now }
+    requires there { IsIn d.old.branches parts.0 }
+    requires child { IsIn d.old.branches parts.1 }
+    requires sofar { IsIn d.old.branches sofar }
+    requires arena { IsArena d.old }
+    ensures { Adds d.old d.new sofar (term_at d.old.branches parts.0 parts.1 (trees_in d.old.branches now.now kind) ∷ []) result }
+{
+    let beneath = composed(d, now, kind, parts.1)?;
+    let term = d.and(parts.0, beneath)?;
     d.or(sofar, term)
 }
 
@@ -90,6 +162,9 @@ fn add_one(
     let there = now.get(kind, child.needs);
     if is_false(there) {
         return Ok(sofar);
+    }
+    if is_small(d, child.diagram) {
+        return add_small(d, now, kind, (there, child.diagram), sofar);
     }
     match seen_by(alloc, d, now, kind, child.diagram) {
         Ok(by) => add_child(alloc, d, there, child.diagram, &by, sofar),

@@ -1,10 +1,10 @@
 //! The changes of each cell.
-ghost use Rattle.std.specs.Prelude.{◌≡◌, ◌<◌, ℕ, ◌==◌, ◌&&◌, ◌++◌, if◌then◌else◌, All, [], ◌∷◌, OnOk, IfOk};
-ghost use Rattle.std.specs.List.Sorted.{IsNonDecreasingBy};
+ghost use Rattle.std.specs.Prelude.{◌≡◌, ◌≢◌, ◌<◌, ◌≤◌, ℕ, true, false, length, get_or, ◌==◌, ◌&&◌, ◌++◌, if◌then◌else◌, All, [], ◌∷◌, OnOk, IfOk};
+ghost use Rattle.std.specs.List.Sorted.{IsNonDecreasing, IsNonDecreasingBy};
 ghost use Rattle.row_index.specs.Rows.{row_of};
 ghost use Rattle.class_diagrams.specs.Arena.{IsIn};
 ghost use Rattle.saturation.specs.Histories.{first_holding, AreGrowing};
-ghost use Rattle.saturation.specs.HistoryMap.{history_in, changes_of};
+ghost use Rattle.saturation.specs.HistoryMap.{history_in, changes_of, StartsAt, EndsAt};
 
 use crate::atom_sets::AtomSet;
 use class_diagrams::{Diagrams, Ref};
@@ -120,6 +120,35 @@ fn by_atoms(alloc: Global, row: &[(Atom, (u64, Ref))]) -> Result<Vec<(Atom, (u64
     Ok(noted)
 }
 
+// Whether an atom stands at a place.
+fn is_at(atoms: &[Atom], place: usize, atom: Atom) -> bool
+    ensures there { result ≡ true → (place < length atoms.now) × (get_or atoms.now place atom ≡ atom) }
+    ensures other { result ≡ false → place < length atoms.now → get_or atoms.now place atom ≢ atom }
+{
+    match atoms.get(place) {
+        Some(other) => *other == atom,
+        None => false,
+    }
+}
+
+// Where those of an atom end that begin at a place. Constant where there is one at most, and else logarithmic in the number
+// of all.
+fn end_of(atoms: &[Atom], from: usize, atom: Atom) -> usize
+    requires order { IsNonDecreasing atoms.now }
+    requires start { StartsAt atom atoms.now from }
+    requires within { from ≤ length atoms.now }
+    ensures end { EndsAt atom atoms.now result }
+    ensures within { result ≤ length atoms.now }
+{
+    if !is_at(atoms, from, atom) {
+        return from;
+    }
+    if !is_at(atoms, from + 1, atom) {
+        return from + 1;
+    }
+    atoms.partition_point(|other| other.0 <= atom.0)
+}
+
 impl HistoryRow {
     // Changes that are in the order of their atoms.
     fn of_ordered(alloc: Global, noted: &[(Atom, (u64, Ref))]) -> Result<HistoryRow, NoMemory>
@@ -141,7 +170,7 @@ impl HistoryRow {
         ensures { result.now ≡ changes_of atom self.now }
     {
         let from = self.atoms.partition_point(|other| other.0 < atom.0);
-        let to = self.atoms.partition_point(|other| other.0 <= atom.0);
+        let to = end_of(&self.atoms, from, atom);
         self.changes.split_at(to).0.split_at(from).1
     }
 }

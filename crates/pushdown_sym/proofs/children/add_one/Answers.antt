@@ -8,7 +8,7 @@ use Rattle.pushdown_sym.specs.CellMap.{place_in, is_false}
 use Rattle.pushdown_sym.specs.Terms.{Term, disjunctions}
 use Rattle.pushdown_sym.specs.Children.{terms_by}
 use Rattle.pushdown_sym.specs.Adding.{Adds}
-use Rattle.pushdown_sym.proofs.LinkLemmas.{all_paired, rising_paired, child_there}
+use Rattle.pushdown_sym.proofs.LinkLemmas.{all_paired, rising_paired, child_there, small_there}
 use Rattle.pushdown_sym.proofs.AddLemmas.{nothing_added}
 use Rattle.pushdown_sym.proofs.ChildLemmas.{none_by, one_by}
 use Rattle.pushdown_sym.proofs.children.add_one.Goals as goal
@@ -34,6 +34,18 @@ pub add_child-requires-clause-order : goal.add_child-requires-clause-order
 add_child-requires-clause-order c =
     subst (λ (es : List (ℕ × Reference)). IsStrictlyIncreasing (map (λ e. e.0) es)) (sym (c.deref.ensures.value ∙ c.in-Ok.ensures.each))
     (rising_paired (place_in c.args.now.now c.args.kind) (atoms_of (tree_at c.args.d.now.branches c.args.child.diagram)) c.in-Ok.ensures.rising)
+
+pub returns-then-is_small : goal.returns-then-is_small
+returns-then-is_small c =
+    subst (λ (ts : List Term). Adds c.args.d.now c.add_small.new.d c.args.sofar ts c.add_small.result)
+    (sym (one_by c.args.d.now.branches c.args.now.now c.args.kind c.args.child (ap is_false (sym c.get-there.ensures) ∙ sym c.is_false.ensures ∙ c.if-is_false.false)))
+    (small_there c.args.d.now c.add_small.new.d c.args.now.now c.args.kind c.args.child c.args.sofar c.get-there.result c.add_small.result c.get-there.ensures c.add_small.ensures)
+
+pub is_small-requires : goal.is_small-requires
+is_small-requires c = c.requires.child (ap (λ p. not (is_false p)) (sym c.get-there.ensures) ∙ ap not (sym c.is_false.ensures ∙ c.if-is_false.false))
+
+pub add_small-requires-clause-child : goal.add_small-requires-clause-child
+add_small-requires-clause-child c = c.requires.child (ap (λ p. not (is_false p)) (sym c.get-there.ensures) ∙ ap not (sym c.is_false.ensures ∙ c.if-is_false.false))
 
 pub returns-in-Ok : goal.returns-in-Ok
 returns-in-Ok c =
