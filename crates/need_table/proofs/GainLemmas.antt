@@ -23,7 +23,7 @@ use Rattle.simple_core.proofs.Members.{Among, among_all, filter-Contains, Contai
 use Rattle.simple_core.proofs.LabelLemmas.{IsByLink, given_by_rules-is, is-given_by_rules, given_by_links-is, is-given_by_links, kinds_at-is, is-kinds_at, kinds_at-more, before, local, up, down, next_label-gives, gives-next_label}
 use Rattle.simple_core.proofs.RoundLemmas.{set_of-is, is-set_of, labels_below-is, is-labels_below, grown-rises, grown-later, grown-one_more}
 use Rattle.simple_core.proofs.RestLemmas.{first_is, first_one}
-use Rattle.rule_index.specs.Asking.{IsMore, AreMet, AsksAnew}
+use Rattle.rule_index.specs.Asking.{IsMore, AreMet, AreMetBy, AsksAnew}
 use Rattle.rule_index.proofs.IndexLemmas.{union_of-same}
 use Rattle.simple_core.specs.declared.summaries.First.{First}
 use Rattle.need_table.specs.declared.entries.Entry.{Entry}
@@ -72,7 +72,7 @@ met_whole rules own r listed needs = inr (some_need r.needs needs)
 
 module _ (s : System) (q : Pair) (k : ℕ) (fresh : List ℕ) (is_fresh : (a : ℕ) → Contains fresh a ↔ IsFirst (labels s q) a (Some k)) where
   -- an atom of the label is one of the round before, or a new one
-  old_or_fresh : (m : ℕ) → k ≡ suc m → (a : ℕ) → Contains (labels s q k) a → Contains (labels s q m) a ⊎ Contains fresh a
+  pub old_or_fresh : (m : ℕ) → k ≡ suc m → (a : ℕ) → Contains (labels s q k) a → Contains (labels s q m) a ⊎ Contains fresh a
   old_or_fresh m last a there = elim (cases_Bool (has_class a (labels s q m))) [
     | inl old ↦ inl (Contains-has_class a (labels s q m) old)
     | inr new ↦ inr ((is_fresh a).1 (there, λ n less in_n. both_ways (has_class a (labels s q m)) new (has_class-Contains a (labels s q m) (grown-later s q.0 q.1 n m (omega arith) a in_n))))
@@ -89,18 +89,14 @@ module _ (s : System) (q : Pair) (k : ℕ) (fresh : List ℕ) (is_fresh : (a : �
     ]
   ]
 
-  -- what rules give without new atoms is there
-  pub met : AreMet s.local (labels s q k) fresh
-  met r listed needs = by_round k refl
+  -- after round 0 what rules give without new atoms is there
+  pub met_by : 0 < k → AreMetBy s.local (labels s q k) fresh
+  met_by later r listed needs = by_round k refl
     where
-      some_need : (xs : List ℕ) → All (Contains (labels s q k)) xs → k ≡ 0 → (xs ≡ []) ⊎ ((a : ℕ) × Contains xs a × Contains fresh a)
-      some_need [] all none = inl refl
-      some_need (x ∷ xs) all none = inr (x, Contains-here x x xs refl, (is_fresh x).1 (All-head (Contains (labels s q k)) x xs all, λ n less. absurd (omega arith)))
-
-      by_round : (n : ℕ) → k ≡ n → Contains (labels s q k) r.gives ⊎ ((r.needs ≡ []) ⊎ ((a : ℕ) × Contains r.needs a × Contains fresh a))
-      by_round zero last = inr (some_need r.needs needs last)
+      by_round : (n : ℕ) → k ≡ n → Contains (labels s q k) r.gives ⊎ ((a : ℕ) × Contains r.needs a × Contains fresh a)
+      by_round zero last = absurd (omega arith)
       by_round (suc m) last = elim (needs_cases m last r.needs needs) [
-        | inr new ↦ inr (inr new)
+        | inr new ↦ inr new
         | inl old ↦
             let own = labels s q m in
             inl (subst (λ z. Contains (labels s q z) r.gives) (sym last)
@@ -379,11 +375,18 @@ fresh_same own given next round up_given up_next right whole =
 -- what is gathered, one after another, for the entry at a place
 module _ (s : System) (entries : List Entry) (i k : ℕ) (x : Entry) (fresh : List ℕ) (from : ℕ) (anew : Option (Vec ℕ)) (read : x ≡ get_or entries i x)
     (asked : IsSomeAnd (slice_get entries i) (λ e. IsAsked s entries (pair_of e) k e.label fresh from (replaced anew e.children.items))) where
-  pub met_at : AreMet s.local x.label fresh
-  met_at =
+  pub met_at : 0 < k → AreMetBy s.local x.label fresh
+  met_at later =
       let e = some_at (λ (e : Entry). IsAsked s entries (pair_of e) k e.label fresh from (replaced anew e.children.items)) (slice_get entries i) asked in
       let here : x ≡ e.0 = read ∙ get_or_from_slice_get entries i e.0 x e.1 in
-      subst (λ (z : Entry). AreMet s.local z.label fresh) (sym here) (subst (λ (z : List ℕ). AreMet s.local z fresh) (sym e.2.label) (met s (pair_of e.0) k fresh e.2.new))
+      subst (λ (z : Entry). AreMetBy s.local z.label fresh) (sym here) (subst (λ (z : List ℕ). AreMetBy s.local z fresh) (sym e.2.label) (met_by s (pair_of e.0) k fresh e.2.new later))
+
+  -- what is new is in the label
+  pub fresh_at : (a : ℕ) → Contains fresh a → Contains x.label a
+  fresh_at a there =
+      let e = some_at (λ (e : Entry). IsAsked s entries (pair_of e) k e.label fresh from (replaced anew e.children.items)) (slice_get entries i) asked in
+      let here : x ≡ e.0 = read ∙ get_or_from_slice_get entries i e.0 x e.1 in
+      subst (λ (z : Entry). Contains z.label a) (sym here) (subst (λ (z : List ℕ). Contains z a) (sym e.2.label) ((e.2.new a).0 there).0)
 
   pub gained_at : (shown : List Entry) (places n0 n1 n2 n3 : List ℕ) → AreKnown s k entries → shown ≡ entries → places ≡ replaced anew x.children.items → n0 ≡ [] → IsMore x.label (given_by_rules s.local x.label) n0 n1
       → n2 ≡ union_of n1 (given_above s k x.parent) → n3 ≡ union_of n2 (flat_map (given_at s shown from k) places) → IsSomeAnd (slice_get entries i) (λ e. IsGained s (pair_of e) k e.label n3)

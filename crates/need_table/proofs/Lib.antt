@@ -6,6 +6,7 @@ mod GrowLemmas
 mod PlaceLemmas
 mod GainLemmas
 pub mod BoundLemmas
+mod SeenLemmas
 pub mod SettleLemmas
 pub mod PlainLemmas
 mod RowLemmas

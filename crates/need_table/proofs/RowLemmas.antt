@@ -78,6 +78,12 @@ added_already row xs i is = record {
   here = subst (λ (z : List ℕ). Contains z i) (sym is) (Contains-append_right xs (i ∷ []) i (Contains-here i i [] refl));
 }
 
+pub added_of : (old new was now : List ℕ) (i : ℕ) → was ≡ old → new ≡ now → IsAdded was now i → IsAdded old new i
+added_of old new was now i same is added = record {
+  kept = λ j there. subst (λ (z : List ℕ). Contains z j) (sym is) (added.kept j (subst (λ (z : List ℕ). Contains z j) (sym same) there));
+  here = subst (λ (z : List ℕ). Contains z i) (sym is) added.here;
+}
+
 pub added_same : (old new : List (List ℕ)) (q k : ℕ) → k ≤ q → ((p : ℕ) → p ≢ q → row_in new p ≡ row_in old p) → AreSameBelow k old new
 added_same old new q k le others p less = others p (λ e. omega arith)
 

@@ -1,11 +1,12 @@
 -- The table of pairs, while it is filled.
-use Rattle.std.specs.Prelude.{◌≡◌, ◌≢◌, ◌⊎◌, ◌&&◌, ◌++◌, set, ◌≤◌, ◌<◌, ◌+◌, ℕ, suc, List, [], ◌∷◌, map, drop, length, not, nat_le, Option, Some, None, Contains, IsSomeAnd, slice_get, ◌==◌, if◌then◌else◌}
+use Rattle.std.specs.Prelude.{◌≡◌, ◌≢◌, ◌↔◌, ◌⊎◌, ◌&&◌, ◌++◌, set, ◌≤◌, ◌<◌, ◌+◌, ℕ, suc, List, [], ◌∷◌, map, drop, length, not, nat_le, Option, Some, None, Contains, IsSomeAnd, slice_get, ◌==◌, if◌then◌else◌}
 use Rattle.std.specs.List.{filter}
+use Rattle.std.specs.List.Sorted.{IsStrictlyIncreasing}
 use Rattle.std.specs.Global.{Vec}
 use Rattle.tp_base.specs.Classes.{has_class, union_of}
 use Rattle.simple_core.specs.declared.system.System.{System}
 use Rattle.simple_core.specs.Systems.{IsSound}
-use Rattle.simple_core.specs.Labels.{set_of}
+use Rattle.simple_core.specs.Labels.{set_of, visible_in}
 use Rattle.simple_core.specs.Rounds.{grown, IsFirst}
 use Rattle.simple_core.specs.Pairs.{Pair, Asks, Needed, AreDifferent}
 use Rattle.simple_core.specs.declared.summaries.First.{First}
@@ -69,6 +70,11 @@ IsHeard entries children r = (j : ℕ) × Contains children j × IsSomeAnd (slic
 -- the place has a pair that the label asks
 abbrev pub IsAskedAt : System → List Entry → List ℕ → ℕ → Type 0
 IsAskedAt s entries own j = IsSomeAnd (slice_get entries j) (λ c. Asks s own (pair_of c))
+
+-- the visible atoms of the label are those of the parent and the visible ones of the new
+pub record IsSeenBefore (s : System) (e : Entry) (fresh parent : List ℕ) : Type 0 where
+  pub rises : IsStrictlyIncreasing parent
+  pub members : (a : ℕ) → (Contains parent a ⊎ (Contains s.visible a × Contains fresh a)) ↔ Contains (visible_in s e.label) a
 
 -- different pairs, at most so many; what they ask in rounds before the last that was worked out stands in the table,
 -- and what they ask in the last of these at the places `children`, where nothing else stands

@@ -7,9 +7,10 @@ ghost use Rattle.need_table.specs.Rows.{row_in, IsRicher, AreSameBelow, IsDue};
 
 use crate::entries::{Entry, place_from};
 use crate::rows::Rows;
+use gathered::Gathered;
 use simple_core::First;
 use std::alloc::Global;
-use tp_base::NoMemory;
+use tp_base::{Atom, NoMemory};
 
 /// What is to be done for the entries from `first` on. `due` has places by rounds: the entry is to be worked out for the round
 /// after. `askers` has the places of those that ask an entry, by its place, counted from `first`.
@@ -18,6 +19,8 @@ pub(crate) struct Agenda {
     pub(crate) first: usize,
     pub(crate) due: Rows,
     pub(crate) askers: Rows,
+    pub(crate) given: Gathered,
+    pub(crate) news: Vec<Atom>,
 }
 
 impl Agenda {
@@ -31,6 +34,8 @@ impl Agenda {
             first,
             due: Rows::new(alloc),
             askers: Rows::new(alloc),
+            given: Gathered::new(alloc),
+            news: Vec::new(alloc),
         }
     }
 }

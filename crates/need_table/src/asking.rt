@@ -3,6 +3,7 @@ ghost use Rattle.std.specs.Prelude.{◌≡◌, ◌<◌, ℕ, List, map, length, 
 ghost use Rattle.std.specs.List.{filter};
 ghost use Rattle.tp_base.specs.Classes.{has_class};
 ghost use Rattle.simple_core.specs.Labels.{set_of};
+ghost use Rattle.simple_core.specs.Systems.{IsSound};
 ghost use Rattle.simple_core.specs.Rounds.{IsRest};
 ghost use Rattle.simple_core.specs.Pairs.{Pair, Needed, HasMore};
 ghost use Rattle.need_table.specs.Tables.{pair_of, IsTable, IsMore, AreNeeded, AllRest, round_in};
@@ -40,18 +41,19 @@ pub(crate) fn first_of(entry: &Entry, atom: Atom) -> Option<u64>
     round_of(&entry.firsts, atom)
 }
 
-/// Those whose atom is visible, with a search of the visible atoms for each.
+/// Those whose atom is visible. Linear in all.
 pub(crate) fn visible_firsts(
     alloc: Global,
+    system: &IndexedSystem,
     firsts: &[First],
-    visible: &ClassSet,
 ) -> Result<Vec<First>, NoMemory>
-    ensures { IfOk result (λ v. v.items ≡ filter (λ f. has_class f.atom visible.now) firsts.now) }
+    requires { IsSound system.now }
+    ensures { IfOk result (λ v. v.items ≡ filter (λ f. has_class f.atom system.now.visible) firsts.now) }
 {
     let mut kept = Vec::new(alloc);
     let mut rest = firsts;
     'firsts: while let Some((first, others)) = rest.split_first() {
-        if visible.has(first.atom) {
+        if system.is_visible(first.atom) {
             kept.push(*first)?;
         }
         rest = others;

@@ -1,18 +1,18 @@
 //! One pair of the table, and its label in each round so far.
-ghost use Rattle.std.specs.Prelude.{◌≡◌, ◌↔◌, ◌≤◌, ◌<◌, ◌+◌, ◌++◌, ◌^◌, map, take, drop, length, Some, Contains, IfOk, OnOk, IsTrue};
+ghost use Rattle.std.specs.Prelude.{◌≡◌, ◌↔◌, ◌≤◌, ◌<◌, ◌+◌, ◌++◌, ◌^◌, [], map, take, drop, length, Some, Contains, IfOk, OnOk, IsTrue};
 ghost use Rattle.std.specs.List.Sorted.{IsStrictlyIncreasing};
 ghost use Rattle.tp_base.specs.Classes.{union_of};
 ghost use Rattle.simple_core.specs.Labels.{set_of};
 ghost use Rattle.simple_core.specs.declared.summaries.First.{First};
 ghost use Rattle.need_table.specs.Tables.{fresh_of, AreInOrder, IsPlaceFrom};
 
+use gathered::Gathered;
 use simple_core::First;
 use std::alloc::Global;
-use tp_base::{ClassSet, NoMemory};
+use tp_base::{Atom, ClassSet, NoMemory};
 
-// A few atoms, or an eighth as many as a label has, are put into it one by one, and a few of the last firsts are looked at before
-// the others.
-const A_FEW: usize = 8;
+/// So many of the last firsts are looked at before the others, and so many new atoms one by one.
+pub(crate) const A_FEW: usize = 8;
 
 /// A pair. `label` is its last label, and `firsts` has the atoms of this in the order of their first rounds. `rounds` is the last
 /// round for which it was worked out, and `None` where it has come to rest; `children` has the places of the pairs that its label
@@ -84,81 +84,57 @@ pub(crate) fn within(firsts: &[First], from: u64, to: u64) -> &[First]
     behind(known, place_from(known, from))
 }
 
-// Adds to the firsts the atoms of the second label that the first doesn't have, with the round in which they came.
-fn add_fresh(
-    own: &ClassSet,
-    firsts: &mut Vec<First>,
-    next: &ClassSet,
-    round: u64,
-) -> Result<(), NoMemory>
-    ensures fresh { OnOk result (firsts.new.items ≡ firsts.old.items ++ fresh_of own.now round next.now) }
-    ensures rises { OnOk result (IsStrictlyIncreasing next.now) }
+/// The atoms of a label in round 0.
+pub(crate) fn firsts_of(alloc: Global, label: &ClassSet) -> Result<Vec<First>, NoMemory>
+    ensures firsts { IfOk result (λ v. v.items ≡ fresh_of [] 0 label.now) }
+    ensures rises { OnOk result (IsStrictlyIncreasing label.now) }
 {
-    firsts.reserve(next.len())?;
-    let mut i = 0;
-    'atoms: while i < next.len() {
-        let atom = next.at(i);
-        if !own.has(atom) {
-            firsts.push(First { atom, round })?;
-        }
-        i += 1;
+    let mut firsts = Vec::with_capacity(alloc, label.len())?;
+    for i in 0..label.len() {
+        let atom = label.at(i);
+        firsts.push(First { atom, round: 0 })?;
+    }
+    Ok(firsts)
+}
+
+// Makes room for this many firsts more, where they are more than a few, so that no more is taken than for the last of them.
+fn make_room(firsts: &mut Vec<First>, count: usize) -> Result<(), NoMemory>
+    ensures { OnOk result (firsts.new.items ≡ firsts.old.items) }
+{
+    if count > A_FEW {
+        firsts.reserve(count)?;
     }
     Ok(())
 }
 
-/// The atoms of the second label that the first doesn't have, with the round in which they came.
-pub(crate) fn fresh(
-    alloc: Global,
-    own: &ClassSet,
-    next: &ClassSet,
-    round: u64,
-) -> Result<Vec<First>, NoMemory>
-    ensures fresh { IfOk result (λ v. v.items ≡ fresh_of own.now round next.now) }
-    ensures rises { OnOk result (IsStrictlyIncreasing next.now) }
+// Adds the atoms to the firsts, with the round in which they came.
+fn add_news(firsts: &mut Vec<First>, news: &[Atom], round: u64) -> Result<(), NoMemory>
+    ensures { OnOk result (firsts.new.items ≡ firsts.old.items ++ map (λ a. record { atom = a; round = round }) news.now) }
 {
-    let mut new = Vec::new(alloc);
-    add_fresh(own, &mut new, next, round)?;
-    Ok(new)
-}
-
-// Adds the atoms to a label one by one, and to the firsts those that it didn't have.
-fn add_each(
-    label: &mut ClassSet,
-    firsts: &mut Vec<First>,
-    given: &ClassSet,
-    round: u64,
-) -> Result<(), NoMemory>
-    ensures label { OnOk result (label.new ≡ union_of label.old given.now) }
-    ensures firsts { OnOk result (firsts.new.items ≡ firsts.old.items ++ fresh_of label.old round given.now) }
-{
-    let mut i = 0;
-    'atoms: while i < given.len() {
-        let atom = given.at(i);
-        if label.add(atom)? {
-            firsts.push(First { atom, round })?;
-        }
-        i += 1;
+    let mut rest = news;
+    'atoms: while let Some((atom, others)) = rest.split_first() {
+        firsts.push(First { atom: *atom, round })?;
+        rest = others;
     }
     Ok(())
 }
 
-/// Adds the atoms to a label, and those that it didn't have to the firsts, with the round, by a search for each: a few one by one,
-/// and many by a copy of the label.
+/// Moves the atoms to a label, and adds those that it didn't have to the firsts, with the round, by a search for each: a few one by
+/// one, and many by a copy of the label. `news` is room for those.
 pub(crate) fn grow(
     label: &mut ClassSet,
     firsts: &mut Vec<First>,
-    given: &ClassSet,
+    given: &mut Gathered,
+    news: &mut Vec<Atom>,
     round: u64,
 ) -> Result<(), NoMemory>
-    ensures label { OnOk result (label.new ≡ union_of label.old (set_of (map (λ f. f.atom) (fresh_of label.old round given.now)))) }
-    ensures firsts { OnOk result (firsts.new.items ≡ firsts.old.items ++ fresh_of label.old round given.now) }
+    ensures label { OnOk result (label.new ≡ union_of label.old (set_of (map (λ f. f.atom) (fresh_of label.old round given.old)))) }
+    ensures firsts { OnOk result (firsts.new.items ≡ firsts.old.items ++ fresh_of label.old round given.old) }
 {
     let known = label.len();
-    if given.len() <= A_FEW.max(known / A_FEW) {
-        return add_each(label, firsts, given, round);
-    }
-    add_fresh(label, firsts, given, round)?;
-    label.union(given)?;
+    given.move_to(label, news)?;
+    make_room(firsts, news.len())?;
+    add_news(firsts, news, round)?;
     Ok(())
 }
 

@@ -4,11 +4,12 @@ ghost use Rattle.need_table.specs.declared.entries.Entry.{Entry};
 ghost use Rattle.need_table.specs.Tables.{pair_of, fresh_of, rested, raised, replaced, IsNotAt, IsNoted, IsUntouched};
 
 use crate::entries::{Entry, grow, is_at};
+use gathered::Gathered;
 use multimap::Multimap;
 use pair_table::{hash_of, same_atoms};
 use std::alloc::Global;
 use std::marker::Model;
-use tp_base::{ClassSet, NoMemory};
+use tp_base::{Atom, ClassSet, NoMemory};
 
 /// Entries, and for each hash of pairs the places where one that has it stands, or stood before it was forgotten. A contract sees
 /// the list of the entries.
@@ -93,16 +94,17 @@ impl Table {
         &mut self,
         i: usize,
         k: u64,
-        given: &ClassSet,
+        given: &mut Gathered,
+        news: &mut Vec<Atom>,
         anew: Option<Vec<usize>>,
     ) -> Result<bool, NoMemory>
         requires place { i < length self.old }
         requires round { k + 1 < 2 ^ 64 }
-        ensures ok { OnOk result (IsNoted self.old self.new i k given.now anew) }
-        ensures grew { IfOk result (λ grew. grew ≡ false → (e : Entry) → slice_get self.old i ≡ Some e → fresh_of e.label (k + 1) given.now ≡ []) }
+        ensures ok { OnOk result (IsNoted self.old self.new i k given.old anew) }
+        ensures grew { IfOk result (λ grew. grew ≡ false → (e : Entry) → slice_get self.old i ≡ Some e → fresh_of e.label (k + 1) given.old ≡ []) }
         ensures err { OnErr result (IsUntouched self.old self.new i) }
     {
-        note(&mut self.entries, i, k, given, anew)
+        note(&mut self.entries, i, k, given, news, anew)
     }
 
     /// Notes that nothing is new at an entry up to the round k.
@@ -170,19 +172,20 @@ fn note(
     entries: &mut Vec<Entry>,
     i: usize,
     k: u64,
-    given: &ClassSet,
+    given: &mut Gathered,
+    news: &mut Vec<Atom>,
     anew: Option<Vec<usize>>,
 ) -> Result<bool, NoMemory>
     requires place { i < length entries.old.items }
     requires round { k + 1 < 2 ^ 64 }
-    ensures ok { OnOk result (IsNoted entries.old.items entries.new.items i k given.now anew) }
-    ensures grew { IfOk result (λ grew. grew ≡ false → (e : Entry) → slice_get entries.old.items i ≡ Some e → fresh_of e.label (k + 1) given.now ≡ []) }
+    ensures ok { OnOk result (IsNoted entries.old.items entries.new.items i k given.old anew) }
+    ensures grew { IfOk result (λ grew. grew ≡ false → (e : Entry) → slice_get entries.old.items i ≡ Some e → fresh_of e.label (k + 1) given.old ≡ []) }
     ensures err { OnErr result (IsUntouched entries.old.items entries.new.items i) }
 {
     if is_at(&entries[i], k) {
         let entry = &mut entries[i];
         let before = entry.firsts.len();
-        grow(&mut entry.label, &mut entry.firsts, given, k + 1)?;
+        grow(&mut entry.label, &mut entry.firsts, given, news, k + 1)?;
         replace(&mut entry.children, anew);
         entry.rounds = Some(k + 1);
         return Ok(entry.firsts.len() > before);

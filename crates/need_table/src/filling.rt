@@ -1,14 +1,16 @@
 //! What an entry asks.
-ghost use Rattle.std.specs.Prelude.{◌≡◌, ◌+◌, ◌<◌, ◌^◌, IsFalse, ℕ, List, [], map, length, slice_get, Some, Contains, IsSomeAnd, IfOk, OnOk};
+ghost use Rattle.std.specs.Prelude.{◌≡◌, ◌+◌, ◌<◌, ◌^◌, IsFalse, ℕ, List, [], map, filter, length, slice_get, Some, Contains, IsSomeAnd, IfSome, IfOk, OnOk};
+ghost use Rattle.std.specs.List.Sorted.{IsStrictlyIncreasing};
+ghost use Rattle.tp_base.specs.Classes.{has_class, union_of};
 ghost use Rattle.simple_core.specs.Systems.{kind_label, IsSound};
 ghost use Rattle.simple_core.specs.Labels.{set_of, visible_in};
 ghost use Rattle.simple_core.specs.Pairs.{Pair, Asks, Needed, HasMore};
 ghost use Rattle.rule_index.specs.Asking.{AreKinds, AsksAnew};
-ghost use Rattle.need_table.specs.Tables.{pair_of, fresh_of, atoms_from, replaced, IsHeard, IsAskedAt, IsTable, IsMore, AreNeeded};
+ghost use Rattle.need_table.specs.Tables.{pair_of, fresh_of, atoms_from, replaced, IsHeard, IsAskedAt, IsSeenBefore, IsTable, IsMore, AreNeeded};
 ghost use Rattle.need_table.specs.Agendas.{IsAppended};
 ghost use Rattle.need_table.specs.Turns.{IsAsked};
 
-use crate::entries::{Entry, behind, fresh, place_from};
+use crate::entries::{A_FEW, Entry, behind, firsts_of, place_from};
 use crate::entry_table::Table;
 use rule_index::IndexedSystem;
 use simple_core::{First, GainFault};
@@ -30,8 +32,7 @@ fn first_entry(
     ensures label { IfOk result (λ e. e.label ≡ set_of (map (λ f. f.atom) e.firsts.items)) }
 {
     let label = &system.kinds()[kind as usize].label;
-    let none = ClassSet::new(alloc);
-    let firsts = fresh(alloc, &none, label, 0)?;
+    let firsts = firsts_of(alloc, label)?;
     Ok(Entry {
         kind,
         parent: parent.copy()?,
@@ -108,14 +109,16 @@ fn ask_kinds(
     Ok(children)
 }
 
-// Where all pairs stand that a label asks. Those that are new are added.
+// Where all pairs stand that a label asks, whose visible atoms are given. Those that are new are added.
 fn ask_all(
     alloc: Global,
     system: &IndexedSystem,
     table: &mut Table,
     pairs: u32,
     own: &ClassSet,
+    seen: &ClassSet,
 ) -> Result<Vec<usize>, GainFault>
+    requires seen { seen.now ≡ visible_in system.now own.now }
     requires table { IsTable system.now pairs table.old }
     ensures table { IsTable system.now pairs table.new }
     ensures more { IsMore table.old table.new }
@@ -126,10 +129,94 @@ fn ask_all(
     ensures spent { result ≡ Err GainFault.Spent → (qs : List Pair) → AreNeeded system.now qs table.old → ((r : Pair) → Asks system.now own.now r → Needed system.now (Contains qs) r)
         → HasMore (Needed system.now (Contains qs)) pairs }
 {
-    let mut seen = own.copy()?;
-    seen.cut(system.visible());
     let kinds = system.kinds_of(alloc, own)?;
-    ask_kinds(alloc, system, table, pairs, own, &seen, &kinds)
+    ask_kinds(alloc, system, table, pairs, own, seen, &kinds)
+}
+
+// Adds those of these atoms at which links from a parent look.
+fn add_visible(system: &IndexedSystem, fresh: &[First], seen: &mut ClassSet) -> Result<(), NoMemory>
+    requires { IsSound system.now }
+    ensures { OnOk result (seen.new ≡ union_of seen.old (filter (λ a. has_class a system.now.visible) (map (λ f. f.atom) fresh.now))) }
+{
+    let mut rest = fresh;
+    'firsts: while let Some((first, others)) = rest.split_first() {
+        let atom = first.atom;
+        if system.is_visible(atom) {
+            seen.add(atom)?;
+        }
+        rest = others;
+    }
+    Ok(())
+}
+
+// The visible atoms of a label.
+fn seen_anew(system: &IndexedSystem, label: &ClassSet) -> Result<ClassSet, NoMemory>
+    ensures { IfOk result (λ s. s ≡ visible_in system.now label.now) }
+{
+    let mut seen = label.copy()?;
+    seen.cut(system.visible());
+    Ok(seen)
+}
+
+// The same by those that it had before, and its new atoms.
+fn seen_further(
+    system: &IndexedSystem,
+    before: &ClassSet,
+    fresh: &[First],
+) -> Result<ClassSet, NoMemory>
+    requires { IsSound system.now }
+    ensures { IfOk result (λ s. s ≡ union_of before.now (filter (λ a. has_class a system.now.visible) (map (λ f. f.atom) fresh.now))) }
+{
+    let mut seen = before.copy()?;
+    add_visible(system, fresh, &mut seen)?;
+    Ok(seen)
+}
+
+// The label below which the pair at a place stands.
+fn parent_at(entries: &[Entry], j: usize) -> Option<&ClassSet>
+    ensures { IfSome result (λ p. IsSomeAnd (slice_get entries.now j) (λ c. p.now ≡ c.parent)) }
+{
+    match entries.get(j) {
+        Some(child) => Some(&child.parent),
+        None => None,
+    }
+}
+
+// The visible atoms with which an entry asked in the round before, if it asked something.
+fn asked_with<'a>(entries: &'a [Entry], entry: &Entry) -> Option<&'a ClassSet>
+    ensures { IfSome result (λ p. (j : ℕ) × Contains entry.now.children.items j × IsSomeAnd (slice_get entries.now j) (λ c. p.now ≡ c.parent)) }
+{
+    match entry.children.first() {
+        Some(j) => parent_at(entries, *j),
+        None => None,
+    }
+}
+
+// The visible atoms of an entry's label in the round k, of whose firsts those from this place on are new. Where it asked something
+// in the round before, and only a few are new, only these are looked at.
+fn seen_by(
+    system: &IndexedSystem,
+    entries: &[Entry],
+    entry: &Entry,
+    place: usize,
+    k: u64,
+) -> Result<ClassSet, NoMemory>
+    requires sound { IsSound system.now }
+    requires rises { IsStrictlyIncreasing entry.now.label }
+    requires before { 0 < k → (j : ℕ) (c : Entry) → Contains entry.now.children.items j → slice_get entries.now j ≡ Some c → IsSeenBefore system.now entry.now (atoms_from place entry.now.firsts.items) c.parent }
+    ensures { IfOk result (λ s. s ≡ visible_in system.now entry.now.label) }
+{
+    if k == 0 {
+        return seen_anew(system, &entry.label);
+    }
+    let fresh = behind(&entry.firsts, place);
+    if fresh.len() > A_FEW {
+        return seen_anew(system, &entry.label);
+    }
+    match asked_with(entries, entry) {
+        Some(before) => seen_further(system, before, fresh),
+        None => seen_anew(system, &entry.label),
+    }
 }
 
 // Whether a label asks something in the round k that it didn't ask before, by what it got in it. Linear in that.
@@ -189,8 +276,9 @@ pub(crate) fn asked_by(
             anew: None,
         });
     }
+    let seen = seen_by(system, table.entries(), entry, place, k)?;
     let own = entry.label.copy()?;
-    let children = ask_all(alloc, system, table, pairs, &own)?;
+    let children = ask_all(alloc, system, table, pairs, &own, &seen)?;
     Ok(Asked {
         place,
         from: 0,

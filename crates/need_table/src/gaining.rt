@@ -1,10 +1,10 @@
 //! One round more of an entry.
-ghost use Rattle.std.specs.Prelude.{◌≡◌, ◌+◌, ◌<◌, ◌^◌, ℕ, suc, map, slice_get, Some, IsSomeAnd, IfOk, OnOk};
+ghost use Rattle.std.specs.Prelude.{◌≡◌, ◌+◌, ◌<◌, ◌^◌, ℕ, suc, map, slice_get, Some, Contains, IsSomeAnd, OnOk};
 ghost use Rattle.std.specs.List.{flat_map};
 ghost use Rattle.std.specs.List.Sorted.{IsStrictlyIncreasing};
 ghost use Rattle.tp_base.specs.Classes.{union_of};
 ghost use Rattle.simple_core.specs.Labels.{set_of, given_by_links, given_by_rules};
-ghost use Rattle.rule_index.specs.Asking.{IsMore as IsGiven, AreMet};
+ghost use Rattle.rule_index.specs.Asking.{IsMore as IsGiven, AreMetBy};
 ghost use Rattle.need_table.specs.Tables.{pair_of, atoms_from, replaced, IsDone, IsMore, AreOrdered};
 ghost use Rattle.need_table.specs.Rows.{IsEmptyBelow, AreSameBelow};
 ghost use Rattle.need_table.specs.Agendas.{AreKnown, IsGoing};
@@ -17,7 +17,6 @@ use crate::filling::{Asked, asked_places};
 use gathered::Gathered;
 use rule_index::IndexedSystem;
 use simple_core::First;
-use std::alloc::Global;
 use tp_base::{ClassSet, NoMemory};
 
 // Adds what these atoms of a child give.
@@ -91,51 +90,51 @@ fn add_above(
     Ok(())
 }
 
-// Adds what an entry gives itself, of whose firsts those from this place on are new.
+// Adds what an entry gives itself in the round after k, of whose firsts those from this place on are new in k.
 fn add_own(
     system: &IndexedSystem,
     entry: &Entry,
     place: usize,
+    k: u64,
     next: &mut Gathered,
 ) -> Result<(), NoMemory>
-    requires { AreMet system.now.local entry.now.label (atoms_from place entry.now.firsts.items) }
+    requires met { 0 < k → AreMetBy system.now.local entry.now.label (atoms_from place entry.now.firsts.items) }
+    requires within { (a : ℕ) → Contains (atoms_from place entry.now.firsts.items) a → Contains entry.now.label a }
     ensures { OnOk result (IsGiven entry.now.label (given_by_rules system.now.local entry.now.label) next.old next.new) }
 {
-    if place == 0 {
+    if k == 0 {
         return system.add_local(&entry.label, &entry.label, next);
     }
-    system.add_local_by(&entry.label, behind(&entry.firsts, place), next)
+    system.add_later(&entry.label, behind(&entry.firsts, place), next)
 }
 
 // What an entry gets in the round after k, its last one, and some of what it has. It costs a look at what is new of the label and
 // of what it asks, and at the rules that need that.
 fn gained(
-    alloc: Global,
     system: &IndexedSystem,
     table: &Table,
     i: usize,
     k: u64,
     asked: &Asked,
-) -> Result<ClassSet, NoMemory>
+    next: &mut Gathered,
+) -> Result<(), NoMemory>
     requires round { k + 1 < 2 ^ 64 }
     requires order { AreOrdered table.now }
     requires known { AreKnown system.now k table.now }
     requires asked { IsSomeAnd (slice_get table.now i) (λ e. IsAsked system.now table.now (pair_of e) k e.label (atoms_from asked.now.place e.firsts.items) asked.now.from (replaced asked.now.anew e.children.items)) }
-    ensures { IfOk result (λ n. IsSomeAnd (slice_get table.now i) (λ e. IsGained system.now (pair_of e) k e.label n)) }
+    ensures { OnOk result (IsSomeAnd (slice_get table.now i) (λ e. IsGained system.now (pair_of e) k e.label next.new)) }
 {
-    let mut next = Gathered::new(alloc);
+    next.clear();
     let entry = table.entry(i);
-    add_own(system, entry, asked.place, &mut next)?;
-    add_above(system, &entry.parent, k, &mut next)?;
+    add_own(system, entry, asked.place, k, next)?;
+    add_above(system, &entry.parent, k, next)?;
     let children = asked_places(&asked.anew, &entry.children);
-    add_children(system, table.entries(), asked.from, k, children, &mut next)?;
-    let next = next.into_set()?;
-    Ok(next)
+    add_children(system, table.entries(), asked.from, k, children, next)?;
+    Ok(())
 }
 
 /// Gives an entry one round more than k, its last one, and tells those whom that concerns.
 pub(crate) fn step(
-    alloc: Global,
     system: &IndexedSystem,
     table: &mut Table,
     agenda: &mut Agenda,
@@ -154,7 +153,7 @@ pub(crate) fn step(
     ensures rows { OnOk result (AreSameBelow (suc k) agenda.old.due agenda.new.due) }
     ensures done { OnOk result (IsSomeAnd (slice_get table.new i) (λ e. IsDone e.rounds (suc k))) }
 {
-    let given = gained(alloc, system, table, i, k, &asked)?;
+    gained(system, table, i, k, &asked, &mut agenda.given)?;
     let first = agenda.first;
     listen_anew(
         &mut agenda.askers,
@@ -163,7 +162,7 @@ pub(crate) fn step(
         &table.entry(i).children,
         &asked.anew,
     )?;
-    let grew = table.note(i, k, &given, asked.anew)?;
+    let grew = table.note(i, k, &mut agenda.given, &mut agenda.news, asked.anew)?;
     tell(table.entries(), agenda, i, k, grew)?;
     Ok(())
 }

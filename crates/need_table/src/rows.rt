@@ -1,5 +1,5 @@
 //! Rows of places.
-ghost use Rattle.std.specs.Prelude.{◌≡◌, ◌≢◌, ◌<◌, ◌++◌, ◌∷◌, [], ℕ, List, None, length, IfSome, OnOk};
+ghost use Rattle.std.specs.Prelude.{◌≡◌, ◌≢◌, ◌<◌, ◌++◌, ◌∷◌, [], ℕ, List, None, length, IfSome, IsTrue, OnOk};
 ghost use Rattle.need_table.specs.Rows.{row_in, IsAdded};
 
 use std::alloc::Global;
@@ -85,14 +85,30 @@ impl Rows {
         ensures added { OnOk result (IsAdded (row_in self.old q) (row_in self.new q) place) }
         ensures others { OnOk result ((p : ℕ) → p ≢ q → row_in self.new p ≡ row_in self.old p) }
     {
-        if let Some(last) = self.last(q)
-            && last == place
-        {
-            return Ok(());
-        }
         self.begin(q)?;
-        self.rows[q].push(place)?;
+        push_once(&mut self.rows[q], place)?;
         Ok(())
+    }
+}
+
+// Puts a place behind all, where it isn't the last one already.
+fn push_once(row: &mut Vec<usize>, place: usize) -> Result<(), NoMemory>
+    ensures { OnOk result (IsAdded row.old.items row.new.items place) }
+{
+    if ends_with(row, place) {
+        return Ok(());
+    }
+    row.push(place)?;
+    Ok(())
+}
+
+// Whether a place is the last one of a row.
+fn ends_with(row: &[usize], place: usize) -> bool
+    ensures { IsTrue result → (xs : List ℕ) × (row.now ≡ xs ++ place ∷ []) }
+{
+    match row.last() {
+        Some(last) => *last == place,
+        None => false,
     }
 }
 

@@ -29,7 +29,7 @@ struct Question {
 /// it asks new pairs, it waits for them and is made again, which costs a step for each round so far besides.
 /// A pair is found by a number that is worked out of its atoms, so that a look for its entry is linear in these, on average. The
 /// first round of an atom at an entry costs a search of the label, and where the label has it, a look at the atoms that came before.
-/// All visible atoms of a pair cost a look for its entry, and a search of the visible atoms for each atom of its label.
+/// All visible atoms of a pair cost a look for its entry and at each atom of its label.
 #[derive(Drop)]
 pub struct PlainSummaries<'a> {
     system: IndexedSystem<'a>,
@@ -131,7 +131,7 @@ impl<'a> Summaries for PlainSummaries<'a> {
     fn firsts(&self, alloc: Global, kind: u32, parent: &ClassSet) -> Result<Vec<First>, NoMemory> {
         let place = self.entry(kind, parent);
         let entry = self.table.entry(place);
-        let firsts = visible_firsts(alloc, &entry.firsts, self.system.visible())?;
+        let firsts = visible_firsts(alloc, &self.system, &entry.firsts)?;
         Ok(firsts)
     }
 }

@@ -54,7 +54,7 @@ fn turn(
     table.raise(i, k);
     let asked = asked_by(alloc, system, table, pairs, i, k)?;
     if table.len() == before {
-        step(alloc, system, table, agenda, i, k, asked)?;
+        step(system, table, agenda, i, k, asked)?;
     } else {
         start(&mut agenda.due, before, table.len())?;
     }

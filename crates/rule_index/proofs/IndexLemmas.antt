@@ -1,8 +1,8 @@
 -- Rules found by the atoms that they look at.
-use Rattle.std.proofs.Common.{◌≡◌, ◌≢◌, ◌⊎◌, Bool, true, false, ℕ, ◌+◌, ◌<◌, List, [], ◌∷◌, ◌++◌, map, take, length, get_or, slice_get, Option, Some, None, option_map, unwrap_or, All, Contains, refl, sym, ap, ◌∙◌, inl, inr, arith, subst}
+use Rattle.std.proofs.Common.{◌≡◌, ◌≢◌, ◌⊎◌, ◌==◌, not, Bool, true, false, ℕ, ◌+◌, ◌<◌, List, [], ◌∷◌, ◌++◌, map, take, length, get_or, slice_get, Option, Some, None, option_map, unwrap_or, All, Contains, refl, sym, ap, ◌∙◌, inl, inr, arith, subst}
 use Rattle.std.specs.List.{IsFirstAndRest}
 use Rattle.std.specs.List.Sorted.{IsStrictlyIncreasing}
-use Rattle.std.proofs.lemmas.Bool.{and_from}
+use Rattle.std.proofs.lemmas.Bool.{and_from, cases_Bool, eqb-true, eqb-false}
 use Rattle.std.proofs.lemmas.List.{take_more, length-take-le, append-nil, append_assoc}
 use Rattle.std.proofs.lemmas.Grind.{flat_map-append}
 use Rattle.std.proofs.lemmas.List.Folds.{list_all_at, list_all_more}
@@ -10,9 +10,9 @@ use Rattle.std.proofs.lemmas.List.Sums.{fold-append}
 use Rattle.std.proofs.lemmas.List.Elements.{Contains-append_left, Contains-append_right, Contains-append_cases}
 use Rattle.std.proofs.lemmas.Option.{slice_get_within, slice_get-get_or, get_or_from_slice_get}
 use Rattle.tp_base.specs.Classes.{has_class, all_among, with_class, union_of}
-use Rattle.tp_base.proofs.ClassLemmas.{same_members, Contains-union_of, IsStrictlyIncreasing-union_of}
+use Rattle.tp_base.proofs.ClassLemmas.{has_class-Contains, Contains-has_class, same_members, Contains-union_of, IsStrictlyIncreasing-union_of}
 use Rattle.tp_base.proofs.Rising.{Contains-here, Contains-cons, Contains-none, All-from_Contains}
-use Rattle.tp_base.proofs.Lists.{slice_get-append_left, slice_get-push, push_cases, take_next, Contains-at, at_Contains, at_map, Contains-only}
+use Rattle.tp_base.proofs.Lists.{map_at, slice_get-append_left, slice_get-push, push_cases, take_next, Contains-at, at_Contains, at_map, Contains-only}
 use Rattle.row_index.specs.Rows.{row_of, IsNoted}
 use Rattle.row_index.proofs.RowLemmas.{noted_kept, noted_cases}
 use Rattle.simple_core.specs.declared.system.System.{System}
@@ -23,9 +23,9 @@ use Rattle.simple_core.specs.declared.rules.Link.{Link}
 use Rattle.simple_core.specs.declared.rules.Spawn.{Spawn}
 use Rattle.simple_core.specs.Labels.{given_by_rules, given_by_links}
 use Rattle.simple_core.proofs.Members.{all_among_each, flat_map-Contains, Contains-flat_map}
-use Rattle.simple_core.proofs.RoundLemmas.{set_of-is}
+use Rattle.simple_core.proofs.RoundLemmas.{set_of-is, is-set_of}
 use Rattle.simple_core.proofs.LabelLemmas.{IsByRule, given_by_rules-is, is-given_by_rules, given_by_links-is, is-given_by_links, kinds_at-is, is-kinds_at}
-use Rattle.rule_index.specs.Asking.{IsMore, AreMet, AsksAnew, AreKinds}
+use Rattle.rule_index.specs.Asking.{IsMore, AreMet, AreMetBy, AsksAnew, AreKinds}
 use Rattle.rule_index.specs.Indexes.{IsIndex, AreNeedsNoted, IsRuleNoted, IsOneKey, AreLocalsAt, AreRareAt, AreFound, AreLinksAt, AreSpawnsAt, at_place, at_row, by_label, given_in, to_of, kind_of}
 
 -- unions with the same members are one
@@ -229,6 +229,30 @@ ruled rules rows label fresh start first next row found at_first is_first is_nex
       rises = IsStrictlyIncreasing-union_of start (xs ++ ys);
     })
 
+-- the same, where what rules give that need nothing is there
+pub ruled_by : (rules : List Local) (rows : List (List ℕ)) (label fresh start next : List ℕ) → AreLocalsAt rules rows → AreMetBy rules label fresh
+    → next ≡ union_of start (by_label (given_in label) rules rows (λ a. a + 1) fresh) → IsMore label (given_by_rules rules label) start next
+ruled_by rules rows label fresh start next index met is_next =
+    let f = given_in label in
+    let ys = by_label f rules rows (λ a. a + 1) fresh in
+    let right : (y : ℕ) → Contains ys y → Contains (given_by_rules rules label) y = λ y there.
+    let of = flat_map-Contains (λ a. at_row f rules (row_of rows (a + 1))) fresh y there in at_row-is rules label (row_of rows (of.0 + 1)) y of.2 in
+    let whole : (y : ℕ) → Contains (given_by_rules rules label) y → Contains label y ⊎ Contains ys y = λ y there.
+    let by = given_by_rules-is rules label y there in
+    let place = by.listed in
+    let at : slice_get rules place.0 ≡ Some by.rule = slice_get-get_or rules place.0 by.rule place.1 ∙ ap Some place.2 in
+    elim (met by.rule by.listed by.needs) [
+      | inl known ↦ inl (subst (Contains label) by.gives known)
+      | inr new ↦ inr (Contains-flat_map (λ a. at_row f rules (row_of rows (a + 1))) fresh new.0 y new.2
+          (is-at_row rules rows label (new.0 + 1) place.0 by.rule y (index.each place.0 by.rule new.0 at new.1) at (is-given_in rules label y by)))
+    ] in
+    subst (λ (z : List ℕ). IsMore label (given_by_rules rules label) start z) (sym is_next) (record {
+      kept = λ y there. (Contains-union_of start ys y).1 (inl there);
+      right = λ y there. elim ((Contains-union_of start ys y).0 there) [ inl old ↦ inl old | inr new ↦ inr (right y new) ];
+      whole = λ y there. elim (whole y there) [ inl known ↦ inl known | inr new ↦ inr ((Contains-union_of start ys y).1 (inr new)) ];
+      rises = IsStrictlyIncreasing-union_of start ys;
+    })
+
 -- ---- making the index of rules
 
 pub locals_none : (rows : List (List ℕ)) → AreLocalsAt [] rows
@@ -370,14 +394,44 @@ pub none_left : (P : First → Type 0) (all rest : List First) → length rest �
 none_left P all [] none so_far f there = elim (so_far f there) [ inl left ↦ absurd (Contains-none f left) | inr done ↦ done ]
 none_left P all (x ∷ rest) none so_far f there = absurd (omega arith)
 
+-- a visible atom has a link that looks at it
+seen_link : (s : System) (a : ℕ) → IsSound s → Contains s.visible a → (l : Link) × Contains s.up l × (l.from ≡ a)
+seen_link s a sound seen =
+    let from = λ (l : Link). l.from in
+    let i = at_Contains (map from s.up) a (set_of-is (map from s.up) a (subst (λ (z : List ℕ). Contains z a) sound.visible seen)) in
+    let l = at_map from s.up i.0 a i.1 in (l.0, Contains-at s.up i.0 l.0 l.1, l.2)
+
 -- an atom that no link from a parent looks at and that adds no child
 pub not_asking : (s : System) (links : List Link) (a : ℕ) → IsSound s → links ≡ s.up → ((l : Link) → Contains links l → l.from ≡ a → ⊥) → ((c : Spawn) → Contains s.child c → c.needs ≡ a → ⊥) → AsksAnew s a → ⊥
 not_asking s links a sound same unseen childless (inl seen) =
-    let from = λ (l : Link). l.from in
-    let i = at_Contains (map from s.up) a (set_of-is (map from s.up) a (subst (λ (z : List ℕ). Contains z a) sound.visible seen)) in
-    let l = at_map from s.up i.0 a i.1 in
-    unseen l.0 (subst (λ (z : List Link). Contains z l.0) (sym same) (Contains-at s.up i.0 l.0 l.1)) l.2
+    let l = seen_link s a sound seen in
+    unseen l.0 (subst (λ (z : List Link). Contains z l.0) (sym same) l.1) l.2
 not_asking s links a sound same unseen childless (inr child) = childless child.0 child.1 child.2
 
 pub first_rest : {X : Type 0} (xs : List X) (x : X) (rest : List X) → IsFirstAndRest xs x rest → xs ≡ x ∷ rest
 first_rest xs x rest is = is.0
+
+-- an atom is visible where some place stands in its row
+module _ (s : System) (rows : List (List ℕ)) (a n key : ℕ) (sound : IsSound s) (index : AreLinksAt s.up rows) (is : key ≡ a) (long : n ≡ length (row_of rows key)) where
+  unseen_by : n ≡ 0 → has_class a s.visible ≡ false
+  unseen_by none = elim (cases_Bool (has_class a s.visible)) [
+    | inl seen ↦ absurd (
+        let l = seen_link s a sound (Contains-has_class a s.visible seen) in
+        no_link s.up rows a n key index is long none l.0 l.1 l.2)
+    | inr gone ↦ gone
+  ]
+
+  seen_by : (n ≡ 0 → ⊥) → has_class a s.visible ≡ true
+  seen_by some = elim (row_of rows key) as (λ (row : List ℕ). row_of rows key ≡ row → n ≡ length row → has_class a s.visible ≡ true) [
+    | [] ↦ λ e h. absurd (some h)
+    | i ∷ others ↦ λ e h.
+        let l = index.only key i (subst (λ (z : List ℕ). Contains z i) (sym e) (Contains-here i i others refl)) in
+        let from = λ (l : Link). l.from in
+        has_class-Contains a s.visible (subst (λ (z : List ℕ). Contains z a) (sym sound.visible) (is-set_of (map from s.up) a (subst (Contains (map from s.up)) (l.2 ∙ is) (Contains-at (map from s.up) i l.0.from (map_at from s.up i l.0 l.1)))))
+  ] refl long
+
+pub visible_by : (s : System) (rows : List (List ℕ)) (a n key : ℕ) → IsSound s → AreLinksAt s.up rows → key ≡ a → n ≡ length (row_of rows key) → not (n == 0) ≡ has_class a s.visible
+visible_by s rows a n key sound index is long = elim (cases_Bool (n == 0)) [
+  | inl none ↦ ap not none ∙ sym (unseen_by s rows a n key sound index is long (eqb-true n 0 none))
+  | inr some ↦ ap not some ∙ sym (seen_by s rows a n key sound index is long (eqb-false n 0 some))
+]

@@ -1,6 +1,7 @@
 -- What a label gives and asks, by what of it is fresh: what only older atoms give is there.
 --     IsMore own given old new   new is old with what is given, but for some of what is in own, and rises where old does
 --     AreMet rules own fresh     own has what rules give that need some atom, and no fresh one
+--     AreMetBy rules own fresh   own has what rules give that need no fresh atom
 --     AreUnseen links atoms      no link looks at one of the atoms
 --     AsksAnew s a               a label that gets the atom asks something else than before
 --     AreKinds s own kinds       the kinds that the label adds, in any order
@@ -20,6 +21,9 @@ pub record IsMore (own given old new : List ℕ) : Type 0 where
 
 abbrev pub AreMet : List Local → List ℕ → List ℕ → Type 0
 AreMet rules own fresh = (r : Local) → Contains rules r → All (Contains own) r.needs → Contains own r.gives ⊎ ((r.needs ≡ []) ⊎ ((a : ℕ) × Contains r.needs a × Contains fresh a))
+
+abbrev pub AreMetBy : List Local → List ℕ → List ℕ → Type 0
+AreMetBy rules own fresh = (r : Local) → Contains rules r → All (Contains own) r.needs → Contains own r.gives ⊎ ((a : ℕ) × Contains r.needs a × Contains fresh a)
 
 abbrev pub AreUnseen : List Link → List ℕ → Type 0
 AreUnseen links atoms = (l : Link) → Contains links l → Contains atoms l.from → ⊥

@@ -1,13 +1,13 @@
 //! The rules of a system, found by the atoms that they look at.
 ghost use Rattle.std.specs.Prelude.{◌≡◌, ◌≢◌, ◌++◌, ◌+◌, ◌∷◌, [], ℕ, map, Contains, All, IfOk, OnOk, IsTrue, IsFalse};
 ghost use Rattle.std.specs.List.Sorted.{IsStrictlyIncreasing};
-ghost use Rattle.tp_base.specs.Classes.{all_among, union_of};
+ghost use Rattle.tp_base.specs.Classes.{has_class, all_among, union_of};
 ghost use Rattle.simple_core.specs.Labels.{given_by_rules, given_by_links};
 ghost use Rattle.simple_core.specs.Systems.{IsSound};
 ghost use Rattle.simple_core.specs.declared.summaries.First.{First};
 ghost use Rattle.simple_core.specs.declared.rules.Link.{Link};
 ghost use Rattle.simple_core.specs.declared.rules.Spawn.{Spawn};
-ghost use Rattle.rule_index.specs.Asking.{IsMore, AreMet, AreUnseen, AsksAnew, AreKinds};
+ghost use Rattle.rule_index.specs.Asking.{IsMore, AreMet, AreMetBy, AreUnseen, AsksAnew, AreKinds};
 ghost use Rattle.rule_index.specs.Indexes.{at_place, at_row, by_label, given_in, to_of, kind_of, AreLinksAt, AreFound};
 
 use crate::places::{links_at, locals_at, rarest_at, spawns_at};
@@ -95,18 +95,19 @@ impl<'a> IndexedSystem<'a> {
         add_by_needs(rules, &self.local, label, fresh, next)
     }
 
-    /// The same by what came last to a label. A rule is tested once for each of these atoms that it needs.
-    pub fn add_local_by(
+    /// The same by what came last to a label, where what older atoms give is there, and what rules give that need nothing. A rule
+    /// is tested once for each of these atoms that it needs, by a search of the label for each other one that it needs.
+    pub fn add_later(
         &self,
         label: &ClassSet,
         fresh: &[First],
         next: &mut Gathered,
     ) -> Result<(), NoMemory>
-        requires { AreMet self.now.local label.now (map (λ f. f.atom) fresh.now) }
+        requires met { AreMetBy self.now.local label.now (map (λ f. f.atom) fresh.now) }
+        requires within { (f : First) → Contains fresh.now f → Contains label.now f.atom }
         ensures { OnOk result (IsMore label.now (given_by_rules self.now.local label.now) next.old next.new) }
     {
         let rules = self.system.local.items();
-        add_rules(rules, self.local.of(0), label, next)?;
         add_by_firsts(rules, &self.local, label, fresh, next)?;
         Ok(())
     }
@@ -167,6 +168,14 @@ impl<'a> IndexedSystem<'a> {
             rest = others;
         }
         false
+    }
+
+    /// Whether links from a parent look at an atom. Constant.
+    pub fn is_visible(&self, atom: Atom) -> bool
+        requires { IsSound self.now }
+        ensures { result ≡ has_class atom self.now.visible }
+    {
+        self.up.of(atom.0 as usize).len() != 0
     }
 
     // Whether a link from a parent looks at an atom, or it adds a child.
@@ -250,6 +259,30 @@ fn has_each(label: &ClassSet, needs: &ClassSet) -> bool
     true
 }
 
+// Whether the label has an atom, where it has the other one.
+fn has_need(label: &ClassSet, need: Atom, known: Atom) -> bool
+    requires { Contains label.now known }
+    ensures { result ≡ has_class need label.now }
+{
+    if need == known {
+        return true;
+    }
+    label.has(need)
+}
+
+// Whether the label has each of these atoms, where it has one of them, which isn't searched for.
+fn has_others(label: &ClassSet, needs: &ClassSet, known: Atom) -> bool
+    requires { Contains label.now known }
+    ensures { result ≡ all_among needs.now label.now }
+{
+    for i in 0..needs.len() {
+        if !has_need(label, needs.at(i), known) {
+            return false;
+        }
+    }
+    true
+}
+
 fn add_rule(
     rules: &[Local],
     place: usize,
@@ -282,6 +315,43 @@ fn add_rules(
     Ok(())
 }
 
+fn add_rule_by(
+    rules: &[Local],
+    place: usize,
+    label: &ClassSet,
+    known: Atom,
+    next: &mut Gathered,
+) -> Result<(), NoMemory>
+    requires { Contains label.now known }
+    ensures { OnOk result (next.new ≡ union_of next.old (at_place (given_in label.now) rules.now place)) }
+{
+    if let Some(rule) = rules.get(place) {
+        if has_others(label, &rule.needs, known) {
+            next.add(rule.gives)?;
+        }
+    }
+    Ok(())
+}
+
+// The same as `add_rules`, where an atom is known that the label has.
+fn add_rules_by(
+    rules: &[Local],
+    row: &[usize],
+    label: &ClassSet,
+    known: Atom,
+    next: &mut Gathered,
+) -> Result<(), NoMemory>
+    requires { Contains label.now known }
+    ensures { OnOk result (next.new ≡ union_of next.old (at_row (given_in label.now) rules.now row.now)) }
+{
+    let mut rest = row;
+    'places: while let Some((place, others)) = rest.split_first() {
+        add_rule_by(rules, *place, label, known, next)?;
+        rest = others;
+    }
+    Ok(())
+}
+
 // Whether each atom of the label is a fresh one. Constant where there are fewer or more of these, else linear in them.
 fn are_all_fresh(label: &ClassSet, fresh: &ClassSet) -> bool
     ensures { IsTrue result → All (Contains fresh.now) label.now }
@@ -306,7 +376,7 @@ fn add_by_each(
     Ok(())
 }
 
-// The same, for the atoms of firsts.
+// The same, for the atoms of firsts, which the label has.
 fn add_by_firsts(
     rules: &[Local],
     index: &Index,
@@ -314,12 +384,13 @@ fn add_by_firsts(
     fresh: &[First],
     next: &mut Gathered,
 ) -> Result<(), NoMemory>
+    requires { (f : First) → Contains fresh.now f → Contains label.now f.atom }
     ensures { OnOk result (next.new ≡ union_of next.old (by_label (given_in label.now) rules.now index.now (λ a. a + 1) (map (λ f. f.atom) fresh.now))) }
 {
     let mut rest = fresh;
     'firsts: while let Some((first, others)) = rest.split_first() {
         let atom = first.atom;
-        add_rules(rules, index.of(atom.0 as usize + 1), label, next)?;
+        add_rules_by(rules, index.of(atom.0 as usize + 1), label, atom, next)?;
         rest = others;
     }
     Ok(())

@@ -1,13 +1,23 @@
-use Rattle.std.proofs.Common.{◌≡◌, List, drop, Err, ap, ◌∙◌, subst, rules}
+use Rattle.std.proofs.Common.{◌≡◌, List, drop, slice_get, Err, sym, ap, ◌∙◌, subst, rules}
 use Rattle.simple_core.specs.declared.summaries.GainFault.TheVariants.{Spent}
 use Rattle.simple_core.specs.declared.summaries.First.{First}
 use Rattle.need_table.specs.Tables.{IsPlaceFrom}
 use Rattle.need_table.proofs.ChildLemmas.{asks_needed}
 use Rattle.need_table.proofs.GainLemmas.{order_at, own_at, same_at, anew_at}
+use Rattle.need_table.proofs.SeenLemmas.{before_at, label_rises}
 use Rattle.need_table.proofs.filling.asked_by.Goals as goal
 
 pub place_from-place-requires : goal.place_from-place-requires
 place_from-place-requires c = order_at c.args.system.now c.args.pairs c.args.table.now c.args.i c.args.k c.entry-entry.result.now c.deref.result.now c.requires.table c.requires.rounds c.entry-entry.ensures c.deref.ensures.value
+
+pub seen_by-requires-clause-rises : goal.seen_by-requires-clause-rises
+seen_by-requires-clause-rises c = label_rises c.args.system.now c.args.pairs c.args.table.now c.args.i c.args.k c.entry-entry.result.now c.requires.table c.requires.rounds c.entry-entry.ensures
+
+pub seen_by-requires-clause-before : goal.seen_by-requires-clause-before
+seen_by-requires-clause-before c = λ later j child there at.
+    let x = c.entry-entry.result.now in
+    before_at c.args.system.now c.args.pairs c.args.table.now c.args.i c.args.k c.place_from-place.result x c.requires.table c.requires.rounds c.entry-entry.ensures
+    (subst (λ (z : List First). IsPlaceFrom z c.args.k c.place_from-place.result) c.deref.ensures.value c.place_from-place.ensures) later j child there (ap (λ z. slice_get z j) (sym c.entries.ensures) ∙ at)
 
 pub returns-in_err-children-clause-spent : goal.returns-in_err-children-clause-spent
 returns-in_err-children-clause-spent c = λ is qs all.

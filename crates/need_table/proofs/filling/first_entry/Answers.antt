@@ -1,4 +1,4 @@
-use Rattle.std.proofs.Common.{ℕ, List, map, sym, ap, ◌∙◌, subst}
+use Rattle.std.proofs.Common.{[], List, map, sym, ap, ◌∙◌, subst}
 use Rattle.std.specs.List.Sorted.{IsStrictlyIncreasing}
 use Rattle.simple_core.specs.declared.rules.Kind.{Kind}
 use Rattle.simple_core.specs.Labels.{set_of}
@@ -12,4 +12,4 @@ returns-clause-label c =
     let label = c.index-kinds-kind.result.label in
     let here = c.index-kinds-kind.is in
     c.in_ok-copy-2.ensures ∙ ap (λ (k : Kind). k.label) (sym here) ∙ fresh_all label (subst (λ (k : Kind). IsStrictlyIncreasing k.label) (sym here) c.in_ok-firsts.ensures.rises)
-    ∙ ap (λ (z : List First). set_of (map (λ (f : First). f.atom) z)) (ap (λ (z : List ℕ). fresh_of z 0 label) (sym c.new-none.ensures) ∙ ap (λ (k : Kind). fresh_of c.new-none.result 0 k.label) here ∙ sym c.in_ok-firsts.ensures.fresh)
+    ∙ ap (λ (z : List First). set_of (map (λ (f : First). f.atom) z)) (ap (λ (k : Kind). fresh_of [] 0 k.label) here ∙ sym c.in_ok-firsts.ensures.firsts)

@@ -27,27 +27,27 @@ returns-in_err-grew-clause-more c = round_lost c.args.table.now c.note.new.self 
 
 pub tell-requires-clause-place : goal.tell-requires-clause-place
 tell-requires-clause-place c =
-    let step = round_done c.args.system.now c.requires.going.0 c.args.table.now c.note.new.self c.args.i c.args.k c.args.asked.place c.args.asked.from c.args.asked.anew c.in_ok-given.given
-    c.requires.going.1.table c.requires.rounds c.requires.asked c.in_ok-given.ensures c.in_ok-grew.ensures.ok in
+    let step = round_done c.args.system.now c.requires.going.0 c.args.table.now c.note.new.self c.args.i c.args.k c.args.asked.place c.args.asked.from c.args.asked.anew c.gained.new.next
+    c.requires.going.1.table c.requires.rounds c.requires.asked c.in_ok-gained.ensures c.in_ok-grew.ensures.ok in
     let longer = step.0.more.longer in
     let less = within_of (λ e. e.rounds ≡ Some c.args.k) c.args.table.now c.args.i c.requires.rounds in
     omega (arith, ap length c.entries.ensures)
 
 pub tell-requires-clause-order : goal.tell-requires-clause-order
 tell-requires-clause-order c =
-    let step = round_done c.args.system.now c.requires.going.0 c.args.table.now c.note.new.self c.args.i c.args.k c.args.asked.place c.args.asked.from c.args.asked.anew c.in_ok-given.given
-    c.requires.going.1.table c.requires.rounds c.requires.asked c.in_ok-given.ensures c.in_ok-grew.ensures.ok in
+    let step = round_done c.args.system.now c.requires.going.0 c.args.table.now c.note.new.self c.args.i c.args.k c.args.asked.place c.args.asked.from c.args.asked.anew c.gained.new.next
+    c.requires.going.1.table c.requires.rounds c.requires.asked c.in_ok-gained.ensures c.in_ok-grew.ensures.ok in
     subst (λ (z : List Entry). AreOrdered z) (sym c.entries.ensures) (ordered c.args.system.now c.requires.going.0 c.note.new.self step.0.table)
 
 pub returns-in_err-tell-clause-more : goal.returns-in_err-tell-clause-more
 returns-in_err-tell-clause-more c =
-    (round_done c.args.system.now c.requires.going.0 c.args.table.now c.note.new.self c.args.i c.args.k c.args.asked.place c.args.asked.from c.args.asked.anew c.in_ok-given.given
-    c.requires.going.1.table c.requires.rounds c.requires.asked c.in_ok-given.ensures c.in_ok-grew.ensures.ok).0.more
+    (round_done c.args.system.now c.requires.going.0 c.args.table.now c.note.new.self c.args.i c.args.k c.args.asked.place c.args.asked.from c.args.asked.anew c.gained.new.next
+    c.requires.going.1.table c.requires.rounds c.requires.asked c.in_ok-gained.ensures c.in_ok-grew.ensures.ok).0.more
 
 pub returns-clause-going : goal.returns-clause-going
 returns-clause-going c = λ pairs going.
-    stepped c.args.system.now pairs c.args.table.now c.note.new.self c.args.i c.args.k c.args.asked.place c.args.asked.from c.args.asked.anew c.in_ok-given.given
-    going.table c.requires.rounds c.requires.asked c.in_ok-given.ensures c.args.agenda.now c.tell.new.agenda c.listen_anew.new.askers going c.in_ok-grew.ensures.ok
+    stepped c.args.system.now pairs c.args.table.now c.note.new.self c.args.i c.args.k c.args.asked.place c.args.asked.from c.args.asked.anew c.gained.new.next
+    going.table c.requires.rounds c.requires.asked c.in_ok-gained.ensures c.args.agenda.now c.tell.new.agenda c.listen_anew.new.askers going c.in_ok-grew.ensures.ok
     c.tell.ensures.first c.tell.ensures.kept c.in_ok-tell.ensures.more c.in_ok-listen_anew.ensures.more
     (λ e f at there. c.in_ok-tell.ensures.own (grown_by c.in_ok-grew.grew _ f there (λ still. c.in_ok-grew.ensures.grew still e at)))
     (λ e f at there a asks. c.in_ok-tell.ensures.askers (grown_by c.in_ok-grew.grew _ f there (λ still. c.in_ok-grew.ensures.grew still e at)) a asks)
@@ -56,15 +56,15 @@ returns-clause-going c = λ pairs going.
 
 pub returns-clause-more : goal.returns-clause-more
 returns-clause-more c =
-    (round_done c.args.system.now c.requires.going.0 c.args.table.now c.note.new.self c.args.i c.args.k c.args.asked.place c.args.asked.from c.args.asked.anew c.in_ok-given.given
-    c.requires.going.1.table c.requires.rounds c.requires.asked c.in_ok-given.ensures c.in_ok-grew.ensures.ok).0.more
+    (round_done c.args.system.now c.requires.going.0 c.args.table.now c.note.new.self c.args.i c.args.k c.args.asked.place c.args.asked.from c.args.asked.anew c.gained.new.next
+    c.requires.going.1.table c.requires.rounds c.requires.asked c.in_ok-gained.ensures c.in_ok-grew.ensures.ok).0.more
 
 pub returns-clause-same : goal.returns-clause-same
 returns-clause-same c =
-    (round_done c.args.system.now c.requires.going.0 c.args.table.now c.note.new.self c.args.i c.args.k c.args.asked.place c.args.asked.from c.args.asked.anew c.in_ok-given.given
-    c.requires.going.1.table c.requires.rounds c.requires.asked c.in_ok-given.ensures c.in_ok-grew.ensures.ok).0.same
+    (round_done c.args.system.now c.requires.going.0 c.args.table.now c.note.new.self c.args.i c.args.k c.args.asked.place c.args.asked.from c.args.asked.anew c.gained.new.next
+    c.requires.going.1.table c.requires.rounds c.requires.asked c.in_ok-gained.ensures c.in_ok-grew.ensures.ok).0.same
 
 pub returns-clause-done : goal.returns-clause-done
 returns-clause-done c =
-    (round_done c.args.system.now c.requires.going.0 c.args.table.now c.note.new.self c.args.i c.args.k c.args.asked.place c.args.asked.from c.args.asked.anew c.in_ok-given.given
-    c.requires.going.1.table c.requires.rounds c.requires.asked c.in_ok-given.ensures c.in_ok-grew.ensures.ok).1
+    (round_done c.args.system.now c.requires.going.0 c.args.table.now c.note.new.self c.args.i c.args.k c.args.asked.place c.args.asked.from c.args.asked.anew c.gained.new.next
+    c.requires.going.1.table c.requires.rounds c.requires.asked c.in_ok-gained.ensures c.in_ok-grew.ensures.ok).1
