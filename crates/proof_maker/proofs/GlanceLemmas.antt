@@ -33,7 +33,7 @@ module _ (s : System) (page : LabelTree) (a : ℕ) (g : Glance) where
   page_glance at v same is =
       subst (λ z. IsGlance s page (page_node z) a g) same (record { chosen = record { first = is.first; choice = sym is.choice }; below = is.below })
 
-  pub added_glance : (kind : ℕ) (parent : Bor (List ℕ)) (told : Option (Bor Told)) (t : Triple) → t.kind ≡ kind → parent.now ≡ t.parent → IsGlanceAt s page (Added kind parent told) a g → IsGlance s page (added t) a g
-  added_glance kind parent told t kinds parents is =
+  pub added_glance : (kind : ℕ) (parent : Bor (List ℕ)) (told : Option (Bor Told)) (i : ℕ) (t : Triple) → t.kind ≡ kind → parent.now ≡ t.parent → IsGlanceAt s page (Added kind parent told i) a g → IsGlance s page (added t) a g
+  added_glance kind parent told entry t kinds parents is =
       let one : record { kind = kind; parent = parent.now; atom = t.atom } ≡ t = λ i. record { kind = sym kinds i; parent = parents i; atom = t.atom } in
       subst (λ z. IsGlance s page (added z) a g) one (record { chosen = record { first = is.first; choice = sym is.choice }; below = is.below })

@@ -62,11 +62,11 @@ module _ (f : ℕ → List ℕ) (one : (k : ℕ) → Among (f k) (f (suc k))) (a
 module _ (s : System) (page : LabelTree) where
   pub labels_more : (place : Place) (k : ℕ) → Among (labels_of s page place k) (labels_of s page place (suc k))
   labels_more (Node at) k = page-one_more s page at.now k
-  labels_more (Added j parent arrivals) k = grown-one_more s j parent.now k
+  labels_more (Added j parent arrivals i) k = grown-one_more s j parent.now k
 
   pub labels_rise : (place : Place) (k : ℕ) → IsStrictlyIncreasing (labels_of s page place k)
   labels_rise (Node at) k = page-rises s page k at.now
-  labels_rise (Added j parent arrivals) k = grown-rises s k j parent.now
+  labels_rise (Added j parent arrivals i) k = grown-rises s k j parent.now
 
   -- what a closed page tells of a node
   module _ (c : ClosedPage) (closed : IsClosedPage s page c) (v : List ℕ) (node : IsSome (node_at v page)) (a k : ℕ) where
@@ -119,7 +119,7 @@ pub added_never : (s : System) (j : ℕ) (parent : List ℕ) (a k : ℕ) → IsF
 added_never s j parent a k never = never_has (λ m. grown s m j parent) (grown-one_more s j parent) a k never
 
 -- the pair of a child that a spawn rule adds at a place is known
-pub below_known : {X : Type 0} (S : Ghosts X) (world : World X) → IsReady S world → (place : Place) (k : ℕ) (c : Spawn) (visible : List ℕ) → IsPlace world.page.now (S.known world.sums.now) place
+pub below_known : {X : Type 0} (S : Ghosts X) (world : World X) → IsReady S world → (place : Place) (k : ℕ) (c : Spawn) (visible : List ℕ) → IsPlace S world place
     → IsAsking world.system.now (S.known world.sums.now) place → Contains world.system.now.child c → true ≡ has_class c.needs (labels_of world.system.now world.page.now place k)
     → visible ≡ visible_in world.system.now (labels_of world.system.now world.page.now place k) → S.known world.sums.now (c.kind, visible)
 below_known S world ready (Node at) k c visible node asking listed needs is =
@@ -127,11 +127,11 @@ below_known S world ready (Node at) k c visible node asking listed needs is =
     let own = page_round s world.page.now k at.now in
     let asks : Asks s own (c.kind, visible) = (is-kinds_at s own c.kind (record { spawn = c; listed = listed; needs = Contains-has_class c.needs own (sym needs); kind = refl }), is) in
     ready.asked (c.kind, visible) (at.now, node, k, asks)
-below_known S world ready (Added j parent arrivals) k c visible pair asking listed needs is =
+below_known S world ready (Added j parent arrivals i) k c visible pair asking listed needs is =
     let s = world.system.now in
     let own = grown s k j parent.now in
     let asks : Asks s own (c.kind, visible) = (is-kinds_at s own c.kind (record { spawn = c; listed = listed; needs = Contains-has_class c.needs own (sym needs); kind = refl }), is) in
-    asking (j, parent.now) (c.kind, visible) k pair asks
+    asking (j, parent.now) (c.kind, visible) k pair.0 asks
 
 pub spawn_is : {X : Type 0} (world : World X) (place : Place) (k from c : ℕ) (spawns : List Spawn) (x : Spawn) (visible : List ℕ) (b : Bool) → spawns ≡ world.system.now.child → c < length spawns
     → x ≡ get_or spawns c x → visible ≡ visible_in world.system.now (labels_of world.system.now world.page.now place k)

@@ -1,7 +1,7 @@
 -- What the code looks at: a closed page with the rules of its system by what they give, and the places of its labels.
 --     setting_of, path_of      the place as a setting, and as the path of a node in it
 --     labels_of s page place k the label at the place after so many rounds
---     IsPlace page known place it is a node of the page, or an added node of a known pair
+--     IsPlace S world place    it is a node of the page, or an added node of a known pair with the entry of this
 --     HasArrivals s place      what an added node has with it is what is told of it
 --     IsReady S world          the page is closed, what it asks is known to the summaries, which S reads, and these, the rules and the
 --                              marks are of the system
@@ -27,28 +27,28 @@ use Rattle.proof_maker.specs.Tellings.{IsTold}
 
 abbrev pub setting_of : System → LabelTree → Place → Setting
 setting_of s page (Node at) = on_page s page
-setting_of s page (Added j parent arrivals) = on_added s j parent.now
+setting_of s page (Added j parent arrivals i) = on_added s j parent.now
 
 abbrev pub path_of : Place → List ℕ
 path_of (Node at) = at.now
-path_of (Added j parent arrivals) = []
+path_of (Added j parent arrivals i) = []
 
 abbrev pub labels_of : System → LabelTree → Place → ℕ → List ℕ
 labels_of s page place k = (setting_of s page place).label k (path_of place)
 
-abbrev pub IsPlace : LabelTree → (Pair → Type 0) → Place → Type 0
-IsPlace page known (Node at) = IsSome (node_at at.now page)
-IsPlace page known (Added j parent arrivals) = known (j, parent.now)
+abbrev pub IsPlace : {X : Type 0} → Ghosts X → World X → Place → Type 0
+IsPlace S world (Node at) = IsSome (node_at at.now world.page.now)
+IsPlace S world (Added j parent arrivals i) = S.known world.sums.now (j, parent.now) × S.is_entry world.sums.now i (j, parent.now)
 
 abbrev pub HasArrivals : System → Place → Type 0
 HasArrivals s (Node at) = Unit {0}
-HasArrivals s (Added j parent None) = Unit {0}
-HasArrivals s (Added j parent (Some told)) = IsTold s (λ k. grown s k j parent.now) told.now
+HasArrivals s (Added j parent None i) = Unit {0}
+HasArrivals s (Added j parent (Some told) i) = IsTold s (λ k. grown s k j parent.now) told.now
 
 -- it is a node of the page, if it is none that is added
 abbrev pub IsNodeOf : LabelTree → Place → Type 0
 IsNodeOf page (Node at) = IsSome (node_at at.now page)
-IsNodeOf page (Added j parent arrivals) = Unit {0}
+IsNodeOf page (Added j parent arrivals i) = Unit {0}
 
 -- the label of a node's parent
 abbrev pub above_on : System → LabelTree → ℕ → List ℕ → List ℕ
@@ -57,7 +57,7 @@ above_on s page k v = unwrap_or (option_map (page_round s page k) (parent_of v))
 -- with the pair of an added node all that it asks is known
 abbrev pub IsAsking : System → (Pair → Type 0) → Place → Type 0
 IsAsking s known (Node at) = Unit {0}
-IsAsking s known (Added j parent arrivals) = KeepsAsking s known
+IsAsking s known (Added j parent arrivals i) = KeepsAsking s known
 
 pub record IsReady {X : Type 0} (S : Ghosts X) (world : World X) : Type 0 where
   pub made : S.system world.sums.now ≡ world.system.now

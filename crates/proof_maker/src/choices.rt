@@ -50,7 +50,7 @@ pub(crate) fn chosen<S: Summaries>(
     round: u64,
 ) -> Result<Found, NoMemory>
     requires ready { IsReady S.Summaries world.now }
-    requires place { IsPlace world.now.page.now (S.known world.now.sums.now) place.now }
+    requires place { IsPlace S.Summaries world.now place.now }
     requires arrivals { HasArrivals world.now.system.now place.now }
     ensures choice { IfOk result (λ f. found_reason f ≡ chosen world.now.system.now (setting_of world.now.system.now world.now.page.now place.now) (path_of place.now) atom round) }
     ensures below { IfOk result (HasBelow world.now place.now (round - 1)) }
@@ -76,7 +76,7 @@ pub(crate) fn looks_below<S: Summaries>(
     round: u64,
 ) -> Result<bool, NoMemory>
     requires ready { IsReady S.Summaries world.now }
-    requires place { IsPlace world.now.page.now (S.known world.now.sums.now) place.now }
+    requires place { IsPlace S.Summaries world.now place.now }
 {
     if round == 0 {
         return Ok(false);
@@ -91,7 +91,7 @@ fn may_come_from_below<S: Summaries>(
     before: u64,
 ) -> Result<bool, NoMemory>
     requires ready { IsReady S.Summaries world.now }
-    requires place { IsPlace world.now.page.now (S.known world.now.sums.now) place.now }
+    requires place { IsPlace S.Summaries world.now place.now }
 {
     if world.rules.downs.of(atom).is_empty() {
         return Ok(false);
@@ -113,7 +113,7 @@ fn way<S: Summaries>(
     round: u64,
 ) -> Result<Option<Found>, NoMemory>
     requires ready { IsReady S.Summaries world.now }
-    requires place { IsPlace world.now.page.now (S.known world.now.sums.now) place.now }
+    requires place { IsPlace S.Summaries world.now place.now }
     requires arrivals { HasArrivals world.now.system.now place.now }
     ensures below { IfOk result (λ w. IfSome w (HasBelow world.now place.now round)) }
     ensures choice { IfOk result (λ w. option_map found_reason w
@@ -135,7 +135,7 @@ fn local_way<S: Summaries>(
     round: u64,
 ) -> Option<usize>
     requires ready { IsReady S.Summaries world.now }
-    requires place { IsPlace world.now.page.now (S.known world.now.sums.now) place.now }
+    requires place { IsPlace S.Summaries world.now place.now }
     ensures { result ≡ find (λ l. stands_at world.now place.now round (by_local l)) rules.now }
 {
     for rule in rules {
@@ -153,7 +153,7 @@ fn local_stands<S: Summaries>(
     round: u64,
 ) -> bool
     requires ready { IsReady S.Summaries world.now }
-    requires place { IsPlace world.now.page.now (S.known world.now.sums.now) place.now }
+    requires place { IsPlace S.Summaries world.now place.now }
     ensures { result ≡ stands_at world.now place.now round (by_local rule) }
 {
     match world.system.local.items().get(rule) {
@@ -189,7 +189,7 @@ fn down_way<S: Summaries>(
     round: u64,
 ) -> Result<Option<Found>, NoMemory>
     requires ready { IsReady S.Summaries world.now }
-    requires place { IsPlace world.now.page.now (S.known world.now.sums.now) place.now }
+    requires place { IsPlace S.Summaries world.now place.now }
     requires arrivals { HasArrivals world.now.system.now place.now }
     ensures below { IfOk result (λ w. IfSome w (HasBelow world.now place.now round)) }
     ensures choice { IfOk result (λ w. option_map found_reason w
@@ -213,7 +213,7 @@ fn link_way<S: Summaries>(
     round: u64,
 ) -> Result<Option<Found>, NoMemory>
     requires ready { IsReady S.Summaries world.now }
-    requires place { IsPlace world.now.page.now (S.known world.now.sums.now) place.now }
+    requires place { IsPlace S.Summaries world.now place.now }
     requires arrivals { HasArrivals world.now.system.now place.now }
     ensures below { IfOk result (λ w. IfSome w (HasBelow world.now place.now round)) }
     ensures choice { IfOk result (λ w. option_map found_reason w
@@ -251,7 +251,7 @@ fn real_child<S: Summaries>(
 {
     match place {
         Place::Node(at) => world.closed.first_child(at, from, round),
-        Place::Added(_, _, _) => None,
+        Place::Added(_, _, _, _) => None,
     }
 }
 
@@ -259,7 +259,7 @@ fn real_child<S: Summaries>(
 // never comes to it.
 fn added_child<S: Summaries>(world: &World<'_, S>, scene: &Scene<'_>, from: Atom) -> Option<usize>
     requires ready { IsReady S.Summaries world.now }
-    requires place { IsPlace world.now.page.now (S.known world.now.sums.now) scene.now.place.now }
+    requires place { IsPlace S.Summaries world.now scene.now.place.now }
     requires arrivals { HasArrivals world.now.system.now scene.now.place.now }
     requires visible { scene.now.visible.now ≡ visible_in world.now.system.now (labels_of world.now.system.now world.now.page.now scene.now.place.now scene.now.round) }
     ensures { result ≡ find (spawn_has world.now scene.now.place.now scene.now.round from) (range_with_len 0 (length world.now.system.now.child)) }
@@ -282,7 +282,7 @@ fn spawn_stands<S: Summaries>(
     from: Atom,
 ) -> bool
     requires ready { IsReady S.Summaries world.now }
-    requires place { IsPlace world.now.page.now (S.known world.now.sums.now) scene.now.place.now }
+    requires place { IsPlace S.Summaries world.now scene.now.place.now }
     requires visible { scene.now.visible.now ≡ visible_in world.now.system.now (labels_of world.now.system.now world.now.page.now scene.now.place.now scene.now.round) }
     requires listed { Contains world.now.system.now.child spawn.now }
     ensures { result ≡ (has_class spawn.now.needs (labels_of world.now.system.now world.now.page.now scene.now.place.now scene.now.round) && has_class from (grown world.now.system.now scene.now.round spawn.now.kind scene.now.visible.now)) }

@@ -34,7 +34,7 @@ fn glance_in<S: Summaries>(
     round: u64,
 ) -> Result<Glance, NoMemory>
     requires ready { IsReady S.Summaries world.now }
-    requires place { IsPlace world.now.page.now (S.known world.now.sums.now) place.now }
+    requires place { IsPlace S.Summaries world.now place.now }
     requires arrivals { HasArrivals world.now.system.now place.now }
     requires first { IsFirst (labels_of world.now.system.now world.now.page.now place.now) atom (Some round) }
     requires asking { IsAsking world.now.system.now (S.known world.now.sums.now) place.now }
@@ -83,7 +83,8 @@ pub(crate) fn glance_added<S: Summaries>(
     ensures memo { IsPlaceMemo world.now.system.now memo.new }
 {
     let parent = set_of(alloc, &key.parent)?;
-    let bare = Place::Added(key.kind, &parent, None);
+    let entry = world.sums.entry(key.kind, &parent);
+    let bare = Place::Added(key.kind, &parent, None, entry);
     let round = first(world, &bare, atom).unwrap_or(0);
     let below = looks_below(world, &bare, atom, round)?;
     if !below {
@@ -91,6 +92,6 @@ pub(crate) fn glance_added<S: Summaries>(
     }
     let row = memo.reach(alloc, world.system, world.sums, key.kind, &parent)?;
     let told = memo.told(row);
-    let place = Place::Added(key.kind, &parent, Some(told));
+    let place = Place::Added(key.kind, &parent, Some(told), entry);
     glance_in(alloc, world, &place, atom, round)
 }

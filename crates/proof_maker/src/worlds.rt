@@ -29,11 +29,12 @@ pub(crate) struct World<'a, S: Summaries> {
     pub(crate) sums: &'a S,
 }
 
-/// A node of the page, or an added node of a kind below a parent with this visible label, with what is told of it where that was asked.
+/// A node of the page, or an added node of a kind below a parent with this visible label, with what is told of it where that was
+/// asked, and the entry of its pair.
 #[derive(Clone, Copy)]
 pub(crate) enum Place<'a> {
     Node(&'a Path),
-    Added(u32, &'a ClassSet, Option<&'a Told>),
+    Added(u32, &'a ClassSet, Option<&'a Told>, usize),
 }
 
 /// The first round in which the label at the place has the atom.
@@ -43,13 +44,13 @@ pub(crate) fn first<S: Summaries>(
     atom: Atom,
 ) -> Option<u64>
     requires ready { IsReady S.Summaries world.now }
-    requires place { IsPlace world.now.page.now (S.known world.now.sums.now) place.now }
+    requires place { IsPlace S.Summaries world.now place.now }
     ensures first { IsFirst (labels_of world.now.system.now world.now.page.now place.now) atom result }
     ensures asking { IsAsking world.now.system.now (S.known world.now.sums.now) place.now }
 {
     match place {
         Place::Node(at) => world.closed.first_round(at, atom),
-        Place::Added(kind, parent, _) => world.sums.first_round(*kind, parent, atom),
+        Place::Added(kind, parent, _, entry) => { world.sums.first_at(*entry, *kind, parent, atom) }
     }
 }
 
@@ -88,6 +89,26 @@ pub(crate) fn added_has<S: Summaries>(
     }
 }
 
+// The same, where the entry of its pair is at hand.
+fn has_at<S: Summaries>(
+    sums: &S,
+    entry: usize,
+    kind: u32,
+    parent: &ClassSet,
+    atom: Atom,
+    round: u64,
+) -> bool
+    requires known { S.known sums.now (kind, parent.now) }
+    requires entry { S.is_entry sums.now entry (kind, parent.now) }
+    ensures test { result ≡ has_class atom (grown (S.system sums.now) round kind parent.now) }
+    ensures asking { KeepsAsking (S.system sums.now) (S.known sums.now) }
+{
+    match sums.first_at(entry, kind, parent, atom) {
+        Some(first) => first <= round,
+        None => false,
+    }
+}
+
 /// Whether the label at the place has the atom by the round.
 pub(crate) fn has<S: Summaries>(
     world: &World<'_, S>,
@@ -96,13 +117,15 @@ pub(crate) fn has<S: Summaries>(
     round: u64,
 ) -> bool
     requires ready { IsReady S.Summaries world.now }
-    requires place { IsPlace world.now.page.now (S.known world.now.sums.now) place.now }
+    requires place { IsPlace S.Summaries world.now place.now }
     ensures test { result ≡ has_class atom (labels_of world.now.system.now world.now.page.now place.now round) }
     ensures asking { IsAsking world.now.system.now (S.known world.now.sums.now) place.now }
 {
     match place {
         Place::Node(at) => node_has(world, at, atom, round),
-        Place::Added(kind, parent, _) => added_has(world.sums, *kind, parent, atom, round),
+        Place::Added(kind, parent, _, entry) => {
+            has_at(world.sums, *entry, *kind, parent, atom, round)
+        }
     }
 }
 
@@ -114,7 +137,7 @@ pub(crate) fn has_all<S: Summaries>(
     round: u64,
 ) -> bool
     requires ready { IsReady S.Summaries world.now }
-    requires place { IsPlace world.now.page.now (S.known world.now.sums.now) place.now }
+    requires place { IsPlace S.Summaries world.now place.now }
     ensures { result ≡ all_among atoms.now (labels_of world.now.system.now world.now.page.now place.now round) }
 {
     for i in 0..atoms.len() {
@@ -137,7 +160,7 @@ pub(crate) fn is_above<S: Summaries>(
     ensures { IfOk result (λ b. b ≡ has_class atom ((setting_of world.now.system.now world.now.page.now place.now).above round (path_of place.now))) }
 {
     match place {
-        Place::Added(_, parent, _) => Ok(parent.has(atom)),
+        Place::Added(_, parent, _, _) => Ok(parent.has(atom)),
         Place::Node(at) => parent_has(world, at, atom, round),
     }
 }
@@ -164,7 +187,7 @@ pub(crate) fn idle_at(place: &Place<'_>) -> usize
     ensures { (s : System) (page : LabelTree) → HasArrivals s place.now → AreIdle s (labels_of s page place.now) result }
 {
     match place {
-        Place::Added(_, _, told) => match told {
+        Place::Added(_, _, told, _) => match told {
             Some(told) => told.idle,
             None => 0,
         },
@@ -181,12 +204,12 @@ pub(crate) fn visible_at<S: Summaries>(
     round: u64,
 ) -> Result<ClassSet, NoMemory>
     requires ready { IsReady S.Summaries world.now }
-    requires place { IsPlace world.now.page.now (S.known world.now.sums.now) place.now }
+    requires place { IsPlace S.Summaries world.now place.now }
     requires arrivals { HasArrivals world.now.system.now place.now }
     ensures { IfOk result (λ l. l ≡ visible_in world.now.system.now (labels_of world.now.system.now world.now.page.now place.now round)) }
 {
     match place {
-        Place::Added(_, _, told) => match told {
+        Place::Added(_, _, told, _) => match told {
             Some(told) => told.arrivals.by(alloc, round),
             None => visible_now(alloc, world, place, round),
         },
@@ -202,7 +225,7 @@ fn visible_now<S: Summaries>(
     round: u64,
 ) -> Result<ClassSet, NoMemory>
     requires ready { IsReady S.Summaries world.now }
-    requires place { IsPlace world.now.page.now (S.known world.now.sums.now) place.now }
+    requires place { IsPlace S.Summaries world.now place.now }
     ensures { IfOk result (λ l. l ≡ visible_in world.now.system.now (labels_of world.now.system.now world.now.page.now place.now round)) }
 {
     let mut label = ClassSet::new(alloc);

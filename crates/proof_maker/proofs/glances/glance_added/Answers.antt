@@ -21,29 +21,43 @@ reach-requires-clause-rows g c = subst (λ (y : System). IsPlaceMemo y c.args.me
 pub told-told-requires : goal.told-told-requires
 told-told-requires g c = row_bound c.reach.new.self c.args.key.now.kind c.in_ok-parent.parent c.in_ok-row.row c.in_ok-row.ensures.row
 
-pub first-requires-clause-place : goal.first-requires-clause-place
-first-requires-clause-place g c =
+pub entry-entry-requires : goal.entry-entry-requires
+entry-entry-requires g c =
     let key = c.args.key.now in
     let rises = subst (λ (z : List ℕ). IsStrictlyIncreasing z) (sym c.deref.ensures.value) c.requires.key.rises in
     subst (λ (z : List ℕ). g.S.Summaries.known c.args.world.now.sums.now (key.kind, z)) (sym (c.in_ok-parent.ensures rises ∙ c.deref.ensures.value)) c.requires.key.pair
+
+pub first-requires-clause-place : goal.first-requires-clause-place
+first-requires-clause-place g c =
+    let key = c.args.key.now in
+    let rises = subst (λ (z : List ℕ). IsStrictlyIncreasing z) (sym c.deref.ensures.value) c.requires.key.rises in (
+      subst (λ (z : List ℕ). g.S.Summaries.known c.args.world.now.sums.now (key.kind, z)) (sym (c.in_ok-parent.ensures rises ∙ c.deref.ensures.value)) c.requires.key.pair,
+      c.entry-entry.ensures,
+    )
 
 pub looks_below-requires-clause-place : goal.looks_below-requires-clause-place
 looks_below-requires-clause-place g c =
     let key = c.args.key.now in
-    let rises = subst (λ (z : List ℕ). IsStrictlyIncreasing z) (sym c.deref.ensures.value) c.requires.key.rises in
-    subst (λ (z : List ℕ). g.S.Summaries.known c.args.world.now.sums.now (key.kind, z)) (sym (c.in_ok-parent.ensures rises ∙ c.deref.ensures.value)) c.requires.key.pair
+    let rises = subst (λ (z : List ℕ). IsStrictlyIncreasing z) (sym c.deref.ensures.value) c.requires.key.rises in (
+      subst (λ (z : List ℕ). g.S.Summaries.known c.args.world.now.sums.now (key.kind, z)) (sym (c.in_ok-parent.ensures rises ∙ c.deref.ensures.value)) c.requires.key.pair,
+      c.entry-entry.ensures,
+    )
 
 pub glance_in-requires-clause-place : goal.glance_in-requires-clause-place
 glance_in-requires-clause-place g c =
     let key = c.args.key.now in
-    let rises = subst (λ (z : List ℕ). IsStrictlyIncreasing z) (sym c.deref.ensures.value) c.requires.key.rises in
-    subst (λ (z : List ℕ). g.S.Summaries.known c.args.world.now.sums.now (key.kind, z)) (sym (c.in_ok-parent.ensures rises ∙ c.deref.ensures.value)) c.requires.key.pair
+    let rises = subst (λ (z : List ℕ). IsStrictlyIncreasing z) (sym c.deref.ensures.value) c.requires.key.rises in (
+      subst (λ (z : List ℕ). g.S.Summaries.known c.args.world.now.sums.now (key.kind, z)) (sym (c.in_ok-parent.ensures rises ∙ c.deref.ensures.value)) c.requires.key.pair,
+      c.entry-entry.ensures,
+    )
 
 pub glance_in-requires-2-clause-place : goal.glance_in-requires-2-clause-place
 glance_in-requires-2-clause-place g c =
     let key = c.args.key.now in
-    let rises = subst (λ (z : List ℕ). IsStrictlyIncreasing z) (sym c.deref.ensures.value) c.requires.key.rises in
-    subst (λ (z : List ℕ). g.S.Summaries.known c.args.world.now.sums.now (key.kind, z)) (sym (c.in_ok-parent.ensures rises ∙ c.deref.ensures.value)) c.requires.key.pair
+    let rises = subst (λ (z : List ℕ). IsStrictlyIncreasing z) (sym c.deref.ensures.value) c.requires.key.rises in (
+      subst (λ (z : List ℕ). g.S.Summaries.known c.args.world.now.sums.now (key.kind, z)) (sym (c.in_ok-parent.ensures rises ∙ c.deref.ensures.value)) c.requires.key.pair,
+      c.entry-entry.ensures,
+    )
 
 pub glance_in-requires-2-clause-arrivals : goal.glance_in-requires-2-clause-arrivals
 glance_in-requires-2-clause-arrivals g c =
@@ -73,14 +87,14 @@ returns-then-not-below-clause-glance g c =
     let key = c.args.key.now in
     let rises = subst (λ (z : List ℕ). IsStrictlyIncreasing z) (sym c.deref.ensures.value) c.requires.key.rises in
     ok_further c.glance_in.result _ _ c.glance_in.ensures.glance
-    (λ found is. added_glance c.args.world.now.system.now c.args.world.now.page.now c.args.atom found key.kind _ _ (triple_of key) refl (c.in_ok-parent.ensures rises ∙ c.deref.ensures.value) is)
+    (λ found is. added_glance c.args.world.now.system.now c.args.world.now.page.now c.args.atom found key.kind _ _ _ (triple_of key) refl (c.in_ok-parent.ensures rises ∙ c.deref.ensures.value) is)
 
 pub returns-clause-glance : goal.returns-clause-glance
 returns-clause-glance g c =
     let key = c.args.key.now in
     let rises = subst (λ (z : List ℕ). IsStrictlyIncreasing z) (sym c.deref.ensures.value) c.requires.key.rises in
     ok_further c.glance_in-2.result _ _ c.glance_in-2.ensures.glance
-    (λ found is. added_glance c.args.world.now.system.now c.args.world.now.page.now c.args.atom found key.kind _ _ (triple_of key) refl (c.in_ok-parent.ensures rises ∙ c.deref.ensures.value) is)
+    (λ found is. added_glance c.args.world.now.system.now c.args.world.now.page.now c.args.atom found key.kind _ _ _ (triple_of key) refl (c.in_ok-parent.ensures rises ∙ c.deref.ensures.value) is)
 
 pub returns-in_err-row-clause-memo : goal.returns-in_err-row-clause-memo
 returns-in_err-row-clause-memo g c = subst (λ (y : System). IsPlaceMemo y c.reach.new.self) c.requires.ready.made c.reach.ensures.rows
