@@ -3,29 +3,15 @@ ghost use Rattle.std.specs.Prelude.{◌≡◌, ◌↔◌, ℕ, List, None, IfOk,
 ghost use Rattle.simple_core.specs.Systems.{IsSound};
 ghost use Rattle.simple_core.specs.Pairs.{Pair, Asked};
 ghost use Rattle.simple_core.specs.Knowledge.{KeepsAsking, IsToldBy, TellsAfter, TellsWithin, KeepsRoom};
-ghost use Rattle.closed_page.specs.ClosedPages.{IsClosedPage, HasNoOthers, round_of};
-ghost use Rattle.closed_page.specs.Firsts.{AreOfNodes};
-ghost use Rattle.closed_page.specs.Views.{firsts_of};
+ghost use Rattle.closed_page.specs.ClosedPages.{IsClosedPage};
+ghost use Rattle.class_adding.specs.Closing.{MayClose, Closes};
 
-use crate::asker::Asker;
-use crate::filling::{Filling, begin};
-use closed_page::{Closed, SharedSets};
-use pair_table::PairTable;
+use crate::labelling::page_labels;
+use closed_page::Closed;
 use rule_index::IndexedSystem;
 use simple_core::{GainFault, Summaries, System};
 use std::alloc::Global;
-use tp_base::NoMemory;
 use tree_sem::Tree;
-
-// The closed page that is known once nothing more comes.
-fn closed_of(alloc: Global, filling: Filling) -> Result<Closed, NoMemory>
-    requires nodes { AreOfNodes filling.labels.nodes filling.labels.firsts }
-    requires others { HasNoOthers filling.labels.labels (firsts_of filling.labels.firsts) }
-    ensures labels { IfOk result (λ c. c.labels ≡ filling.labels.labels) }
-    ensures rounds { IfOk result (λ c. (v : List ℕ) (a : ℕ) → round_of c.firsts v a ≡ round_of (firsts_of filling.labels.firsts) v a) }
-{
-    Closed::new(alloc, filling.labels)
-}
 
 // Closes the page, over rules that are found by their atoms.
 fn close_over<S: Summaries>(
@@ -34,39 +20,20 @@ fn close_over<S: Summaries>(
     system: &IndexedSystem,
     sums: &mut S,
 ) -> Result<Closed, GainFault>
-    requires sound { IsSound system.now }
-    requires made { S.system sums.old ≡ system.now }
-    requires lawful { KeepsAsking system.now (S.known sums.old) }
-    requires tells { IsToldBy (S.told sums.old) (S.known sums.old) }
-    requires keeps_room { KeepsRoom system.now (S.room sums.old) (S.told sums.old) (S.spent_on sums.old) }
+    requires { MayClose S.Summaries system.now sums.old }
     ensures closed { IfOk result (λ c. IsClosedPage system.now page.now c) }
-    ensures asked { OnOk result ((q : Pair) → Asked system.now page.now q → S.known sums.new q) }
-    ensures kept { (q : Pair) → S.known sums.old q → S.known sums.new q }
-    ensures told { OnOk result (TellsAfter system.now (S.told sums.old) (S.told sums.new) (Asked system.now page.now)) }
-    ensures within { OnErr result (TellsWithin system.now (S.told sums.old) (S.told sums.new) (Asked system.now page.now)) }
-    ensures system { S.system sums.new ≡ S.system sums.old }
-    ensures room { S.room sums.new ≡ S.room sums.old }
-    ensures keeps_room { KeepsRoom system.now (S.room sums.new) (S.told sums.new) (S.spent_on sums.new) }
-    ensures spent { S.spent_on sums.old ≡ None → (IsErrOf result GainFault.Spent ↔ IsSome (S.spent_on sums.new)) }
-    ensures stays_spent { IsSome (S.spent_on sums.old) → S.spent_on sums.new ≡ S.spent_on sums.old }
-    ensures spent_on { S.spent_on sums.old ≡ None → IfSome (S.spent_on sums.new) (λ q. Asked system.now page.now q) }
+    ensures went { Closes S.Summaries system.now (Asked system.now page.now) result sums.old sums.new }
 {
-    let mut filling = begin(alloc, page)?;
-    let mut remembered = PairTable::new(alloc);
-    let mut sets = SharedSets::new(alloc)?;
-    let mut asker = Asker {
-        system,
-        sums,
-        remembered: &mut remembered,
-        sets: &mut sets,
-    };
-    asker.fill(alloc, page, &mut filling)?;
-    let closed = closed_of(alloc, filling)?;
+    let labels = page_labels(alloc, page, system, sums)?;
+    let closed = Closed::new(alloc, labels)?;
     Ok(closed)
 }
 
 /// Closes the page. Each pair that it asks is asked of the summaries once, with a first round for each link from a
-/// child. It costs a walk along each label at first, a few steps for each round, and a look at a node for each round in which
+/// child. To find whether most nodes are alike costs a few steps for each node and each atom of a label. Where they are,
+/// children of one node that are alike are folded to one, what follows is done at the nodes that are left, and in the end each
+/// node gets the label and the first rounds of the one that stands for it, which costs a few steps for each of its rounds. It
+/// costs a walk along each label at first, a few steps for each round, and a look at a node for each round in which
 /// its label or what an added child gives has changed, or its parent's or a child's label by an atom at which a link looks
 /// from the node. A look costs a few steps for each atom that is new there or next to it, and for each rule that is found by
 /// one of these or needs none; a child that got the same atoms as the one before it costs a comparison of these. Where an

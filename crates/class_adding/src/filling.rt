@@ -1,5 +1,6 @@
 //! The rounds of a page, one after another, until nothing more comes.
-ghost use Rattle.std.specs.Prelude.{◌<◌, length, All, Contains, IfOk, OnOk};
+ghost use Rattle.std.specs.Prelude.{◌≡◌, ◌<◌, length, All, Contains, IfOk, OnOk};
+ghost use Rattle.tree_sem.specs.Order.{paths_of};
 ghost use Rattle.simple_core.specs.Pairs.{Pair, Asked};
 ghost use Rattle.simple_core.specs.Knowledge.{TellsAfter};
 ghost use Rattle.closed_page.specs.ClosedPages.{IsClosedPage};
@@ -79,6 +80,7 @@ impl<'a, 's, S: Summaries> Asker<'a, 's, S> {
         requires ready { IsReady S.Summaries self.old }
         ensures closed { OnOk result (IsClosedPage self.old.system.now page.now (record { labels = filling.new.labels.labels; firsts = firsts_of filling.new.labels.firsts })) }
         ensures nodes { OnOk result (AreOfNodes filling.new.labels.nodes filling.new.labels.firsts) }
+        ensures order { OnOk result (filling.new.labels.nodes ≡ paths_of page.now) }
         ensures asked { OnOk result ((q : Pair) → Asked self.old.system.now page.now q → S.known self.new.sums.now q) }
         ensures told { OnOk result (TellsAfter self.old.system.now (S.told self.old.sums.now) (S.told self.new.sums.now) (Asked self.old.system.now page.now)) }
         ensures went { Went S.Summaries (Asked self.old.system.now page.now) self.old self.new }

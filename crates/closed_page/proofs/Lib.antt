@@ -10,3 +10,4 @@ mod RelabelledLemmas
 mod RowLemmas
 mod RunLemmas
 mod ShapeLemmas
+mod SpreadLemmas

@@ -14,7 +14,8 @@ use Rattle.node_marks.specs.Numbering.{IsNumbering}
 use Rattle.node_marks.proofs.NumberLemmas.{one_number, take_step}
 use Rattle.closed_page.specs.Labelled.{IsAbove, AreKids}
 use Rattle.closed_page.specs.Numbered.{path_next, paths_up, paths_by, AreNumbered, parent_told, AreTold}
-use Rattle.closed_page.proofs.FirstsLemmas.{same_step, not_root}
+use Rattle.closed_page.specs.Spreading.{IsNumberAt}
+use Rattle.closed_page.proofs.FirstsLemmas.{same_step, not_root, path_there, path_root}
 
 -- ---- the numbers of the parents
 
@@ -178,6 +179,19 @@ module _ (nodes : List (List ℕ)) (parents : List (Option ℕ)) (steps : List �
   child_none i k less none c within at =
       let count = is.steps_count in
       none c (is-kid i c k less within at) (slice_get-get_or steps c 0 (omega (arith, within, count)) ∙ ap Some (step_node c within (get_or nodes i []) k at))
+
+  -- the number of the node to which a step leads
+  pub number_is : (p k : ℕ) (told : List ℕ) (o : Option ℕ) → told ≡ steps → p < length nodes → IfSome o (λ c. Contains (row_of kids p) c × (slice_get told c ≡ Some k))
+      → (IsNone o → (c : ℕ) → Contains (row_of kids p) c → slice_get told c ≡ Some k → ⊥) → IsNumberAt nodes p k o
+  number_is p k told None same less some none = λ there.
+      let (c, within, at) = subst (Contains nodes) (path_there nodes p k less) there in
+      child_none p k less (λ d in_row step. none refl d in_row (ap (λ z. slice_get z d) same ∙ step)) c within (get_or_default nodes c [] (get_or nodes p [] ++ k ∷ []) within ∙ at)
+  number_is p k told (Some c) same less some none =
+      let child = child_is p c k some.0 (ap (λ z. slice_get z c) (sym same) ∙ some.1) in
+      (child.0, child.1 ∙ sym (path_there nodes p k less))
+
+  pub number_root : (p k : ℕ) → length nodes ≤ p → IsNumberAt nodes p k (Some 0)
+  number_root p k le = (is.some, first_root ∙ sym (path_root nodes p k le))
 
   rooted_front : (v w : List ℕ) → Contains nodes (v ++ w) → Contains nodes v
   rooted_front v [] there = subst (Contains nodes) (append-nil v) there

@@ -74,7 +74,7 @@ shape_is t =
     let below = paths_give 0 t.below ∙ padded-zero (bare t.below) in
     λ i. record { label = []; below = below i }
 
-relabelled-shape : (f : List ℕ → List ℕ) (t : LabelTree) → relabelled f (shape_of (paths_of t)) ≡ relabelled f t
+pub relabelled-shape : (f : List ℕ → List ℕ) (t : LabelTree) → relabelled f (shape_of (paths_of t)) ≡ relabelled f t
 relabelled-shape f t =
     let below = bare_same f 0 t.below in
     ap (relabelled f) (shape_is t) ∙ (λ i. record { label = f []; below = below i })

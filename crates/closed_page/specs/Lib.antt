@@ -8,4 +8,6 @@ pub mod Notes
 pub mod Numbered
 pub mod Relabelled
 pub mod Runs
+pub mod Spread
+pub mod Spreading
 pub mod Views

@@ -5,6 +5,8 @@ ghost use Rattle.tree_sem.specs.Order.{paths_of};
 ghost use Rattle.row_index.specs.Rows.{row_of};
 ghost use Rattle.closed_page.specs.Labelled.{IsAbove, AreKids};
 ghost use Rattle.closed_page.specs.Numbered.{parent_told, AreTold, AreColumns};
+ghost use Rattle.closed_page.specs.Notes.{IsSpot};
+ghost use Rattle.closed_page.specs.Spreading.{IsNumberAt};
 
 use row_index::Index;
 use std::alloc::Global;
@@ -83,6 +85,18 @@ impl PageNodes {
         ensures { AreKids self.now number result.now }
     {
         self.kids.of(number)
+    }
+
+    /// The number of the node to which a step leads from the node with this number, or of the root, for which the count of the
+    /// nodes and 0 stand. Constant where the node is there, as children stand in their order.
+    pub(crate) fn number_at(&self, parent: usize, step: u32) -> Option<usize>
+        requires { IsSpot self.now parent step }
+        ensures { IsNumberAt self.now parent step result }
+    {
+        if parent < self.count() {
+            return child_of(&self.kids, &self.steps, parent, step);
+        }
+        Some(0)
     }
 
     /// The number of a path. Linear in its length where it is there, and else linear in the children of a node, too.

@@ -18,8 +18,8 @@ pub(crate) struct NodeNews {
     pub(crate) atoms: SharedSet,
 }
 
-// Whether the other set has none of these atoms, each of which is sought there.
-fn are_all_missing(set: &ClassSet, other: &ClassSet) -> bool
+/// Whether the other set has none of these atoms, each of which is sought there.
+pub fn are_all_missing(set: &ClassSet, other: &ClassSet) -> bool
     ensures { IsTrue result → (a : ℕ) → Contains set.now a → ¬ Contains other.now a }
 {
     for i in 0..set.len() {

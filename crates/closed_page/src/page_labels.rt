@@ -1,13 +1,15 @@
 //! The labels of a page and their first rounds, by the numbers of its nodes in the order of the document.
 ghost use Rattle.std.specs.Prelude.{◌≡◌, ◌<◌, ◌⊎◌, ◌↔◌, ◌++◌, ◌+◌, ◌^◌, ℕ, [], Some, None, length, get_or, IfOk, OnOk, IfSome, IsSome, IsNone, List, Contains};
-ghost use Rattle.tree_sem.specs.Trees.{LabelTree, node_at, label_at, edit_at};
+ghost use Rattle.tree_sem.specs.Trees.{LabelTree, node_at, label_at, edit_at, count_of};
 ghost use Rattle.tree_sem.specs.Order.{paths_of};
 ghost use Rattle.tree_sem.specs.Actions.{add_classes};
 ghost use Rattle.std.specs.List.Sorted.{IsStrictlyIncreasing};
 ghost use Rattle.closed_page.specs.ClosedPages.{round_of};
-ghost use Rattle.closed_page.specs.Firsts.{AreOfNodes, IsSpotOf};
+ghost use Rattle.closed_page.specs.Firsts.{AreOfNodes, IsSpotOf, placed};
 ghost use Rattle.closed_page.specs.Gains.{label_in, firsts_at, AreStarts};
+ghost use Rattle.closed_page.specs.Notes.{IsSpot, AreAtSpots, expanded};
 ghost use Rattle.closed_page.specs.Relabelled.{label_by, relabelled, shape_of};
+ghost use Rattle.closed_page.specs.Spreading.{IsNumberAt, AreLabelled};
 ghost use Rattle.closed_page.specs.Views.{firsts_of};
 ghost use Rattle.closed_page.specs.Labelled.{node_of, IsAbove, AreKids, IsParentIn, AreKidsAll, IsHeard, IsCalled, AreAllLabels, HaveLabels};
 
@@ -73,9 +75,9 @@ impl PageLabels {
         Ok(labels)
     }
 
-    // The numbers of all nodes, those of each node's children behind one another, and the root's last. So stand the firsts of an
-    // atom in its row, and none of these notes has to be moved there. Linear in the nodes.
-    fn by_parents(&self, alloc: Global) -> Result<Vec<usize>, NoMemory>
+    /// The numbers of all nodes, those of each node's children behind one another, and the root's last. So stand the firsts of an
+    /// atom in its row, and none of these notes has to be moved there. Linear in the nodes.
+    pub(crate) fn by_parents(&self, alloc: Global) -> Result<Vec<usize>, NoMemory>
         requires { (t : LabelTree) × (self.now.nodes ≡ paths_of t) }
         ensures within { IfOk result (λ v. (i : ℕ) → Contains v.items i → i < length self.now.nodes) }
         ensures whole { IfOk result (λ v. (i : ℕ) → i < length self.now.nodes → Contains v.items i) }
@@ -105,6 +107,57 @@ impl PageLabels {
             own,
             notes: Vec::new(alloc),
         })
+    }
+
+    /// The nodes of a page with other labels, of which no firsts are noted yet. Linear in the nodes.
+    pub(crate) fn with_own(
+        alloc: Global,
+        page: &Tree,
+        own: Vec<SharedSet>,
+    ) -> Result<PageLabels, NoMemory>
+        requires { length own.items ≡ count_of page.now }
+        ensures nodes { IfOk result (λ l. l.nodes ≡ paths_of page.now) }
+        ensures labels { IfOk result (λ l. AreLabelled page.now own.items l.labels) }
+    {
+        let columns = NumberedTree::new(alloc, page)?.into_columns();
+        let parents = columns.parents;
+        let steps = columns.steps;
+        let nodes = PageNodes::new(alloc, &parents, steps)?;
+        Ok(PageLabels {
+            nodes,
+            own,
+            notes: Vec::new(alloc),
+        })
+    }
+
+    /// The same nodes and labels, and the firsts of these notes. Constant.
+    pub(crate) fn with_notes(self, notes: Vec<NodeNews>) -> PageLabels
+        requires { AreAtSpots self.nodes notes.items }
+        ensures labels { result.labels ≡ self.labels }
+        ensures nodes { result.nodes ≡ self.nodes }
+        ensures firsts { result.firsts ≡ placed self.nodes (expanded notes.items) }
+    {
+        PageLabels {
+            nodes: self.nodes,
+            own: self.own,
+            notes,
+        }
+    }
+
+    /// The notes of the firsts. Constant.
+    pub(crate) fn noted(&self) -> &[NodeNews]
+        ensures firsts { placed self.now.nodes (expanded result.now) ≡ self.now.firsts }
+        ensures spots { AreAtSpots self.now.nodes result.now }
+    {
+        &self.notes
+    }
+
+    /// The number of the node of which a note tells, where there is such a node. Constant.
+    pub(crate) fn number_of(&self, note: &NodeNews) -> Option<usize>
+        requires { IsSpot self.now.nodes note.now.spot.parent note.now.spot.step }
+        ensures { IsNumberAt self.now.nodes note.now.spot.parent note.now.spot.step result }
+    {
+        self.nodes.number_at(note.spot.parent, note.spot.step)
     }
 
     /// How many nodes there are.
@@ -191,8 +244,8 @@ impl PageLabels {
         }
     }
 
-    // What stands for a node.
-    fn spot(&self, number: usize) -> Spot
+    /// What stands for a node.
+    pub(crate) fn spot(&self, number: usize) -> Spot
         requires { number < length self.now.nodes }
         ensures { IsSpotOf self.now.nodes (node_of self.now number) result }
     {

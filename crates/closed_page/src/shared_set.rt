@@ -1,5 +1,5 @@
 //! Sets of atoms that several hold.
-ghost use Rattle.std.specs.Prelude.{◌≡◌, ◌⊎◌, ◌<◌, ℕ, [], map, length, get_or, Contains, IfOk, IfSome, OnOk, IsTrue};
+ghost use Rattle.std.specs.Prelude.{◌≡◌, ◌⊎◌, ◌<◌, ℕ, [], All, map, length, get_or, Contains, IfOk, IfSome, OnOk, IsTrue};
 ghost use Rattle.tp_base.specs.Classes.{union_of};
 ghost use Rattle.closed_page.specs.Gains.{IsLonger};
 
@@ -137,6 +137,25 @@ pub(crate) fn shares(alloc: Global, sets: &[SharedSet]) -> Result<Vec<SharedSet>
     let mut shared = Vec::new(alloc);
     for i in 0..sets.len() {
         let set = &sets[i];
+        let share = set.share()?;
+        shared.push(share)?;
+    }
+    Ok(shared)
+}
+
+/// Those of these sets that have these numbers, once more. Linear in the numbers.
+pub(crate) fn shares_at(
+    alloc: Global,
+    sets: &[SharedSet],
+    numbers: &[usize],
+) -> Result<Vec<SharedSet>, NoMemory>
+    requires { All (λ k. k < length sets.now) numbers.now }
+    ensures { IfOk result (λ v. v.items ≡ map (λ k. get_or sets.now k []) numbers.now) }
+{
+    let mut shared = Vec::new(alloc);
+    for i in 0..numbers.len() {
+        let number = numbers[i];
+        let set = &sets[number];
         let share = set.share()?;
         shared.push(share)?;
     }

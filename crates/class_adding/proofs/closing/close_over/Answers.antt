@@ -1,38 +1,30 @@
-use Rattle.std.proofs.Common.{rules}
 use Rattle.simple_core.specs.Pairs.{Asked}
-use Rattle.simple_core.specs.Knowledge.{TellsWithin}
-use Rattle.simple_core.proofs.KnowledgeLemmas.{tells_within-start}
-use Rattle.class_adding.proofs.AddedLemmas.{on_err}
-use Rattle.class_adding.proofs.GiftLemmas.{no_gifts}
-use Rattle.class_adding.proofs.WentLemmas.{err_spent}
-use Rattle.class_adding.proofs.FirstsLemmas.{closed_same}
+use Rattle.closed_page.specs.Views.{firsts_of}
+use Rattle.class_adding.proofs.ClosingLemmas.{closes_on, closes_err, closes_refused}
+use Rattle.class_adding.proofs.FirstsLemmas.{closed_same, no_others}
 use Rattle.class_adding.proofs.closing.close_over.Goals as goal
 
-pub fill-requires-clause-ready : goal.fill-requires-clause-ready
-fill-requires-clause-ready g c = record {
-  sound = c.requires.sound;
-  made = c.requires.made;
-  closed = c.requires.lawful;
-  tells = c.requires.tells;
-  remembered = no_gifts c.args.system.now (g.S.Summaries.known c.args.sums.now) c.new-remembered.result c.new-remembered.ensures;
-}
+pub returns-in_err-labels-clause-went : goal.returns-in_err-labels-clause-went
+returns-in_err-labels-clause-went g c =
+    let s = c.args.system.now in
+    closes_err g.S.Summaries s (Asked s c.args.page.now) c.args.sums.now c.page_labels.new.sums c.from_residual.result c.in_err-labels.field-0.0 c.from_residual.ensures.1 c.in_err-labels.ensures.went
 
-pub returns-in_err-filling-clause-within : goal.returns-in_err-filling-clause-within
-returns-in_err-filling-clause-within g c = on_err (TellsWithin c.args.system.now (g.S.Summaries.told c.args.sums.now) (g.S.Summaries.told c.args.sums.now) (Asked c.args.system.now c.args.page.now)) c.from_residual.result (tells_within-start c.args.system.now (g.S.Summaries.told c.args.sums.now) (Asked c.args.system.now c.args.page.now))
+pub new-requires-clause-others : goal.new-requires-clause-others
+new-requires-clause-others g c =
+    let l = c.in_ok-labels.labels in
+    no_others c.args.system.now c.args.page.now (record { labels = l.labels; firsts = firsts_of l.firsts }) c.in_ok-labels.ensures.closed
 
-pub returns-in_err-sets-clause-within : goal.returns-in_err-sets-clause-within
-returns-in_err-sets-clause-within g c = on_err (TellsWithin c.args.system.now (g.S.Summaries.told c.args.sums.now) (g.S.Summaries.told c.args.sums.now) (Asked c.args.system.now c.args.page.now)) c.from_residual-in_err-sets.result (tells_within-start c.args.system.now (g.S.Summaries.told c.args.sums.now) (Asked c.args.system.now c.args.page.now))
-
-pub returns-in_err-fill-clause-within : goal.returns-in_err-fill-clause-within
-returns-in_err-fill-clause-within g c = on_err (TellsWithin c.args.system.now (g.S.Summaries.told c.args.sums.now) _ (Asked c.args.system.now c.args.page.now)) c.from_residual-in_err-fill.result (search rules)
-
-pub returns-in_err-fill-clause-spent : goal.returns-in_err-fill-clause-spent
-returns-in_err-fill-clause-spent g c = λ none. err_spent {U = Unit {0}} c.from_residual-in_err-fill.result c.in_err-fill.field-0.0 _ c.from_residual-in_err-fill.ensures.1 (search rules)
-
-pub returns-in_err-closed-clause-within : goal.returns-in_err-closed-clause-within
-returns-in_err-closed-clause-within g c = on_err (TellsWithin c.args.system.now (g.S.Summaries.told c.args.sums.now) _ (Asked c.args.system.now c.args.page.now)) c.from_residual-in_err-closed.result (search rules)
+pub returns-in_err-closed-clause-went : goal.returns-in_err-closed-clause-went
+returns-in_err-closed-clause-went g c =
+    let s = c.args.system.now in
+    closes_refused g.S.Summaries s (Asked s c.args.page.now) c.args.sums.now c.page_labels.new.sums c.in_ok-labels.labels c.from_residual-in_err-closed.result c.from_residual-in_err-closed.ensures.1 c.in_ok-labels.ensures.went
 
 pub returns-clause-closed : goal.returns-clause-closed
 returns-clause-closed g c =
-    let f = c.fill.new.filling in
-    closed_same c.args.system.now c.args.page.now f.labels.labels f.labels.firsts c.in_ok-closed.closed c.in_ok-fill.ensures.closed c.in_ok-closed.ensures.labels c.in_ok-closed.ensures.rounds
+    let l = c.in_ok-labels.labels in
+    closed_same c.args.system.now c.args.page.now l.labels l.firsts c.in_ok-closed.closed c.in_ok-labels.ensures.closed c.in_ok-closed.ensures.labels c.in_ok-closed.ensures.rounds
+
+pub returns-clause-went : goal.returns-clause-went
+returns-clause-went g c =
+    let s = c.args.system.now in
+    closes_on g.S.Summaries s (Asked s c.args.page.now) c.args.sums.now c.page_labels.new.sums c.in_ok-labels.labels c.in_ok-closed.closed c.in_ok-labels.ensures.went

@@ -1,0 +1,35 @@
+//! A page folded, where that is worth it.
+ghost use Rattle.std.specs.Prelude.{◌≤◌, length, IfOk, IfSome};
+ghost use Rattle.folded_page.specs.Folding.{IsFolded};
+
+use crate::building::{Folded, built};
+use crate::leads::leads_of;
+use node_marks::NumberedTree;
+use std::alloc::Global;
+use tp_base::NoMemory;
+use tree_sem::Tree;
+
+/// The page folded, where that leaves at most half of its nodes; else nothing. Linear in the page's nodes and their atoms.
+pub fn folded(alloc: Global, page: &Tree) -> Result<Option<Folded>, NoMemory>
+    ensures { IfOk result (λ o. IfSome o (λ f. IsFolded page.now f.tree f.numbers.items)) }
+{
+    let columns = NumberedTree::new(alloc, page)?.into_columns();
+    let leads = leads_of(alloc, &columns.parents, &columns.labels)?;
+    if own_leads(&leads) > leads.len() / 2 {
+        return Ok(None);
+    }
+    built(alloc, &columns, &leads)
+}
+
+// How many nodes are their own leads.
+fn own_leads(leads: &[usize]) -> usize
+    ensures { result ≤ length leads.now }
+{
+    let mut count = 0;
+    for node in 0..leads.len() {
+        if leads[node] == node {
+            count += 1;
+        }
+    }
+    count
+}

@@ -1,0 +1,12 @@
+//! A page in which children of one node that are alike are folded to one.
+#![tactic(auto)]
+
+mod building;
+mod candidates;
+mod folding;
+mod leads;
+mod links;
+mod page_builder;
+
+pub use building::Folded;
+pub use folding::folded;
