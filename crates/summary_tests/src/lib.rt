@@ -1,5 +1,5 @@
 //! Tests of composed diagrams and of the cells of a system, round by round; of summaries in a table of pairs and in diagrams, of
-//! both against one another, and of closed pages.
+//! both against one another, of closed pages, and of folded ones.
 #![tactic(auto)]
 
 #[cfg(test)]
@@ -14,6 +14,8 @@ mod deep;
 mod diagrams;
 #[cfg(test)]
 mod examples;
+#[cfg(test)]
+mod folds;
 #[cfg(test)]
 mod pages;
 #[cfg(test)]

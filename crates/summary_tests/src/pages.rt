@@ -19,3 +19,18 @@ static FORM: [NodeRow; 4] = [
     (&[1], &[3, 4]),
     (&[1, 0], &[5, 6]),
 ];
+
+/// The nodes but the root of a page whose body has five nodes alike.
+pub fn nodes_of_rows() -> &'static [NodeRow] {
+    &ROWS
+}
+
+static ROWS: [NodeRow; 7] = [
+    (&[], &[1]),
+    (&[], &[2]),
+    (&[1], &[3, 4]),
+    (&[1], &[3, 4]),
+    (&[1], &[3, 4]),
+    (&[1], &[3, 4]),
+    (&[1], &[3, 4]),
+];

@@ -1,13 +1,13 @@
 ghost use Rattle.std.specs.Prelude.{◌≡◌, [], None, Contains};
 
 use crate::answers::{END, ask, sound_of};
-use crate::pages::nodes_of;
+use crate::pages::{nodes_of, nodes_of_rows};
 use class_adding::{Closed, close_page};
 use need_table::PlainSummaries;
 use simple_core::{GainFault, Summaries, System};
 use std::alloc::Global;
 use std::test::Fail;
-use test_building::{Script, path_of, set_of, tree_of};
+use test_building::{NodeRow, Script, path_of, set_of, tree_of};
 use tp_base::{Atom, ClassSet, NoMemory, Path};
 use tree_sem::{Tree, TreeFault};
 
@@ -331,16 +331,38 @@ fn closes_page(alloc: Global, page: &Tree, row: &Closing) -> Result<bool, GainFa
     are_closed(alloc, &closed, row.2)
 }
 
-fn closes(alloc: Global, row: &Closing) -> Result<bool, TreeFault> {
-    let page = tree_of(alloc, &[0], nodes_of(row.0))?;
+fn closes(alloc: Global, nodes: &[NodeRow], row: &Closing) -> Result<bool, TreeFault> {
+    let page = tree_of(alloc, &[0], nodes)?;
     Ok(matches!(closes_page(alloc, &page, row), Ok(true)))
 }
 
 #[test]
 fn closes_pages(rt: HostRuntime) -> Result<(), Fail> {
     for row in &CLOSINGS {
-        assert!(rt; closes(rt.alloc(), row)?);
+        assert!(rt; closes(rt.alloc(), nodes_of(row.0), row)?);
     }
+    Ok(())
+}
+
+// Of the page with five nodes alike.
+static ROWS: Closing = (
+    Script::Boxes,
+    5,
+    &[
+        (&[], &[(0, 0), (12, 7)]),
+        (&[0], &[(1, 0)]),
+        (&[1], &[(2, 0), (12, 6)]),
+        (&[1, 0], &[(3, 0), (4, 0), (12, 5)]),
+        (&[1, 1], &[(3, 0), (4, 0), (12, 5)]),
+        (&[1, 4], &[(3, 0), (4, 0), (12, 5)]),
+        (&[1, 5], &[]),
+        (&[1, 0, 0], &[]),
+    ],
+);
+
+#[test]
+fn closes_a_folded_page(rt: HostRuntime) -> Result<(), Fail> {
+    assert!(rt; closes(rt.alloc(), nodes_of_rows(), &ROWS)?);
     Ok(())
 }
 
