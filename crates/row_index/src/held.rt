@@ -1,5 +1,5 @@
 //! Places in their order, as they lie in memory.
-ghost use Rattle.std.specs.Prelude.{◌≡◌, ◌∷◌, [], ◌++◌, IfOk};
+ghost use Rattle.std.specs.Prelude.{◌≡◌, ◌∷◌, [], ◌++◌, IfOk, OnOk};
 ghost use Rattle.row_index.specs.Held.{places_of};
 
 use std::alloc::Global;
@@ -14,22 +14,13 @@ pub(crate) enum Held {
 }
 
 // Two places.
-fn two(alloc: Global, first: usize, second: usize) -> Result<Held, NoMemory>
-    ensures { IfOk result (λ h. places_of h ≡ first ∷ second ∷ []) }
+fn two(alloc: Global, first: usize, second: usize) -> Result<Vec<usize>, NoMemory>
+    ensures { IfOk result (λ v. v.items ≡ first ∷ second ∷ []) }
 {
     let mut places = Vec::new(alloc);
     places.push(first)?;
     places.push(second)?;
-    Ok(Held::More(places))
-}
-
-// One place behind these.
-fn more(places: Vec<usize>, place: usize) -> Result<Held, NoMemory>
-    ensures { IfOk result (λ h. places_of h ≡ places.items ++ place ∷ []) }
-{
-    let mut longer = places;
-    longer.push(place)?;
-    Ok(Held::More(longer))
+    Ok(places)
 }
 
 impl Held {
@@ -44,14 +35,15 @@ impl Held {
         }
     }
 
-    /// One place behind these. Constant on average.
-    pub(crate) fn with(self, alloc: Global, place: usize) -> Result<Held, NoMemory>
-        ensures { IfOk result (λ h. places_of h ≡ places_of self ++ place ∷ []) }
+    /// Puts one place behind these. Constant on average.
+    pub(crate) fn push(&mut self, alloc: Global, place: usize) -> Result<(), NoMemory>
+        ensures { OnOk result (places_of self.new ≡ places_of self.old ++ place ∷ []) }
     {
         match self {
-            Held::Empty => Ok(Held::One(place)),
-            Held::One(first) => two(alloc, first, place),
-            Held::More(places) => more(places, place),
+            Held::Empty => *self = Held::One(place),
+            Held::One(first) => *self = Held::More(two(alloc, *first, place)?),
+            Held::More(places) => places.push(place)?,
         }
+        Ok(())
     }
 }

@@ -5,7 +5,6 @@ ghost use Rattle.row_index.specs.Rows.{row_of, IsNoted, IsNotedIf, AreByNumber};
 use crate::held::Held;
 use std::alloc::Global;
 use std::marker::Model;
-use std::mem;
 use tp_base::NoMemory;
 
 /// Places in their order. A contract sees the list of them.
@@ -35,9 +34,7 @@ impl Row {
     fn push(&mut self, alloc: Global, place: usize) -> Result<(), NoMemory>
         ensures { OnOk result (self.new ≡ self.old ++ place ∷ []) }
     {
-        let held = mem::replace(&mut self.held, Held::Empty);
-        self.held = held.with(alloc, place)?;
-        Ok(())
+        self.held.push(alloc, place)
     }
 }
 

@@ -1,5 +1,5 @@
 -- Lists: what stands at which place, and what is in a list that was taken apart, mapped or filtered.
-use Rattle.std.proofs.Common.{◌≡◌, ◌≢◌, ◌⊎◌, ℕ, zero, suc, ◌+◌, ◌<◌, ◌≤◌, Bool, true, false, ◌||◌, List, [], ◌∷◌, ◌++◌, length, map, take, drop, Contains, Option, Some, None, IsSome, IsNone, IsSomeAnd, slice_get, refl, sym, ap, ◌∙◌, subst, inl, inr, arith, length-append, reverse}
+use Rattle.std.proofs.Common.{◌≡◌, ◌≢◌, ◌⊎◌, ℕ, zero, suc, ◌+◌, ◌<◌, ◌≤◌, Bool, true, false, List, [], ◌∷◌, ◌++◌, length, map, take, drop, Contains, Option, Some, None, IsSome, IsNone, IsSomeAnd, slice_get, refl, sym, ap, ◌∙◌, subst, inl, inr, arith, length-append, reverse}
 use Rattle.std.specs.List.{flat_map, list_any, range_with_len}
 use Rattle.std.specs.Str.{bytes_eq}
 use Rattle.std.proofs.lemmas.Bool.{or_cases, or_left, or_right}

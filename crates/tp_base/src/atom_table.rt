@@ -34,6 +34,8 @@ impl<E: OutOfMemory> From<E> for AtomFault {
 #[derive(Drop)]
 pub struct AtomTable {
     names: IndexSet<Name>,
+    // what is looked up, whose room stays
+    key: Name,
 }
 
 impl Model for AtomTable {
@@ -54,6 +56,10 @@ impl AtomTable {
     {
         AtomTable {
             names: IndexSet::new(alloc),
+            key: Name {
+                kind: AtomKind::Aux,
+                text: Vec::new(alloc),
+            },
         }
     }
 
@@ -90,23 +96,26 @@ impl AtomTable {
     }
 
     // The number of a name that is there already.
-    fn find(&self, kind: AtomKind, name: &[u8]) -> Option<Atom>
-        ensures { result ≡ place_in self.now (kind, name.now) }
+    fn find(&mut self, kind: AtomKind, name: &[u8]) -> Option<Atom>
+        ensures place { result ≡ place_in self.old (kind, name.now) }
+        ensures same { self.new ≡ self.old }
     {
         let place = self.index_of(kind, name)?;
         Some(Atom(place as u32))
     }
 
     // Its place: by its hash, or by a look at each where there is no memory for a key.
-    fn index_of(&self, kind: AtomKind, name: &[u8]) -> Option<usize>
-        ensures place { result ≡ place_in self.now (kind, name.now) }
+    fn index_of(&mut self, kind: AtomKind, name: &[u8]) -> Option<usize>
+        ensures place { result ≡ place_in self.old (kind, name.now) }
         ensures within { IfSome result (λ i. i < MOST_ATOMS) }
+        ensures same { self.new ≡ self.old }
     {
-        let Ok(text) = Vec::from_slice(*self.names.allocator(), name) else {
+        self.key.kind = kind;
+        self.key.text.clear();
+        let Ok(()) = self.key.text.extend_from_slice(name) else {
             return place_of(self.names.as_slice(), kind, name);
         };
-        let key = Name { kind, text };
-        self.names.get_index_of(&key)
+        self.names.get_index_of(&self.key)
     }
 
     // The number of a name, which goes last where it is new.
