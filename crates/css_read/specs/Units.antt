@@ -29,9 +29,10 @@ behind_unit [] = []
 behind_unit (b ∷ bs) =
     if is_quote b then behind_string b false bs else (if begins_comment (b ∷ bs) then behind_close (drop 1 bs) else bs)
 
--- some of the bytes that are no bracket and no quote, and begin no comment: from `0` to `Z`, from `^` to `z`, the full stop and the space
+-- some of the bytes that are no bracket, no quote and no `;`, and begin no comment: from `0` to `:`, from `<` to `Z`, from `^` to `z`, the full stop and
+-- the space
 abbrev pub is_plain : ℕ → Bool
-is_plain b = nat_lt 47 b && nat_lt b 91 || nat_lt 93 b && nat_lt b 123 || b == 46 || b == 32
+is_plain b = nat_lt 47 b && nat_lt b 59 || nat_lt 59 b && nat_lt b 91 || nat_lt 93 b && nat_lt b 123 || b == 46 || b == 32
 
 -- whether the text begins with white space or a comment
 abbrev pub begins_gap : List ℕ → Bool

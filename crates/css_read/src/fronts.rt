@@ -1,7 +1,9 @@
 //! What stands where a rule may begin.
-ghost use Rattle.std.specs.Prelude.{◌≡◌, ◌≤◌, ◌<◌, length, drop, IfOk};
+ghost use Rattle.std.specs.Prelude.{◌≡◌, ◌≤◌, ◌<◌, false, length, drop, IfOk};
+ghost use Rattle.std.specs.List.{list_any};
 ghost use Rattle.text_bytes.specs.Rests.{IsRest};
 ghost use Rattle.css_read.specs.Rules as spec;
+ghost use Rattle.css_read.specs.Units.{is_plain};
 ghost use Rattle.css_read.specs.Fronts.{front_view, list_len, IsStart};
 
 use crate::units::{begins_gap, behind_unit, from_first};
@@ -22,13 +24,15 @@ pub(crate) enum Front {
 }
 
 fn list_ends(inside: bool) -> &'static [u8]
-    ensures { result.now ≡ spec.list_ends inside }
+    ensures bytes { result.now ≡ spec.list_ends inside }
+    ensures apart { list_any is_plain result.now ≡ false }
 {
     if inside { b"{}" } else { b"{" }
 }
 
 fn prelude_ends(inside: bool) -> &'static [u8]
-    ensures { result.now ≡ spec.prelude_ends inside }
+    ensures bytes { result.now ≡ spec.prelude_ends inside }
+    ensures apart { list_any is_plain result.now ≡ false }
 {
     if inside { b";{}" } else { b";{" }
 }

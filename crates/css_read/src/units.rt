@@ -1,5 +1,6 @@
 //! Strings, comments, and what stands outside them and outside brackets.
 ghost use Rattle.std.specs.Prelude.{◌≡◌, ◌<◌, length, reverse, false, IfOk};
+ghost use Rattle.std.specs.List.{list_any};
 ghost use Rattle.text_bytes.specs.Rests.{IsRest};
 ghost use Rattle.css_read.specs.Units as spec;
 
@@ -43,11 +44,16 @@ fn begins_comment(text: &[u8]) -> bool
     text.starts_with(b"/*")
 }
 
-/// Whether a byte is no bracket and no quote, and begins no comment: what letters, digits, full stops and spaces are.
+/// Whether a byte is no bracket and no quote, ends nothing, and begins no comment: what letters, digits, full stops and
+/// spaces are.
 pub(crate) fn is_plain(byte: u8) -> bool
     ensures { result ≡ spec.is_plain byte }
 {
-    (byte > b'/' && byte < b'[') || (byte > b']' && byte < b'{') || byte == b'.' || byte == b' '
+    (byte > b'/' && byte < b';')
+        || (byte > b';' && byte < b'[')
+        || (byte > b']' && byte < b'{')
+        || byte == b'.'
+        || byte == b' '
 }
 
 /// The text behind the string, the comment or the byte that it begins with.
@@ -96,24 +102,25 @@ fn stops_at(bytes: &[u8], byte: u8, brackets: &[Bracket]) -> bool
     is_one(bytes, byte) && brackets.is_empty()
 }
 
-/// The text from the first of some bytes on, outside brackets, strings and comments. Linear in what is passed over.
+/// The text from the first of some bytes on, outside brackets, strings and comments. None of these is plain. Linear in
+/// what is passed over.
 #[tactic(auto, using(crate::proofs::Firsts::goes_on, crate::proofs::Firsts::found, crate::proofs::Firsts::ends, crate::proofs::Plains::passes, text_bytes::proofs::Rests::of_rest, text_bytes::proofs::Rests::behind_first))]
 pub(crate) fn from_first<'a>(
     alloc: Global,
     bytes: &[u8],
     text: &'a [u8],
 ) -> Result<&'a [u8], AllocError>
+    requires apart { list_any spec.is_plain bytes.now ≡ false }
     ensures gives { IfOk result (λ r. r.now ≡ spec.from_first bytes.now text.now) }
     ensures rest { IfOk result (λ r. IsRest text.now r.now) }
 {
     let mut brackets = Vec::new(alloc);
     let mut rest = text;
     'units: while let Some((first, behind)) = rest.split_first() {
-        if stops_at(bytes, *first, &brackets) {
-            return Ok(rest);
-        }
         if is_plain(*first) {
             rest = behind;
+        } else if stops_at(bytes, *first, &brackets) {
+            return Ok(rest);
         } else {
             track(&mut brackets, *first)?;
             rest = behind_unit(rest);

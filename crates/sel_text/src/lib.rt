@@ -15,4 +15,4 @@ pub use grammar::is_word;
 pub use lists::read_strict_list;
 pub use reading::read_selector;
 pub use selectors::{Atoms, Compound, Compounds, Join, Joins, Selector};
-pub use writing::write_selector;
+pub use writing::{put_selector, write_selector};

@@ -24,6 +24,14 @@ pub fn write_selector(alloc: Global, s: &Selector, atoms: &AtomTable) -> Result<
     Ok(text)
 }
 
+/// Puts the text of a selector, as `write_selector` gives it, behind some bytes. After a refusal some of it may stand
+/// there. Linear in the text.
+pub fn put_selector(text: &mut Vec<u8>, s: &Selector, atoms: &AtomTable) -> Result<(), NoMemory>
+    ensures { OnOk result (text.new.items ≡ text.old.items ++ selector_text atoms.now (selector_of s.now)) }
+{
+    write_parts(text, s.parts.items(), s.joins.items(), atoms)
+}
+
 // Compounds, and the joins between them.
 #[tactic(auto, using(crate::proofs::WriteLemmas::first_part, crate::proofs::WriteLemmas::one_part_more, crate::proofs::WriteLemmas::all_parts))]
 fn write_parts(

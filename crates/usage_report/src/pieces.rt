@@ -1,5 +1,5 @@
 //! Pieces of the report: numbers, places and paths.
-ghost use Rattle.std.specs.Prelude.{◌≡◌, ◌<◌, ◌++◌, [], codes, OnOk};
+ghost use Rattle.std.specs.Prelude.{◌≡◌, ◌<◌, ◌++◌, [], ◌∷◌, codes, OnOk};
 ghost use Rattle.std.specs.List.{flat_map};
 ghost use Rattle.std.specs.Fmt.{decimal};
 ghost use Rattle.usage_report.specs.Report as spec;
@@ -9,6 +9,9 @@ use tp_base::{NoMemory, Path, Place};
 
 /// What a report begins with: the command, and the version of the report's text.
 pub const VERSION: &[u8] = b"treeped 2";
+
+// How many digits a number may have.
+const MOST_DIGITS: usize = 20;
 
 /// Bytes of a report, one line after another. What is put stands behind what is there; after a refusal some of it may.
 #[derive(Drop)]
@@ -34,6 +37,14 @@ impl Piece {
         Ok(())
     }
 
+    /// One byte more. Constant on average.
+    pub(crate) fn byte(&mut self, byte: u8) -> Result<(), NoMemory>
+        ensures { OnOk result (self.new.bytes.items ≡ self.old.bytes.items ++ byte ∷ []) }
+    {
+        self.bytes.push(byte)?;
+        Ok(())
+    }
+
     // A number below ten, by its digit.
     #[tactic(auto, using(std::proofs::lemmas::Fmt::decimal_digit))]
     fn digit(&mut self, digit: u64) -> Result<(), NoMemory>
@@ -45,15 +56,32 @@ impl Piece {
     }
 
     /// A number, by its decimal digits. Linear in them.
-    #[tactic(auto, using(crate::proofs::PieceLemmas::last_digit))]
     pub fn number(&mut self, number: u64) -> Result<(), NoMemory>
         ensures { OnOk result (self.new.bytes.items ≡ self.old.bytes.items ++ decimal number) }
     {
         if number < 10 {
-            return self.digit(number);
+            self.digit(number)
+        } else {
+            self.digits(number)
         }
-        self.number(number / 10)?;
-        self.digit(number % 10)
+    }
+
+    // A number by its digits, which are found from the last one on.
+    #[tactic(auto, using(crate::proofs::PieceLemmas::place_fewer, crate::proofs::PieceLemmas::one_digit_more, crate::proofs::PieceLemmas::first_digit))]
+    fn digits(&mut self, number: u64) -> Result<(), NoMemory>
+        ensures { OnOk result (self.new.bytes.items ≡ self.old.bytes.items ++ decimal number) }
+    {
+        let mut digits = [0u8; MOST_DIGITS];
+        let mut from = MOST_DIGITS;
+        let mut left = number;
+        'digits: while left >= 10 {
+            from -= 1;
+            digits[from] = b'0' + (left % 10) as u8;
+            left /= 10;
+        }
+        from -= 1;
+        digits[from] = b'0' + left as u8;
+        self.put(&digits[from..])
     }
 
     /// `line:column`.
@@ -62,7 +90,7 @@ impl Piece {
         ensures { OnOk result (self.new.bytes.items ≡ self.old.bytes.items ++ spec.place_text place) }
     {
         self.number(u64::from(place.line))?;
-        self.put(b":")?;
+        self.byte(b':')?;
         self.number(u64::from(place.column))
     }
 

@@ -92,7 +92,7 @@ fn first_piece(alloc: Global) -> Result<Piece, NoMemory>
 fn no_traces(alloc: Global, items: &[SheetItem]) -> Result<Vec<Option<RunTrace>>, NoMemory>
     ensures { IfOk result (λ v. v.items ≡ map (λ i. None) items.now) }
 {
-    let mut traces = Vec::new(alloc);
+    let mut traces = Vec::with_capacity(alloc, items.len())?;
     for item in items {
         traces.push(None)?;
     }
