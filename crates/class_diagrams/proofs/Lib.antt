@@ -8,6 +8,7 @@ mod TableLemmas
 mod PairLemmas
 mod MemoLemmas
 mod Remembering
+mod VariableLemmas
 mod CombinedLemmas
 mod MarkLemmas
 mod Rows

@@ -1,6 +1,7 @@
 -- What public contracts cite.
 pub mod Answers
 pub mod Arena
+pub mod Gates
 pub mod Numbers
 pub mod References
 pub mod Table

@@ -1,10 +1,10 @@
--- Results that are remembered.
-use Rattle.std.specs.Prelude.{◌≡◌, Bool, List, Contains}
+-- Results and variables that are remembered.
+use Rattle.std.specs.Prelude.{◌≡◌, ℕ, Bool, List, Contains, Option, Some, None, get_or}
 use Rattle.class_diagrams.specs.declared.refs.Target.{Target}
 use Rattle.class_diagrams.specs.declared.memo.Operation.{Operation}
 use Rattle.class_diagrams.specs.declared.memo.Operation.TheVariants.{And, Or}
 use Rattle.class_diagrams.specs.declared.memo.Task.{Task}
-use Rattle.class_diagrams.specs.Trees.{Tree, tand, tor, and_leaf, or_leaf}
+use Rattle.class_diagrams.specs.Trees.{Tree, tand, tor, variable, and_leaf, or_leaf}
 use Rattle.class_diagrams.specs.Arena.{tree_at, IsIn, Arena, IsArena}
 
 -- the tree that an operation gives
@@ -28,7 +28,12 @@ pub record IsRight (a : Arena) (entry : Task × Target) : Type 0 where
 abbrev pub AreRight : Arena → List (Task × Target) → Type 0
 AreRight a entries = (entry : Task × Target) → Contains entries entry → IsRight a entry
 
+-- each reference that is noted for an atom is of the arena, and is that of its variable
+abbrev pub AreVariables : Arena → List (Option Target) → Type 0
+AreVariables a noted = (n : ℕ) (f : Target) → get_or noted n None ≡ Some f → IsIn a.branches f × (tree_at a.branches f ≡ variable n)
+
 -- what is true of each arena with what it remembers
-pub record IsRemembering (a : Arena) (entries : List (Task × Target)) : Type 0 where
+pub record IsRemembering (a : Arena) (entries : List (Task × Target)) (noted : List (Option Target)) : Type 0 where
   pub arena : IsArena a
   pub right : AreRight a entries
+  pub variables : AreVariables a noted

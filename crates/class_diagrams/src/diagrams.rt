@@ -1,10 +1,12 @@
 //! Diagrams in one arena, and the operations on them.
-ghost use Rattle.std.specs.Prelude.{◌≡◌, ◌<◌, ◌≤◌, ◌↔◌, ◌&&◌, ◌||◌, ℕ, List, [], length, Ok, IsTrue, IsNone, IsOk, IsErrOf, IfSome, IfOk, OnOk, OnErr};
+ghost use Rattle.std.specs.Prelude.{◌≡◌, ◌<◌, ◌≤◌, ◌↔◌, ◌&&◌, ◌||◌, ℕ, List, [], length, Ok, false, IsTrue, IsNone, IsOk, IsErrOf, IfSome, IfOk, OnOk, OnErr};
 ghost use Rattle.tp_base.specs.Classes.{has_class};
 ghost use Rattle.class_diagrams.specs.declared.refs.Target.{Target};
+ghost use Rattle.class_diagrams.specs.References.{leaf_reference};
 ghost use Rattle.class_diagrams.specs.Trees.{Tree, leaf, branch, join, eval, variable, AgreeOnAllSets, IsLeaf};
 ghost use Rattle.class_diagrams.specs.Arena.{tree_at, IsIn, IsArena, StartsWith};
 ghost use Rattle.class_diagrams.specs.Answers.{Gives, and_of, or_of, held_with};
+ghost use Rattle.class_diagrams.specs.Gates.{IsGate};
 ghost use Rattle.class_diagrams.specs.Memo.{tree_of, leaf_rule_of};
 ghost use Rattle.class_diagrams.specs.Starts.{IsStart};
 
@@ -13,6 +15,7 @@ use crate::marks::Marks;
 use crate::memo::{Memo, Operation, Task};
 use crate::refs::Ref;
 use crate::table::{BranchTable, Pair};
+use crate::variables::Variables;
 use limits::MOST_BRANCHES;
 use std::alloc::Global;
 use std::marker::Model;
@@ -34,6 +37,7 @@ enum Start {
 pub struct Diagrams {
     table: BranchTable,
     memo: Memo,
+    variables: Variables,
 }
 
 impl Model for Diagrams {
@@ -48,7 +52,7 @@ impl Model for Diagrams {
 
     ghost view = { λ d. d.table };
 
-    ghost invariant = { λ d. IsRemembering d.table d.memo };
+    ghost invariant = { λ d. IsRemembering d.table d.memo d.variables };
 }
 
 impl Diagrams {
@@ -61,7 +65,12 @@ impl Diagrams {
     {
         let memo = Memo::new(alloc)?;
         let table = BranchTable::new(alloc, nodes);
-        Ok(Diagrams { table, memo })
+        let variables = Variables::new(alloc);
+        Ok(Diagrams {
+            table,
+            memo,
+            variables,
+        })
     }
 
     /// The diagram that is true, or false, for every set.
@@ -117,6 +126,19 @@ impl Diagrams {
         at.is(Diagrams::leaf(true))
     }
 
+    /// Two atoms of which each set has one that satisfies the diagram, where the low parts end in false behind two branches at
+    /// most. Constant.
+    pub fn gate(&self, f: Ref) -> Option<(Atom, Atom)>
+        requires { IsIn self.now.branches f }
+        ensures { IfSome result (λ g. IsGate g.0 g.1 (tree_at self.now.branches f)) }
+    {
+        let (first, low, _) = self.branch(f)?;
+        match self.branch(low) {
+            Some((second, rest, _)) => gate_before(first, second, rest),
+            None => gate_before(first, first, low),
+        }
+    }
+
     /// Whether two diagrams have the same tree, and so the same meaning. Constant.
     pub fn same(&self, f: Ref, g: Ref) -> bool
         requires first { IsIn self.now.branches f }
@@ -128,7 +150,7 @@ impl Diagrams {
         self.table.same(f, g)
     }
 
-    /// The diagram of the sets that have the atom. Constant on average.
+    /// The diagram of the sets that have the atom. Constant, but for a step for each smaller atom where it is the largest so far.
     pub fn var(&mut self, atom: Atom) -> Result<Ref, DiagramFault>
         ensures tree { IfOk result (λ r. tree_at self.new.branches r ≡ variable atom) }
         ensures means { IfOk result (λ r. (set : List ℕ) → eval (tree_at self.new.branches r) set ≡ has_class atom set) }
@@ -193,8 +215,28 @@ impl Diagrams {
     fn variable(&mut self, atom: Atom) -> Result<Ref, DiagramFault>
         ensures { Gives self.old self.new (variable atom) result }
     {
-        self.table
-            .join(atom, Diagrams::leaf(false), Diagrams::leaf(true))
+        match self.noted(atom) {
+            Some(known) => Ok(known),
+            None => self.make_variable(atom),
+        }
+    }
+
+    // The variable of an atom, where it was made before.
+    fn noted(&self, atom: Atom) -> Option<Ref>
+        ensures { IfSome result (λ r. Gives self.now self.now (variable atom) (Ok r)) }
+    {
+        self.variables.of(atom)
+    }
+
+    // The variable of an atom, which is noted.
+    fn make_variable(&mut self, atom: Atom) -> Result<Ref, DiagramFault>
+        ensures { Gives self.old self.new (variable atom) result }
+    {
+        let joined = self
+            .table
+            .join(atom, Diagrams::leaf(false), Diagrams::leaf(true))?;
+        self.variables.note(atom, joined);
+        Ok(joined)
     }
 
     // The diagram of an operation, at once where one of the two is a leaf.
@@ -294,6 +336,18 @@ impl Diagrams {
             joined,
         );
         Ok(joined)
+    }
+}
+
+// These two atoms, where what is left for the sets without them is false.
+fn gate_before(first: Atom, second: Atom, rest: Ref) -> Option<(Atom, Atom)>
+    ensures atoms { IfSome result (λ g. (g.0 ≡ first) × (g.1 ≡ second)) }
+    ensures rest { IfSome result (λ g. rest ≡ leaf_reference false) }
+{
+    if rest.is(Diagrams::leaf(false)) {
+        Some((first, second))
+    } else {
+        None
     }
 }
 

@@ -1,13 +1,16 @@
 //! Decision diagrams of monotone conditions on class sets, in one arena where equal trees have equal numbers.
 #![tactic(auto)]
 
+mod atom_sets;
 mod diagrams;
 mod faults;
 mod marks;
 mod memo;
 mod refs;
 mod table;
+mod variables;
 
+pub use atom_sets::{AtomSet, are_worth_marks};
 pub use diagrams::Diagrams;
 pub use faults::DiagramFault;
 pub use marks::Marks;

@@ -1,9 +1,9 @@
 -- Terms added one after another.
-use Rattle.std.proofs.Common.{◌≡◌, eqb, ℕ, suc, ◌+◌, ◌<◌, ◌≤◌, Bool, true, false, List, [], ◌∷◌, ◌++◌, map, take, drop, length, get_or, slice_get, Some, Result, Ok, Err, IsErrAnd, refl, sym, ap, subst, ◌∙◌, inl, inr, append_assoc, append-nil}
+use Rattle.std.proofs.Common.{◌≡◌, eqb, ℕ, suc, ◌+◌, ◌<◌, ◌≤◌, Bool, true, false, List, [], ◌∷◌, ◌++◌, map, take, drop, length, get_or, slice_get, Some, None, Result, Ok, Err, IsErrAnd, refl, sym, ap, subst, ◌∙◌, inl, inr, append_assoc, append-nil, arith}
 use Rattle.std.specs.List.{filter, flat_map}
 use Rattle.std.proofs.lemmas.Bool.{cases_Bool}
 use Rattle.std.proofs.lemmas.List.{take_more, take_all}
-use Rattle.std.proofs.lemmas.Option.{slice_get_within, slice_get-get_or, get_or_from_slice_get}
+use Rattle.std.proofs.lemmas.Option.{same_Some, slice_get_within, slice_get-get_or, get_or_from_slice_get}
 use Rattle.std.proofs.Math.Seq.{split_at}
 use Rattle.std.proofs.lemmas.List.Concat.{flat_map-append}
 use Rattle.class_diagrams.specs.References.{Reference}
@@ -139,6 +139,15 @@ terms_more f xs i x at =
     ∙ ap (λ ys. flat_map f (take i xs) ++ ys) (append-nil (f x))
 
 -- ### conjunctions in a loop
+
+pub no_conjunction : (now : CellTrees) (j : ℕ) (needs : List ℕ) → 0 ≡ length needs → conjunction now j (leaf true) needs ≡ leaf true
+no_conjunction now j [] none = refl
+no_conjunction now j (a ∷ needs) none = absurd (omega (arith, none))
+
+pub first_conjunction : (now : CellTrees) (j : ℕ) (needs : List ℕ) (a : ℕ) → slice_get needs 0 ≡ Some a → conjunction now j (leaf true) (take 1 needs) ≡ now j a
+unfolding tand
+first_conjunction now j [] a at = let never : None ≡ Some a = at in cc
+first_conjunction now j (b ∷ needs) a at = ap (now j) (same_Some b a at)
 
 module _ (now : CellTrees) (j : ℕ) (needs : List ℕ) (i a : ℕ) (at : slice_get needs i ≡ Some a) where
   pub conjunction_more : conjunction now j (leaf true) (take (i + 1) needs) ≡ tand (conjunction now j (leaf true) (take i needs)) (now j a)

@@ -2,7 +2,7 @@
 --     found, missed     what the place of a kind says of its diagram
 --     put_at, put_new   a row with one diagram changed
 --     place_is          a cell stands in the row of its atom
-use Rattle.std.proofs.Common.{◌≡◌, ◌≢◌, ℕ, Bool, zero, suc, ◌+◌, ◌<◌, ◌≤◌, eqb, true, false, ◌==◌, ◌&&◌, if◌then◌else◌, List, [], ◌∷◌, ◌++◌, map, length, set, get_or, slice_get, Option, Some, None, Result, Ok, Err, IfOk, IfErr, ltb, unwrap_or, Contains, refl, sym, ap, subst, ◌∙◌, arith, inl, inr}
+use Rattle.std.proofs.Common.{◌≡◌, ◌≢◌, ℕ, Bool, zero, suc, ◌+◌, ◌-◌, ◌<◌, ◌≤◌, eqb, true, false, ◌==◌, ◌&&◌, if◌then◌else◌, List, [], ◌∷◌, ◌++◌, map, length, set, get_or, slice_get, Option, Some, None, Result, Ok, Err, IfOk, IfErr, ltb, unwrap_or, Contains, refl, sym, ap, subst, ◌∙◌, arith, inl, inr}
 use Rattle.std.specs.Map.{lookup}
 use Rattle.std.specs.List.{insert}
 use Rattle.std.specs.List.Sorted.{IsSearchInRange, IsBinarySearchResult, IsNonDecreasingBy, IsStrictlyIncreasing}
@@ -12,7 +12,6 @@ use Rattle.std.proofs.lemmas.Bool.{cases_Bool, cases_lt, eqb-true, ltb-true, ltb
 use Rattle.std.proofs.lemmas.Bool.Decides.{nat_tests}
 use Rattle.std.proofs.lemmas.List.{get_or-map, length-map, get_or_default, get_or_past, get_or-set_same, get_or-set_other}
 use Rattle.std.proofs.lemmas.List.Elements.{All-contains, Contains-append_left, Contains-append_right}
-use Rattle.std.proofs.lemmas.List.Kept.{AllPairs-from_increasing}
 use Rattle.std.proofs.lemmas.List.Sorted.{IsNonDecreasingBy-from_default}
 use Rattle.std.proofs.lemmas.Option.{same_Some, slice_get-get_or, slice_get_within, slice_get_read, get_or_from_slice_get}
 use Rattle.tp_base.specs.Classes.{with_class}
@@ -221,54 +220,38 @@ module _ (row : KindRow) (rises : IsStrictlyIncreasing (kinds_of row)) (kind : �
   searched_err (Ok i) within is = tt
   searched_err (Err i) within is = searched_gap i within is
 
--- a kind that is read at the place of its number
-pub own_place : (row : KindRow) (kind : ℕ) (x : ℕ × Reference) → true ≡ ltb kind (length row) → x ≡ get_or row kind x → eqb x.0 kind ≡ true → IsAt row kind kind
-own_place row kind x inside is same =
-    (x.1, slice_get_read row (length row) kind x refl (ltb-true kind (length row) (sym inside)) is ∙ ap (λ k. Some (k, x.1)) (eqb-true x.0 kind same))
+-- a kind that is read at a place
+pub read_at : (row : KindRow) (kind place : ℕ) (x : ℕ × Reference) → true ≡ ltb place (length row) → x ≡ get_or row place x → eqb x.0 kind ≡ true → IsAt row kind place
+read_at row kind place x inside is same =
+    (x.1, slice_get_read row (length row) place x refl (ltb-true place (length row) (sym inside)) is ∙ ap (λ k. Some (k, x.1)) (eqb-true x.0 kind same))
 
-pub other_place : (row : KindRow) (kind : ℕ) (x : ℕ × Reference) → x ≡ get_or row kind x → eqb x.0 kind ≡ false → kind < length row → get_or (kinds_of row) kind 0 ≢ kind
-other_place row kind x is other within = λ same.
-    let at : get_or (kinds_of row) kind 0 ≡ x.0 = get_or-map (λ (e : ℕ × Reference). e.0) row kind x 0 within ∙ ap (λ (e : ℕ × Reference). e.0) (sym is) in
-    both_ways (eqb x.0 kind) other (eq-eqb x.0 kind (sym at ∙ same))
+-- a kind that is greater than the last one
+pub gap_behind : (row : KindRow) → IsStrictlyIncreasing (kinds_of row) → (kind : ℕ) (x : ℕ × Reference) → Some x ≡ slice_get row (length row - 1) → x.0 < kind → IsGapOf row kind (length row)
+gap_behind row rises kind x at less =
+    let within = slice_get_within row (length row - 1) x (sym at) in
+    let last : get_or (kinds_of row) (length row - 1) 0 ≡ x.0 =
+    get_or-map (λ (e : ℕ × Reference). e.0) row (length row - 1) x 0 within ∙ ap (λ (e : ℕ × Reference). e.0) (get_or_from_slice_get row (length row - 1) x x (sym at)) in
+    record {
+      in_range = omega arith;
+      smaller = λ k before.
+          let up = rises_between (kinds_of row) rises k (length row - 1) (omega (arith, before)) (omega (arith, within, length-map row (λ (e : ℕ × Reference). e.0))) in
+          omega (arith, last, up, less);
+      greater = λ k le inside. absurd (omega (arith, le, inside));
+    }
 
--- where all smaller kinds are there, and the kind isn't, it would stand at the place of its number
-module _ (row : KindRow) (rises : IsStrictlyIncreasing (kinds_of row)) where
-  last_before : (k : ℕ) → IsAt row k k → (k < length row) × (get_or (kinds_of row) k 0 ≡ k)
-  last_before k at =
-      let within = slice_get_within row k (k, at.0) at.1 in
-      (within, get_or-map (λ (e : ℕ × Reference). e.0) row k (k, at.0) 0 within ∙ ap (λ (e : ℕ × Reference). e.0) (get_or_from_slice_get row k (k, at.0) (k, at.0) at.1))
+none_some : (x : ℕ × Reference) → None ≡ Some x → ⊥
+none_some x never = cc
 
-  own_least : (kind : ℕ) → ((k : ℕ) → kind ≡ suc k → IsAt row k k) → kind < length row → kind ≤ get_or (kinds_of row) kind 0
-  own_least zero before within = omega arith
-  own_least (suc k) before within =
-      let last = last_before k (before k refl) in
-      let up = AllPairs-from_increasing (kinds_of row) rises k (suc k) 0 (omega arith) (omega (arith, within, length-map row (λ (e : ℕ × Reference). e.0))) in
-      omega (arith, last.1, up)
-
-  own_smaller : (kind : ℕ) → ((k : ℕ) → kind ≡ suc k → IsAt row k k) → (k : ℕ) → k < kind → get_or (kinds_of row) k 0 < kind
-  own_smaller zero before k less = absurd (omega (arith, less))
-  own_smaller (suc m) before k less =
-      let last = last_before m (before m refl) in
-      let up = rises_between (kinds_of row) rises k m (omega (arith, less)) (omega (arith, last.0, length-map row (λ (e : ℕ × Reference). e.0))) in
-      omega (arith, last.1, up)
-
-  own_within : (kind : ℕ) → ((k : ℕ) → kind ≡ suc k → IsAt row k k) → kind ≤ length row
-  own_within zero before = omega arith
-  own_within (suc k) before = let last = last_before k (before k refl) in omega (arith, last.0)
-
-  pub own_gap : (kind : ℕ) → (kind < length row → get_or (kinds_of row) kind 0 ≢ kind) → ((k : ℕ) → kind ≡ suc k → IsAt row k k) → IsGapOf row kind kind
-  own_gap kind other before = record {
-    in_range = own_within kind before;
-    smaller = own_smaller kind before;
-    greater = λ k le within.
-        let here : kind < length row = omega (arith, le, within) in
-        let least = own_least kind before here in
-        let up = rises_between (kinds_of row) rises kind k le (omega (arith, within, length-map row (λ (e : ℕ × Reference). e.0))) in
-        elim (cases_lt kind (get_or (kinds_of row) kind 0)) [
-          | inl above ↦ omega (arith, above, up)
-          | inr below ↦ absurd (other here (omega (arith, least, below)))
-        ];
+-- and where there is none
+pub gap_of_none : (row : KindRow) (kind : ℕ) → None ≡ slice_get row (length row - 1) → IsGapOf row kind (length row)
+gap_of_none row kind none = elim (cases_lt 0 (length row)) [
+  | inl some ↦ absurd (none_some (get_or row (length row - 1) (0, leaf_reference false)) (none ∙ slice_get-get_or row (length row - 1) (0, leaf_reference false) (omega (arith, some))))
+  | inr past ↦ record {
+    in_range = omega arith;
+    smaller = λ k before. absurd (omega (arith, before, past));
+    greater = λ k le inside. absurd (omega (arith, le, inside));
   }
+]
 
 -- ### the rows of all atoms
 
@@ -306,12 +289,16 @@ at_atom (row ∷ rows) b (suc n) j a is =
 pub place_is : (rows : List KindRow) (j a : ℕ) → place_in (entries_of rows) j a ≡ diagram_in (row_at rows a) j
 place_is rows j a = ap (λ (o : Option Reference). unwrap_or o (leaf_reference false)) (at_atom rows 0 a j a (omega arith))
 
+-- a row in its place
+pub row_is : (rows : List KindRow) (view : Entries) (n a : ℕ) (row : KindRow) → entries_of rows ≡ view → n ≡ a → n < length rows → row ≡ get_or rows n row
+    → (j : ℕ) → diagram_in row j ≡ place_in view j a
+row_is rows view n a row same number within is j =
+    ap (λ (r : KindRow). diagram_in r j) (is ∙ get_or_default rows n row [] within ∙ ap (row_at rows) number) ∙ sym (place_is rows j a) ∙ ap (λ (es : Entries). place_in es j a) same
+
 -- what is read of a row
 pub row_read : (rows : List KindRow) (view : Entries) (n a : ℕ) (row : KindRow) → entries_of rows ≡ view → n ≡ a → true ≡ ltb n (length rows) → row ≡ get_or rows n row
     → (j : ℕ) → diagram_in row j ≡ place_in view j a
-row_read rows view n a row same number inside is j =
-    let within : n < length rows = ltb-true n (length rows) (sym inside) in
-    ap (λ (r : KindRow). diagram_in r j) (is ∙ get_or_default rows n row [] within ∙ ap (row_at rows) number) ∙ sym (place_is rows j a) ∙ ap (λ (es : Entries). place_in es j a) same
+row_read rows view n a row same number inside is j = row_is rows view n a row same number (ltb-true n (length rows) (sym inside)) is j
 
 -- and of an atom behind all rows
 pub row_past : (rows : List KindRow) (view : Entries) (n a : ℕ) → entries_of rows ≡ view → n ≡ a → false ≡ ltb n (length rows)

@@ -1,8 +1,8 @@
 -- The children that links look at, and their terms.
-use Rattle.std.proofs.Common.{◌≡◌, ◌≢◌, ℕ, ◌+◌, ◌<◌, ◌==◌, true, false, not, List, [], ◌∷◌, ◌++◌, map, fold, take, length, get_or, All, Contains, Result, refl, sym, ap, subst, ◌∙◌, inl, inr, append-nil}
+use Rattle.std.proofs.Common.{◌≡◌, ◌≢◌, ℕ, ◌+◌, ◌<◌, ltb, ◌==◌, true, false, not, List, [], ◌∷◌, ◌++◌, map, fold, take, length, get_or, All, Contains, Result, refl, sym, ap, subst, ◌∙◌, inl, inr, append-nil, arith}
 use Rattle.std.specs.List.{filter, flat_map}
 use Rattle.std.specs.List.Sorted.{IsStrictlyIncreasing}
-use Rattle.std.proofs.lemmas.Bool.{cases_Bool}
+use Rattle.std.proofs.lemmas.Bool.{cases_Bool, ltb-false}
 use Rattle.std.proofs.lemmas.List.{take_more, map-append}
 use Rattle.std.proofs.lemmas.List.Elements.{All-contains, Contains-get_or}
 use Rattle.std.proofs.lemmas.List.Concat.{flat_map-append}
@@ -140,6 +140,14 @@ pub gathered : (s : System) (cells : Entries) (a : ℕ) (links : List Link) (spa
 gathered s cells a links spawns places links_are spawns_are places_are =
     (λ n. fold with_child [] (flat_map (of_place (standing_each cells (spawns_are n)) (links_are n)) (places_are n)))
     ∙ ap (fold with_child []) (filtered_places (standing_each cells s.child) (λ (l : Link). l.to == a) s.down ∙ standing_are s cells a)
+
+-- where no link gives the atom, no child is looked at
+pub no_place : (places : List ℕ) → ltb 0 (length places) ≡ false → places ≡ []
+no_place [] none = refl
+no_place (place ∷ places) none = let few = ltb-false 0 (length (place ∷ places)) none in absurd (omega (arith, few))
+
+pub none_serve : (s : System) (cells : Entries) (j a : ℕ) → places_from (λ (l : Link). l.to == a) 0 s.down ≡ [] → DoServe s cells j a []
+none_serve s cells j a none = ap (beneath cells j) (gathered s cells a s.down s.child [] refl refl (sym none))
 
 -- what a link looks at, where these places are all those of the rules that make a kind which may have its left side
 pub link_added : (cells : Entries) (l : Link) (spawns : List Spawn) (makers : List (List ℕ)) (kinds places : List ℕ) → AreMakers spawns makers

@@ -17,4 +17,5 @@ mod PlaceLemmas
 mod StandingLemmas
 mod DoorLemmas
 mod NoteLemmas
+mod StartLemmas
 pub mod EndLemmas

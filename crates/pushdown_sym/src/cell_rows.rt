@@ -1,5 +1,5 @@
 //! The cells of one atom.
-ghost use Rattle.std.specs.Prelude.{◌≡◌, ◌≢◌, ℕ, suc, ◌<◌, true, false, ◌==◌, length, get_or, if◌then◌else◌, [], Contains, IfOk, IfErr, OnOk, OnErr};
+ghost use Rattle.std.specs.Prelude.{◌≡◌, ◌≢◌, ℕ, true, false, ◌==◌, length, if◌then◌else◌, [], Contains, IfOk, IfErr, OnOk, OnErr};
 ghost use Rattle.std.specs.List.Sorted.{IsStrictlyIncreasing};
 ghost use Rattle.class_diagrams.specs.References.{leaf_reference};
 ghost use Rattle.pushdown_sym.specs.CellRows.{kinds_of, diagram_in, IsAt, IsGapOf};
@@ -29,39 +29,55 @@ impl Model for Row {
     ghost invariant = { λ r. AreNoted r.cells.items r.kinds.items };
 }
 
-// Whether a kind stands at the place of its own number, as it does where all smaller ones are there.
-fn is_own_place(cells: &[(u32, Ref)], kind: u32) -> bool
-    ensures own { result ≡ true → IsAt cells.now kind kind }
-    ensures other { result ≡ false → kind < length cells.now → get_or (kinds_of cells.now) kind 0 ≢ kind }
+// Whether a kind stands at a place.
+fn is_at(cells: &[(u32, Ref)], place: usize, kind: u32) -> bool
+    ensures { result ≡ true → IsAt cells.now kind place }
 {
-    match cells.get(kind as usize) {
+    match cells.get(place) {
         Some(cell) => cell.0 == kind,
         None => false,
     }
 }
 
-// Whether all smaller kinds are there.
-fn has_all_before(cells: &[(u32, Ref)], kind: u32) -> bool
-    ensures { result ≡ true → (k : ℕ) → kind ≡ suc k → IsAt cells.now k k }
+// Whether a kind is greater than all.
+fn is_behind(cells: &[(u32, Ref)], kind: u32) -> bool
+    requires { IsStrictlyIncreasing (kinds_of cells.now) }
+    ensures { result ≡ true → IsGapOf cells.now kind (length cells.now) }
 {
-    match kind.checked_sub(1) {
-        Some(last) => is_own_place(cells, last),
+    match cells.last() {
+        Some(last) => last.0 < kind,
         None => true,
     }
 }
 
-// The place of a kind, or where it would stand. Constant where all smaller kinds are there, and else logarithmic in
-// their number.
+// Where a kind stands if the kinds are spread evenly.
+fn even_place(cells: &[(u32, Ref)], kind: u32) -> usize {
+    let Some(first) = cells.first() else {
+        return 0;
+    };
+    let Some(last) = cells.last() else {
+        return 0;
+    };
+    let behind_first = kind.wrapping_sub(first.0) as usize;
+    behind_first
+        .wrapping_mul(cells.len().wrapping_sub(1))
+        .checked_div(last.0.wrapping_sub(first.0) as usize)
+        .unwrap_or(0)
+}
+
+// The place of a kind, or where it would stand. Constant where the kind is greater than all or the kinds are spread evenly,
+// and else logarithmic in their number.
 fn place_of(cells: &[(u32, Ref)], kind: u32) -> Result<usize, usize>
     requires { IsStrictlyIncreasing (kinds_of cells.now) }
     ensures found { IfOk result (IsAt cells.now kind) }
     ensures gap { IfErr result (IsGapOf cells.now kind) }
 {
-    if is_own_place(cells, kind) {
-        return Ok(kind as usize);
+    if is_behind(cells, kind) {
+        return Err(cells.len());
     }
-    if has_all_before(cells, kind) {
-        return Err(kind as usize);
+    let even = even_place(cells, kind);
+    if is_at(cells, even, kind) {
+        return Ok(even);
     }
     cells.binary_search_by_key(&kind, |cell| cell.0)
 }
@@ -76,7 +92,7 @@ impl Row {
         }
     }
 
-    /// The diagram of a kind. Constant where all smaller kinds have one, and else logarithmic in the number of kinds.
+    /// The diagram of a kind. Constant where the kinds are spread evenly, and else logarithmic in their number.
     pub(crate) fn get(&self, kind: u32) -> Ref
         ensures { result ≡ diagram_in self.now kind }
     {
@@ -93,20 +109,22 @@ impl Row {
         &self.kinds
     }
 
-    /// Changes the diagram of one kind. Linear in the number of greater kinds where it is new.
-    pub(crate) fn set(&mut self, kind: u32, to: Ref) -> Result<(), NoMemory>
+    /// Changes the diagram of one kind, and gives the one before. Linear in the number of greater kinds where it is new.
+    pub(crate) fn replace(&mut self, kind: u32, to: Ref) -> Result<Ref, NoMemory>
+        ensures before { IfOk result (λ f. f ≡ diagram_in self.old kind) }
         ensures ok { OnOk result ((j : ℕ) → diagram_in self.new j ≡ (if kind == j then to else diagram_in self.old j)) }
         ensures err { OnErr result (self.new ≡ self.old) }
     {
         match place_of(&self.cells, kind) {
             Ok(place) => {
+                let held = self.cells[place];
                 self.cells[place] = (kind, to);
-                Ok(())
+                Ok(held.1)
             }
             Err(place) => {
                 self.kinds.push(kind)?;
                 self.cells.insert(place, (kind, to))?;
-                Ok(())
+                Ok(Diagrams::leaf(false))
             }
         }
     }

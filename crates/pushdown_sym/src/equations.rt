@@ -1,9 +1,10 @@
 //! The cells of the next round.
-ghost use Rattle.std.specs.Prelude.{◌≡◌, ◌<◌, ◌==◌, ℕ, suc, true, length, IsErrOf, IfOk};
+ghost use Rattle.std.specs.Prelude.{◌≡◌, ◌<◌, ◌==◌, ℕ, suc, true, false, [], length, IsErrOf, IfOk};
 ghost use Rattle.class_diagrams.specs.References.{Reference};
 ghost use Rattle.class_diagrams.specs.Trees.{leaf};
 ghost use Rattle.class_diagrams.specs.Arena.{tree_at, IsIn, IsArena, StartsWith};
 ghost use Rattle.diagram_ops.specs.Steps.{held_with_all, AreAmong, Calculates};
+ghost use Rattle.pushdown_sym.specs.CellMap.{place_in};
 ghost use Rattle.pushdown_sym.specs.Adding.{AreIn, next_in, results_in};
 ghost use Rattle.pushdown_sym.specs.Children.{standing_of, different, DoServe};
 ghost use Rattle.pushdown_sym.specs.Givers.{AreDoors, HaveDoors};
@@ -85,8 +86,10 @@ impl Equations {
     }
 
     /// Whether a link from a child gives the atom.
-    pub(crate) fn is_given_below(&self, atom: Atom) -> bool {
-        !self.givers.downs.of(atom).is_empty()
+    pub(crate) fn is_given_below(&self, atom: Atom) -> bool
+        ensures { result ≡ false → places_from (λ l. l.to == atom) 0 self.now.down ≡ [] }
+    {
+        has_some(self.givers.downs.of(atom))
     }
 
     /// The cell, where nothing is kept of the children that its links look at.
@@ -106,7 +109,7 @@ impl Equations {
             return Ok(start);
         }
         match self.children(alloc, now, atom) {
-            Ok(children) => self.next_by(alloc, d, now, (kind, atom), children.items()),
+            Ok(children) => self.next_by(alloc, d, now, (kind, atom, start), children.items()),
             Err(_) => Err(DiagramFault::Memory),
         }
     }
@@ -160,23 +163,27 @@ impl Equations {
         )
     }
 
-    /// The cell, where a node of the kind may use the spawn rules at these places alone. Besides the compositions, a look at
-    /// each of these rules for each link from a child that gives the atom. A cell that holds for every label costs nothing.
+    /// The cell behind one that is given with its diagram, where a node of the kind may use the spawn rules at these places
+    /// alone. Besides the compositions, a look at each of these rules for each link from a child that gives the atom. A cell
+    /// that holds for every label costs nothing.
     pub(crate) fn next_through(
         &self,
         alloc: Global,
         d: &mut Diagrams,
         now: &Cells,
-        cell: (u32, Atom),
+        cell: (u32, Atom, Ref),
         doors: &[usize],
     ) -> Result<Ref, DiagramFault>
         requires inside { AreIn d.old.branches now.now }
+        requires start { cell.2 ≡ place_in now.now cell.0 cell.1 }
         requires doors { AreDoors self.now.child now.now cell.0 doors.now }
         ensures { Calculates d.old d.new (results_in self.now d.old now.now cell.0 cell.1) (next_in self.now d.old now.now cell.0 cell.1) result }
     {
-        let start = now.get(cell.0, cell.1);
-        if is_whole(d, start) {
-            return Ok(start);
+        if is_whole(d, cell.2) {
+            return Ok(cell.2);
+        }
+        if !self.is_given_below(cell.1) {
+            return self.next_by(alloc, d, now, cell, &[]);
         }
         match self.children_through(alloc, now, (cell.0, cell.1), doors) {
             Ok(children) => self.next_by(alloc, d, now, cell, children.items()),
@@ -184,16 +191,17 @@ impl Equations {
         }
     }
 
-    /// The cell, where these children serve for it.
+    /// The cell behind one that is given with its diagram, where these children serve for it.
     pub(crate) fn next_by(
         &self,
         alloc: Global,
         d: &mut Diagrams,
         now: &Cells,
-        cell: (u32, Atom),
+        cell: (u32, Atom, Ref),
         children: &[Child],
     ) -> Result<Ref, DiagramFault>
         requires inside { AreIn d.old.branches now.now }
+        requires start { cell.2 ≡ place_in now.now cell.0 cell.1 }
         requires arena { IsArena d.old }
         requires children { DoServe self.now now.now cell.0 cell.1 children.now }
         ensures { Calculates d.old d.new (results_in self.now d.old now.now cell.0 cell.1) (next_in self.now d.old now.now cell.0 cell.1) result }
@@ -202,6 +210,12 @@ impl Equations {
         let ups = self.givers.ups.of(cell.1);
         next_of(alloc, &self.system, (locals, ups), children, d, now, cell)
     }
+}
+
+fn has_some(places: &[usize]) -> bool
+    ensures { result ≡ false → places.now ≡ [] }
+{
+    places.len() > 0
 }
 
 /// Whether a diagram is the one that holds for every label. A no costs time alone. Constant.
@@ -213,7 +227,8 @@ pub(crate) fn is_whole(d: &Diagrams, f: Ref) -> bool
     d.same(f, Diagrams::leaf(true))
 }
 
-// The cell, and behind it the terms of the local rules, of the links to the parent, and of those from the children.
+// The cell with its diagram, and behind it the terms of the local rules, of the links to the parent, and of those from the
+// children.
 fn next_of(
     alloc: Global,
     system: &System,
@@ -221,17 +236,17 @@ fn next_of(
     children: &[Child],
     d: &mut Diagrams,
     now: &Cells,
-    cell: (u32, Atom),
+    cell: (u32, Atom, Ref),
 ) -> Result<Ref, DiagramFault>
     requires inside { AreIn d.old.branches now.now }
+    requires start { cell.2 ≡ place_in now.now cell.0 cell.1 }
     requires arena { IsArena d.old }
     requires locals { givers.0.now ≡ places_from (λ r. r.gives == cell.1) 0 system.now.local }
     requires ups { givers.1.now ≡ places_from (λ l. l.to == cell.1) 0 system.now.up }
     requires children { DoServe system.now now.now cell.0 cell.1 children.now }
     ensures { Calculates d.old d.new (results_in system.now d.old now.now cell.0 cell.1) (next_in system.now d.old now.now cell.0 cell.1) result }
 {
-    let (kind, atom) = cell;
-    let start = now.get(kind, atom);
+    let (kind, atom, start) = cell;
     let by_locals = add_locals(d, now, kind, atom, system.local.items(), givers.0, start)?;
     let by_ups = add_ups(d, atom, system.up.items(), givers.1, by_locals)?;
     add_children(alloc, d, now, kind, children, by_ups)

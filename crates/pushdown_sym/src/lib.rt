@@ -13,9 +13,11 @@ mod links;
 mod locals;
 mod makers;
 mod rounds;
+mod starts;
 
 pub use cells::{CellKey, Cells};
 pub use ends::Ends;
 pub use equations::Equations;
 pub use laws::cells_tell;
 pub use rounds::Round;
+pub use starts::start_of;

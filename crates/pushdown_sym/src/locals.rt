@@ -25,8 +25,11 @@ pub(crate) fn all_of(
     requires arena { IsArena d.old }
     ensures { Calculates d.old d.new (conjunctions (trees_in d.old.branches now.now) kind (leaf true) needs.now) (conjunction (trees_in d.old.branches now.now) kind (leaf true) needs.now) result }
 {
-    let mut sofar = Diagrams::leaf(true);
-    for i in 0..needs.len() {
+    if needs.len() == 0 {
+        return Ok(Diagrams::leaf(true));
+    }
+    let mut sofar = now.get(kind, needs.at(0));
+    for i in 1..needs.len() {
         sofar = d.and(sofar, now.get(kind, needs.at(i)))?;
     }
     Ok(sofar)

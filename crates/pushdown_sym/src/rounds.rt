@@ -163,12 +163,15 @@ impl<'e, 'c> Round<'e, 'c> {
         ensures limit { d.new.limit ≡ d.old.limit }
         ensures arena { IsArena d.new }
     {
-        self.next(d, (kind, atom))
+        let start = self.get(kind, atom);
+        self.next(d, (kind, atom, start))
     }
 
-    // The cell, by the few spawn rules that its kind may use, or by what is kept for all kinds.
-    fn next(&mut self, d: &mut Diagrams, cell: (u32, Atom)) -> Result<Ref, DiagramFault>
-        requires { AreIn d.old.branches self.old.1 }
+    // The cell behind one that is given with its diagram, by the few spawn rules that its kind may use, or by what is kept for
+    // all kinds.
+    fn next(&mut self, d: &mut Diagrams, cell: (u32, Atom, Ref)) -> Result<Ref, DiagramFault>
+        requires inside { AreIn d.old.branches self.old.1 }
+        requires start { cell.2 ≡ place_in self.old.1 cell.0 cell.1 }
         ensures same { self.new ≡ self.old }
         ensures next { Calculates d.old d.new (results_in self.old.0 d.old self.old.1 cell.0 cell.1) (next_in self.old.0 d.old self.old.1 cell.0 cell.1) result }
     {
@@ -183,26 +186,27 @@ impl<'e, 'c> Round<'e, 'c> {
     }
 }
 
-// The cell, and what is kept then: nothing of an atom that no link from a child gives.
+// The cell behind one that is given with its diagram, and what is kept then: nothing of an atom that no link from a child
+// gives.
 fn next_kept(
     alloc: Global,
     equations: &Equations,
     now: &Cells,
     kept: &mut Kept,
     d: &mut Diagrams,
-    cell: (u32, Atom),
+    cell: (u32, Atom, Ref),
 ) -> Result<Ref, DiagramFault>
     requires inside { AreIn d.old.branches now.now }
+    requires start { cell.2 ≡ place_in now.now cell.0 cell.1 }
     requires kept { AreKept equations.now now.now kept.old }
     ensures kept { AreKept equations.now now.now kept.new }
     ensures next { Calculates d.old d.new (results_in equations.now d.old now.now cell.0 cell.1) (next_in equations.now d.old now.now cell.0 cell.1) result }
 {
-    let start = now.get(cell.0, cell.1);
-    if is_whole(d, start) {
-        return Ok(start);
+    if is_whole(d, cell.2) {
+        return Ok(cell.2);
     }
     if !equations.is_given_below(cell.1) {
-        return equations.next_alone(alloc, d, now, cell.0, cell.1);
+        return equations.next_by(alloc, d, now, cell, &[]);
     }
     match kept.gather(alloc, equations, now, cell.1) {
         Ok(()) => equations.next_by(alloc, d, now, cell, kept.of(cell.1)),

@@ -21,7 +21,7 @@ use Rattle.pushdown_sym.specs.CellMap.{Entries}
 use Rattle.saturation.specs.declared.courses.Course.{Course}
 use Rattle.saturation.specs.Histories.{Change, first_in}
 use Rattle.saturation.specs.Saturation.{Histories, IsBuilt}
-use Rattle.saturation.specs.Courses.{NeverComes, can_come, IsCourse, AreCourses, CanBeAsked, first_of, first_by}
+use Rattle.saturation.specs.Courses.{NeverComes, can_come, IsCourse, AreCourses, HasGate, CanBeAsked, first_of, first_by}
 use Rattle.saturation.proofs.NoteLemmas.{last_cases}
 use Rattle.saturation.proofs.EndLemmas.{first_is, first_few}
 use Rattle.saturation.proofs.GrowthLemmas.{found_growing}
@@ -60,11 +60,11 @@ module _ (label : List ℕ) (history : ℕ → List Change) (atoms : List ℕ) (
   }
 
 -- a course that is pushed
-pub course_pushed : (label : List ℕ) (history : ℕ → List Change) (atoms : List ℕ) (courses new : List Course) (a : ℕ) (starts : Bool) (found changes : List Change)
-    → starts ≡ has_class a label → found ≡ history a → starts || nat_lt 0 (length found) ≡ true → changes ≡ found → new ≡ courses ++ record { atom = a; starts = starts; changes = changes } ∷ []
+pub course_pushed : (label : List ℕ) (history : ℕ → List Change) (atoms : List ℕ) (courses new : List Course) (a : ℕ) (starts : Bool) (gate : Option (ℕ × ℕ)) (found changes : List Change)
+    → starts ≡ has_class a label → found ≡ history a → starts || nat_lt 0 (length found) ≡ true → changes ≡ found → new ≡ courses ++ record { atom = a; starts = starts; gate = gate; changes = changes } ∷ []
     → AreCourses label history atoms courses → AreCourses label history (atoms ++ a ∷ []) new
-course_pushed label history atoms courses new a starts found changes start look may copy is are = subst (λ (cs : List Course). AreCourses label history (atoms ++ a ∷ []) cs) (sym is)
-    (one_course label history atoms courses are (record { atom = a; starts = starts; changes = changes }) (record { starts = start; changes = copy ∙ look })
+course_pushed label history atoms courses new a starts gate found changes start look may copy is are = subst (λ (cs : List Course). AreCourses label history (atoms ++ a ∷ []) cs) (sym is)
+    (one_course label history atoms courses are (record { atom = a; starts = starts; gate = gate; changes = changes }) (record { starts = start; changes = copy ∙ look })
     (sym (ap (λ b. b || nat_lt 0 (length found)) start ∙ ap (λ (h : List Change). has_class a label || nat_lt 0 (length h)) look) ∙ may))
 
 neither : (starts : Bool) (cs : List Change) → starts || nat_lt 0 (length cs) ≡ false → (starts ≡ false) × (cs ≡ [])
@@ -99,11 +99,12 @@ first_of_is a (Some k) f there = let is = Contains-only (record { atom = a; roun
 
 module _ (s : System) (sound : IsSound s) (d : Arena) (histories : Histories) (cells : Entries) (built : IsBuilt s d histories cells) (j : ℕ) (kind : j < length s.kinds) (parent : List ℕ)
     (courses : List Course) (are : AreCourses (kind_label s j) (histories j) s.visible courses) where
-  pub can_be_asked : All (CanBeAsked d.branches parent) courses
-  can_be_asked = All-from_Contains (CanBeAsked d.branches parent) courses (λ c there.
+  pub can_be_asked : All (HasGate d.branches) courses → All (CanBeAsked d.branches parent) courses
+  can_be_asked gated = All-from_Contains (CanBeAsked d.branches parent) courses (λ c there.
       let is = (are.right c there).1 in record {
         inside = subst (λ (h : List Change). All (λ x. IsIn d.branches x.1) h) (sym is.changes) (built.told j c.atom kind).inside;
         growing = found_growing s d histories cells built j c.atom kind c.changes is.changes parent;
+        gate = All-contains (HasGate d.branches) courses c gated there;
       })
 
   course_known : (c : Course) → IsCourse (kind_label s j) (histories j) c → (r : Option ℕ) → first_in c.starts d.branches c.changes parent ≡ r
@@ -116,8 +117,8 @@ module _ (s : System) (sound : IsSound s) (d : Arena) (histories : Histories) (c
   course_first : (c : Course) → IsCourse (kind_label s j) (histories j) c → (r : Option ℕ) → first_in c.starts d.branches c.changes parent ≡ r → IsFirst (λ k. grown s k j parent) c.atom r
   course_first c is r found = first_is s sound d histories cells built j c.atom kind parent r (course_known c is r found)
 
-  pub course_asked : (c : Course) → Contains courses c → CanBeAsked d.branches parent c
-  course_asked c there = All-contains (CanBeAsked d.branches parent) courses c can_be_asked there
+  pub course_asked : All (HasGate d.branches) courses → (c : Course) → Contains courses c → CanBeAsked d.branches parent c
+  course_asked gated c there = All-contains (CanBeAsked d.branches parent) courses c (can_be_asked gated) there
 
   pub courses_rise : IsStrictlyIncreasing (map (λ c. c.atom) courses)
   courses_rise = subst IsStrictlyIncreasing (sym are.order)

@@ -26,4 +26,5 @@ mod GrowthLemmas
 mod ReadsLemmas
 mod BuildLemmas
 mod SearchLemmas
+mod GateLemmas
 mod CourseLemmas

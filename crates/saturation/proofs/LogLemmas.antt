@@ -10,7 +10,8 @@ use Rattle.row_index.specs.Rows.{row_of, IsNoted}
 use Rattle.row_index.proofs.RowLemmas.{noted_at}
 use Rattle.class_diagrams.specs.References.{leaf_reference}
 use Rattle.saturation.specs.Histories.{Change}
-use Rattle.saturation.specs.HistoryMap.{Noted, changes_of, AreApart, history_in, StartsAt, EndsAt}
+use Rattle.pushdown_sym.specs.Starts.{StartsAt}
+use Rattle.saturation.specs.HistoryMap.{Noted, changes_of, AreApart, history_in, EndsAt}
 
 -- ### one change more
 
@@ -146,47 +147,12 @@ module _ (a : ℕ) (atoms : List ℕ) (changes : List Change) (from to : ℕ) (a
       (λ k within le before. let above = not_less k within le in let below = not_more k before in eq-eqb (get_or atoms k a) a (omega (arith, above, below)))
       (λ k within le. ne_eqb (get_or atoms k a) a (λ same. let above = more k within le in omega (arith, above, same)))
 
--- from where an atom begins, over those that are the atom, to where none is
-pub ends_at : (a : ℕ) (atoms : List ℕ) (from to : ℕ) → IsNonDecreasing atoms → StartsAt a atoms from → from ≤ to → to ≤ length atoms
-    → ((k : ℕ) → from ≤ k → k < to → get_or atoms k a ≡ a) → (to < length atoms → get_or atoms to a ≢ a) → EndsAt a atoms to
-ends_at a atoms from to order low le within same stop = (
-  λ k d zero before. elim (cases_lt k from) [
-    | inl less ↦ let below = ltb-true (get_or atoms k d) a (low.0 k d (omega arith) less) in le-leb (get_or atoms k d) a (omega (arith, below))
-    | inr more ↦
-        let is = same k more before in
-        let at = get_or_default atoms k d a (omega (arith, before, within)) in
-        le-leb (get_or atoms k d) a (omega (arith, at, is))
-  ],
-  λ k d le_k within_k.
-      let here : to < length atoms = omega (arith, le_k, within_k) in
-      let first = ltb-false (get_or atoms to d) a (low.1 to d le here) in
-      let rises = order to k d le_k within_k in
-      let at = get_or_default atoms to d a here in
-      elim (cases_lt a (get_or atoms to d)) [
-        | inl above ↦ lt-leb (get_or atoms k d) a (omega (arith, above, rises))
-        | inr below ↦ absurd (stop here (omega (arith, at, first, below)))
-      ],
+-- where what is no greater ends, by where what is less than the next number does
+pub ends_before : (a n : ℕ) (atoms : List ℕ) (to : ℕ) → n ≡ a → StartsAt (n + 1) atoms to → EndsAt a atoms to
+ends_before a n atoms to same starts = (
+  λ k d zero before. let below = ltb-true (get_or atoms k d) (n + 1) (starts.0 k d zero before) in le-leb (get_or atoms k d) a (omega (arith, below, same)),
+  λ k d le within. let above = ltb-false (get_or atoms k d) (n + 1) (starts.1 k d le within) in lt-leb (get_or atoms k d) a (omega (arith, above, same)),
 )
-
-pub none_there : (a : ℕ) (atoms : List ℕ) (from : ℕ) → IsNonDecreasing atoms → StartsAt a atoms from → from ≤ length atoms → (from < length atoms → get_or atoms from a ≢ a) → EndsAt a atoms from
-none_there a atoms from order low within stop = ends_at a atoms from from order low (omega arith) within (λ k le less. absurd (omega (arith, le, less))) stop
-
-pub one_there : (a : ℕ) (atoms : List ℕ) (from : ℕ) → IsNonDecreasing atoms → StartsAt a atoms from → (from < length atoms) × (get_or atoms from a ≡ a)
-    → (from + 1 < length atoms → get_or atoms (from + 1) a ≢ a) → EndsAt a atoms (from + 1)
-one_there a atoms from order low there stop =
-    ends_at a atoms from (from + 1) order low (omega arith) (omega (arith, there.0))
-    (λ k le less. let same : from ≡ k = omega (arith, le, less) in subst (λ n. get_or atoms n a ≡ a) same there.1) stop
-
--- what is read at a place
-pub read_there : (a : ℕ) (atoms : List ℕ) (i x : ℕ) → true ≡ ltb i (length atoms) → x ≡ get_or atoms i x → eqb x a ≡ true → (i < length atoms) × (get_or atoms i a ≡ a)
-read_there a atoms i x inside is same =
-    let within = ltb-true i (length atoms) (sym inside) in
-    (within, sym (get_or_default atoms i x a within) ∙ sym is ∙ eqb-true x a same)
-
-pub read_other : (a : ℕ) (atoms : List ℕ) (i x : ℕ) → x ≡ get_or atoms i x → eqb x a ≡ false → i < length atoms → get_or atoms i a ≢ a
-read_other a atoms i x is other within = λ same.
-    let equal : x ≡ a = is ∙ get_or_default atoms i x a within ∙ same in
-    both_ways (eqb x a) other (eq-eqb x a equal)
 
 -- the same of what was searched
 pub part_of : (a : ℕ) (atoms xs ys : List ℕ) (changes : List Change) (from to : ℕ) → AreApart atoms changes → xs ≡ atoms → ys ≡ atoms

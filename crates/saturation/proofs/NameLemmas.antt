@@ -1,6 +1,5 @@
 -- Lists of atoms and of cells, one element more.
-use Rattle.std.proofs.Common.{◌≡◌, ℕ, suc, ◌+◌, List, [], ◌∷◌, ◌++◌, map, take, slice_get, Some, refl, sym, ap, ◌∙◌, arith, ◌<◌, length, get_or, append_assoc, append-nil}
-use Rattle.std.proofs.lemmas.Option.{slice_get-get_or}
+use Rattle.std.proofs.Common.{◌≡◌, ℕ, suc, ◌+◌, List, [], ◌∷◌, ◌++◌, map, take, slice_get, Some, refl, sym, ap, ◌∙◌, arith, append_assoc, append-nil}
 use Rattle.std.specs.List.{flat_map, range_with_len}
 use Rattle.std.proofs.lemmas.List.Concat.{flat_map-append}
 use Rattle.std.proofs.lemmas.List.{map-append}
@@ -71,6 +70,3 @@ kinds_more {X} f i =
     ap (flat_map f) (ap (range_with_len 0) next ∙ range_more 0 i ∙ ap (λ b. range_with_len 0 i ++ b ∷ []) same)
     ∙ flat_map-append {X = ℕ} {A = X} f (range_with_len 0 i) (i ∷ [])
     ∙ ap (λ (cs : List X). flat_map f (range_with_len 0 i) ++ cs) (append-nil (f i))
-
-pub at_item : {X : Type 0} (xs : List X) (i : ℕ) (x : X) → i < length xs → x ≡ get_or xs i x → slice_get xs i ≡ Some x
-at_item xs i x less item = slice_get-get_or xs i x less ∙ ap (λ y. Some y) (sym item)

@@ -40,6 +40,16 @@ at_other j a i b x y z other is = elim (cases_Bool (eqb j i)) [
   ]
 ]
 
+-- a cell that is given a diagram of its own tree
+same_cells : (ts : List Tree) (j a : ℕ) (f : Reference) (places others : ℕ → ℕ → Reference) → tree_at ts f ≡ tree_at ts (places j a)
+    → ((i b : ℕ) → others i b ≡ (if (j == i) && (a == b) then f else places i b)) → (i b : ℕ) → tree_at ts (others i b) ≡ tree_at ts (places i b)
+same_cells ts j a f places others same set i b = elim (same_name i b j a) [
+  | inr other ↦ ap (tree_at ts) (at_other j a i b f (places i b) (others i b) other (set i b))
+  | inl here ↦
+      ap (tree_at ts) (at_cell j a i b f (places i b) (others i b) (ap (λ (c : CellName). c.0) here) (ap (λ (c : CellName). c.1) here) (set i b))
+      ∙ same ∙ ap (λ (c : CellName). tree_at ts (places c.0 c.1)) (sym here)
+]
+
 module _ (s : System) (ts : List Tree) (k : ℕ) (done : List (CellName × Reference)) (j a : ℕ) (f : Reference) (tree : tree_at ts f ≡ cell s (suc k) j a) where
   still_none : (i b : ℕ) → ((◌≡◌ {A = CellName} (i, b) (j, a)) → ⊥) → ((g : Reference) → Contains done ((i, b), g) → ⊥)
       → (g : Reference) → Contains (done ++ ((j, a), f) ∷ []) ((i, b), g) → ⊥
@@ -49,7 +59,7 @@ module _ (s : System) (ts : List Tree) (k : ℕ) (done : List (CellName × Refer
   ]
 
   -- a change that the cell has already
-  pub noted_same : (h : Histories) (now : CellTrees) → tree_at ts f ≡ now j a → AreNotedUpTo s ts k done h now → AreNotedUpTo s ts k (done ++ ((j, a), f) ∷ []) h now
+  noted_same : (h : Histories) (now : CellTrees) → tree_at ts f ≡ now j a → AreNotedUpTo s ts k done h now → AreNotedUpTo s ts k (done ++ ((j, a), f) ∷ []) h now
   noted_same h now same noted i b kind = elim (noted i b kind) [
     | inl after ↦ inl after
     | inr before ↦ elim (same_name i b j a) [
@@ -60,6 +70,17 @@ module _ (s : System) (ts : List Tree) (k : ℕ) (done : List (CellName × Refer
           inl (history_kept s ts ts (StartsWith-itself ts) k (h i b) i b before.0.0 unchanged, before.0.1 ∙ sym unchanged)
     ]
   ]
+
+  -- and that is given to it once more
+  pub noted_again : (h : Histories) (places others : ℕ → ℕ → Reference) → tree_at ts f ≡ tree_at ts (places j a)
+      → ((i b : ℕ) → others i b ≡ (if (j == i) && (a == b) then f else places i b))
+      → AreNotedUpTo s ts k done h (λ i b. tree_at ts (places i b)) → AreNotedUpTo s ts k (done ++ ((j, a), f) ∷ []) h (λ i b. tree_at ts (others i b))
+  noted_again h places others same set noted i b kind =
+      let place = same_cells ts j a f places others same set i b in
+      elim (noted_same h (λ m n. tree_at ts (places m n)) same noted i b kind) [
+        | inl after ↦ inl (after.0, place ∙ after.1)
+        | inr before ↦ inr ((before.0.0, place ∙ before.0.1), before.1)
+      ]
 
   -- a change of the cell
   pub noted_push : (h new : Histories) (places others : ℕ → ℕ → Reference) → IsIn ts f → tree_at ts f ≢ tree_at ts (places j a)

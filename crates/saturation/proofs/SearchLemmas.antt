@@ -1,5 +1,5 @@
 -- A binary search among the courses of a kind.
-use Rattle.std.proofs.Common.{◌≡◌, ℕ, ◌<◌, ◌≤◌, false, List, [], map, length, get_or, Contains, Ok, Err, sym, ap, ◌∙◌, arith, inl, inr}
+use Rattle.std.proofs.Common.{◌≡◌, ℕ, ◌<◌, ◌≤◌, false, List, [], map, length, get_or, Contains, Ok, Err, None, sym, ap, ◌∙◌, arith, inl, inr}
 use Rattle.std.specs.List.Sorted.{IsSearchInRange, IsBinarySearchResult, IsNonDecreasingBy, IsStrictlyIncreasing}
 use Rattle.std.specs.Ordering.{nat_cmp, ordering_index}
 use Rattle.std.proofs.lemmas.Cmp.{ranked}
@@ -13,8 +13,8 @@ use Rattle.saturation.specs.declared.courses.Course.{Course}
 module _ (courses : List Course) (rises : IsStrictlyIncreasing (map (λ c. c.atom) courses)) (atom : ℕ) where
   -- the comparisons with the atom rise along the list
   comparisons_rise : IsNonDecreasingBy (λ (c : Course). ordering_index (nat_cmp c.atom atom)) courses
-  comparisons_rise = IsNonDecreasingBy-from_default (λ (c : Course). ordering_index (nat_cmp c.atom atom)) courses (record { atom = 0; starts = false; changes = [] }) (λ i j le within.
-      let none : Course = record { atom = 0; starts = false; changes = [] } in
+  comparisons_rise = IsNonDecreasingBy-from_default (λ (c : Course). ordering_index (nat_cmp c.atom atom)) courses (record { atom = 0; starts = false; gate = None; changes = [] }) (λ i j le within.
+      let none : Course = record { atom = 0; starts = false; gate = None; changes = [] } in
       let long = length-map courses (λ (c : Course). c.atom) in
       let first = get_or-map (λ (c : Course). c.atom) courses i none 0 (omega (arith, le, within)) in
       let second = get_or-map (λ (c : Course). c.atom) courses j none 0 within in

@@ -3,8 +3,9 @@
 --     can_come label history a                   a kind with this label may have the atom
 --     AreCourses label history atoms courses     these are the courses of those of the atoms that can come to it
 --     AreRows s histories rows                   for each kind of s the courses of the visible atoms
+--     is_shut gate parent                        the parent has none of the two atoms, where there are such
 --     first_by branches parent course            what comes by a course below a parent with these visible atoms
-use Rattle.std.specs.Prelude.{◌≡◌, ℕ, nat_lt, Bool, false, ◌||◌, List, [], ◌∷◌, length, map, filter, slice_get, Option, Some, None, All, Contains, ◌⊎◌}
+use Rattle.std.specs.Prelude.{◌≡◌, ℕ, nat_lt, Bool, true, false, not, ◌&&◌, ◌||◌, List, [], ◌∷◌, length, map, filter, slice_get, Option, Some, None, All, Contains, ◌⊎◌}
 use Rattle.tp_base.specs.Classes.{has_class}
 use Rattle.class_diagrams.specs.Trees.{Tree}
 use Rattle.class_diagrams.specs.Arena.{IsIn}
@@ -35,10 +36,22 @@ pub record AreRows (s : System) (histories : ℕ → ℕ → List Change) (rows 
   pub count : length rows ≡ length s.kinds
   pub each : (j : ℕ) (row : List Course) → slice_get rows j ≡ Some row → AreCourses (kind_label s j) (histories j) s.visible row
 
--- the diagrams of the changes are held, and under the label what holds at one holds at all later ones
+abbrev pub is_shut : Option (ℕ × ℕ) → List ℕ → Bool
+is_shut None parent = false
+is_shut (Some g) parent = not (has_class g.0 parent) && not (has_class g.1 parent)
+
+-- nothing comes below a parent that has none of the two, if what holds at one change holds at all later ones
+abbrev pub IsGated : List Tree → Bool → List Change → Option (ℕ × ℕ) → Type 0
+IsGated branches starts changes gate = (parent : List ℕ) → AreGrowing branches changes parent → is_shut gate parent ≡ true → first_in starts branches changes parent ≡ None
+
+abbrev pub HasGate : List Tree → Course → Type 0
+HasGate branches c = IsGated branches c.starts c.changes c.gate
+
+-- the diagrams of the changes are held, and under the label what holds at one holds at all later ones, and nothing where the gate is shut
 pub record CanBeAsked (branches : List Tree) (parent : List ℕ) (c : Course) : Type 0 where
   pub inside : All (λ x. IsIn branches x.1) c.changes
   pub growing : AreGrowing branches c.changes parent
+  pub gate : HasGate branches c
 
 abbrev pub first_of : ℕ → Option ℕ → List First
 first_of a None = []

@@ -1,5 +1,5 @@
 -- What is true of summaries in diagrams.
-use Rattle.std.specs.Prelude.{◌≡◌, ℕ, List}
+use Rattle.std.specs.Prelude.{◌≡◌, ℕ, List, All}
 use Rattle.class_diagrams.specs.Trees.{Tree}
 use Rattle.class_diagrams.specs.Arena.{Arena}
 use Rattle.simple_core.specs.declared.system.System.{System}
@@ -9,7 +9,7 @@ use Rattle.pushdown_sym.specs.Adding.{AreIn}
 use Rattle.pushdown_sym.specs.Rounds.{given_atoms}
 use Rattle.saturation.specs.HistoryMap.{Noted, history_in}
 use Rattle.saturation.specs.Saturation.{IsBuilt}
-use Rattle.saturation.specs.Courses.{AreRows}
+use Rattle.saturation.specs.Courses.{AreRows, HasGate}
 use Rattle.saturation.specs.declared.courses.Course.{Course}
 
 -- what a contract sees of summaries in diagrams: the system, and the branches that are held
@@ -23,3 +23,4 @@ pub record AreSummaries (s : System) (atoms : List ℕ) (d : Arena) (cells : Ent
   pub inside : AreIn d.branches cells
   pub built : IsBuilt s d (history_in histories) cells
   pub by_kind : AreRows s (history_in histories) rows
+  pub gated : All (All (HasGate d.branches)) rows

@@ -4,31 +4,46 @@ ghost use Rattle.std.specs.List.{flat_map};
 ghost use Rattle.std.specs.List.Sorted.{IsStrictlyIncreasing};
 ghost use Rattle.saturation.specs.declared.courses.Course.{Course};
 ghost use Rattle.simple_core.specs.Systems.{kind_label, IsSound};
-ghost use Rattle.saturation.specs.Histories.{first_in};
+ghost use Rattle.saturation.specs.Histories.{Change, first_in};
 ghost use Rattle.saturation.specs.HistoryMap.{history_in};
-ghost use Rattle.saturation.specs.Courses.{AreCourses, AreRows, CanBeAsked, first_by};
+ghost use Rattle.saturation.specs.Courses.{AreCourses, AreRows, CanBeAsked, first_by, is_shut, IsGated, HasGate};
+ghost use Rattle.class_diagrams.specs.Arena.{IsIn};
 
-use crate::atom_sets::{AtomSet, are_worth_marks};
 use crate::histories::{Histories, first_round_under};
-use class_diagrams::{Diagrams, Marks, Ref};
+use class_diagrams::{AtomSet, Diagrams, Marks, Ref, are_worth_marks};
 use simple_core::{First, System};
 use std::alloc::Global;
 use tp_base::{Atom, ClassSet, Items, NoMemory};
 
-/// A visible atom that can come to a kind: whether the kind has it from the beginning, and the history of its cell.
+/// A visible atom that can come to a kind: whether the kind has it from the beginning, two atoms of which a parent has to have
+/// one for it to come, where such are known, and the history of its cell.
 #[derive(Drop)]
 pub(crate) struct Course {
     pub(crate) atom: Atom,
     pub(crate) starts: bool,
+    pub(crate) gate: Option<(Atom, Atom)>,
     pub(crate) changes: Items<(u64, Ref)>,
 }
 
 impl Course {
+    // Whether a parent with these visible atoms has none of the two.
+    fn is_shut<L: AtomSet>(&self, parent: &L) -> bool
+        ensures { result ≡ is_shut self.now.gate (L.atoms parent.now) }
+    {
+        match self.gate {
+            Some((first, second)) => !parent.has_atom(first) && !parent.has_atom(second),
+            None => false,
+        }
+    }
+
     /// The first round in which the atom comes, below a parent with these visible atoms.
     pub(crate) fn first_under<L: AtomSet>(&self, d: &Diagrams, parent: &L) -> Option<u64>
         requires { CanBeAsked d.now.branches (L.atoms parent.now) self.now }
         ensures { result ≡ first_in self.now.starts d.now.branches self.now.changes (L.atoms parent.now) }
     {
+        if self.is_shut(parent) {
+            return None;
+        }
         if self.starts {
             return Some(0);
         }
@@ -43,74 +58,106 @@ fn may_come(starts: bool, history: &[(u64, Ref)]) -> bool
     starts || history.len() > 0
 }
 
-// One atom of a kind with this label, unless it never comes.
+// Two atoms of which a parent has to have one, by the diagram of the last change.
+fn gate_of(d: &Diagrams, starts: bool, history: &[(u64, Ref)]) -> Option<(Atom, Atom)>
+    requires { All (λ c. IsIn d.now.branches c.1) history.now }
+    ensures { IsGated d.now.branches starts history.now result }
+{
+    if starts {
+        return None;
+    }
+    match history.last() {
+        Some(last) => d.gate(last.1),
+        None => None,
+    }
+}
+
+// An atom of a kind with this label, whose cell has this history, unless it never comes.
 fn add_course(
     alloc: Global,
-    histories: &Histories,
-    kind: u32,
+    d: &Diagrams,
     label: &ClassSet,
     atom: Atom,
+    history: &[(u64, Ref)],
     courses: &mut Vec<Course>,
 ) -> Result<(), NoMemory>
-    ensures { (atoms : List ℕ) → AreCourses label.now (history_in histories.now kind) atoms courses.old.items
-        → OnOk result (AreCourses label.now (history_in histories.now kind) (atoms ++ atom ∷ []) courses.new.items) }
+    requires { All (λ c. IsIn d.now.branches c.1) history.now }
+    ensures courses { (changes : ℕ → List Change) (atoms : List ℕ) → history.now ≡ changes atom → AreCourses label.now changes atoms courses.old.items
+        → OnOk result (AreCourses label.now changes (atoms ++ atom ∷ []) courses.new.items) }
+    ensures gates { All (HasGate d.now.branches) courses.old.items → OnOk result (All (HasGate d.now.branches) courses.new.items) }
 {
     let starts = label.has(atom);
-    let history = histories.of(kind, atom);
     if may_come(starts, history) {
+        let gate = gate_of(d, starts, history);
         let changes = Items::new(Vec::from_slice(alloc, history)?);
         courses.push(Course {
             atom,
             starts,
+            gate,
             changes,
         })?;
     }
     Ok(())
 }
 
-// The courses of the visible atoms, for a kind with this label.
+// The courses of the visible atoms, for a kind with this label. The changes of each are looked for behind those of the one
+// before.
 fn row_with(
     alloc: Global,
+    d: &Diagrams,
     histories: &Histories,
     kind: u32,
     label: &ClassSet,
     visible: &ClassSet,
 ) -> Result<Items<Course>, NoMemory>
-    ensures { IfOk result (AreCourses label.now (history_in histories.now kind) visible.now) }
+    requires { (a : ℕ) → All (λ c. IsIn d.now.branches c.1) (history_in histories.now kind a) }
+    ensures courses { IfOk result (AreCourses label.now (history_in histories.now kind) visible.now) }
+    ensures gates { IfOk result (All (HasGate d.now.branches)) }
 {
     let mut courses = Vec::new(alloc);
+    let mut near = 0;
     for i in 0..visible.len() {
-        add_course(alloc, histories, kind, label, visible.at(i), &mut courses)?;
+        let atom = visible.at(i);
+        let (history, behind) = histories.near(kind, atom, near);
+        add_course(alloc, d, label, atom, history, &mut courses)?;
+        near = behind;
     }
     Ok(Items::new(courses))
 }
 
 fn row_of(
     alloc: Global,
+    d: &Diagrams,
     system: &System,
     histories: &Histories,
     kind: u32,
 ) -> Result<Items<Course>, NoMemory>
-    requires { kind < length system.now.kinds }
-    ensures { IfOk result (AreCourses (kind_label system.now kind) (history_in histories.now kind) system.now.visible) }
+    requires kind { kind < length system.now.kinds }
+    requires inside { (a : ℕ) → All (λ c. IsIn d.now.branches c.1) (history_in histories.now kind a) }
+    ensures courses { IfOk result (AreCourses (kind_label system.now kind) (history_in histories.now kind) system.now.visible) }
+    ensures gates { IfOk result (All (HasGate d.now.branches)) }
 {
     let kinds = system.kinds.items();
     let label = &kinds[kind as usize].label;
-    row_with(alloc, histories, kind, label, &system.visible)
+    row_with(alloc, d, histories, kind, label, &system.visible)
 }
 
-/// The courses of each kind, in the order of the kinds. One look into the histories for each kind and visible atom.
+/// The courses of each kind, in the order of the kinds. One look into the histories for each kind and visible atom, which is
+/// constant where all atoms whose cells change are visible and change once.
 pub(crate) fn rows_of(
     alloc: Global,
+    d: &Diagrams,
     system: &System,
     histories: &Histories,
 ) -> Result<Items<Items<Course>>, NoMemory>
-    requires { IsSound system.now }
-    ensures { IfOk result (AreRows system.now (history_in histories.now)) }
+    requires sound { IsSound system.now }
+    requires inside { (j a : ℕ) → j < length system.now.kinds → All (λ c. IsIn d.now.branches c.1) (history_in histories.now j a) }
+    ensures gates { IfOk result (All (All (HasGate d.now.branches))) }
+    ensures rows { IfOk result (AreRows system.now (history_in histories.now)) }
 {
     let mut rows = Vec::new(alloc);
     for i in 0..system.kinds.items().len() {
-        let row = row_of(alloc, system, histories, i as u32)?;
+        let row = row_of(alloc, d, system, histories, i as u32)?;
         rows.push(row)?;
     }
     Ok(Items::new(rows))
@@ -173,7 +220,7 @@ fn firsts_under<L: AtomSet>(
 }
 
 /// What comes by these courses below a parent with these visible atoms. One look into the diagrams for each course that
-/// has changes, and one more each time that their count doubles.
+/// has changes and isn't shut, and one more each time that their count doubles.
 pub(crate) fn firsts_by(
     alloc: Global,
     courses: &[Course],

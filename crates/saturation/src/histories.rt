@@ -1,13 +1,13 @@
 //! The changes of each cell.
-ghost use Rattle.std.specs.Prelude.{◌≡◌, ◌≢◌, ◌<◌, ◌≤◌, ℕ, true, false, length, get_or, ◌==◌, ◌&&◌, ◌++◌, if◌then◌else◌, All, [], ◌∷◌, OnOk, IfOk};
-ghost use Rattle.std.specs.List.Sorted.{IsNonDecreasing, IsNonDecreasingBy};
+ghost use Rattle.std.specs.Prelude.{◌≡◌, ◌<◌, ℕ, ◌==◌, ◌&&◌, ◌++◌, if◌then◌else◌, All, [], ◌∷◌, OnOk, IfOk};
+ghost use Rattle.std.specs.List.Sorted.{IsNonDecreasingBy};
 ghost use Rattle.row_index.specs.Rows.{row_of};
 ghost use Rattle.class_diagrams.specs.Arena.{IsIn};
 ghost use Rattle.saturation.specs.Histories.{first_holding, AreGrowing};
-ghost use Rattle.saturation.specs.HistoryMap.{history_in, changes_of, StartsAt, EndsAt};
+ghost use Rattle.saturation.specs.HistoryMap.{history_in, changes_of};
 
-use crate::atom_sets::AtomSet;
-use class_diagrams::{Diagrams, Ref};
+use class_diagrams::{AtomSet, Diagrams, Ref};
+use pushdown_sym::start_of;
 use row_index::Rows;
 use std::alloc::Global;
 use std::marker::Model;
@@ -120,35 +120,6 @@ fn by_atoms(alloc: Global, row: &[(Atom, (u64, Ref))]) -> Result<Vec<(Atom, (u64
     Ok(noted)
 }
 
-// Whether an atom stands at a place.
-fn is_at(atoms: &[Atom], place: usize, atom: Atom) -> bool
-    ensures there { result ≡ true → (place < length atoms.now) × (get_or atoms.now place atom ≡ atom) }
-    ensures other { result ≡ false → place < length atoms.now → get_or atoms.now place atom ≢ atom }
-{
-    match atoms.get(place) {
-        Some(other) => *other == atom,
-        None => false,
-    }
-}
-
-// Where those of an atom end that begin at a place. Constant where there is one at most, and else logarithmic in the number
-// of all.
-fn end_of(atoms: &[Atom], from: usize, atom: Atom) -> usize
-    requires order { IsNonDecreasing atoms.now }
-    requires start { StartsAt atom atoms.now from }
-    requires within { from ≤ length atoms.now }
-    ensures end { EndsAt atom atoms.now result }
-    ensures within { result ≤ length atoms.now }
-{
-    if !is_at(atoms, from, atom) {
-        return from;
-    }
-    if !is_at(atoms, from + 1, atom) {
-        return from + 1;
-    }
-    atoms.partition_point(|other| other.0 <= atom.0)
-}
-
 impl HistoryRow {
     // Changes that are in the order of their atoms.
     fn of_ordered(alloc: Global, noted: &[(Atom, (u64, Ref))]) -> Result<HistoryRow, NoMemory>
@@ -165,13 +136,15 @@ impl HistoryRow {
         Ok(HistoryRow { atoms, changes })
     }
 
-    // The changes of an atom's cell. Logarithmic in those of all.
-    fn of(&self, atom: Atom) -> &[(u64, Ref)]
-        ensures { result.now ≡ changes_of atom self.now }
+    // The changes of an atom's cell, and where those of greater atoms begin. Constant where the atom's begin near a place and
+    // are one at most, and else logarithmic in those of all.
+    fn of(&self, atom: Atom, near: usize) -> (&[(u64, Ref)], usize)
+        ensures { result.0.now ≡ changes_of atom self.now }
     {
-        let from = self.atoms.partition_point(|other| other.0 < atom.0);
-        let to = end_of(&self.atoms, from, atom);
-        self.changes.split_at(to).0.split_at(from).1
+        let number = atom.0 as u64;
+        let from = start_of(&self.atoms, near, number);
+        let to = start_of(&self.atoms, from, number + 1);
+        (self.changes.split_at(to).0.split_at(from).1, to)
     }
 }
 
@@ -207,13 +180,21 @@ impl Histories {
         *self.rows.allocator()
     }
 
+    /// The history of a cell, and the place behind it among the changes of its kind. Constant where it stands near the given
+    /// place and is one change at most, and else logarithmic in the changes of its kind.
+    pub(crate) fn near(&self, kind: u32, atom: Atom, place: usize) -> (&[(u64, Ref)], usize)
+        ensures { result.0.now ≡ history_in self.now kind atom }
+    {
+        match self.rows.get(kind as usize) {
+            Some(row) => row.of(atom, place),
+            None => (&[], 0),
+        }
+    }
+
     /// The history of a cell. Logarithmic in the changes of its kind.
     pub(crate) fn of(&self, kind: u32, atom: Atom) -> &[(u64, Ref)]
         ensures { result.now ≡ history_in self.now kind atom }
     {
-        match self.rows.get(kind as usize) {
-            Some(row) => row.of(atom),
-            None => &[],
-        }
+        self.near(kind, atom, 0).0
     }
 }

@@ -5,8 +5,7 @@ ghost use Rattle.class_diagrams.specs.Trees.{eval};
 ghost use Rattle.pushdown_sym.specs.CellMap.{trees_in};
 ghost use Rattle.pushdown_sym.specs.Adding.{AreIn};
 
-use crate::atom_sets::{AtomSet, are_worth_marks};
-use class_diagrams::{Diagrams, Marks};
+use class_diagrams::{AtomSet, Diagrams, Marks, are_worth_marks};
 use pushdown_sym::Cells;
 use std::alloc::Global;
 use tp_base::{ClassSet, NoMemory};

@@ -1,7 +1,6 @@
 //! Summaries for all visible labels of the parent at once: the cells of a system, saturated round by round.
 #![tactic(auto)]
 
-mod atom_sets;
 mod changes;
 mod courses;
 mod histories;

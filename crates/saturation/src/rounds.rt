@@ -37,9 +37,9 @@ fn note_one(
         → OnOk result (AreNotedUpTo s d.now.branches k (done ++ change ∷ []) (history_in log.new) (trees_in d.now.branches cells.new)) }
 {
     let ((kind, atom), to) = change;
-    if !d.same(to, cells.get(kind, atom)) {
+    let before = cells.replace(kind, atom, to)?;
+    if !d.same(to, before) {
         log.push(kind, atom, round, to)?;
-        cells.set(kind, atom, to)?;
     }
     Ok(())
 }

@@ -1,7 +1,7 @@
 //! Summaries that are read from diagrams.
-ghost use Rattle.std.specs.Prelude.{◌≡◌, ◌<◌, ◌≤◌, ◌^◌, [], length, IfOk, IfSome, IsOk, IsErrOf};
+ghost use Rattle.std.specs.Prelude.{◌≡◌, ℕ, ◌<◌, ◌≤◌, ◌^◌, [], length, All, IfOk, IfSome, IsOk, IsErrOf};
 ghost use Rattle.tp_base.specs.Classes.{has_class};
-ghost use Rattle.class_diagrams.specs.Arena.{IsArena};
+ghost use Rattle.class_diagrams.specs.Arena.{IsIn, IsArena};
 ghost use Rattle.limits.specs.declared.budgets.TheConstants.{MOST_BRANCHES};
 ghost use Rattle.simple_core.specs.Rounds.{grown, IsRest, IsFirst};
 ghost use Rattle.simple_core.specs.Systems.{kind_label, IsSound};
@@ -11,7 +11,7 @@ ghost use Rattle.saturation.specs.Budgets.{MayBeSpent, HasToBeSpent};
 ghost use Rattle.saturation.specs.Held.{AreWork, HoldsCells};
 ghost use Rattle.saturation.specs.HistoryMap.{history_in};
 ghost use Rattle.saturation.specs.Saturation.{IsBuilt};
-ghost use Rattle.saturation.specs.Courses.{AreRows};
+ghost use Rattle.saturation.specs.Courses.{AreRows, HasGate};
 
 use crate::courses::{Course, course_of, firsts_by, row_at, rows_of};
 use crate::histories::{Histories, Log, first_round_under};
@@ -56,14 +56,21 @@ struct Copied {
     rows: Items<Items<Course>>,
 }
 
-fn copy_of(alloc: Global, system: &System, histories: &Histories) -> Result<Copied, NoMemory>
-    requires { IsSound system.now }
+fn copy_of(
+    alloc: Global,
+    system: &System,
+    diagrams: &Diagrams,
+    histories: &Histories,
+) -> Result<Copied, NoMemory>
+    requires sound { IsSound system.now }
+    requires inside { (j a : ℕ) → j < length system.now.kinds → All (λ c. IsIn diagrams.now.branches c.1) (history_in histories.now j a) }
     ensures same { IfOk result (λ c. c.system ≡ system.now) }
     ensures given { IfOk result (λ c. c.atoms ≡ given_atoms system.now) }
     ensures rows { IfOk result (λ c. AreRows system.now (history_in histories.now) c.rows) }
+    ensures gates { IfOk result (λ c. All (All (HasGate diagrams.now.branches)) c.rows) }
 {
     let atoms = given(alloc, system)?;
-    let rows = rows_of(alloc, system, histories)?;
+    let rows = rows_of(alloc, diagrams, system, histories)?;
     let system = system.copy(alloc)?;
     Ok(Copied {
         system,
@@ -74,7 +81,8 @@ fn copy_of(alloc: Global, system: &System, histories: &Histories) -> Result<Copi
 
 /// The summaries of a system, for every visible label of the parent. A contract sees the system and the branches that are held.
 /// What comes to a pair (`firsts`) costs a look for each visible atom that can come to the kind at all, of which `rows` has a
-/// list for each kind. One visible atom is found there by a binary search.
+/// list for each kind; into a diagram only where the parent has an atom of its gate. One visible atom is found there by a
+/// binary search.
 #[derive(Drop)]
 pub struct SharedSummaries {
     system: System,
@@ -115,7 +123,7 @@ impl SharedSummaries {
     {
         let mut diagrams = Diagrams::new(alloc, nodes)?;
         let ended = all_rounds(alloc, system, &mut diagrams)?;
-        let copied = copy_of(alloc, system, &ended.histories)?;
+        let copied = copy_of(alloc, system, &diagrams, &ended.histories)?;
         Ok(SharedSummaries {
             system: copied.system,
             atoms: copied.atoms,

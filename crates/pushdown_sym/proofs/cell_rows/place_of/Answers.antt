@@ -1,11 +1,14 @@
 use Rattle.std.proofs.Common.{rules, ℕ}
 use Rattle.std.proofs.lemmas.List.Sorted.{answers_always}
 use Rattle.class_diagrams.specs.References.{Reference}
-use Rattle.pushdown_sym.proofs.CellRowLemmas.{searched_ok, searched_err, own_gap}
+use Rattle.pushdown_sym.proofs.CellRowLemmas.{searched_ok, searched_err}
 use Rattle.pushdown_sym.proofs.cell_rows.place_of.Goals as goal
 
-pub returns-then-has_all_before-clause-gap : goal.returns-then-has_all_before-clause-gap
-returns-then-has_all_before-clause-gap c = own_gap c.args.cells.now c.requires c.args.kind (c.is_own_place.ensures.other c.if-is_own_place.false) (c.has_all_before.ensures c.if-has_all_before.true)
+pub returns-then-is_behind-clause-gap : goal.returns-then-is_behind-clause-gap
+returns-then-is_behind-clause-gap c = c.is_behind.ensures c.if-is_behind.true
+
+pub returns-then-is_at-clause-found : goal.returns-then-is_at-clause-found
+returns-then-is_at-clause-found c = c.is_at.ensures c.if-is_at.true
 
 -- the closure gives an entry's kind
 pub returns-clause-found : goal.returns-clause-found

@@ -13,19 +13,19 @@ use Rattle.pushdown_sym.proofs.equations.next_of.Goals as goal
 pub returns-in_err-by_locals : goal.returns-in_err-by_locals
 returns-in_err-by_locals c =
     let now = trees_in c.args.d.now.branches c.args.now.now in
-    locals_failed c.args.system.now c.args.now.now c.args.cell.0 c.args.cell.1 c.args.d.now c.get-start.result c.get-start.ensures c.requires.arena
+    locals_failed c.args.system.now c.args.now.now c.args.cell.0 c.args.cell.1 c.args.d.now c.args.cell.2 c.requires.start c.requires.arena
     c.add_locals.new.d c.from_residual.result c.in_err-by_locals.field-0.0 c.from_residual.ensures.1
     (adds_given (of_local now c.args.cell.0 c.args.cell.1) (λ (r : Local). r.gives == c.args.cell.1) (of_local-none now c.args.cell.0 c.args.cell.1)
-    c.items.result.now c.args.system.now.local c.args.givers.0.now c.args.d.now c.add_locals.new.d c.get-start.result (Err c.in_err-by_locals.field-0.0)
+    c.items.result.now c.args.system.now.local c.args.givers.0.now c.args.d.now c.add_locals.new.d c.args.cell.2 (Err c.in_err-by_locals.field-0.0)
     c.items.ensures c.requires.locals c.in_err-by_locals.ensures)
 
 pub returns-in_err-by_ups : goal.returns-in_err-by_ups
 returns-in_err-by_ups c =
     let now = trees_in c.args.d.now.branches c.args.now.now in
-    ups_failed c.args.system.now c.args.now.now c.args.cell.0 c.args.cell.1 c.args.d.now c.get-start.result c.get-start.ensures c.requires.arena
+    ups_failed c.args.system.now c.args.now.now c.args.cell.0 c.args.cell.1 c.args.d.now c.args.cell.2 c.requires.start c.requires.arena
     c.add_locals.new.d c.add_ups.new.d c.in_ok-by_locals.by_locals
     (adds_given (of_local now c.args.cell.0 c.args.cell.1) (λ (r : Local). r.gives == c.args.cell.1) (of_local-none now c.args.cell.0 c.args.cell.1)
-    c.items.result.now c.args.system.now.local c.args.givers.0.now c.args.d.now c.add_locals.new.d c.get-start.result (Ok c.in_ok-by_locals.by_locals)
+    c.items.result.now c.args.system.now.local c.args.givers.0.now c.args.d.now c.add_locals.new.d c.args.cell.2 (Ok c.in_ok-by_locals.by_locals)
     c.items.ensures c.requires.locals c.in_ok-by_locals.ensures)
     c.from_residual-in_err-by_ups.result c.in_err-by_ups.field-0.0 c.from_residual-in_err-by_ups.ensures.1
     (adds_given (of_up c.args.cell.1) (λ (l : Link). l.to == c.args.cell.1) (of_up-none c.args.cell.1)
@@ -42,10 +42,10 @@ add_children-requires-clause-children c =
 pub returns : goal.returns
 returns c =
     let now = trees_in c.args.d.now.branches c.args.now.now in
-    all_added c.args.system.now c.args.now.now c.args.cell.0 c.args.cell.1 c.args.d.now c.get-start.result c.get-start.ensures c.requires.arena
+    all_added c.args.system.now c.args.now.now c.args.cell.0 c.args.cell.1 c.args.d.now c.args.cell.2 c.requires.start c.requires.arena
     c.add_locals.new.d c.add_ups.new.d c.in_ok-by_locals.by_locals
     (adds_given (of_local now c.args.cell.0 c.args.cell.1) (λ (r : Local). r.gives == c.args.cell.1) (of_local-none now c.args.cell.0 c.args.cell.1)
-    c.items.result.now c.args.system.now.local c.args.givers.0.now c.args.d.now c.add_locals.new.d c.get-start.result (Ok c.in_ok-by_locals.by_locals)
+    c.items.result.now c.args.system.now.local c.args.givers.0.now c.args.d.now c.add_locals.new.d c.args.cell.2 (Ok c.in_ok-by_locals.by_locals)
     c.items.ensures c.requires.locals c.in_ok-by_locals.ensures)
     c.add_children.new.d c.in_ok-by_ups.by_ups c.add_children.result c.requires.inside
     (adds_given (of_up c.args.cell.1) (λ (l : Link). l.to == c.args.cell.1) (of_up-none c.args.cell.1)

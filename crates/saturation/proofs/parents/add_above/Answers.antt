@@ -3,7 +3,7 @@ use Rattle.std.proofs.lemmas.List.{take_all}
 use Rattle.tp_base.proofs.Lists.{take_next}
 use Rattle.pushdown_sym.specs.CellMap.{trees_in}
 use Rattle.saturation.specs.Waking.{CellName, with_atom, AreAbove}
-use Rattle.saturation.proofs.NameLemmas.{at_item}
+use Rattle.pushdown_sym.proofs.EndLemmas.{at_item}
 use Rattle.saturation.proofs.WakingLemmas.{above_none, above_more}
 use Rattle.saturation.proofs.parents.add_above.Goals as goal
 

@@ -1,5 +1,5 @@
 use Rattle.std.proofs.lemmas.List.{get_or_default}
-use Rattle.saturation.proofs.NameLemmas.{at_item}
+use Rattle.pushdown_sym.proofs.EndLemmas.{at_item}
 use Rattle.saturation.proofs.WakingLemmas.{with_atom_more}
 use Rattle.saturation.proofs.parents.add_atom.Goals as goal
 

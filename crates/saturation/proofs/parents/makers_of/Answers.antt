@@ -1,6 +1,6 @@
 use Rattle.std.proofs.Common.{ap, ◌∙◌}
 use Rattle.std.proofs.lemmas.List.{get_or_default}
-use Rattle.saturation.proofs.NameLemmas.{at_item}
+use Rattle.pushdown_sym.proofs.EndLemmas.{at_item}
 use Rattle.saturation.proofs.WakingLemmas.{maker_skipped, maker_pushed, makers_are}
 use Rattle.saturation.proofs.parents.makers_of.Goals as goal
 use Rattle.saturation.proofs.parents.makers_of.Goals.{then-kind-count+in_ok-push, else-kind-count}

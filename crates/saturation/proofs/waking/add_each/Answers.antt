@@ -1,6 +1,7 @@
 use Rattle.std.proofs.lemmas.List.{get_or_default}
+use Rattle.pushdown_sym.proofs.EndLemmas.{at_item}
 use Rattle.saturation.specs.Waking.{named}
-use Rattle.saturation.proofs.NameLemmas.{mapped_more, at_item}
+use Rattle.saturation.proofs.NameLemmas.{mapped_more}
 use Rattle.saturation.proofs.waking.add_each.Goals as goal
 
 pub loop-i-preserved : goal.loop-i-preserved

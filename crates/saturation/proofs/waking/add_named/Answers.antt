@@ -1,5 +1,6 @@
 use Rattle.std.proofs.lemmas.List.{get_or_default}
-use Rattle.saturation.proofs.NameLemmas.{named_more, at_item}
+use Rattle.pushdown_sym.proofs.EndLemmas.{at_item}
+use Rattle.saturation.proofs.NameLemmas.{named_more}
 use Rattle.saturation.proofs.waking.add_named.Goals as goal
 
 pub loop-i-preserved : goal.loop-i-preserved

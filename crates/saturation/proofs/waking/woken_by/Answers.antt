@@ -1,9 +1,9 @@
 use Rattle.std.proofs.Common.{List, take, sym, subst}
 use Rattle.tp_base.proofs.Lists.{take_next}
 use Rattle.class_diagrams.specs.References.{Reference}
+use Rattle.pushdown_sym.proofs.EndLemmas.{at_item}
 use Rattle.saturation.specs.Tables.{noted_in}
 use Rattle.saturation.specs.Waking.{CellName, by_rules, by_makers, AreAllMarked}
-use Rattle.saturation.proofs.NameLemmas.{at_item}
 use Rattle.saturation.proofs.WakingLemmas.{each_of_more}
 use Rattle.saturation.proofs.EndsLemmas.{all_marked_more}
 use Rattle.saturation.proofs.waking.woken_by.Goals as goal

@@ -22,4 +22,4 @@ returns-after-recall-clause-start c = elim c.match-recall.branch [
 ]
 
 pub invariant_of-self : goal.invariant_of-self
-invariant_of-self c = remembering_fewer c.self.inside.table c.self.inside.memo c.recall.new.self c.recall.ensures.old c.self.invariant
+invariant_of-self c = remembering_fewer c.self.inside.table c.self.inside.memo c.recall.new.self c.self.inside.variables c.recall.ensures.old c.self.invariant

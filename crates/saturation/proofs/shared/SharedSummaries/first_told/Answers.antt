@@ -1,6 +1,7 @@
 use Rattle.std.proofs.Common.{refl}
 use Rattle.saturation.specs.HistoryMap.{history_in}
 use Rattle.saturation.proofs.CourseLemmas.{courses_rise, course_asked, course_tells, no_course_tells}
+use Rattle.saturation.proofs.GateLemmas.{row_gated}
 use Rattle.saturation.proofs.shared.SharedSummaries.first_told.Goals as goal
 
 pub row_at-requires : goal.row_at-requires
@@ -17,6 +18,7 @@ first_under-requires c =
     course_asked c.self.inside.system c.self.invariant.sound c.self.inside.diagrams (history_in c.self.inside.histories) c.self.inside.cells c.self.invariant.built c.args.kind
     (rw (← c.self.view_is) at c.requires) c.args.parent.now c.row_at.result.now
     (c.self.invariant.by_kind.each c.args.kind c.row_at.result.now (rw c.items.ensures at c.row_at.ensures))
+    (row_gated c.self.inside.diagrams.branches c.self.inside.rows c.args.kind c.row_at.result.now c.self.invariant.gated (rw c.items.ensures at c.row_at.ensures))
     c.in-Some.course.now c.in-Some.ensures.some.0
 
 pub returns-in-Some-clause-first : goal.returns-in-Some-clause-first

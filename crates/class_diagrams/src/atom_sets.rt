@@ -1,17 +1,24 @@
 //! Sets of atoms that diagrams are asked for.
 ghost use Rattle.std.specs.Prelude.{◌≡◌};
+ghost use Rattle.tp_base.specs.Classes.{has_class};
 ghost use Rattle.class_diagrams.specs.Trees.{eval};
 ghost use Rattle.class_diagrams.specs.Arena.{tree_at, IsIn};
 
-use class_diagrams::{Diagrams, Marks, Ref};
-use tp_base::ClassSet;
+use crate::diagrams::Diagrams;
+use crate::marks::Marks;
+use crate::refs::Ref;
+use tp_base::{Atom, ClassSet};
 
 /// A set of atoms, as it is or by its marks.
-pub(crate) trait AtomSet {
+pub trait AtomSet {
     ghost use Rattle.std.specs.Prelude.{ℕ, List};
 
     // Its atoms, as a list that rises.
     ghost atoms: { Self → List ℕ };
+
+    /// Whether the atom is in the set.
+    fn has_atom(&self, atom: Atom) -> bool
+        ensures { result ≡ has_class atom (atoms self.now) };
 
     /// Whether the set satisfies the diagram.
     fn satisfies(&self, d: &Diagrams, f: Ref) -> bool
@@ -22,6 +29,10 @@ pub(crate) trait AtomSet {
 impl AtomSet for ClassSet {
     ghost atoms = { λ s. s };
 
+    fn has_atom(&self, atom: Atom) -> bool {
+        self.has(atom)
+    }
+
     fn satisfies(&self, d: &Diagrams, f: Ref) -> bool {
         d.eval(f, self)
     }
@@ -30,13 +41,17 @@ impl AtomSet for ClassSet {
 impl AtomSet for Marks {
     ghost atoms = { λ m. m };
 
+    fn has_atom(&self, atom: Atom) -> bool {
+        self.has(atom)
+    }
+
     fn satisfies(&self, d: &Diagrams, f: Ref) -> bool {
         d.eval_marked(f, self)
     }
 }
 
 /// Whether so many looks are worth the marks of a set, which are a byte for each number up to its largest atom.
-pub(crate) fn are_worth_marks(looks: usize, set: &ClassSet) -> bool {
+pub fn are_worth_marks(looks: usize, set: &ClassSet) -> bool {
     match set.len() {
         0 => false,
         count => set.at(count - 1).0 as usize / NUMBERS_A_LOOK <= looks,

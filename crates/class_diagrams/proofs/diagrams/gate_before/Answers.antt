@@ -1,0 +1,6 @@
+use Rattle.std.proofs.Common.{[], false, refl, ◌∙◌}
+use Rattle.class_diagrams.proofs.ReferenceLemmas.{leaf_everywhere}
+use Rattle.class_diagrams.proofs.diagrams.gate_before.Goals as goal
+
+pub returns-then-is-clause-rest : goal.returns-then-is-clause-rest
+returns-then-is-clause-rest c = c.if-is.ensures.0 refl ∙ leaf_everywhere c.leaf.result false (c.leaf.ensures.inside []) (c.leaf.ensures.tree [])
