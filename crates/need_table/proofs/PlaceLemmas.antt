@@ -1,5 +1,5 @@
 -- Where entries stand, by the hashes of their pairs.
-use Rattle.std.proofs.Common.{◌≡◌, ◌↔◌, ℕ, ◌<◌, List, [], ◌∷◌, map, length, set, Option, Some, None, Result, Ok, Err, OnOk, OnErr, IsNone, IfSome, IsSomeAnd, slice_get, Contains, refl, sym, ap, ◌∙◌, inl, inr, subst}
+use Rattle.std.proofs.Common.{◌≡◌, ◌↔◌, ℕ, suc, ◌<◌, List, [], ◌∷◌, map, length, set, Option, Some, None, Result, Ok, Err, OnOk, OnErr, IsNone, IfSome, IsSomeAnd, slice_get, Contains, refl, sym, ap, ◌∙◌, inl, inr, arith, subst}
 use Rattle.std.specs.Global.{Vec}
 use Rattle.tp_base.proofs.Lists.{element_at, at_map, map_at}
 use Rattle.pair_table.specs.Hashes.{hash_of}
@@ -7,7 +7,7 @@ use Rattle.pair_table.specs.Rows.{places_in, AreFound}
 use Rattle.pair_table.proofs.RowLemmas.{found_none}
 use Rattle.simple_core.specs.Pairs.{Pair}
 use Rattle.need_table.specs.declared.entries.Entry.{Entry}
-use Rattle.need_table.specs.Tables.{pair_of, rested, raised, IsNotAt, IsNoted, IsUntouched}
+use Rattle.need_table.specs.Tables.{pair_of, raised, IsNotAt, IsNoted, IsUntouched, IsRested, AreRested}
 use Rattle.need_table.proofs.FillLemmas.{set-alike, more_itself}
 use Rattle.need_table.proofs.ChildLemmas.{some_at, within_of, child_there}
 
@@ -46,9 +46,15 @@ pairs_raised old new i k within is =
     let e = element_at old i within in
     ap (map pair_of) (is e.0 e.1) ∙ set-alike pair_of old i e.0 (raised k e.0) e.1 refl
 
-pub pairs_rested : (entries : List Entry) → map pair_of (map rested entries) ≡ map pair_of entries
-pairs_rested [] = refl
-pairs_rested (e ∷ entries) = ap (λ z. pair_of e ∷ z) (pairs_rested entries)
+pub pairs_rested : (old new : List Entry) → AreRested old new → map pair_of new ≡ map pair_of old
+pairs_rested [] [] all = refl
+pairs_rested [] (y ∷ new) all = let same = all.same in absurd (omega (arith, same))
+pairs_rested (x ∷ old) [] all = let same = all.same in absurd (omega (arith, same))
+pairs_rested (x ∷ old) (y ∷ new) all =
+    let first : IsRested x y = all.each 0 x refl in
+    let same = all.same in
+    let behind : AreRested old new = record { each = λ j e at. all.each (suc j) e at; same = omega (arith, same) } in
+    ap (λ z. z ∷ map pair_of new) first.pair ∙ ap (λ z. pair_of x ∷ z) (pairs_rested old new behind)
 
 pub found_alike : (rows : List (ℕ × List ℕ)) (qs rs : List Pair) → rs ≡ qs → AreFound rows qs → AreFound rows rs
 found_alike rows qs rs same at = subst (λ (z : List Pair). AreFound rows z) (sym same) at

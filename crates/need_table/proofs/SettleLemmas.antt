@@ -1,13 +1,13 @@
 -- From a table that is worked out to one at rest.
-use Rattle.std.proofs.Common.{◌≡◌, ◌≢◌, ℕ, zero, suc, eqb, ◌+◌, ◌<◌, ◌≤◌, List, [], ◌∷◌, ◌++◌, map, length, set, take, drop, get_or, Option, Some, None, slice_get, IsSomeAnd, IfSome, Contains, refl, sym, ap, ◌∙◌, inl, inr, arith, subst}
+use Rattle.std.proofs.Common.{◌≡◌, ◌≢◌, ℕ, suc, eqb, ◌+◌, ◌<◌, ◌≤◌, List, [], ◌∷◌, map, length, set, take, get_or, Option, Some, None, slice_get, IsSomeAnd, IfSome, Contains, refl, sym, ap, ◌∙◌, inl, inr, arith, subst}
 use Rattle.std.specs.List.{filter}
-use Rattle.std.proofs.lemmas.Bool.{both_ways, eq-eqb, eqb-true, cases_Bool}
+use Rattle.std.proofs.lemmas.Bool.{both_ways, eq-eqb, eqb-true, cases_Bool, cases_order}
 use Rattle.std.proofs.lemmas.List.{length-map}
-use Rattle.std.proofs.lemmas.Option.{get_or_from_slice_get}
+use Rattle.std.proofs.lemmas.Option.{get_or_from_slice_get, slice_get_within}
 use Rattle.tp_base.specs.Classes.{has_class}
 use Rattle.tp_base.proofs.ClassLemmas.{same_members, has_class-Contains, Contains-has_class}
 use Rattle.tp_base.proofs.Rising.{Contains-here, Contains-behind, Contains-cons, Contains-none}
-use Rattle.tp_base.proofs.Lists.{Contains-at, at_map}
+use Rattle.tp_base.proofs.Lists.{Contains-at, at_Contains, at_map, element_at}
 use Rattle.tree_sem.proofs.NodeLemmas.{Contains-map, map-Contains}
 use Rattle.simple_core.specs.Firsts.{AreFirsts}
 use Rattle.simple_core.specs.Labels.{set_of}
@@ -15,66 +15,85 @@ use Rattle.simple_core.specs.Rounds.{grown, IsRest, IsFirst}
 use Rattle.simple_core.proofs.Members.{among_all, filter-Contains, Contains-filter}
 use Rattle.simple_core.proofs.RoundLemmas.{set_of-is, is-set_of, set_of-rises, grown-rises, grown-later}
 use Rattle.simple_core.specs.declared.system.System.{System}
-use Rattle.simple_core.specs.Pairs.{Pair}
+use Rattle.simple_core.specs.Pairs.{Pair, Asks, AreDifferent}
 use Rattle.simple_core.specs.declared.summaries.First.{First}
 use Rattle.need_table.specs.declared.entries.Entry.{Entry}
 use Rattle.need_table.specs.declared.agenda.Agenda.{Agenda}
 use Rattle.need_table.specs.Rows.{row_in}
 use Rattle.need_table.specs.Agendas.{IsGoing}
-use Rattle.need_table.specs.Tables.{pair_of, labels, round_in, IsDone, IsUpTo, IsTable, IsMore, IsKept, AllRest, rested}
-use Rattle.need_table.proofs.FillLemmas.{later_at}
-use Rattle.need_table.proofs.ChildLemmas.{some_at}
+use Rattle.need_table.specs.Tables.{pair_of, labels, round_in, IsDone, IsUpTo, IsTable, IsMore, IsKept, AllRest, AreInOrder, IsRested, AreRested, rested}
+use Rattle.need_table.proofs.FillLemmas.{later_at, set-length, set-here, set-other}
+use Rattle.need_table.proofs.ChildLemmas.{some_at, and_at}
+use Rattle.need_table.proofs.PlaceLemmas.{pairs_rested}
 use Rattle.need_table.proofs.BoundLemmas.{rounds_few}
 use Rattle.need_table.proofs.GoingLemmas.{table_rested}
 
-rest_in : (old : List Entry) (i : ℕ) (d : Entry) → i < length old
-    → set (map rested (take i old) ++ drop i old) i (rested (get_or (map rested (take i old) ++ drop i old) i d)) ≡ map rested (take (i + 1) old) ++ drop (i + 1) old
-rest_in [] i d less = absurd (omega arith)
-rest_in (x ∷ xs) zero d less = refl
-rest_in (x ∷ xs) (suc i) d less =
-    subst (λ n. rested x ∷ set (map rested (take i xs) ++ drop i xs) i (rested (get_or (map rested (take i xs) ++ drop i xs) i d)) ≡ map rested (take n (x ∷ xs)) ++ drop n (x ∷ xs)) {x = suc (i + 1)} (omega arith)
-    (ap (λ z. rested x ∷ z) (rest_in xs i d (omega arith)))
+-- the entries before a place are at rest, and the others as they were
+pub record AreRestedTo (old now : List Entry) (i : ℕ) : Type 0 where
+  pub done : (j : ℕ) (e : Entry) → j < i → slice_get old j ≡ Some e → IsSomeAnd (slice_get now j) (IsRested e)
+  pub left : (j : ℕ) → i ≤ j → slice_get now j ≡ slice_get old j
+  pub same : length now ≡ length old
 
 -- those below the first are at rest
-pub rest_start : (old : List Entry) (first : ℕ) → ((j : ℕ) (e : Entry) → j < first → slice_get old j ≡ Some e → e.rounds ≡ None) → old ≡ map rested (take first old) ++ drop first old
-rest_start [] zero resting = refl
-rest_start [] (suc n) resting = refl
-rest_start (x ∷ xs) zero resting = refl
-rest_start (x ∷ xs) (suc n) resting =
-    let none = resting 0 x (omega arith) refl in
-    let rest = rest_start xs n (λ j e less at. resting (suc j) e (omega arith) at) in
-    λ i. record { kind = x.kind; parent = x.parent; label = x.label; firsts = x.firsts; children = x.children; rounds = none i } ∷ rest i
-
-pub rest_step : (now old : List Entry) (i : ℕ) (d : Entry) → now ≡ map rested (take i old) ++ drop i old → i < length old
-    → set now i (rested (get_or now i d)) ≡ map rested (take (i + 1) old) ++ drop (i + 1) old
-rest_step now old i d is less = subst (λ (z : List Entry). set z i (rested (get_or z i d)) ≡ map rested (take (i + 1) old) ++ drop (i + 1) old) (sym is) (rest_in old i d less)
-
-rested_in : (old : List Entry) (i : ℕ) → length old ≤ i → map rested (take i old) ++ drop i old ≡ map rested old
-rested_in [] zero le = refl
-rested_in [] (suc i) le = refl
-rested_in (x ∷ xs) zero le = absurd (omega arith)
-rested_in (x ∷ xs) (suc i) le = ap (λ z. rested x ∷ z) (rested_in xs i (omega arith))
-
-pub rested_all : (now old : List Entry) (i : ℕ) → length old ≤ i → now ≡ map rested (take i old) ++ drop i old → now ≡ map rested old
-rested_all now old i le is = is ∙ rested_in old i le
-
-more_rested : (entries : List Entry) → IsMore entries (map rested entries)
-more_rested entries = record {
-  kept = λ i x at. subst (λ o. IsSomeAnd o (IsKept x)) (sym (rested_at entries i x at)) (record {
-    pair = refl;
-    rounds = λ k done. tt;
-    at_rest = λ none. same_rested x none;
-  });
-  longer = omega (arith, length-map entries rested);
+pub rest_start : (old : List Entry) (first : ℕ) → ((j : ℕ) (e : Entry) → j < first → slice_get old j ≡ Some e → e.rounds ≡ None) → AreRestedTo old old first
+rest_start old first resting = record {
+  done = λ j e less at. subst (λ o. IsSomeAnd o (IsRested e)) (sym at) (record { pair = refl; label = refl; firsts = refl; rounds = resting j e less at; at_rest = λ _. refl });
+  left = λ j from. refl;
+  same = refl;
 }
-  where
-    rested_at : (es : List Entry) (i : ℕ) (x : Entry) → slice_get es i ≡ Some x → slice_get (map rested es) i ≡ Some (rested x)
-    rested_at [] i x at = cc
-    rested_at (e ∷ es) zero x at = let same : e ≡ x = cc in ap (λ z. Some (rested z)) same
-    rested_at (e ∷ es) (suc i) x at = rested_at es i x at
 
-    same_rested : (x : Entry) → x.rounds ≡ None → rested x ≡ x
-    same_rested x none = λ i. record { kind = x.kind; parent = x.parent; label = x.label; firsts = x.firsts; children = x.children; rounds = sym none i }
+pub rest_step : (old now : List Entry) (i : ℕ) (x x' : Entry) → AreRestedTo old now i → i < length old → x ≡ get_or now i x → IsRested x x' → AreRestedTo old (set now i x') (i + 1)
+rest_step old now i x x' so_far less read rested_x = record {
+  done = λ j e below at. elim (cases_order j i) [
+    | inl here ↦
+        let there : slice_get now i ≡ Some e = so_far.left i (omega arith) ∙ ap (slice_get old) (sym here) ∙ at in
+        let is : x ≡ e = read ∙ get_or_from_slice_get now i e x there in
+        subst (λ o. IsSomeAnd o (IsRested e)) (sym (ap (slice_get (set now i x')) here ∙ set-here now i e x' there)) (subst (λ (z : Entry). IsRested z x') is rested_x)
+    | inr (inl before) ↦ subst (λ o. IsSomeAnd o (IsRested e)) (sym (set-other now i j x' (λ is. omega (arith, is, before)))) (so_far.done j e before at)
+    | inr (inr behind) ↦ absurd (omega (arith, below, behind))
+  ];
+  left = λ j from. set-other now i j x' (λ is. omega (arith, is, from)) ∙ so_far.left j (omega (arith, from));
+  same = set-length now i x' ∙ so_far.same;
+}
+
+pub rested_all : (old now : List Entry) (i : ℕ) → length old ≤ i → AreRestedTo old now i → AreRested old now
+rested_all old now i le so_far = record {
+  each = λ j e at. let within = slice_get_within old j e at in so_far.done j e (omega (arith, within, le)) at;
+  same = so_far.same;
+}
+
+more_rested : (old new : List Entry) → AreRested old new → IsMore old new
+more_rested old new all = record {
+  kept = λ i x at.
+      let y = some_at (IsRested x) (slice_get new i) (all.each i x at) in
+      subst (λ o. IsSomeAnd o (IsKept x)) (sym y.1) (record {
+        pair = y.2.pair;
+        rounds = λ k done. subst (λ o. IsDone o k) (sym y.2.rounds) tt;
+        at_rest = y.2.at_rest;
+      });
+  longer = let same = all.same in omega (arith, same);
+}
+
+-- what an entry at rest was
+was_rested : (old new : List Entry) → AreRested old new → (x : Entry) → Contains new x → (e : Entry) × Contains old e × IsRested e x
+was_rested old new all x there =
+    let at = at_Contains new x there in
+    let same = all.same in
+    let within = slice_get_within new at.0 x at.1 in
+    let e = element_at old at.0 (omega (arith, within, same)) in
+    (e.0, Contains-at old at.0 e.0 e.1, and_at (IsRested e.0) (slice_get new at.0) x at.1 (all.each at.0 e.0 e.1))
+
+up_rested : (s : System) (e x : Entry) → IsRested e x → IsUpTo s (rested e) → IsUpTo s x
+up_rested s e x is up = record {
+  right = λ f there.
+      let first = up.right f (subst (λ (z : List First). Contains z f) is.firsts there) in
+      (subst (λ o. IsDone o f.round) (sym is.rounds) tt, subst (λ z. IsFirst (labels s z) f.atom (Some f.round)) (sym is.pair) first.1);
+  whole = λ k a done there.
+      let f = up.whole k a tt (subst (λ z. Contains (labels s z k) a) is.pair there) in
+      (f.0, subst (λ (z : List First). Contains z f.0) (sym is.firsts) f.1, f.2);
+  order = subst AreInOrder (sym is.firsts) up.order;
+  all = is.label ∙ up.all ∙ ap (λ (z : List First). set_of (map (λ (f : First). f.atom) z)) (sym is.firsts);
+}
 
 -- the table at rest
 pub record IsSettled (s : System) (pairs : ℕ) (old new : List Entry) : Type 0 where
@@ -83,10 +102,29 @@ pub record IsSettled (s : System) (pairs : ℕ) (old new : List Entry) : Type 0 
   pub same : map pair_of new ≡ map pair_of old
   pub more : IsMore old new
 
-pub settled : (s : System) (pairs : ℕ) (entries new : List Entry) (g : Agenda) → IsGoing s pairs entries g → ((q : ℕ) → row_in g.due q ≡ []) → new ≡ map rested entries → IsSettled s pairs entries new
+pub settled : (s : System) (pairs : ℕ) (entries new : List Entry) (g : Agenda) → IsGoing s pairs entries g → ((q : ℕ) → row_in g.due q ≡ []) → AreRested entries new → IsSettled s pairs entries new
 settled s pairs entries new g go nothing is =
     let all = table_rested s pairs entries g go nothing in
-    subst (λ (z : List Entry). IsSettled s pairs entries z) (sym is) (record { table = all.0; at_rest = all.1; same = all.2; more = more_rested entries })
+    let table = all.0 in
+    let pairs_same = pairs_rested entries new is in
+    let same : map pair_of new ≡ map pair_of (map rested entries) = pairs_same ∙ sym all.2 in
+    let rest : AllRest new = λ x there. let e = was_rested entries new is x there in e.2.rounds in
+    record {
+      table = record {
+        sound = table.sound;
+        up_to = λ x there. let e = was_rested entries new is x there in up_rested s e.0 x e.2 (table.up_to (rested e.0) (Contains-map rested entries e.0 e.1));
+        asked = λ x there k r done asks.
+            let e = was_rested entries new is x there in
+            subst (λ (z : List Pair). Contains z r) (sym same) (table.asked (rested e.0) (Contains-map rested entries e.0 e.1) k r tt (subst (λ z. Asks s (labels s z k) r) e.2.pair asks));
+        heard = λ x there k r at asks. let never : None ≡ Some (suc k) = sym (rest x there) ∙ at in cc;
+        only = λ x there k j at child. let never : None ≡ Some (suc k) = sym (rest x there) ∙ at in absurd (cc);
+        different = subst AreDifferent (sym same) table.different;
+        few = let few = table.few in let long = is.same in omega (arith, few, long, length-map entries rested);
+      };
+      at_rest = rest;
+      same = pairs_same;
+      more = more_rested entries new is;
+    }
 
 -- the entries that were there before, where all were at rest
 pub old_ones : (old new : List Entry) → AllRest old → IsMore old new → take (length old) new ≡ old

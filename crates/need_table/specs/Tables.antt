@@ -135,6 +135,18 @@ AllRest entries = (e : Entry) → Contains entries e → e.rounds ≡ None
 abbrev pub rested : Entry → Entry
 rested e = record e { rounds = None }
 
+-- the same pair with its label at rest, where it wasn't
+pub record IsRested (old new : Entry) : Type 0 where
+  pub pair : pair_of new ≡ pair_of old
+  pub label : new.label ≡ old.label
+  pub firsts : new.firsts.items ≡ old.firsts.items
+  pub rounds : new.rounds ≡ None
+  pub at_rest : old.rounds ≡ None → new ≡ old
+
+pub record AreRested (old new : List Entry) : Type 0 where
+  pub each : (j : ℕ) (e : Entry) → slice_get old j ≡ Some e → IsSomeAnd (slice_get new j) (IsRested e)
+  pub same : length new ≡ length old
+
 -- the round that stands with the atom
 abbrev pub round_in : List First → ℕ → Option ℕ
 round_in [] a = None

@@ -41,7 +41,7 @@ pub(crate) fn first_of(entry: &Entry, atom: Atom) -> Option<u64>
     round_of(&entry.firsts, atom)
 }
 
-/// Those whose atom is visible. Linear in all.
+/// Those whose atom is visible, with no more room than they need. Linear in all.
 pub(crate) fn visible_firsts(
     alloc: Global,
     system: &IndexedSystem,
@@ -50,7 +50,7 @@ pub(crate) fn visible_firsts(
     requires { IsSound system.now }
     ensures { IfOk result (λ v. v.items ≡ filter (λ f. has_class f.atom system.now.visible) firsts.now) }
 {
-    let mut kept = Vec::new(alloc);
+    let mut kept = Vec::with_capacity(alloc, firsts.len())?;
     let mut rest = firsts;
     'firsts: while let Some((first, others)) = rest.split_first() {
         if system.is_visible(first.atom) {
@@ -58,6 +58,7 @@ pub(crate) fn visible_firsts(
         }
         rest = others;
     }
+    kept.shrink_to_fit();
     Ok(kept)
 }
 

@@ -1,7 +1,7 @@
 //! The entries of the table.
 ghost use Rattle.std.specs.Prelude.{◌≡◌, ◌↔◌, ◌+◌, ◌≤◌, ◌<◌, ◌^◌, ◌∷◌, ◌++◌, [], ℕ, None, Some, map, take, set, length, slice_get, get_or, Contains, IsNone, IfSome, IsSomeAnd, IsTrue, IsFalse, false, IfOk, OnOk, OnErr};
 ghost use Rattle.need_table.specs.declared.entries.Entry.{Entry};
-ghost use Rattle.need_table.specs.Tables.{pair_of, fresh_of, rested, raised, replaced, IsNotAt, IsNoted, IsUntouched};
+ghost use Rattle.need_table.specs.Tables.{pair_of, fresh_of, raised, replaced, IsNotAt, IsNoted, IsUntouched, IsRested, AreRested};
 
 use crate::entries::{Entry, grow, is_at};
 use gathered::Gathered;
@@ -119,7 +119,7 @@ impl Table {
     pub(crate) fn rest_all(&mut self, first: usize)
         requires within { first ≤ length self.old }
         requires at_rest { (j : ℕ) (e : Entry) → j < first → slice_get self.old j ≡ Some e → e.rounds ≡ None }
-        ensures { self.new ≡ map rested self.old }
+        ensures { AreRested self.old self.new }
     {
         rest_all(&mut self.entries, first);
     }
@@ -201,15 +201,27 @@ fn raise(entries: &mut Vec<Entry>, i: usize, k: u64)
     entries[i].rounds = Some(k);
 }
 
+// Sets an entry at rest, if it isn't. It forgets what it asks, and its firsts keep no more room than they need.
+fn rest(entry: &mut Entry)
+    ensures { IsRested entry.old entry.new }
+{
+    if entry.rounds.is_some() {
+        entry.rounds = None;
+        entry.children.clear();
+        entry.children.shrink_to_fit();
+        entry.firsts.shrink_to_fit();
+    }
+}
+
 // Sets all entries at rest. Those before this place are so already.
 fn rest_all(entries: &mut Vec<Entry>, first: usize)
     requires within { first ≤ length entries.old.items }
     requires at_rest { (j : ℕ) (e : Entry) → j < first → slice_get entries.old.items j ≡ Some e → e.rounds ≡ None }
-    ensures { entries.new.items ≡ map rested entries.old.items }
+    ensures { AreRested entries.old.items entries.new.items }
 {
     let mut i = first;
     'entries: while i < entries.len() {
-        entries[i].rounds = None;
+        rest(&mut entries[i]);
         i += 1;
     }
 }

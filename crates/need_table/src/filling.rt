@@ -149,16 +149,7 @@ fn add_visible(system: &IndexedSystem, fresh: &[First], seen: &mut ClassSet) -> 
     Ok(())
 }
 
-// The visible atoms of a label.
-fn seen_anew(system: &IndexedSystem, label: &ClassSet) -> Result<ClassSet, NoMemory>
-    ensures { IfOk result (λ s. s ≡ visible_in system.now label.now) }
-{
-    let mut seen = label.copy()?;
-    seen.cut(system.visible());
-    Ok(seen)
-}
-
-// The same by those that it had before, and its new atoms.
+// The visible atoms of a label, by those that it had before, and its new atoms.
 fn seen_further(
     system: &IndexedSystem,
     before: &ClassSet,
@@ -207,15 +198,15 @@ fn seen_by(
     ensures { IfOk result (λ s. s ≡ visible_in system.now entry.now.label) }
 {
     if k == 0 {
-        return seen_anew(system, &entry.label);
+        return system.visible_of(&entry.label);
     }
     let fresh = behind(&entry.firsts, place);
     if fresh.len() > A_FEW {
-        return seen_anew(system, &entry.label);
+        return system.visible_of(&entry.label);
     }
     match asked_with(entries, entry) {
         Some(before) => seen_further(system, before, fresh),
-        None => seen_anew(system, &entry.label),
+        None => system.visible_of(&entry.label),
     }
 }
 

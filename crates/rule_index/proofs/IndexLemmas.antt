@@ -1,16 +1,16 @@
 -- Rules found by the atoms that they look at.
-use Rattle.std.proofs.Common.{◌≡◌, ◌≢◌, ◌⊎◌, ◌==◌, not, Bool, true, false, ℕ, ◌+◌, ◌<◌, List, [], ◌∷◌, ◌++◌, map, take, length, get_or, slice_get, Option, Some, None, option_map, unwrap_or, All, Contains, refl, sym, ap, ◌∙◌, inl, inr, arith, subst}
-use Rattle.std.specs.List.{IsFirstAndRest}
+use Rattle.std.proofs.Common.{◌≡◌, ◌≢◌, ◌⊎◌, ◌==◌, not, Bool, true, false, ℕ, ◌+◌, ◌<◌, ◌≤◌, List, [], ◌∷◌, ◌++◌, map, take, length, get_or, slice_get, Option, Some, None, option_map, unwrap_or, All, Contains, refl, sym, ap, ◌∙◌, inl, inr, arith, subst}
+use Rattle.std.specs.List.{IsFirstAndRest, filter}
 use Rattle.std.specs.List.Sorted.{IsStrictlyIncreasing}
 use Rattle.std.proofs.lemmas.Bool.{and_from, cases_Bool, eqb-true, eqb-false}
-use Rattle.std.proofs.lemmas.List.{take_more, length-take-le, append-nil, append_assoc}
+use Rattle.std.proofs.lemmas.List.{take_more, take_all, length-take-le, append-nil, append_assoc}
 use Rattle.std.proofs.lemmas.Grind.{flat_map-append}
 use Rattle.std.proofs.lemmas.List.Folds.{list_all_at, list_all_more}
 use Rattle.std.proofs.lemmas.List.Sums.{fold-append}
-use Rattle.std.proofs.lemmas.List.Elements.{Contains-append_left, Contains-append_right, Contains-append_cases}
+use Rattle.std.proofs.lemmas.List.Elements.{filter-append, Contains-append_left, Contains-append_right, Contains-append_cases}
 use Rattle.std.proofs.lemmas.Option.{slice_get_within, slice_get-get_or, get_or_from_slice_get}
-use Rattle.tp_base.specs.Classes.{has_class, all_among, with_class, union_of}
-use Rattle.tp_base.proofs.ClassLemmas.{has_class-Contains, Contains-has_class, same_members, Contains-union_of, IsStrictlyIncreasing-union_of}
+use Rattle.tp_base.specs.Classes.{has_class, all_among, with_class, union_of, cut_to}
+use Rattle.tp_base.proofs.ClassLemmas.{has_class-Contains, Contains-has_class, same_members, Contains-union_of, IsStrictlyIncreasing-union_of, IsStrictlyIncreasing-cut_to}
 use Rattle.tp_base.proofs.Rising.{Contains-here, Contains-cons, Contains-none, All-from_Contains}
 use Rattle.tp_base.proofs.Lists.{map_at, slice_get-append_left, slice_get-push, push_cases, take_next, Contains-at, at_Contains, at_map, Contains-only}
 use Rattle.row_index.specs.Rows.{row_of, IsNoted}
@@ -34,6 +34,33 @@ union_of-same start xs ys up there back =
     same_members (union_of start xs) (union_of start ys) (IsStrictlyIncreasing-union_of start xs up) (IsStrictlyIncreasing-union_of start ys up)
     (All-from_Contains (Contains (union_of start ys)) (union_of start xs) (λ y h. (Contains-union_of start ys y).1 (elim ((Contains-union_of start xs y).0 h) [ inl old ↦ inl old | inr new ↦ inr (there y new) ])))
     (All-from_Contains (Contains (union_of start xs)) (union_of start ys) (λ y h. (Contains-union_of start xs y).1 (elim ((Contains-union_of start ys y).0 h) [ inl old ↦ inl old | inr new ↦ inr (back y new) ])))
+
+-- ---- what of a label is visible
+
+pub seen_next : (s : System) (label seen next : List ℕ) (i a : ℕ) → slice_get label i ≡ Some a → has_class a s.visible ≡ true → seen ≡ cut_to s.visible (take i label) → next ≡ seen ++ a ∷ []
+    → next ≡ cut_to s.visible (take (i + 1) label)
+seen_next s label seen next i a at there so_far more =
+    let p : ℕ → Bool = λ y. has_class y s.visible in
+    let one : filter p (a ∷ []) ≡ a ∷ [] = rw there refl in
+    more ∙ ap (λ z. z ++ a ∷ []) so_far ∙ ap (λ z. filter p (take i label) ++ z) (sym one) ∙ sym (filter-append p (take i label) (a ∷ [])) ∙ ap (filter p) (sym (take_next label i a at))
+
+pub seen_past : (s : System) (label seen : List ℕ) (i a : ℕ) → slice_get label i ≡ Some a → has_class a s.visible ≡ false → seen ≡ cut_to s.visible (take i label) → seen ≡ cut_to s.visible (take (i + 1) label)
+seen_past s label seen i a at hidden so_far =
+    let p : ℕ → Bool = λ y. has_class y s.visible in
+    let gone : filter p (a ∷ []) ≡ [] = rw hidden refl in
+    so_far ∙ sym (append-nil (filter p (take i label))) ∙ ap (λ z. filter p (take i label) ++ z) (sym gone) ∙ sym (filter-append p (take i label) (a ∷ [])) ∙ ap (filter p) (sym (take_next label i a at))
+
+pub seen_set : (s : System) (label seen : List ℕ) (i : ℕ) → IsStrictlyIncreasing label → length label ≤ i → seen ≡ cut_to s.visible (take i label) → union_of [] seen ≡ cut_to s.visible label
+seen_set s label seen i rises over so_far =
+    let is : seen ≡ cut_to s.visible label = so_far ∙ ap (λ z. cut_to s.visible z) (take_all i label over) in
+    let up : IsStrictlyIncreasing seen = subst IsStrictlyIncreasing (sym is) (IsStrictlyIncreasing-cut_to s.visible label rises) in
+    same_members (union_of [] seen) seen (IsStrictlyIncreasing-union_of [] seen none_rises) up
+    (All-from_Contains (Contains seen) (union_of [] seen) (λ x there. elim ((Contains-union_of [] seen x).0 there) [ inl none ↦ absurd (Contains-none x none) | inr here ↦ here ]))
+    (All-from_Contains (Contains (union_of [] seen)) seen (λ x there. (Contains-union_of [] seen x).1 (inr there)))
+    ∙ is
+  where
+    none_rises : IsStrictlyIncreasing []
+    none_rises k less = absurd (omega (arith, less))
 
 -- ---- making an index
 

@@ -2,7 +2,7 @@
 ghost use Rattle.std.specs.Prelude.{◌≡◌, ◌≢◌, ◌++◌, ◌+◌, ◌∷◌, [], ℕ, map, Contains, All, IfOk, OnOk, IsTrue, IsFalse};
 ghost use Rattle.std.specs.List.Sorted.{IsStrictlyIncreasing};
 ghost use Rattle.tp_base.specs.Classes.{has_class, all_among, union_of};
-ghost use Rattle.simple_core.specs.Labels.{given_by_rules, given_by_links};
+ghost use Rattle.simple_core.specs.Labels.{given_by_rules, given_by_links, visible_in};
 ghost use Rattle.simple_core.specs.Systems.{IsSound};
 ghost use Rattle.simple_core.specs.declared.summaries.First.{First};
 ghost use Rattle.simple_core.specs.declared.rules.Link.{Link};
@@ -176,6 +176,21 @@ impl<'a> IndexedSystem<'a> {
         ensures { result ≡ has_class atom self.now.visible }
     {
         self.up.of(atom.0 as usize).len() != 0
+    }
+
+    /// The atoms of a label at which links from a parent look. Linear in the label.
+    pub fn visible_of(&self, label: &ClassSet) -> Result<ClassSet, NoMemory>
+        requires { IsSound self.now }
+        ensures { IfOk result (λ s. s ≡ visible_in self.now label.now) }
+    {
+        let mut seen = Vec::with_capacity(label.allocator(), label.len())?;
+        for i in 0..label.len() {
+            let atom = label.at(i);
+            if self.is_visible(atom) {
+                seen.push(atom)?;
+            }
+        }
+        ClassSet::of(seen)
     }
 
     // Whether a link from a parent looks at an atom, or it adds a child.
