@@ -250,13 +250,6 @@ new_more own given news news' i a at so_far added =
     })
 
 -- a label that has none of them
-pub all_new_more : (own given : List ℕ) (i a : ℕ) → slice_get given i ≡ Some a → ((x : ℕ) → Contains (take i given) x → Contains own x → ⊥) → (Contains own a → ⊥) → (x : ℕ) → Contains (take (i + 1) given) x → Contains own x → ⊥
-all_new_more own given i a at so_far none x there known =
-    elim (Contains-append_cases (take i given) (a ∷ []) x (subst (λ (z : List ℕ). Contains z x) (take_next given i a at) there)) [
-      | inl before ↦ so_far x before known
-      | inr last ↦ elim ((Contains-cons x a []).0 last) [ inl here ↦ none (subst (Contains own) here known) | inr never ↦ absurd (Contains-none x never) ]
-    ]
-
 pub all_new : (own given : List ℕ) → ((a : ℕ) → Contains given a → Contains own a → ⊥) → AreNewIn own given given
 all_new own given none = record { other = none; right = λ a there. there; whole = λ a there. inr there }
 

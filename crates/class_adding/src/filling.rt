@@ -1,6 +1,7 @@
 //! The rounds of a page, one after another, until nothing more comes.
-ghost use Rattle.std.specs.Prelude.{◌≡◌, ◌<◌, length, All, Contains, IfOk, OnOk};
+ghost use Rattle.std.specs.Prelude.{◌≡◌, ◌<◌, map, length, All, Contains, IfOk, OnOk};
 ghost use Rattle.tree_sem.specs.Order.{paths_of};
+ghost use Rattle.node_marks.specs.Numbering.{IsNumbering};
 ghost use Rattle.simple_core.specs.Pairs.{Pair, Asked};
 ghost use Rattle.simple_core.specs.Knowledge.{TellsAfter};
 ghost use Rattle.closed_page.specs.ClosedPages.{IsClosedPage};
@@ -16,6 +17,7 @@ use crate::asker::Asker;
 use crate::rounds::Round;
 use crate::work::{Work, begin_work, latest_of, take_looks};
 use closed_page::{PageLabels, apply_gains};
+use node_marks::Columns;
 use simple_core::{GainFault, Summaries};
 use std::alloc::Global;
 use tp_base::NoMemory;
@@ -30,11 +32,12 @@ pub(crate) struct Filling {
     pub(crate) work: Work,
 }
 
-/// The page before the first round.
-pub(crate) fn begin(alloc: Global, page: &Tree) -> Result<Filling, NoMemory>
+/// The page before the first round, from its columns.
+pub(crate) fn begin(alloc: Global, page: &Tree, columns: Columns<'_>) -> Result<Filling, NoMemory>
+    requires { IsNumbering page.now columns.parents.items columns.steps.items (map (λ b. b.now) columns.labels.items) }
     ensures { IfOk result (λ f. IsBegun page.now f) }
 {
-    let labels = PageLabels::new(alloc, page)?;
+    let labels = PageLabels::new(alloc, page, columns)?;
     let alike = all_alike(alloc, &labels)?;
     let work = begin_work(alloc, &labels)?;
     Ok(Filling {

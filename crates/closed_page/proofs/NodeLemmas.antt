@@ -1,7 +1,7 @@
 -- The nodes of a page by the numbers of their parents and their steps.
 use Rattle.std.proofs.Common.{◌≡◌, ℕ, zero, suc, ◌+◌, ◌-◌, ◌<◌, ◌≤◌, List, [], ◌∷◌, ◌++◌, length, get_or, take, drop, reverse, slice_get, Option, Some, None, IfSome, IsNone, Contains, refl, sym, ap, ◌∙◌, inl, inr, arith, subst, add-one, append-nil}
 use Rattle.std.proofs.lemmas.Bool.{cases_lt}
-use Rattle.std.proofs.lemmas.List.{length_push, append_assoc, take-append-drop, reverse-append, get_or_append_left, get_or_push, get_or_default, get_or-take, take_more, take_all}
+use Rattle.std.proofs.lemmas.List.{length_push, length-map, get_or-map, append_assoc, take-append-drop, reverse-append, get_or_append_left, get_or_push, get_or_default, get_or-take, take_more, take_all}
 use Rattle.std.proofs.lemmas.List.Elements.{Contains-get_or}
 use Rattle.std.proofs.lemmas.Option.{slice_get_within, slice_get-get_or, get_or_from_slice_get}
 use Rattle.tree_sem.specs.Trees.{LabelTree, count_of}
@@ -13,27 +13,26 @@ use Rattle.node_marks.specs.Marks.{path_at}
 use Rattle.node_marks.specs.Numbering.{IsNumbering}
 use Rattle.node_marks.proofs.NumberLemmas.{one_number, take_step}
 use Rattle.closed_page.specs.Labelled.{IsAbove, AreKids}
-use Rattle.closed_page.specs.Numbered.{path_next, paths_up, paths_by, AreNumbered, parent_told, AreTold}
+use Rattle.closed_page.specs.Numbered.{path_next, paths_up, paths_by, AreNumbered, parent_told, AreTold, told}
 use Rattle.closed_page.specs.Spreading.{IsNumberAt}
 use Rattle.closed_page.proofs.FirstsLemmas.{same_step, not_root, path_there, path_root}
 
 -- ---- the numbers of the parents
 
-pub told_start : (numbers : List ℕ) → AreTold numbers [] 0
-told_start numbers = record { count = refl; each = λ i less. absurd (omega arith) }
+pub told-length : (numbers : List ℕ) → length (told numbers) ≡ length numbers
+told-length [] = refl
+told-length (number ∷ numbers) = ap suc (length-map numbers Some)
 
-pub told_more : (numbers : List ℕ) (told told' : List (Option ℕ)) (i : ℕ) (o : Option ℕ) → AreTold numbers told i → o ≡ parent_told numbers i → told' ≡ told ++ o ∷ [] → AreTold numbers told' (i + 1)
-told_more numbers told told' i o before here is =
-    let count : length told ≡ i = before.count in
-    record {
-      count = ap length is ∙ length_push told o ∙ ap (λ n. n + 1) count;
-      each = λ j less. elim (cases_lt j i) [
-        | inl early ↦ ap (λ z. get_or z j None) is ∙ get_or_append_left told (o ∷ []) None j (omega (arith, early, count)) ∙ before.each j early
-        | inr late ↦
-            let last : i ≡ j = omega (arith, late, less) in
-            subst (λ z. get_or told' z None ≡ parent_told numbers z) last (ap (λ z. get_or z i None) is ∙ get_or_push told o None i count ∙ here)
-      ];
-    }
+pub told-each : (numbers : List ℕ) (i : ℕ) → i < length numbers → get_or (told numbers) i None ≡ parent_told numbers i
+told-each [] i less = absurd (omega (arith, less))
+told-each (number ∷ numbers) zero less = refl
+told-each (number ∷ numbers) (suc i) less = get_or-map Some numbers i 0 None (omega (arith, less))
+
+pub told_all : (numbers : List ℕ) → AreTold numbers (told numbers) (length numbers)
+told_all numbers = record { count = told-length numbers; each = told-each numbers }
+
+pub told_here : (numbers lent : List ℕ) (i : ℕ) (o : Option ℕ) → lent ≡ numbers → i < length numbers → o ≡ parent_told lent i → get_or (told numbers) i None ≡ o
+told_here numbers lent i o same less is = told-each numbers i less ∙ sym (is ∙ ap (λ z. parent_told z i) same)
 
 -- ---- the paths are those of the page
 

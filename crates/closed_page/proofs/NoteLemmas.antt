@@ -19,7 +19,14 @@ use Rattle.closed_page.specs.Labelled.{Labelled}
 use Rattle.closed_page.specs.Notes.{NodeFirst, node_firsts, firsts_in, expanded, IsNoted, IsSpot, AreAtSpots}
 use Rattle.closed_page.specs.Firsts.{path_to, IsSpotOf, placed_one, placed, AreSpots}
 use Rattle.closed_page.specs.Gains.{new_of, firsts_at}
+use Rattle.closed_page.specs.Views.{PageFirst}
 use Rattle.closed_page.proofs.CallLemmas.{pushed}
+
+-- ---- a node without atoms
+
+pub none_noted : (own label v : List ℕ) (round : ℕ) (fs : List PageFirst) → own ≡ label → length own ≡ 0 → fs ≡ fs ++ firsts_at v [] label round
+none_noted [] label v round fs same none = sym (append-nil fs) ∙ ap (λ (z : List ℕ). fs ++ firsts_at v [] z round) same
+none_noted (a ∷ own) label v round fs same none = absurd (omega (arith, none))
 
 -- ---- a walk along two sets
 

@@ -4,9 +4,10 @@
 --     paths_by parents steps      those of all
 --     AreNumbered nodes ..        the nodes at these paths have such parents, steps and children; the root stands first
 --     parent_told numbers i       the number of the i-th node's parent, where the root's is of no account
---     AreTold numbers told n      these are the parents of the first n nodes
+--     AreTold numbers parents n   these are the parents of the first n nodes
+--     told numbers                the parents of all nodes
 --     AreColumns t numbers steps  the parents and steps are those of the nodes of t
-use Rattle.std.specs.Prelude.{◌≡◌, ℕ, zero, suc, ◌<◌, List, [], ◌∷◌, ◌++◌, Option, Some, None, length, get_or}
+use Rattle.std.specs.Prelude.{◌≡◌, ℕ, zero, suc, ◌<◌, List, [], ◌∷◌, ◌++◌, map, Option, Some, None, length, get_or}
 use Rattle.tree_sem.specs.Trees.{LabelTree}
 use Rattle.row_index.specs.Rows.{AreByNumber}
 use Rattle.node_marks.specs.Numbering.{IsNumbering}
@@ -35,9 +36,13 @@ abbrev pub parent_told : List ℕ → ℕ → Option ℕ
 parent_told numbers zero = None
 parent_told numbers (suc i) = Some (get_or numbers (suc i) 0)
 
-pub record AreTold (numbers : List ℕ) (told : List (Option ℕ)) (n : ℕ) : Type 0 where
-  pub count : length told ≡ n
-  pub each : (i : ℕ) → i < n → get_or told i None ≡ parent_told numbers i
+pub record AreTold (numbers : List ℕ) (parents : List (Option ℕ)) (n : ℕ) : Type 0 where
+  pub count : length parents ≡ n
+  pub each : (i : ℕ) → i < n → get_or parents i None ≡ parent_told numbers i
+
+abbrev pub told : List ℕ → List (Option ℕ)
+told [] = []
+told (number ∷ numbers) = None ∷ map Some numbers
 
 abbrev pub AreColumns : LabelTree → List ℕ → List ℕ → Type 0
 AreColumns t numbers steps = (labels : List (List ℕ)) × IsNumbering t numbers steps labels

@@ -1,10 +1,10 @@
 //! The nodes of a page, by their numbers in the order of the document.
-ghost use Rattle.std.specs.Prelude.{◌≡◌, ◌<◌, ◌++◌, ◌∷◌, ℕ, List, [], Some, length, get_or, slice_get, Contains, ◌↔◌, IsTrue, IfSome, IsNone, IfOk};
+ghost use Rattle.std.specs.Prelude.{◌≡◌, ◌<◌, ◌++◌, ◌∷◌, ℕ, List, [], Some, length, get_or, slice_get, Contains, ◌↔◌, IsTrue, IfSome, IsNone, IfOk, OnOk};
 ghost use Rattle.tree_sem.specs.Trees.{LabelTree};
 ghost use Rattle.tree_sem.specs.Order.{paths_of};
-ghost use Rattle.row_index.specs.Rows.{row_of};
+ghost use Rattle.row_index.specs.Rows.{row_of, IsNotedIf, AreByNumber};
 ghost use Rattle.closed_page.specs.Labelled.{IsAbove, AreKids};
-ghost use Rattle.closed_page.specs.Numbered.{parent_told, AreTold, AreColumns};
+ghost use Rattle.closed_page.specs.Numbered.{parent_told, told, AreColumns};
 ghost use Rattle.closed_page.specs.Notes.{IsSpot};
 ghost use Rattle.closed_page.specs.Spreading.{IsNumberAt};
 
@@ -13,24 +13,24 @@ use std::alloc::Global;
 use std::marker::Model;
 use tp_base::{NoMemory, Path};
 
-/// Of each node the number of its parent, its step from there, and the numbers of its children; no path is kept. A contract
-/// sees the paths.
+/// Of each node the number of its parent, its step from there, and the numbers of its children; no path is kept. The parent's
+/// number of the root is of no account. A contract sees the paths.
 #[derive(Drop)]
 pub(crate) struct PageNodes {
-    parents: Vec<Option<usize>>,
+    parents: Vec<usize>,
     steps: Vec<u32>,
     kids: Index,
 }
 
 impl Model for PageNodes {
     ghost use Rattle.std.specs.Prelude.{List, ℕ};
-    ghost use Rattle.closed_page.specs.Numbered.{paths_by, AreNumbered};
+    ghost use Rattle.closed_page.specs.Numbered.{told, paths_by, AreNumbered};
 
     ghost Value = { List (List ℕ) };
 
-    ghost view = { λ n. paths_by n.parents.items n.steps.items };
+    ghost view = { λ n. paths_by (told n.parents.items) n.steps.items };
 
-    ghost invariant = { λ n. AreNumbered (paths_by n.parents.items n.steps.items) n.parents.items n.steps.items n.kids };
+    ghost invariant = { λ n. AreNumbered (paths_by (told n.parents.items) n.steps.items) (told n.parents.items) n.steps.items n.kids };
 }
 
 impl PageNodes {
@@ -38,14 +38,13 @@ impl PageNodes {
     /// them.
     pub(crate) fn new(
         alloc: Global,
-        numbers: &[usize],
+        parents: Vec<usize>,
         steps: Vec<u32>,
     ) -> Result<PageNodes, NoMemory>
-        requires { (t : LabelTree) × AreColumns t numbers.now steps.items }
-        ensures { IfOk result (λ n. (t : LabelTree) → AreColumns t numbers.now steps.items → n ≡ paths_of t) }
+        requires { (t : LabelTree) × AreColumns t parents.items steps.items }
+        ensures { IfOk result (λ n. (t : LabelTree) → AreColumns t parents.items steps.items → n ≡ paths_of t) }
     {
-        let parents = told_parents(alloc, numbers)?;
-        let kids = Index::of_numbers(alloc, &parents)?;
+        let kids = kids_of(alloc, &parents)?;
         Ok(PageNodes {
             parents,
             steps,
@@ -68,7 +67,7 @@ impl PageNodes {
         ensures root { IsNone result → get_or self.now number [] ≡ [] }
         ensures once { (i j : ℕ) → i < length self.now → j < length self.now → get_or self.now i [] ≡ get_or self.now j [] → i ≡ j }
     {
-        self.parents[number]
+        told_parent(&self.parents, number)
     }
 
     /// The last step to a node; 0 for the root.
@@ -121,15 +120,26 @@ fn told_parent(numbers: &[usize], i: usize) -> Option<usize>
     if i == 0 { None } else { Some(numbers[i]) }
 }
 
-// The numbers of the nodes' parents.
-fn told_parents(alloc: Global, numbers: &[usize]) -> Result<Vec<Option<usize>>, NoMemory>
-    ensures { IfOk result (λ v. AreTold numbers.now v.items (length numbers.now)) }
+// Notes a node at its parent, if it has one.
+fn note_kid(alloc: Global, numbers: &[usize], i: usize, kids: &mut Index) -> Result<(), NoMemory>
+    requires { i < length numbers.now }
+    ensures { OnOk result (IsNotedIf kids.old kids.new (parent_told numbers.now i) i) }
 {
-    let mut parents = Vec::new(alloc);
-    for i in 0..numbers.len() {
-        parents.push(told_parent(numbers, i))?;
+    match told_parent(numbers, i) {
+        Some(parent) => kids.note(alloc, parent, i),
+        None => Ok(()),
     }
-    Ok(parents)
+}
+
+// The numbers of each node's children.
+fn kids_of(alloc: Global, numbers: &[usize]) -> Result<Index, NoMemory>
+    ensures { IfOk result (λ t. AreByNumber (told numbers.now) t) }
+{
+    let mut kids = Index::new(alloc);
+    for i in 0..numbers.len() {
+        note_kid(alloc, numbers, i, &mut kids)?;
+    }
+    Ok(kids)
 }
 
 // Whether this is the step of a node.

@@ -1,9 +1,10 @@
 //! The labels of a page and their first rounds, by the numbers of its nodes in the order of the document.
-ghost use Rattle.std.specs.Prelude.{◌≡◌, ◌<◌, ◌⊎◌, ◌↔◌, ◌++◌, ◌+◌, ◌^◌, ℕ, [], Some, None, length, get_or, IfOk, OnOk, IfSome, IsSome, IsNone, List, Contains};
+ghost use Rattle.std.specs.Prelude.{◌≡◌, ◌<◌, ◌⊎◌, ◌↔◌, ◌++◌, ◌+◌, ◌^◌, ℕ, [], Some, None, map, length, get_or, IfOk, OnOk, IfSome, IsSome, IsNone, List, Contains};
 ghost use Rattle.tree_sem.specs.Trees.{LabelTree, node_at, label_at, edit_at, count_of};
 ghost use Rattle.tree_sem.specs.Order.{paths_of};
 ghost use Rattle.tree_sem.specs.Actions.{add_classes};
 ghost use Rattle.std.specs.List.Sorted.{IsStrictlyIncreasing};
+ghost use Rattle.node_marks.specs.Numbering.{IsNumbering};
 ghost use Rattle.closed_page.specs.ClosedPages.{round_of};
 ghost use Rattle.closed_page.specs.Firsts.{AreOfNodes, IsSpotOf, placed};
 ghost use Rattle.closed_page.specs.Gains.{label_in, firsts_at, AreStarts};
@@ -17,7 +18,7 @@ use crate::first_rounds::{FirstRounds, Spot, spot_of};
 use crate::nodes::PageNodes;
 use crate::notes::{NodeNews, note};
 use crate::shared_set::{SharedSet, copies, joined_before, shares};
-use node_marks::NumberedTree;
+use node_marks::Columns;
 use row_index::Index;
 use std::alloc::Global;
 use std::marker::Model;
@@ -57,15 +58,16 @@ impl Model for PageLabels {
 }
 
 impl PageLabels {
-    /// A page, with all its atoms as firsts of round 0. Linear in them and in the nodes.
-    pub fn new(alloc: Global, page: &Tree) -> Result<PageLabels, NoMemory>
+    /// A page, with all its atoms as firsts of round 0, from its columns. Linear in them and in the nodes.
+    pub fn new(alloc: Global, page: &Tree, columns: Columns<'_>) -> Result<PageLabels, NoMemory>
+        requires { IsNumbering page.now columns.parents.items columns.steps.items (map (λ b. b.now) columns.labels.items) }
         ensures labels { IfOk result (λ l. l.labels ≡ page.now) }
         ensures nodes { IfOk result (λ l. l.nodes ≡ paths_of page.now) }
         ensures firsts { IfOk result (λ l. AreStarts page.now (paths_of page.now) l.firsts) }
         ensures rising { OnOk result ((v : List ℕ) → Contains (paths_of page.now) v → IsStrictlyIncreasing (label_in page.now v)) }
         ensures few { IfOk result (λ l. l.notes < 2 ^ 63) }
     {
-        let mut labels = PageLabels::numbered(alloc, page)?;
+        let mut labels = PageLabels::numbered(alloc, page, columns)?;
         let none = ClassSet::new(alloc);
         let numbers = labels.by_parents(alloc)?;
         let order = numbers.as_slice();
@@ -91,17 +93,15 @@ impl PageLabels {
         Ok(numbers)
     }
 
-    // Numbers the nodes of a page, of which no firsts are noted yet. Linear in them.
-    fn numbered(alloc: Global, page: &Tree) -> Result<PageLabels, NoMemory>
+    // The nodes of a page with their labels, of which no firsts are noted yet. Linear in the nodes.
+    fn numbered(alloc: Global, page: &Tree, columns: Columns<'_>) -> Result<PageLabels, NoMemory>
+        requires { IsNumbering page.now columns.parents.items columns.steps.items (map (λ b. b.now) columns.labels.items) }
         ensures labels { IfOk result (λ l. l.labels ≡ page.now) }
         ensures nodes { IfOk result (λ l. l.nodes ≡ paths_of page.now) }
         ensures firsts { IfOk result (λ l. l.firsts ≡ []) }
     {
-        let columns = NumberedTree::new(alloc, page)?.into_columns();
-        let parents = columns.parents;
-        let steps = columns.steps;
         let own = copies(alloc, &columns.labels)?;
-        let nodes = PageNodes::new(alloc, &parents, steps)?;
+        let nodes = PageNodes::new(alloc, columns.parents, columns.steps)?;
         Ok(PageLabels {
             nodes,
             own,
@@ -113,16 +113,15 @@ impl PageLabels {
     pub(crate) fn with_own(
         alloc: Global,
         page: &Tree,
+        columns: Columns<'_>,
         own: Vec<SharedSet>,
     ) -> Result<PageLabels, NoMemory>
-        requires { length own.items ≡ count_of page.now }
+        requires columns { IsNumbering page.now columns.parents.items columns.steps.items (map (λ b. b.now) columns.labels.items) }
+        requires count { length own.items ≡ count_of page.now }
         ensures nodes { IfOk result (λ l. l.nodes ≡ paths_of page.now) }
         ensures labels { IfOk result (λ l. AreLabelled page.now own.items l.labels) }
     {
-        let columns = NumberedTree::new(alloc, page)?.into_columns();
-        let parents = columns.parents;
-        let steps = columns.steps;
-        let nodes = PageNodes::new(alloc, &parents, steps)?;
+        let nodes = PageNodes::new(alloc, columns.parents, columns.steps)?;
         Ok(PageLabels {
             nodes,
             own,
@@ -270,7 +269,7 @@ impl PageLabels {
         note(&mut self.notes, spot, self.own[number].set(), label, round)
     }
 
-    // Notes all atoms of a node as its firsts of round 0.
+    // Notes all atoms of a node, if it has any, as its firsts of round 0.
     fn note_own(&mut self, number: usize, none: &ClassSet) -> Result<(), NoMemory>
         requires number { number < length self.old.nodes }
         requires none { none.now ≡ [] }
@@ -280,6 +279,10 @@ impl PageLabels {
         ensures rising { IsStrictlyIncreasing (label_in self.old.labels (node_of self.old number)) }
         ensures few { self.new.notes < 2 ^ 63 }
     {
+        let own = self.own[number].set();
+        if own.len() == 0 {
+            return Ok(());
+        }
         let spot = self.spot(number);
         note(&mut self.notes, spot, none, &self.own[number], 0)
     }

@@ -1,7 +1,8 @@
 //! The labels and first rounds of a page, whose nodes have them from the nodes of another one.
-ghost use Rattle.std.specs.Prelude.{◌≡◌, ◌<◌, ◌++◌, ◌↔◌, ℕ, List, length, get_or, Contains, IsSome, IfOk, OnOk};
+ghost use Rattle.std.specs.Prelude.{◌≡◌, ◌<◌, ◌++◌, ◌↔◌, ℕ, List, map, length, get_or, Contains, IsSome, IfOk, OnOk};
 ghost use Rattle.tree_sem.specs.Trees.{LabelTree, count_of, node_at, label_at};
 ghost use Rattle.tree_sem.specs.Order.{paths_of};
+ghost use Rattle.node_marks.specs.Numbering.{IsNumbering};
 ghost use Rattle.row_index.specs.Rows.{row_of};
 ghost use Rattle.closed_page.specs.Firsts.{placed};
 ghost use Rattle.closed_page.specs.Labelled.{node_of};
@@ -13,6 +14,7 @@ use crate::first_rounds::Spot;
 use crate::notes::NodeNews;
 use crate::page_labels::PageLabels;
 use crate::shared_set::{SharedSet, shares_at};
+use node_marks::Columns;
 use row_index::Index;
 use std::alloc::Global;
 use tp_base::NoMemory;
@@ -134,9 +136,11 @@ fn spread_notes(
 fn spread_labels(
     alloc: Global,
     page: &Tree,
+    columns: Columns<'_>,
     numbers: &[usize],
     folded: &PageLabels,
 ) -> Result<PageLabels, NoMemory>
+    requires columns { IsNumbering page.now columns.parents.items columns.steps.items (map (λ b. b.now) columns.labels.items) }
     requires count { length numbers.now ≡ count_of page.now }
     requires within { (i : ℕ) → i < count_of page.now → get_or numbers.now i 0 < length folded.now.nodes }
     ensures nodes { IfOk result (λ l. l.nodes ≡ paths_of page.now) }
@@ -145,25 +149,27 @@ fn spread_labels(
 {
     let known = folded.all_own(alloc)?;
     let own = shares_at(alloc, &known, numbers)?;
-    let labels = PageLabels::with_own(alloc, page, own)?;
+    let labels = PageLabels::with_own(alloc, page, columns, own)?;
     Ok(labels)
 }
 
-/// The labels and first rounds of a page, of whose nodes each has those of the node with one of these numbers in another page.
-/// Linear in the nodes and the notes of both: each label and each set of atoms is shared, and the notes stand in the order of
-/// the nodes' parents, so that none has to be moved into its row.
+/// The labels and first rounds of a page, from its columns, of whose nodes each has those of the node with one of these numbers
+/// in another page. Linear in the nodes and the notes of both: each label and each set of atoms is shared, and the notes stand in
+/// the order of the nodes' parents, so that none has to be moved into its row.
 pub fn spread(
     alloc: Global,
     page: &Tree,
+    columns: Columns<'_>,
     numbers: &[usize],
     folded: PageLabels,
 ) -> Result<PageLabels, NoMemory>
+    requires columns { IsNumbering page.now columns.parents.items columns.steps.items (map (λ b. b.now) columns.labels.items) }
     requires count { length numbers.now ≡ count_of page.now }
     requires within { (i : ℕ) → i < count_of page.now → get_or numbers.now i 0 < length folded.nodes }
     requires nodes { (u : LabelTree) × (folded.nodes ≡ paths_of u) }
     ensures spread { IfOk result (λ l. IsSpread page.now numbers.now folded l) }
 {
-    let labels = spread_labels(alloc, page, numbers, &folded)?;
+    let labels = spread_labels(alloc, page, columns, numbers, &folded)?;
     let notes = spread_notes(alloc, &labels, numbers, &folded)?;
     Ok(labels.with_notes(notes))
 }

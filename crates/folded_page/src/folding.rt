@@ -1,24 +1,26 @@
 //! A page folded, where that is worth it.
-ghost use Rattle.std.specs.Prelude.{◌≤◌, length, IfOk, IfSome};
+ghost use Rattle.std.specs.Prelude.{◌≤◌, map, length, IfOk, IfSome};
+ghost use Rattle.node_marks.specs.Numbering.{IsNumbering};
 ghost use Rattle.folded_page.specs.Folding.{IsFolded};
 
 use crate::building::{Folded, built};
 use crate::leads::leads_of;
-use node_marks::NumberedTree;
+use node_marks::Columns;
 use std::alloc::Global;
 use tp_base::NoMemory;
 use tree_sem::Tree;
 
-/// The page folded, where that leaves at most half of its nodes; else nothing. Linear in the page's nodes and their atoms.
-pub fn folded(alloc: Global, page: &Tree) -> Result<Option<Folded>, NoMemory>
+/// The page folded, from its columns, where that leaves at most half of its nodes; else nothing. Linear in the page's nodes
+/// and their atoms.
+pub fn folded(alloc: Global, page: &Tree, columns: &Columns<'_>) -> Result<Option<Folded>, NoMemory>
+    requires { IsNumbering page.now columns.now.parents.items columns.now.steps.items (map (λ b. b.now) columns.now.labels.items) }
     ensures { IfOk result (λ o. IfSome o (λ f. IsFolded page.now f.tree f.numbers.items)) }
 {
-    let columns = NumberedTree::new(alloc, page)?.into_columns();
     let leads = leads_of(alloc, &columns.parents, &columns.labels)?;
     if own_leads(&leads) > leads.len() / 2 {
         return Ok(None);
     }
-    built(alloc, &columns, &leads)
+    built(alloc, columns, &leads)
 }
 
 // How many nodes are their own leads.

@@ -1,4 +1,5 @@
 use folded_page::{Folded, folded};
+use node_marks::NumberedTree;
 use std::alloc::Global;
 use std::test::Fail;
 use test_building::{NodeRow, tree_of};
@@ -43,8 +44,14 @@ fn has_numbers(made: &Folded) -> bool {
     true
 }
 
+// The page folded, where that is worth it.
+fn fold(alloc: Global, page: &Tree) -> Result<Option<Folded>, NoMemory> {
+    let columns = NumberedTree::new(alloc, page)?.into_columns();
+    folded(alloc, page, &columns)
+}
+
 fn folds(alloc: Global, page: &Tree) -> Result<bool, NoMemory> {
-    match folded(alloc, page)? {
+    match fold(alloc, page)? {
         None => Ok(false),
         Some(made) => Ok(has_numbers(&made)),
     }
@@ -54,7 +61,7 @@ fn folds(alloc: Global, page: &Tree) -> Result<bool, NoMemory> {
 fn folds_rows(alloc: Global) -> Result<bool, TreeFault> {
     let rows = folds(alloc, &tree_of(alloc, &[1], &ROWS)?)?;
     let others = tree_of(alloc, &[1], &OTHERS)?;
-    let none = folded(alloc, &others)?.is_none();
+    let none = fold(alloc, &others)?.is_none();
     Ok(rows && none)
 }
 

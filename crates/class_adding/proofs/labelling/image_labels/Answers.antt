@@ -1,17 +1,21 @@
 use Rattle.std.proofs.Common.{ℕ, List, ◌<◌, length, get_or, sym, subst}
 use Rattle.simple_core.specs.Pairs.{Asked}
 use Rattle.closed_page.specs.Spread.{IsSpread}
-use Rattle.class_adding.proofs.ClosingLemmas.{closes_on, closes_err, closes_refused, closes_alike}
+use Rattle.class_adding.proofs.ClosingLemmas.{closes_start, closes_on, closes_err, closes_refused, closes_alike}
 use Rattle.class_adding.proofs.FoldedLemmas.{asked_back, within_nodes, spread_nodes, spread_closed}
 use Rattle.class_adding.proofs.labelling.image_labels.Goals as goal
+
+pub returns-in_err-images-clause-went : goal.returns-in_err-images-clause-went
+returns-in_err-images-clause-went g c = closes_start g.S.Summaries c.args.system.now (Asked c.args.system.now c.args.page.now) c.from_residual.result c.args.sums.now c.from_residual.ensures.1 c.requires.may
 
 pub returns-in_err-labels-clause-went : goal.returns-in_err-labels-clause-went
 returns-in_err-labels-clause-went g c =
     let s = c.args.system.now in
     let u = c.args.folded.now.tree in
     let sums = c.last_labels.new.sums in
-    closes_alike g.S.Summaries s (Asked s u) (Asked s c.args.page.now) c.from_residual.result c.args.sums.now sums (asked_back s c.args.page.now u c.args.folded.now.numbers.items c.requires.folded)
-    (closes_err g.S.Summaries s (Asked s u) c.args.sums.now sums c.from_residual.result c.in_err-labels.field-0.0 c.from_residual.ensures.1 c.in_err-labels.ensures.went)
+    let result = c.from_residual-in_err-labels.result in
+    closes_alike g.S.Summaries s (Asked s u) (Asked s c.args.page.now) result c.args.sums.now sums (asked_back s c.args.page.now u c.args.folded.now.numbers.items c.requires.folded)
+    (closes_err g.S.Summaries s (Asked s u) c.args.sums.now sums result c.in_err-labels.field-0.0 c.from_residual-in_err-labels.ensures.1 c.in_err-labels.ensures.went)
 
 pub spread-requires-clause-within : goal.spread-requires-clause-within
 spread-requires-clause-within g c = λ i less.
