@@ -8,7 +8,7 @@
 use Rattle.std.proofs.Common.{◌≡◌, ◌↔◌, ℕ, zero, suc, ◌+◌, ◌-◌, ◌<◌, ◌≤◌, Bool, true, false, leb, ◌&&◌, List, [], ◌∷◌, ◌++◌, length, take, drop, find, get_or, Contains, Option, Some, None, IsSome, IsNone, is_some, option_map, unwrap_or, slice_get, inl, inr, refl, sym, ap, ◌∙◌, subst, arith}
 use Rattle.std.specs.List.{list_all, range_with_len}
 use Rattle.std.specs.List.Sorted.{IsStrictlyIncreasing}
-use Rattle.std.proofs.lemmas.Bool.{cases_Bool, cases_lt, leb-true, leb-false, false_from_ne_true}
+use Rattle.std.proofs.lemmas.Bool.{cases_Bool, cases_lt, leb-true, leb-false, both_ways, false_from_ne_true}
 use Rattle.std.proofs.lemmas.List.{take_all}
 use Rattle.std.proofs.lemmas.List.Elements.{Contains-append_cases, Contains-append_left, Contains-append_right}
 use Rattle.std.proofs.lemmas.Option.{slice_get-get_or}
@@ -16,7 +16,7 @@ use Rattle.tp_base.specs.Classes.{has_class, with_class, cut_to}
 use Rattle.tp_base.proofs.Rising.{All-from_Contains}
 use Rattle.tp_base.proofs.ClassLemmas.{has_class-Contains, Contains-has_class, Contains-with_class, IsStrictlyIncreasing-with_class, Contains-cut_to, IsStrictlyIncreasing-cut_to, same_members}
 use Rattle.tp_base.proofs.Lists.{take_suc, drop_at}
-use Rattle.tree_sem.specs.Trees.{LabelTree, node_at, children_at}
+use Rattle.tree_sem.specs.Trees.{LabelTree, node_at, children_at, label_at}
 use Rattle.tree_sem.specs.Paths.{parent_of}
 use Rattle.tree_sem.proofs.PathLemmas.{parent_of-take}
 use Rattle.simple_core.specs.declared.rules.Spawn.{Spawn}
@@ -31,7 +31,7 @@ use Rattle.simple_core.proofs.Members.{Among, Contains-range}
 use Rattle.simple_core.proofs.PageRest.{counted_child}
 use Rattle.simple_core.proofs.RestLemmas.{first_is}
 use Rattle.simple_core.proofs.RoundLemmas.{grown-rises, grown-one_more}
-use Rattle.simple_core.proofs.PageLemmas.{page-rises, page-one_more}
+use Rattle.simple_core.proofs.PageLemmas.{page-rises, page-one_more, is_closed}
 use Rattle.closed_page.specs.ClosedPages.{ClosedPage, IsClosedPage, round_of}
 use Rattle.closed_page.specs.FirstChildren.{came_by}
 use Rattle.closed_page.proofs.ChildLemmas.{range_agree}
@@ -75,6 +75,13 @@ module _ (s : System) (page : LabelTree) where
 
     pub node_never : None ≡ round_of c.firsts v a → false ≡ has_class a (page_round s page k v)
     node_never is = never_has (λ m. page_round s page m v) (page-one_more s page v) a k (subst (IsFirst (λ m. page_round s page m v) a) (sym is) (closed.firsts v a node))
+
+  -- what a closed label lacks comes in no round
+  pub closed_lacks : (c : ClosedPage) → IsClosedPage s page c → (v label : List ℕ) → label_at v c.labels ≡ Some label → (a k : ℕ) → has_class a label ≡ false → false ≡ has_class a (page_round s page k v)
+  closed_lacks c closed v label at a k none =
+      let own = page_round s page k v in
+      sym (false_from_ne_true (has_class a own) (λ has.
+      both_ways (has_class a label) none (has_class-Contains a label (is_closed s page v label (closed.closed v label at) a (k, Contains-has_class a own has)))))
 
   -- the least child that a closed page tells is the first of the page's that has the atom
   module _ (c : ClosedPage) (closed : IsClosedPage s page c) (v : List ℕ) (a k : ℕ) where

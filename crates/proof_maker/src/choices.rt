@@ -23,12 +23,13 @@ pub(crate) struct Found {
     pub(crate) below: ClassSet,
 }
 
-// A place in a round, and the visible part of its label then.
+// A place in a round, and the visible part of its label then, with the marks of that where they are worth it.
 #[derive(Clone, Copy)]
 struct Scene<'a> {
     place: &'a Place<'a>,
     round: u64,
     visible: &'a ClassSet,
+    marks: &'a Option<Marks>,
 }
 
 // A reason that is no spawn.
@@ -224,10 +225,12 @@ fn link_way<S: Summaries>(
         return Ok(Some(alone(alloc, Choice::Real(link as u64, child))));
     }
     let visible = visible_at(alloc, world, place, round)?;
+    let marks = marks_for(alloc, &visible, world.system.child.items().len())?;
     let scene = Scene {
         place,
         round,
         visible: &visible,
+        marks: &marks,
     };
     match added_child(world, &scene, from) {
         Some(spawn) => Ok(Some(Found {
@@ -237,6 +240,28 @@ fn link_way<S: Summaries>(
         None => Ok(None),
     }
 }
+
+// The marks of a set for so many looks, where they are worth it.
+fn marks_for(alloc: Global, set: &ClassSet, looks: usize) -> Result<Option<Marks>, NoMemory>
+    ensures { IfOk result (λ m. IfSome m (λ n. n ≡ set.now)) }
+{
+    if are_worth_marks(set, looks) {
+        Ok(Some(Marks::of(alloc, set)?))
+    } else {
+        Ok(None)
+    }
+}
+
+// Whether so many looks are worth the marks of a set, which are a byte for each number up to its largest atom.
+fn are_worth_marks(set: &ClassSet, looks: usize) -> bool {
+    match set.len() {
+        0 => false,
+        count => count <= looks && set.at(count - 1).0 as usize / NUMBERS_A_LOOK <= looks,
+    }
+}
+
+// How many bytes are filled in the time of one look.
+const NUMBERS_A_LOOK: usize = 64;
 
 fn real_child<S: Summaries>(
     world: &World<'_, S>,
@@ -262,6 +287,7 @@ fn added_child<S: Summaries>(world: &World<'_, S>, scene: &Scene<'_>, from: Atom
     requires place { IsPlace S.Summaries world.now scene.now.place.now }
     requires arrivals { HasArrivals world.now.system.now scene.now.place.now }
     requires visible { scene.now.visible.now ≡ visible_in world.now.system.now (labels_of world.now.system.now world.now.page.now scene.now.place.now scene.now.round) }
+    requires marks { IfSome scene.now.marks.now (λ m. m ≡ scene.now.visible.now) }
     ensures { result ≡ find (spawn_has world.now scene.now.place.now scene.now.round from) (range_with_len 0 (length world.now.system.now.child)) }
 {
     let spawns = world.system.child.items();
@@ -284,10 +310,11 @@ fn spawn_stands<S: Summaries>(
     requires ready { IsReady S.Summaries world.now }
     requires place { IsPlace S.Summaries world.now scene.now.place.now }
     requires visible { scene.now.visible.now ≡ visible_in world.now.system.now (labels_of world.now.system.now world.now.page.now scene.now.place.now scene.now.round) }
+    requires marks { IfSome scene.now.marks.now (λ m. m ≡ scene.now.visible.now) }
     requires listed { Contains world.now.system.now.child spawn.now }
     ensures { result ≡ (has_class spawn.now.needs (labels_of world.now.system.now world.now.page.now scene.now.place.now scene.now.round) && has_class from (grown world.now.system.now scene.now.round spawn.now.kind scene.now.visible.now)) }
 {
-    if lacks(world.marks, scene.visible, spawn.needs) {
+    if lacks(world.marks, scene, spawn.needs) {
         return false;
     }
     if !has(world, scene.place, spawn.needs, scene.round) {
@@ -297,12 +324,24 @@ fn spawn_stands<S: Summaries>(
 }
 
 // Whether the atom is a marked one that isn't among the atoms of a label that are marked.
-fn lacks(marks: &Marks, visible: &ClassSet, atom: Atom) -> bool
-    ensures { IsTrue result → (label : List ℕ) → visible.now ≡ cut_to marks.now label → has_class atom label ≡ false }
+fn lacks(marks: &Marks, scene: &Scene<'_>, atom: Atom) -> bool
+    requires marks { IfSome scene.now.marks.now (λ m. m ≡ scene.now.visible.now) }
+    ensures { IsTrue result → (label : List ℕ) → scene.now.visible.now ≡ cut_to marks.now label → has_class atom label ≡ false }
 {
     if marks.has(atom) {
-        !visible.has(atom)
+        !is_seen(scene, atom)
     } else {
         false
+    }
+}
+
+// Whether the visible part of the label has the atom.
+fn is_seen(scene: &Scene<'_>, atom: Atom) -> bool
+    requires marks { IfSome scene.now.marks.now (λ m. m ≡ scene.now.visible.now) }
+    ensures { result ≡ has_class atom scene.now.visible.now }
+{
+    match scene.marks {
+        Some(marks) => marks.has(atom),
+        None => scene.visible.has(atom),
     }
 }

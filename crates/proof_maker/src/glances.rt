@@ -12,7 +12,7 @@ use crate::choices::{chosen, looks_below};
 use crate::place_memo::PlaceMemo;
 use crate::worlds::{Place, World, first};
 use indexmap::IndexSet;
-use proof_needs::{Choice, TripleKey, path_of, set_of};
+use proof_needs::{Choice, TripleKey, path_of};
 use simple_core::Summaries;
 use std::alloc::Global;
 use tp_base::{Atom, ClassSet, NoMemory};
@@ -82,7 +82,7 @@ pub(crate) fn glance_added<S: Summaries>(
     ensures asking { OnOk result (KeepsAsking world.now.system.now (S.known world.now.sums.now)) }
     ensures memo { IsPlaceMemo world.now.system.now memo.new }
 {
-    let parent = set_of(alloc, &key.parent)?;
+    let parent = key.parent.copy()?;
     let entry = world.sums.entry(key.kind, &parent);
     let bare = Place::Added(key.kind, &parent, None, entry);
     let round = first(world, &bare, atom).unwrap_or(0);

@@ -70,12 +70,12 @@ fn enter_triple(
     triples: &mut IndexSet<TripleKey>,
     ties: &mut Vec<Tie>,
     kind: u32,
-    parent: &ClassSet,
+    parent: ClassSet,
     atom: Atom,
 ) -> Result<usize, NoMemory>
-    ensures { IfOk result (IsEntered (record { kind = kind; parent = parent.now; atom = atom }) (triples_in triples.old.keys) (triples_in triples.new.keys) ties.old.items ties.new.items) }
+    ensures { IfOk result (IsEntered (record { kind = kind; parent = parent; atom = atom }) (triples_in triples.old.keys) (triples_in triples.new.keys) ties.old.items ties.new.items) }
 {
-    let (number, new) = triple_number(alloc, triples, kind, parent, atom)?;
+    let (number, new) = triple_number(triples, kind, parent, atom)?;
     if new {
         ties.push(Tie {
             above: ClassSet::new(alloc),
@@ -90,15 +90,16 @@ fn enter(
     alloc: Global,
     needs: &mut Needs,
     system: &System,
-    glance: &Glance,
+    choice: Choice,
+    below: ClassSet,
 ) -> Result<Option<usize>, NoMemory>
-    ensures enters { IfOk result (Enters system.now glance.now.below (triples_in needs.old.triples.keys) (triples_in needs.new.triples.keys) needs.old.ties.items needs.new.ties.items glance.now.choice) }
+    ensures enters { IfOk result (Enters system.now below (triples_in needs.old.triples.keys) (triples_in needs.new.triples.keys) needs.old.ties.items needs.new.ties.items choice) }
     ensures nodes { needs.new.nodes ≡ needs.old.nodes }
     ensures wants { needs.new.wants ≡ needs.old.wants }
     ensures drafts { needs.new.drafts ≡ needs.old.drafts }
     ensures target { needs.new.target ≡ needs.old.target }
 {
-    match glance.choice {
+    match choice {
         Choice::Spawn(l, c) => {
             let kind = kind_at(system.child.items(), c);
             let from = from_of(system.down.items(), l as usize);
@@ -107,7 +108,7 @@ fn enter(
                 &mut needs.triples,
                 &mut needs.ties,
                 kind,
-                &glance.below,
+                below,
                 from,
             )?;
             Ok(Some(number))
@@ -135,7 +136,7 @@ fn look<S: Summaries>(
     let next = needs.drafts.len();
     let want = needs.wants.as_slice()[next];
     let glance = glance_at(alloc, needs, world, &want, memo)?;
-    let triple = enter(alloc, needs, world.system, &glance)?;
+    let triple = enter(alloc, needs, world.system, glance.choice, glance.below)?;
     let draft = Draft {
         round: glance.round,
         choice: glance.choice,

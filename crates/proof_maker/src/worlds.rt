@@ -1,7 +1,7 @@
 //! A closed page, and the places at which its labels are looked at.
-ghost use Rattle.std.specs.Prelude.{◌≡◌, IsSome, IfOk};
+ghost use Rattle.std.specs.Prelude.{◌≡◌, Some, IsSome, IfOk};
 ghost use Rattle.tp_base.specs.Classes.{has_class, all_among};
-ghost use Rattle.tree_sem.specs.Trees.{LabelTree, node_at};
+ghost use Rattle.tree_sem.specs.Trees.{LabelTree, node_at, label_at};
 ghost use Rattle.simple_core.specs.declared.system.System.{System};
 ghost use Rattle.simple_core.specs.Labels.{visible_in};
 ghost use Rattle.simple_core.specs.Rounds.{grown, IsFirst};
@@ -213,8 +213,54 @@ pub(crate) fn visible_at<S: Summaries>(
             Some(told) => told.arrivals.by(alloc, round),
             None => visible_now(alloc, world, place, round),
         },
-        Place::Node(_) => visible_now(alloc, world, place, round),
+        Place::Node(at) => match world.closed.label(at) {
+            Some(own) => visible_on(alloc, world, own, at, round),
+            None => visible_now(alloc, world, place, round),
+        },
     }
+}
+
+// Whether a node of the page with this closed label has the atom by the round.
+fn own_has<S: Summaries>(
+    world: &World<'_, S>,
+    own: &ClassSet,
+    at: &Path,
+    atom: Atom,
+    round: u64,
+) -> bool
+    requires ready { IsReady S.Summaries world.now }
+    requires own { label_at at.now world.now.closed.now.labels ≡ Some own.now }
+    requires node { IsSome (node_at at.now world.now.page.now) }
+    ensures { result ≡ has_class atom (page_round world.now.system.now world.now.page.now round at.now) }
+{
+    if !own.has(atom) {
+        return false;
+    }
+    node_has(world, at, atom, round)
+}
+
+// The visible part of the label in a round of a node of the page with this closed label, by a look-up for each visible atom
+// of that.
+fn visible_on<S: Summaries>(
+    alloc: Global,
+    world: &World<'_, S>,
+    own: &ClassSet,
+    at: &Path,
+    round: u64,
+) -> Result<ClassSet, NoMemory>
+    requires ready { IsReady S.Summaries world.now }
+    requires own { label_at at.now world.now.closed.now.labels ≡ Some own.now }
+    requires node { IsSome (node_at at.now world.now.page.now) }
+    ensures { IfOk result (λ l. l ≡ visible_in world.now.system.now (page_round world.now.system.now world.now.page.now round at.now)) }
+{
+    let mut label = ClassSet::new(alloc);
+    for i in 0..world.system.visible.len() {
+        let atom = world.system.visible.at(i);
+        if own_has(world, own, at, atom, round) {
+            label.add(atom)?;
+        }
+    }
+    Ok(label)
 }
 
 // The same, by a look-up for each visible atom.

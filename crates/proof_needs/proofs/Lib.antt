@@ -1,6 +1,5 @@
 pub mod SetLemmas
 pub mod KeyLemmas
-pub mod RisingLemmas
 pub mod SortLemmas
 pub mod OrderLemmas
 pub mod NumberLemmas

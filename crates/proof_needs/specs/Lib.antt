@@ -1,4 +1,5 @@
 -- What public contracts cite.
+pub mod Keys
 pub mod Choices
 pub mod Dealing
 pub mod Following

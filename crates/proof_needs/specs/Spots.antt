@@ -13,7 +13,7 @@ abbrev pub paths_in : List (Vec ℕ Global) → List (List ℕ)
 paths_in keys = map (λ k. k.items) keys
 
 abbrev pub triple_of : TripleKey → Triple
-triple_of k = record { kind = k.kind; parent = k.parent.items; atom = k.atom }
+triple_of k = record { kind = k.kind; parent = k.parent; atom = k.atom }
 
 abbrev pub triples_in : List TripleKey → List Triple
 triples_in keys = map triple_of keys
