@@ -15,6 +15,7 @@ pub mod Placing
 pub mod Numbering
 pub mod Keyed
 pub mod NumberedLemmas
+pub mod AskedLemmas
 pub mod KeyRuleLemmas
 pub mod NodeSets
 pub mod NumberSetLemmas

@@ -1,5 +1,6 @@
 -- What public contracts cite.
 pub mod AtomNumbers
+pub mod Asked
 pub mod Auxiliaries
 pub mod Firsts
 pub mod KeyRules

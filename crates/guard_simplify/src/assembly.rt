@@ -91,8 +91,7 @@ impl<'r> Counted<'r> {
         })
     }
 
-    /// The system and its seen atoms; nothing where too many atoms are visible. Linear in what is counted, but for the
-    /// look-ups.
+    /// The system and its seen atoms; nothing where too many are visible. Linear in what is counted, but for look-ups.
     pub(crate) fn assembled(&self, alloc: Global) -> Result<Option<Simplified>, NoMemory>
         ensures { IfOk result (λ o. o ≡ counted_visibly self.now) }
     {

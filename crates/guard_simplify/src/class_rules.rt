@@ -45,8 +45,7 @@ fn add_action(
 {
     match action {
         Action::Classes(classes) => add_classes(alloc, number, needs, classes, locals),
-        Action::Inside(_) => Ok(()),
-        Action::Beside(_) => Ok(()),
+        Action::Inside(_) | Action::Beside(_) => Ok(()),
     }
 }
 

@@ -5,10 +5,11 @@ ghost use Rattle.guard_simplify.specs.AtomNumbers.{HasAtoms, HasAtoms-prop};
 ghost use Rattle.guard_simplify.specs.Forests.{AreBelow};
 ghost use Rattle.guard_simplify.specs.declared.simplified.TheConstants.{MOST_RULES};
 
+use crate::asked::Asked;
 use crate::forest_nodes::{RuleForest, all_forests, all_nodes, all_owners};
 use crate::formulas::Formulas;
 use crate::node_numbers::NodeNumbers;
-use guard_sem::{Guard, Rule};
+use guard_sem::Rule;
 use std::alloc::Global;
 use tp_base::{MOST_ATOMS, NoMemory};
 
@@ -39,11 +40,12 @@ fn fits(formulas: usize, owners: usize, seen: usize) -> bool
 }
 
 impl<'r> Counted<'r> {
-    ghost use Rattle.std.specs.Prelude.{All, IfOk};
+    ghost use Rattle.std.specs.Prelude.{map, All, IfOk};
     ghost use Rattle.simple_core.specs.declared.system.TheConstants.{MOST_KINDS};
     ghost use Rattle.guard_simplify.specs.Auxiliaries.{places};
     ghost use Rattle.guard_simplify.specs.Law.{IsOver, IsRuleOver};
     ghost use Rattle.guard_simplify.specs.Counted.{IsCountedWithin};
+    ghost use Rattle.guard_simplify.specs.Asked.{asked_of};
 
     /// Numbers the formulas of the guards, the nodes of the forests, and what is seen, where the table has the atoms
     /// below `first`; nothing where there are too many atoms. Linear in the guards and the forests, but for the look-ups.
@@ -51,13 +53,13 @@ impl<'r> Counted<'r> {
         alloc: Global,
         first: u32,
         rules: &'r [Rule],
-        guards: &[Guard],
+        guards: &[Asked<'_>],
     ) -> Result<Option<Counted<'r>>, NoMemory>
         requires rules_over { All (IsRuleOver first) rules.now }
-        requires guards_over { All (IsOver first) guards.now }
+        requires guards_over { All (IsOver first) (map asked_of guards.now) }
         requires few_rules { length rules.now ≤ MOST_RULES }
         requires few_nodes { length (places rules.now) ≤ MOST_KINDS }
-        ensures { IfOk result (IsCountedWithin rules.now guards.now first) }
+        ensures { IfOk result (IsCountedWithin rules.now (map asked_of guards.now) first) }
     {
         let formulas = Formulas::new(alloc, first as usize, rules, guards)?;
         let forests = all_forests(alloc, rules)?;

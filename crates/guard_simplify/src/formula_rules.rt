@@ -36,9 +36,16 @@ fn set_of_parts(alloc: Global, parts: &[usize]) -> Result<ClassSet, NoMemory>
 pub(crate) fn set_of_one(alloc: Global, atom: Atom) -> Result<ClassSet, NoMemory>
     ensures { IfOk result (λ s. s ≡ set_of (atom ∷ [])) }
 {
-    let mut atoms = Vec::with_capacity(alloc, 1)?;
-    atoms.push(atom)?;
-    ClassSet::of(atoms)
+    ClassSet::of(vec![in alloc; atom]?)
+}
+
+// A rule that no statement stands behind, which gives the atom.
+fn give(locals: &mut Vec<Local>, needs: ClassSet, gives: Atom) -> Result<(), NoMemory>
+    ensures { OnOk result (locals.new.items ≡ locals.old.items ++ record { needs = needs; gives = gives; stmt = None } ∷ []) }
+{
+    let stmt = None;
+    locals.push(Local { needs, gives, stmt })?;
+    Ok(())
 }
 
 // Each part gives the atom.
@@ -52,12 +59,7 @@ fn give_each(
     ensures { OnOk result (locals.new.items ≡ locals.old.items ++ needing_each gives parts.now) }
 {
     'parts: for p in parts {
-        let needs = set_of_one(alloc, atom_of(*p))?;
-        locals.push(Local {
-            needs,
-            gives,
-            stmt: None,
-        })?;
+        give(locals, set_of_one(alloc, atom_of(*p))?, gives)?;
     }
     Ok(())
 }
@@ -73,30 +75,11 @@ fn give_locally(
     ensures { OnOk result (locals.new.items ≡ locals.old.items ++ key_locals gives (stored key.now)) }
 {
     match key.shape {
-        Shape::Always => {
-            let needs = ClassSet::new(alloc);
-            locals.push(Local {
-                needs,
-                gives,
-                stmt: None,
-            })?;
-            Ok(())
-        }
-        Shape::All => {
-            let needs = set_of_parts(alloc, key.parts.as_slice())?;
-            locals.push(Local {
-                needs,
-                gives,
-                stmt: None,
-            })?;
-            Ok(())
-        }
+        Shape::Always => give(locals, ClassSet::new(alloc), gives),
+        Shape::All => give(locals, set_of_parts(alloc, key.parts.as_slice())?, gives),
         Shape::Any => give_each(alloc, locals, key.parts.as_slice(), gives),
         Shape::Somewhere => give_each(alloc, locals, key.parts.as_slice(), gives),
-        Shape::Parent => Ok(()),
-        Shape::Ancestor => Ok(()),
-        Shape::Child => Ok(()),
-        Shape::Descendant => Ok(()),
+        Shape::Parent | Shape::Ancestor | Shape::Child | Shape::Descendant => Ok(()),
     }
 }
 
@@ -135,11 +118,7 @@ fn give_up(links: &mut Vec<Link>, to: Atom, key: &Key) -> Result<(), NoMemory>
             hand_on(links, to)
         }
         Shape::Somewhere => hand_on(links, to),
-        Shape::Always => Ok(()),
-        Shape::All => Ok(()),
-        Shape::Any => Ok(()),
-        Shape::Child => Ok(()),
-        Shape::Descendant => Ok(()),
+        Shape::Always | Shape::All | Shape::Any | Shape::Child | Shape::Descendant => Ok(()),
     }
 }
 
@@ -155,16 +134,11 @@ fn give_down(links: &mut Vec<Link>, gives: Atom, key: &Key) -> Result<(), NoMemo
             hand_on(links, gives)
         }
         Shape::Somewhere => hand_on(links, gives),
-        Shape::Always => Ok(()),
-        Shape::All => Ok(()),
-        Shape::Any => Ok(()),
-        Shape::Parent => Ok(()),
-        Shape::Ancestor => Ok(()),
+        Shape::Always | Shape::All | Shape::Any | Shape::Parent | Shape::Ancestor => Ok(()),
     }
 }
 
-/// The rules at one node that give the atoms of the formulas, whose numbers begin with `first`. Linear in
-/// the keys, but for the sets.
+/// The local rules that give the atoms of the formulas, which begin with `first`. Linear in the keys, but for the sets.
 pub fn locals_of(alloc: Global, first: u32, keys: &[Key]) -> Result<Vec<Local>, NoMemory>
     requires few { first + length keys.now ≤ MOST_ATOMS }
     requires parts { HaveAtomParts keys.now }

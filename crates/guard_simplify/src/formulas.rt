@@ -4,11 +4,13 @@ ghost use Rattle.guard_sem.specs.Guards.{guards_of};
 ghost use Rattle.guard_simplify.specs.Law.{IsOver, IsRuleOver};
 ghost use Rattle.guard_simplify.specs.Numbered.{AreNumbered};
 ghost use Rattle.guard_simplify.specs.Counted.{IsNumbering};
+ghost use Rattle.guard_simplify.specs.Asked.{asked_of};
 
-use crate::formula_numbers::{number, numbers};
+use crate::asked::{Asked, asked_numbers};
+use crate::formula_numbers::number;
 use crate::keys::Key;
 use crate::number_set::NumberSet;
-use guard_sem::{Guard, Rule};
+use guard_sem::Rule;
 use indexmap::IndexSet;
 use std::alloc::Global;
 use tp_base::NoMemory;
@@ -47,16 +49,16 @@ impl Formulas {
         alloc: Global,
         first: usize,
         rules: &[Rule],
-        guards: &[Guard],
+        guards: &[Asked<'_>],
     ) -> Result<Formulas, NoMemory>
         requires small { first < 2 ^ 32 }
         requires rules_over { All (IsRuleOver first) rules.now }
-        requires guards_over { All (IsOver first) guards.now }
-        ensures { IfOk result (λ f. IsNumbering rules.now guards.now first f) }
+        requires guards_over { All (IsOver first) (map asked_of guards.now) }
+        ensures { IfOk result (λ f. IsNumbering rules.now (map asked_of guards.now) first f) }
     {
         let mut keys = IndexSet::with_capacity(alloc, guards.len())?;
         let of_rules = rule_numbers(alloc, first, &mut keys, rules)?;
-        let of_guards = numbers(alloc, first, &mut keys, guards)?;
+        let of_guards = asked_numbers(alloc, first, &mut keys, guards)?;
         let seen = NumberSet::of(alloc, &of_guards)?;
         Ok(Formulas {
             keys,

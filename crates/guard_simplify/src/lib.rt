@@ -1,6 +1,7 @@
 //! Rules and guards, simplified to rules that look at one node and the one next to it.
 #![tactic(auto)]
 
+mod asked;
 mod assembly;
 mod class_rules;
 mod counting;
@@ -17,5 +18,6 @@ mod simplification;
 mod simplified;
 mod spawns;
 
-pub use simplification::{simplify, steps_agree};
+pub use asked::Asked;
+pub use simplification::{simplify, simplify_asked, steps_agree};
 pub use simplified::{MOST_RULES, MOST_VISIBLE, Simplified, SimplifyFault};

@@ -78,8 +78,7 @@ fn add(
 }
 
 impl NumberSet {
-    /// The different ones of these numbers, in the order in which they come first. Linear in the numbers and in the largest of
-    /// them.
+    /// The different ones of these numbers, in the order in which they come. Linear in them and in the largest.
     pub(crate) fn of(alloc: Global, all: &[usize]) -> Result<NumberSet, NoMemory>
         ensures { IfOk result (λ s. s ≡ different (λ x y. x == y) all.now) }
     {

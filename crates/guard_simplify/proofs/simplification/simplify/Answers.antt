@@ -1,28 +1,18 @@
-use Rattle.std.proofs.Common.{Option, length, ok_or, sym, subst, ap, ◌∙◌}
-use Rattle.guard_simplify.specs.declared.simplified.Simplified.{Simplified}
-use Rattle.guard_simplify.specs.declared.simplified.SimplifyFault.TheVariants.{TooManyVisible}
-use Rattle.guard_simplify.specs.Counted.{IsCountedWithin}
-use Rattle.guard_simplify.specs.Outcome.{simplified}
-use Rattle.guard_simplify.proofs.Outcomes.{err_gives, outcome_made, sound_made}
+use Rattle.std.proofs.Common.{◌≡◌, List, length, map, All, sym, subst, ap, ◌∙◌}
+use Rattle.guard_sem.specs.Guards.{Guard}
+use Rattle.guard_simplify.specs.Asked.{asked_of}
+use Rattle.guard_simplify.specs.Law.{IsOver}
+use Rattle.guard_simplify.specs.Outcome.{simplified, Gives}
+use Rattle.guard_simplify.proofs.Outcomes.{err_gives}
 use Rattle.guard_simplify.proofs.simplification.simplify.Goals as goal
 
-pub returns-in_err-made-clause-system : goal.returns-in_err-made-clause-system
-returns-in_err-made-clause-system c = err_gives c.from_residual-in_err-made.result (simplified c.args.rules.now c.args.guards.now (length c.args.atoms.now)) c.from_residual-in_err-made.ensures.1
+pub returns-in_err-asked-clause-system : goal.returns-in_err-asked-clause-system
+returns-in_err-asked-clause-system c = err_gives c.from_residual.result (simplified c.args.rules.now c.args.guards.now (length c.args.atoms.now)) c.from_residual.ensures.1
 
-pub returns-in_default-2-clause-system : goal.returns-in_default-2-clause-system
-returns-in_default-2-clause-system c =
-    let counted' = subst (IsCountedWithin c.args.rules.now c.args.guards.now c.count-first.result) c.in-Some.is c.in_ok-counted.ensures in
-    λ other. outcome_made c.args.rules.now c.args.guards.now (length c.args.atoms.now) c.in-Some.counted counted'.0 (counted'.1 ∙ c.count-first.ensures.count) counted'.2 c.in_ok-made.field-0 c.in_ok-made.ensures
-    ∙ ap (λ (z : Option Simplified). ok_or z TooManyVisible) c.in_default-2.is
+pub simplify_asked-requires-clause-guards_over : goal.simplify_asked-requires-clause-guards_over
+simplify_asked-requires-clause-guards_over c =
+    subst (λ (z : List Guard). All (IsOver (length c.args.atoms.now)) z) (sym (ap (map asked_of) c.deref.ensures.value ∙ c.in_ok-asked.ensures)) c.requires.guards_over
 
 pub returns-clause-system : goal.returns-clause-system
 returns-clause-system c =
-    let counted' = subst (IsCountedWithin c.args.rules.now c.args.guards.now c.count-first.result) c.in-Some.is c.in_ok-counted.ensures in
-    outcome_made c.args.rules.now c.args.guards.now (length c.args.atoms.now) c.in-Some.counted counted'.0 (counted'.1 ∙ c.count-first.ensures.count) counted'.2 c.in_ok-made.field-0 c.in_ok-made.ensures
-    ∙ ap (λ (z : Option Simplified). ok_or z TooManyVisible) c.in-Some-2.is
-
-pub returns-clause-sound : goal.returns-clause-sound
-returns-clause-sound c =
-    let counted' = subst (IsCountedWithin c.args.rules.now c.args.guards.now c.count-first.result) c.in-Some.is c.in_ok-counted.ensures in
-    sound_made c.args.rules.now c.args.guards.now (length c.args.atoms.now) c.in-Some.counted counted'.0 (counted'.1 ∙ c.count-first.ensures.count) counted'.2 c.requires.rules_over c.requires.guards_over c.requires.few_nodes
-    c.in-Some-2.made (sym c.in-Some-2.is ∙ c.in_ok-made.ensures)
+    subst (λ (z : List Guard). Gives c.simplify_asked.result (simplified c.args.rules.now z (length c.args.atoms.now))) (ap (map asked_of) c.deref.ensures.value ∙ c.in_ok-asked.ensures) c.simplify_asked.ensures.system

@@ -1,6 +1,7 @@
-use Rattle.std.proofs.Common.{◌+◌, ◌≤◌, length, refl, ap, ◌∙◌, arith}
+use Rattle.std.proofs.Common.{◌+◌, ◌≤◌, length, map, refl, ap, ◌∙◌, arith}
 use Rattle.std.specs.List.{flat_map}
 use Rattle.tp_base.specs.declared.atoms.TheConstants.{MOST_ATOMS}
+use Rattle.guard_simplify.specs.Asked.{asked_of}
 use Rattle.guard_simplify.specs.Firsts.{different}
 use Rattle.guard_simplify.specs.Auxiliaries.{same_place}
 use Rattle.guard_simplify.specs.Forests.{places_of, owners_of}
@@ -19,7 +20,7 @@ returns-then-not-fits c =
     let formulas' = c.len.ensures.len in
     let owners' = c.len-2.ensures.len in
     let seen' = c.len-3.ensures.len in
-    too_many c.args.rules.now c.in_ok-forests.forests.items c.in_ok-forests.ensures c.args.guards.now c.args.first c.in_ok-formulas.formulas c.in_ok-formulas.ensures c.in_ok-owners.owners.keys own c.fits.result
+    too_many c.args.rules.now c.in_ok-forests.forests.items c.in_ok-forests.ensures (map asked_of c.args.guards.now) c.args.first c.in_ok-formulas.formulas c.in_ok-formulas.ensures c.in_ok-owners.owners.keys own c.fits.result
     ((λ yes'. let few = c.fits.ensures.0 yes' in omega (arith, few, formulas', owners', seen')), (λ few. c.fits.ensures.1 (omega (arith, few, formulas', owners', seen')))) c.if-not-fits.true
 
 pub invariant_of-result : goal.invariant_of-result
@@ -41,11 +42,11 @@ invariant_of-result-2 c =
     let within' : c.args.first + length c.in_ok-formulas.formulas.keys.keys ≤ MOST_ATOMS = omega (arith, few, formulas') in
     record {
       few_rules = c.requires.few_rules;
-      each = as_many c.args.rules.now c.args.guards.now c.args.first c.in_ok-formulas.formulas c.in_ok-formulas.ensures;
+      each = as_many c.args.rules.now (map asked_of c.args.guards.now) c.args.first c.in_ok-formulas.formulas c.in_ok-formulas.ensures;
       below = are_below c.args.rules.now c.in_ok-forests.forests.items c.in_ok-forests.ensures;
       behind = ap (λ k. c.args.first + k) formulas';
       within = omega (arith, few, owners', seen');
-      atoms = has_atoms c.args.rules.now c.args.guards.now c.args.first c.in_ok-formulas.formulas c.in_ok-formulas.ensures within';
+      atoms = has_atoms c.args.rules.now (map asked_of c.args.guards.now) c.args.first c.in_ok-formulas.formulas c.in_ok-formulas.ensures within';
     }
 
 pub returns : goal.returns
