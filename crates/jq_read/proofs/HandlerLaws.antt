@@ -1,5 +1,5 @@
 -- No statement of a script has more handlers than brackets may be open, rule by rule: a handler's function stands in a bracket of its own.
-use Rattle.std.proofs.Common.{◌≡◌, ℕ, zero, suc, ◌+◌, ◌-◌, ◌<◌, ◌≤◌, ◌==◌, Bool, true, false, not, ◌&&◌, List, [], ◌∷◌, length, drop, Option, Some, None, codes, arith, length-append}
+use Rattle.std.proofs.Common.{◌≡◌, ℕ, zero, suc, ◌+◌, ◌-◌, ◌<◌, ◌≤◌, ◌==◌, Bool, true, false, not, ◌&&◌, List, [], ◌∷◌, length, drop, Option, Some, None, codes, refl, arith, length-append}
 use Rattle.std.specs.Prelude.{Ok, Err, IfOk, nat_le, nat_lt}
 use Rattle.std.specs.List.{AllByRecursion}
 use Rattle.std.proofs.lemmas.Result.{IfOk-at_ok}
@@ -34,7 +34,7 @@ use Rattle.jq_forms.specs.ListParts.{and_list, called_with}
 use Rattle.jq_read.specs.Chains.{several, listened, listening, listen_arguments, unchanged, at_least, arguments_of, and_stated, call, all_read, calls, chain}
 use Rattle.jq_read.specs.Statements.{Blocks, and_end, bracketed, start, ready, once, timer, named_function, declared_value, value_behind, one, more_ones, declaration, chain_statement, with_state, statement_as, is_branch, form_at, statement, closes, sequence, no_block, braces, block, is_bound}
 use Rattle.jq_words.specs.FreeLists.{free}
-use Rattle.jq_read.specs.Script.{at_top, nothing_read}
+use Rattle.jq_read.specs.Script.{at_top, nothing_read, script_of}
 use Rattle.jq_parts.proofs.TableLaws.{and_then}
 use Rattle.jq_read.proofs.ReadingLaws.{any_then, either, all_push}
 use Rattle.jq_read.proofs.LimitLaws.{length_of, IsIn, sequence_in, blocks_in, nothing_in}
@@ -365,3 +365,10 @@ all_counted exact text ws rest names g ss ds is =
     let short = sequence_in (block MOST_OPEN) (blocks_in MOST_OPEN) 0 false MOST_OPEN (at_top exact text ws) (nothing_read names) 0 ws (nothing_in names) in
     let counted = IfOk-at_ok (λ r. IsIn 0 r.0) is short in
     both ss (IfOk-at_ok (λ r. AreNested r.0) is nested) counted.short
+
+-- a file is read where its words are
+pub script_told : (exact : Bool) (text : List ℕ) (ws rest : List Word) (names left : List Named) (g : Grown) (ss told : List ExactStatement) (ds : List Declaration)
+    → sequence false (block MOST_OPEN) MOST_OPEN (at_top exact text ws) (nothing_read names) 0 ws ≡ Ok (record { grown = g; statements = ss; declarations = ds }, rest)
+    → told ≡ ss → left ≡ g.names → script_of exact text ws names ≡ Ok (told, left)
+unfolding script_of
+script_told exact text ws rest names left g ss told ds is same kept = rw (is, same, kept) refl
