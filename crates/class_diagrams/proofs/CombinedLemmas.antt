@@ -1,18 +1,20 @@
 -- An operation on two diagrams of an arena, by its parts.
-use Rattle.std.proofs.Common.{◌≡◌, ℕ, ◌+◌, ◌<◌, Bool, true, false, ◌&&◌, ◌||◌, List, Result, Ok, Err, IfOk, refl, sym, ap, subst, ◌∙◌}
+use Rattle.std.proofs.Common.{◌≡◌, ℕ, ◌+◌, ◌<◌, Bool, true, false, ◌&&◌, ◌||◌, List, Result, Ok, Err, IfOk, refl, sym, ap, subst, ◌∙◌, inl, inr}
 use Rattle.tp_base.specs.Classes.{has_class}
 use Rattle.tp_base.proofs.Truths.{cond_itself}
 use Rattle.class_diagrams.specs.declared.refs.Target.{Target}
 use Rattle.class_diagrams.specs.declared.memo.Operation.{Operation}
 use Rattle.class_diagrams.specs.declared.memo.Operation.TheVariants.{And, Or}
+use Rattle.class_diagrams.specs.declared.memo.Task.{Task}
 use Rattle.class_diagrams.specs.declared.table.Pair.TheVariants.{WithLeaf, Branches}
 use Rattle.class_diagrams.specs.declared.faults.DiagramFault.{DiagramFault}
 use Rattle.class_diagrams.specs.Trees.{Tree, leaf, eval, join, combine, tand, tor, variable, IsOrdered}
 use Rattle.class_diagrams.specs.Arena.{StartsWith, tree_at, IsIn, Arena, IsArena}
 use Rattle.class_diagrams.specs.Answers.{Gives}
 use Rattle.class_diagrams.specs.Memo.{tree_of, leaf_rule_of, IsRight}
+use Rattle.class_diagrams.specs.Tasks.{task_on, IsTaskOf}
 use Rattle.class_diagrams.specs.Pairs.{size, IsPair}
-use Rattle.class_diagrams.proofs.CombineLemmas.{IsOrdered-tand, IsOrdered-tor, eval-tand, eval-tor}
+use Rattle.class_diagrams.proofs.CombineLemmas.{and_rule, or_rule, IsOrdered-tand, IsOrdered-tor, eval-tand, eval-tor}
 use Rattle.class_diagrams.proofs.TreeLemmas.{same_where_agree}
 use Rattle.class_diagrams.proofs.ArenaLemmas.{tree_at-further, IsIn-further, IsOrdered-tree_at, gives_held}
 use Rattle.class_diagrams.proofs.AnswerLemmas.{gives_low_failed, gives_high_failed, gives_both}
@@ -41,12 +43,43 @@ eval-tree_of-itself Or t set = eval-tor t t set ∙ or_itself (eval t set)
 tree_of-itself : (o : Operation) (t : Tree) → IsOrdered t → tree_of o t t ≡ t
 tree_of-itself o t ok = same_where_agree (tree_of o t t) t (IsOrdered-tree_of o t t ok ok) ok (λ set rises. eval-tree_of-itself o t set)
 
+eval-tree_of-turned : (o : Operation) (t u : Tree) (set : List ℕ) → eval (tree_of o t u) set ≡ eval (tree_of o u t) set
+eval-tree_of-turned And t u set = eval-tand t u set ∙ and_rule.turned (eval t set) (eval u set) ∙ sym (eval-tand u t set)
+eval-tree_of-turned Or t u set = eval-tor t u set ∙ or_rule.turned (eval t set) (eval u set) ∙ sym (eval-tor u t set)
+
+tree_of-turned : (o : Operation) (t u : Tree) → IsOrdered t → IsOrdered u → tree_of o t u ≡ tree_of o u t
+tree_of-turned o t u ok u_ok =
+    same_where_agree (tree_of o t u) (tree_of o u t) (IsOrdered-tree_of o t u ok u_ok) (IsOrdered-tree_of o u t u_ok ok) (λ set rises. eval-tree_of-turned o t u set)
+
 -- the tree of an operation on two references
 abbrev pub tree_by : Operation → List Tree → Target → Target → Tree
 tree_by o ts f g = tree_of o (tree_at ts f) (tree_at ts g)
 
 tree_by-further : (o : Operation) (ts us : List Tree) (f g : Target) → StartsWith ts us → IsIn ts f → IsIn ts g → tree_by o us f g ≡ tree_by o ts f g
 tree_by-further o ts us f g first f_in g_in = rw (tree_at-further ts us f first f_in, tree_at-further ts us g first g_in) refl
+
+-- ### a task and its operation
+
+right_turned : (o : Operation) (a : Arena) (f g r : Target) → IsArena a → IsRight a (task_on o f g, r) → IsRight a (task_on o g f, r)
+right_turned o a f g r arena right = record {
+  first = right.second;
+  second = right.first;
+  result = right.result;
+  tree = right.tree ∙ tree_of-turned o (tree_at a.branches f) (tree_at a.branches g)
+      (IsOrdered-tree_at a.branches f arena.ordered right.first) (IsOrdered-tree_at a.branches g arena.ordered right.second);
+}
+
+pub operation_right : (o : Operation) (a : Arena) (f g r : Target) (s : Task) → IsArena a → IsTaskOf o f g s → IsRight a (s, r) → IsRight a (task_on o f g, r)
+operation_right o a f g r s arena of right = elim of.task [
+  | inl same ↦ subst (λ s. IsRight a (s, r)) same right
+  | inr turned ↦ right_turned o a g f r arena (subst (λ s. IsRight a (s, r)) turned right)
+]
+
+pub task_right : (o : Operation) (a : Arena) (f g r : Target) (s : Task) → IsArena a → IsTaskOf o f g s → IsRight a (task_on o f g, r) → IsRight a (s, r)
+task_right o a f g r s arena of right = elim of.task [
+  | inl same ↦ subst (λ s. IsRight a (s, r)) (sym same) right
+  | inr turned ↦ subst (λ s. IsRight a (s, r)) (sym turned) (right_turned o a f g r arena right)
+]
 
 module _ (o : Operation) (a : Arena) (f g : Target) (arena : IsArena a) where
   -- with a leaf
@@ -67,7 +100,7 @@ module _ (o : Operation) (a : Arena) (f g : Target) (arena : IsArena a) where
       subst (λ t. Gives a a t (Ok f)) same (gives_held a f arena f_in)
 
   -- remembered
-  pub gives_known : (r : Target) → IsRight a (record { operation = o; first = f; second = g }, r) → Gives a a (tree_by o a.branches f g) (Ok r)
+  pub gives_known : (r : Target) → IsRight a (task_on o f g, r) → Gives a a (tree_by o a.branches f g) (Ok r)
   gives_known r right = subst (λ t. Gives a a t (Ok r)) right.tree (gives_held a r arena right.result)
 
   module _ (atom : ℕ) (low high : Target × Target) (pair : IsPair a.branches f g (Branches atom low high)) where
@@ -146,7 +179,7 @@ module _ (o : Operation) (a : Arena) (f g low high : Target) (atom : ℕ) (arena
       (IsOrdered-tree_at a.branches f arena.ordered f_in) (IsOrdered-tree_at a.branches g arena.ordered g_in))
 
   pub parts_right : (b : Arena) (r : Target) → Gives a b (join atom (tree_at a.branches low) (tree_at a.branches high)) (Ok r)
-      → IsRight b (record { operation = o; first = f; second = g }, r)
+      → IsRight b (task_on o f g, r)
   parts_right b r gives = record {
     first = IsIn-further a.branches b.branches f gives.stays f_in;
     second = IsIn-further a.branches b.branches g gives.stays g_in;

@@ -1,7 +1,7 @@
 -- Sets of numbers as marks.
-use Rattle.std.proofs.Common.{◌≡◌, ℕ, zero, suc, ◌+◌, ◌<◌, ◌≤◌, Bool, true, false, eqb, ◌||◌, List, [], ◌∷◌, length, take, set, get_or, replicate, Some, slice_get, Contains, All, refl, sym, ap, subst, ◌∙◌, inl, inr, arith}
+use Rattle.std.proofs.Common.{◌≡◌, ℕ, zero, suc, ◌+◌, ◌-◌, ◌*◌, ◌/◌, ◌<◌, ◌≤◌, leb, Bool, true, false, eqb, ◌||◌, List, [], ◌∷◌, length, take, set, get_or, replicate, Some, slice_get, Contains, All, refl, sym, ap, subst, ◌∙◌, inl, inr, arith}
 use Rattle.std.specs.List.Sorted.{IsStrictlyIncreasing}
-use Rattle.std.proofs.lemmas.Bool.{eq-eqb, ne_eqb, cases_eq, cases_lt}
+use Rattle.std.proofs.lemmas.Bool.{eq-eqb, ne_eqb, cases_eq, cases_lt, leb-true, le-leb}
 use Rattle.std.proofs.lemmas.List.{get_or_default, get_or_past, get_or-replicate, get_or-set_same, get_or-set_other, length-replicate}
 use Rattle.std.proofs.lemmas.List.Folds.{list_any-append}
 use Rattle.std.proofs.lemmas.Option.{slice_get_within, get_or_from_slice_get}
@@ -54,6 +54,21 @@ all_below set i last rises past at = λ k d within.
     let less = slice_get_within set i last at in
     let le : get_or set k 0 ≤ get_or set i 0 = rises_between set rises k i (omega (arith, past, within)) less in
     subst (λ a. a < last + 1) (get_or_default set k 0 d within) (subst (λ m. get_or set k 0 < m + 1) (get_or_from_slice_get set i last 0 at) (omega (arith, le)))
+
+pub last_below : (set : List ℕ) (i last n : ℕ) → slice_get set i ≡ Some last → All (λ a. a < n) set → last + 1 ≤ n
+last_below set i last n at below_n =
+    let less = slice_get_within set i last at in
+    let is = get_or_from_slice_get set i last 0 at in
+    let under : get_or set i 0 < n = below_n i 0 less in
+    omega (arith, under, is)
+
+-- the numbers up to the largest atom are worth so many looks
+pub worth : (set : List ℕ) (looks numbers m : ℕ) → All (λ a. a < numbers) set → ((n : ℕ) → All (λ a. a < n) set → numbers ≤ n) → m ≡ numbers - 1
+    → (leb (m / 64) looks ≡ true → All (λ a. a < 64 * (looks + 1)) set) × (All (λ a. a < 64 * (looks + 1)) set → leb (m / 64) looks ≡ true)
+worth set looks numbers m all least is = (
+  λ yes. let le = leb-true (m / 64) looks yes in All-weaker (λ a. a < numbers) (λ a. a < 64 * (looks + 1)) (λ a less. omega (arith, less, is, le)) set all,
+  λ under. let le = least (64 * (looks + 1)) under in le-leb (m / 64) looks (omega (arith, le, is)),
+)
 
 pub none_marked : (n a : ℕ) → get_or (replicate n false) a false ≡ false
 none_marked n a = elim (cases_lt a n) [

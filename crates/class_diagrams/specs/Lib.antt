@@ -12,3 +12,4 @@ pub mod Marks
 pub mod Memo
 pub mod Pairs
 pub mod Starts
+pub mod Tasks

@@ -1,11 +1,11 @@
 //! Sets of atoms that diagrams are asked for.
-ghost use Rattle.std.specs.Prelude.{◌≡◌};
+ghost use Rattle.std.specs.Prelude.{◌≡◌, ◌↔◌, ◌<◌, ◌+◌, ◌*◌, IsTrue, All};
 ghost use Rattle.tp_base.specs.Classes.{has_class};
 ghost use Rattle.class_diagrams.specs.Trees.{eval};
 ghost use Rattle.class_diagrams.specs.Arena.{tree_at, IsIn};
 
 use crate::diagrams::Diagrams;
-use crate::marks::Marks;
+use crate::marks::{Marks, numbers_of};
 use crate::refs::Ref;
 use tp_base::{Atom, ClassSet};
 
@@ -13,7 +13,7 @@ use tp_base::{Atom, ClassSet};
 pub trait AtomSet {
     ghost use Rattle.std.specs.Prelude.{ℕ, List};
 
-    // Its atoms, as a list that rises.
+    // Its atoms, as a list.
     ghost atoms: { Self → List ℕ };
 
     /// Whether the atom is in the set.
@@ -50,13 +50,12 @@ impl AtomSet for Marks {
     }
 }
 
-/// Whether so many looks are worth the marks of a set, which are a byte for each number up to its largest atom.
-pub fn are_worth_marks(looks: usize, set: &ClassSet) -> bool {
-    match set.len() {
-        0 => false,
-        count => set.at(count - 1).0 as usize / NUMBERS_A_LOOK <= looks,
-    }
+/// Whether so many looks are worth the marks of a set, which are a byte for each number up to its largest atom. Constant.
+pub fn are_worth_marks(looks: usize, set: &ClassSet) -> bool
+    ensures { IsTrue result ↔ All (λ a. a < 64 * (looks + 1)) set.now }
+{
+    numbers_of(set).saturating_sub(1) / NUMBERS_A_LOOK <= looks
 }
 
-// How many bytes are filled in the time of one look.
+// How many bytes are filled in the time of one look; the same number as in the contract.
 const NUMBERS_A_LOOK: usize = 64;

@@ -6,7 +6,7 @@ ghost use Rattle.class_diagrams.specs.References.{leaf_reference};
 ghost use Rattle.class_diagrams.specs.Trees.{Tree, leaf, branch, join, eval, variable, AgreeOnAllSets, IsLeaf};
 ghost use Rattle.class_diagrams.specs.Arena.{tree_at, IsIn, IsArena, StartsWith};
 ghost use Rattle.class_diagrams.specs.Answers.{Gives, and_of, or_of, held_with};
-ghost use Rattle.class_diagrams.specs.Gates.{IsGate};
+ghost use Rattle.class_diagrams.specs.Gates.{IsGate, EndsInFalse};
 ghost use Rattle.class_diagrams.specs.Memo.{tree_of, leaf_rule_of};
 ghost use Rattle.class_diagrams.specs.Starts.{IsStart};
 
@@ -130,7 +130,8 @@ impl Diagrams {
     /// most. Constant.
     pub fn gate(&self, f: Ref) -> Option<(Atom, Atom)>
         requires { IsIn self.now.branches f }
-        ensures { IfSome result (λ g. IsGate g.0 g.1 (tree_at self.now.branches f)) }
+        ensures some { IfSome result (λ g. IsGate g.0 g.1 (tree_at self.now.branches f)) }
+        ensures none { IsNone result → ¬ EndsInFalse (tree_at self.now.branches f) }
     {
         let (first, low, _) = self.branch(f)?;
         match self.branch(low) {
@@ -235,7 +236,7 @@ impl Diagrams {
         let joined = self
             .table
             .join(atom, Diagrams::leaf(false), Diagrams::leaf(true))?;
-        self.variables.note(atom, joined);
+        let _ = self.variables.note(atom, joined);
         Ok(joined)
     }
 
@@ -294,12 +295,7 @@ impl Diagrams {
         match self.table.pair(f, g) {
             Pair::WithLeaf { value, other } => Start::Known(with_leaf(operation, value, other)),
             Pair::Branches { atom, low, high } => {
-                let task = Task {
-                    operation,
-                    first: f,
-                    second: g,
-                };
-                match self.memo.recall(&task) {
+                match self.memo.recall(&Task::of(operation, f, g)) {
                     Some(known) => Start::Known(known),
                     None => Start::Parts { atom, low, high },
                 }
@@ -327,14 +323,7 @@ impl Diagrams {
         ensures { Gives self.old self.new (tree_of operation (tree_at self.old.branches f) (tree_at self.old.branches g)) result }
     {
         let joined = self.table.join(atom, low, high)?;
-        self.memo.note(
-            Task {
-                operation,
-                first: f,
-                second: g,
-            },
-            joined,
-        );
+        self.memo.note(Task::of(operation, f, g), joined);
         Ok(joined)
     }
 }
@@ -343,6 +332,7 @@ impl Diagrams {
 fn gate_before(first: Atom, second: Atom, rest: Ref) -> Option<(Atom, Atom)>
     ensures atoms { IfSome result (λ g. (g.0 ≡ first) × (g.1 ≡ second)) }
     ensures rest { IfSome result (λ g. rest ≡ leaf_reference false) }
+    ensures none { IsNone result → ¬ (rest ≡ leaf_reference false) }
 {
     if rest.is(Diagrams::leaf(false)) {
         Some((first, second))

@@ -1,5 +1,5 @@
 //! A mark for each atom of a set.
-ghost use Rattle.std.specs.Prelude.{◌≡◌, ◌<◌, false, get_or, All, IfOk};
+ghost use Rattle.std.specs.Prelude.{◌≡◌, ◌<◌, ◌≤◌, ℕ, false, get_or, All, IfOk};
 ghost use Rattle.tp_base.specs.Classes.{has_class};
 
 use std::alloc::Global;
@@ -53,9 +53,10 @@ fn mark_at(marks: &[bool], number: usize) -> bool
     }
 }
 
-// How many numbers there are up to the largest atom of the set.
-fn numbers_of(set: &ClassSet) -> usize
-    ensures { All (λ a. a < result) set.now }
+/// How many numbers there are up to the largest atom of the set. Constant.
+pub(crate) fn numbers_of(set: &ClassSet) -> usize
+    ensures all { All (λ a. a < result) set.now }
+    ensures least { (n : ℕ) → All (λ a. a < n) set.now → result ≤ n }
 {
     match set.len() {
         0 => 0,

@@ -1,5 +1,6 @@
 //! The variables of atoms that were made.
-ghost use Rattle.std.specs.Prelude.{◌≡◌, ◌⊎◌, ℕ, [], None, Some, get_or};
+ghost use Rattle.std.specs.Prelude.{◌≡◌, ◌≢◌, ◌<◌, ◌⊎◌, ℕ, [], None, Some, length, get_or, OnOk};
+ghost use Rattle.tp_base.specs.declared.atoms.TheConstants.{MOST_ATOMS};
 ghost use Rattle.class_diagrams.specs.declared.refs.Target.{Target};
 
 use crate::refs::Ref;
@@ -34,7 +35,9 @@ fn noted_at(places: &[Option<Ref>], number: usize) -> Option<Ref>
 
 // Puts a reference in its place, if there is one.
 fn put(places: &mut Vec<Option<Ref>>, number: usize, variable: Ref)
-    ensures { (n : ℕ) (f : Target) → get_or places.new.items n None ≡ Some f → ((n ≡ number) × (f ≡ variable)) ⊎ (get_or places.old.items n None ≡ Some f) }
+    ensures here { number < length places.old.items → get_or places.new.items number None ≡ Some variable }
+    ensures others { (n : ℕ) → n ≢ number → get_or places.new.items n None ≡ get_or places.old.items n None }
+    ensures only { (n : ℕ) (f : Target) → get_or places.new.items n None ≡ Some f → ((n ≡ number) × (f ≡ variable)) ⊎ (get_or places.old.items n None ≡ Some f) }
 {
     if number < places.len() {
         places[number] = Some(variable);
@@ -59,7 +62,8 @@ impl Variables {
 
     // Makes a place for the atom of this number, if there can be such an atom.
     fn reach(&mut self, number: usize) -> Result<(), NoMemory>
-        ensures { (n : ℕ) → get_or self.new n None ≡ get_or self.old n None }
+        ensures there { OnOk result (number < MOST_ATOMS → number < length self.new) }
+        ensures same { (n : ℕ) → get_or self.new n None ≡ get_or self.old n None }
     {
         if number >= MOST_ATOMS as usize {
             return Ok(());
@@ -70,12 +74,15 @@ impl Variables {
         Ok(())
     }
 
-    /// Notes the variable of an atom, unless memory is wanting. Linear in the atom's number, where it is the largest so far.
-    pub(crate) fn note(&mut self, atom: Atom, variable: Ref)
-        ensures { (n : ℕ) (f : Target) → get_or self.new n None ≡ Some f → ((n ≡ atom) × (f ≡ variable)) ⊎ (get_or self.old n None ≡ Some f) }
+    /// Notes the variable of an atom, if there can be such an atom. Linear in the atom's number, where it is the largest so far.
+    pub(crate) fn note(&mut self, atom: Atom, variable: Ref) -> Result<(), NoMemory>
+        ensures noted { OnOk result (atom < MOST_ATOMS → get_or self.new atom None ≡ Some variable) }
+        ensures others { (n : ℕ) → n ≢ atom → get_or self.new n None ≡ get_or self.old n None }
+        ensures only { (n : ℕ) (f : Target) → get_or self.new n None ≡ Some f → ((n ≡ atom) × (f ≡ variable)) ⊎ (get_or self.old n None ≡ Some f) }
     {
         let number = atom.0 as usize;
-        let _ = self.reach(number);
+        self.reach(number)?;
         put(&mut self.places, number, variable);
+        Ok(())
     }
 }

@@ -1,7 +1,7 @@
 use Rattle.std.proofs.Common.{refl, sym, subst}
 use Rattle.class_diagrams.specs.Starts.{IsStart}
 use Rattle.class_diagrams.proofs.Remembering.{remembering_fewer}
-use Rattle.class_diagrams.proofs.CombinedLemmas.{gives_leaf, gives_itself, gives_known}
+use Rattle.class_diagrams.proofs.CombinedLemmas.{gives_leaf, gives_itself, gives_known, operation_right}
 use Rattle.class_diagrams.proofs.diagrams.Diagrams.start.Goals as goal
 use Rattle.class_diagrams.proofs.diagrams.Diagrams.start.Goals.{in-Some, in-None}
 
@@ -17,7 +17,8 @@ returns-in-WithLeaf-clause-start c = rw (← c.self.view_is)
 pub returns-after-recall-clause-start : goal.returns-after-recall-clause-start
 returns-after-recall-clause-start c = elim c.match-recall.branch [
   | in-Some w ↦ subst (IsStart c.args.operation c.self.inside.table c.args.f c.args.g) (sym w.result-is)
-      (gives_known c.args.operation c.self.inside.table c.args.f c.args.g c.self.invariant.arena w.in-Some.known (c.self.invariant.right _ w.in-Some.ensures.known))
+      (gives_known c.args.operation c.self.inside.table c.args.f c.args.g c.self.invariant.arena w.in-Some.known
+      (operation_right c.args.operation c.self.inside.table c.args.f c.args.g w.in-Some.known c.of.result c.self.invariant.arena c.of.ensures (c.self.invariant.right _ w.in-Some.ensures.known)))
   | in-None w ↦ subst (IsStart c.args.operation c.self.inside.table c.args.f c.args.g) (sym w.result-is) c.in-Branches.ensures
 ]
 
