@@ -21,7 +21,8 @@ use Rattle.tp_base.proofs.Rising.{rises_between, rises_head, rises_tail, Contain
 use Rattle.class_diagrams.specs.References.{Reference, leaf_reference}
 use Rattle.pushdown_sym.specs.declared.cells.CellKey.{CellKey}
 use Rattle.pushdown_sym.specs.CellMap.{Entries, place_in}
-use Rattle.pushdown_sym.specs.CellRows.{KindRow, kinds_of, diagram_in, AreNoted, IsAt, IsGapOf, row_at, entry_of, entries_from, entries_of}
+use Rattle.row_index.specs.Rows.{row_of}
+use Rattle.pushdown_sym.specs.CellRows.{KindRow, kinds_of, diagram_in, AreNoted, IsAt, IsGapOf, entry_of, entries_from, entries_of}
 
 -- ### one row
 
@@ -286,14 +287,14 @@ at_atom (row ∷ rows) b (suc n) j a is =
     in_other j a b (λ same. omega (arith, is, same)) row (entries_from (suc b) rows) ∙ at_atom rows (suc b) n j a (omega (arith, is))
 
 -- a cell stands in its atom's row
-pub place_is : (rows : List KindRow) (j a : ℕ) → place_in (entries_of rows) j a ≡ diagram_in (row_at rows a) j
+pub place_is : (rows : List KindRow) (j a : ℕ) → place_in (entries_of rows) j a ≡ diagram_in (row_of rows a) j
 place_is rows j a = ap (λ (o : Option Reference). unwrap_or o (leaf_reference false)) (at_atom rows 0 a j a (omega arith))
 
 -- a row in its place
 pub row_is : (rows : List KindRow) (view : Entries) (n a : ℕ) (row : KindRow) → entries_of rows ≡ view → n ≡ a → n < length rows → row ≡ get_or rows n row
     → (j : ℕ) → diagram_in row j ≡ place_in view j a
 row_is rows view n a row same number within is j =
-    ap (λ (r : KindRow). diagram_in r j) (is ∙ get_or_default rows n row [] within ∙ ap (row_at rows) number) ∙ sym (place_is rows j a) ∙ ap (λ (es : Entries). place_in es j a) same
+    ap (λ (r : KindRow). diagram_in r j) (is ∙ get_or_default rows n row [] within ∙ ap (row_of rows) number) ∙ sym (place_is rows j a) ∙ ap (λ (es : Entries). place_in es j a) same
 
 -- what is read of a row
 pub row_read : (rows : List KindRow) (view : Entries) (n a : ℕ) (row : KindRow) → entries_of rows ≡ view → n ≡ a → true ≡ ltb n (length rows) → row ≡ get_or rows n row
@@ -304,7 +305,7 @@ row_read rows view n a row same number inside is j = row_is rows view n a row sa
 pub row_past : (rows : List KindRow) (view : Entries) (n a : ℕ) → entries_of rows ≡ view → n ≡ a → false ≡ ltb n (length rows)
     → (j : ℕ) → leaf_reference false ≡ place_in view j a
 row_past rows view n a same number past j =
-    ap (λ (r : KindRow). diagram_in r j) (sym (get_or_past rows n [] (ltb-false n (length rows) (sym past))) ∙ ap (row_at rows) number) ∙ sym (place_is rows j a) ∙ ap (λ (es : Entries). place_in es j a) same
+    ap (λ (r : KindRow). diagram_in r j) (sym (get_or_past rows n [] (ltb-false n (length rows) (sym past))) ∙ ap (row_of rows) number) ∙ sym (place_is rows j a) ∙ ap (λ (es : Entries). place_in es j a) same
 
 longer_from : (rows : List KindRow) (b : ℕ) → entries_from b (rows ++ [] ∷ []) ≡ entries_from b rows
 longer_from [] b = refl
@@ -324,14 +325,14 @@ neither false c fails p q = refl
 
 -- one row changed at one kind
 place_set : (rows : List KindRow) (atom kind : ℕ) (to : Reference) (new : KindRow) → atom < length rows
-    → ((j : ℕ) → diagram_in new j ≡ (if kind == j then to else diagram_in (row_at rows atom) j))
+    → ((j : ℕ) → diagram_in new j ≡ (if kind == j then to else diagram_in (row_of rows atom) j))
     → (j a : ℕ) → place_in (entries_of (set rows atom new)) j a ≡ (if (kind == j) && (atom == a) then to else place_in (entries_of rows) j a)
 place_set rows atom kind to new within is j a = place_is (set rows atom new) j a ∙ elim (cases_Bool (eqb atom a)) [
   | inl here ↦
       let same : atom ≡ a = eqb-true atom a here in
-      let row : row_at (set rows atom new) a ≡ new = ap (row_at (set rows atom new)) (sym same) ∙ get_or-set_same rows atom new [] within in
+      let row : row_of (set rows atom new) a ≡ new = ap (row_of (set rows atom new)) (sym same) ∙ get_or-set_same rows atom new [] within in
       ap (λ (r : KindRow). diagram_in r j) row ∙ is j
-      ∙ (λ n. if kind == j then to else diagram_in (row_at rows (same n)) j)
+      ∙ (λ n. if kind == j then to else diagram_in (row_of rows (same n)) j)
       ∙ (λ n. if kind == j then to else sym (place_is rows j a) n)
       ∙ both (eqb kind j) (eqb atom a) here to (place_in (entries_of rows) j a)
   | inr other ↦

@@ -141,10 +141,6 @@ adds_failed_first a b start ts us e arena failed =
     (disjunction (tree_at a.branches start) (ts ++ us)) e
     (disjunctions_first (tree_at a.branches start) ts us) (brings_itself a (disjunctions (tree_at a.branches start) (ts ++ us)) arena) failed
 
--- the terms of the same rules
-pub adds_same : {X : Type 0} (f : X → List Term) (xs ys : List X) (a b : Arena) (start : Reference) (r : Result Reference DiagramFault) → xs ≡ ys → Adds a b start (flat_map f xs) r → Adds a b start (flat_map f ys) r
-adds_same {X} f xs ys a b start r same adds = subst (λ (zs : List X). Adds a b start (flat_map f zs) r) same adds
-
 -- ### the whole cell
 
 module _ (s : System) (cells : Entries) (j a : ℕ) (old : Arena) (start : Reference) (is : start ≡ place_in cells j a) (arena : IsArena old) where

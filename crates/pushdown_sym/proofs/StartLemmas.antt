@@ -23,6 +23,22 @@ pub no_of_not : (b : Bool) → not b ≡ true → b ≡ false
 no_of_not true passes = let wrong : false ≡ true = passes in cc
 no_of_not false passes = refl
 
+pub yes_of_not : (b : Bool) → not b ≡ false → b ≡ true
+yes_of_not true fails = refl
+yes_of_not false fails = let wrong : true ≡ false = fails in cc
+
+-- a place that is none: the atom before it is not less, or the one at it is
+pub not_behind : (n : ℕ) (atoms : List ℕ) (place : ℕ) → ((k : ℕ) × (place ≡ suc k) × (k < length atoms → n ≤ get_or atoms k 0)) → place ≤ length atoms → ¬ StartsAt n atoms place
+not_behind n atoms place last within starts =
+    let le = last.2 (omega (arith, within, last.1)) in
+    let less = ltb-true (get_or atoms last.0 0) n (starts.0 last.0 0 (omega arith) (omega (arith, last.1))) in
+    absurd (omega (arith, less, le))
+
+pub not_parted : (n : ℕ) (atoms : List ℕ) (place : ℕ) → (place < length atoms) × (get_or atoms place 0 < n) → ¬ StartsAt n atoms place
+not_parted n atoms place there starts =
+    let le = ltb-false (get_or atoms place 0) n (starts.1 place 0 (omega arith) there.0) in
+    absurd (omega (arith, le, there.1))
+
 -- the atom before a place is less, and the one at it is not
 parted_within : (n : ℕ) (atoms : List ℕ) (place : ℕ) → ((k : ℕ) → place ≡ suc k → (k < length atoms) × (get_or atoms k 0 < n)) → place ≤ length atoms
 parted_within n atoms zero last = omega arith

@@ -34,10 +34,6 @@ pub record IsGapOf (row : KindRow) (j i : ℕ) : Type 0 where
   pub smaller : (k : ℕ) → k < i → get_or (kinds_of row) k 0 < j
   pub greater : (k : ℕ) → i ≤ k → k < length row → j < get_or (kinds_of row) k 0
 
--- the row of an atom, with no kind where there is none
-abbrev pub row_at : List KindRow → ℕ → KindRow
-row_at rows a = get_or rows a []
-
 -- a cell of an atom's row, with its kind and atom
 abbrev pub entry_of : ℕ → ℕ × Reference → CellKey × Reference
 entry_of a e = (record { kind = e.0; atom = a }, e.1)

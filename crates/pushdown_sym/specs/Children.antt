@@ -10,9 +10,7 @@ use Rattle.std.specs.List.{flat_map}
 use Rattle.std.specs.Map.{lookup}
 use Rattle.indexmap.specs.IndexSet.{insert_key}
 use Rattle.class_diagrams.specs.Numbers.{number_of}
-use Rattle.class_diagrams.specs.Trees.{Tree, tand}
-use Rattle.class_diagrams.specs.Arena.{tree_at}
-use Rattle.diagram_ops.specs.Compositions.{tcompose, inner_results}
+use Rattle.class_diagrams.specs.Trees.{Tree}
 use Rattle.simple_core.specs.declared.rules.Link.{Link}
 use Rattle.simple_core.specs.declared.rules.Spawn.{Spawn}
 use Rattle.simple_core.specs.declared.system.System.{System}
@@ -20,6 +18,7 @@ use Rattle.pushdown_sym.specs.declared.gathering.Child.{Child}
 use Rattle.pushdown_sym.specs.CellMap.{Entries, place_in, trees_in, is_false, may_have}
 use Rattle.pushdown_sym.specs.Givers.{of_place}
 use Rattle.pushdown_sym.specs.Terms.{Term}
+use Rattle.pushdown_sym.specs.Adding.{term_at}
 
 abbrev pub child_by : Entries → Link → Spawn → Child
 child_by cells l c = record { needs = c.needs; diagram = place_in cells c.kind l.from }
@@ -66,10 +65,7 @@ DoServe s cells j a children = beneath cells j children ≡ beneath cells j (dif
 
 -- the child's diagram under the label of the node
 abbrev pub term_of : List Tree → Entries → ℕ → Child → Term
-term_of branches cells j c = record {
-  tree = tand (trees_in branches cells j c.needs) (tcompose (tree_at branches c.diagram) (trees_in branches cells j));
-  before = trees_in branches cells j c.needs ∷ inner_results (tree_at branches c.diagram) (trees_in branches cells j);
-}
+term_of branches cells j c = term_at branches (place_in cells j c.needs) c.diagram (trees_in branches cells j)
 
 -- the same, of a child that there may be
 abbrev pub terms_by : List Tree → Entries → ℕ → Child → List Term

@@ -29,7 +29,7 @@ impl Model for Row {
     ghost invariant = { λ r. AreNoted r.cells.items r.kinds.items };
 }
 
-// Whether a kind stands at a place.
+// Whether a kind stands at a place. A no costs time alone.
 fn is_at(cells: &[(u32, Ref)], place: usize, kind: u32) -> bool
     ensures { result ≡ true → IsAt cells.now kind place }
 {
@@ -39,7 +39,7 @@ fn is_at(cells: &[(u32, Ref)], place: usize, kind: u32) -> bool
     }
 }
 
-// Whether a kind is greater than all.
+// Whether a kind is greater than all. A no costs time alone.
 fn is_behind(cells: &[(u32, Ref)], kind: u32) -> bool
     requires { IsStrictlyIncreasing (kinds_of cells.now) }
     ensures { result ≡ true → IsGapOf cells.now kind (length cells.now) }
@@ -50,7 +50,7 @@ fn is_behind(cells: &[(u32, Ref)], kind: u32) -> bool
     }
 }
 
-// Where a kind stands if the kinds are spread evenly.
+// Where a kind stands if the kinds are spread evenly. A place where it doesn't stand costs time alone.
 fn even_place(cells: &[(u32, Ref)], kind: u32) -> usize {
     let Some(first) = cells.first() else {
         return 0;

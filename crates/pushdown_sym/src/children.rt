@@ -1,7 +1,8 @@
 //! What a node gets from its children.
-ghost use Rattle.std.specs.Prelude.{◌≡◌, true, [], ◌∷◌, All, map, IfOk};
+ghost use Rattle.std.specs.Prelude.{◌≡◌, ◌<◌, ◌≤◌, true, false, [], ◌∷◌, All, map, IfOk};
 ghost use Rattle.std.specs.List.{flat_map};
 ghost use Rattle.std.specs.List.Sorted.{IsStrictlyIncreasing};
+ghost use Rattle.class_diagrams.specs.Pairs.{size};
 ghost use Rattle.class_diagrams.specs.Arena.{tree_at, IsIn, IsArena};
 ghost use Rattle.diagram_ops.specs.Compositions.{atoms_of, tcompose, inner_results};
 ghost use Rattle.diagram_ops.specs.Steps.{Calculates, joined_tree, joined_results};
@@ -51,12 +52,12 @@ fn joined(d: &mut Diagrams, put: Ref, low: Ref, high: Ref) -> Result<Ref, Diagra
     d.or(low, both)
 }
 
-// A child's diagram with the diagrams of a node in the place of the atoms that it sees, where nothing is remembered: for small
-// ones.
+// A small child's diagram with the diagrams of a node in the place of the atoms that it sees. Nothing is remembered.
 fn composed(d: &mut Diagrams, now: &Cells, kind: u32, f: Ref) -> Result<Ref, DiagramFault>
     requires inside { AreIn d.old.branches now.now }
     requires first { IsIn d.old.branches f }
     requires arena { IsArena d.old }
+    requires small { size (tree_at d.old.branches f) ≤ 7 }
     ensures { Calculates d.old d.new (inner_results (tree_at d.old.branches f) (trees_in d.old.branches now.now kind)) (tcompose (tree_at d.old.branches f) (trees_in d.old.branches now.now kind)) result }
 {
     match d.branch(f) {
@@ -70,9 +71,11 @@ fn composed(d: &mut Diagrams, now: &Cells, kind: u32, f: Ref) -> Result<Ref, Dia
     }
 }
 
-// Whether a diagram has one branch at most.
+// Whether a diagram has one branch at most, which makes three with its leaves.
 fn has_one(d: &Diagrams, f: Ref) -> bool
     requires { IsIn d.now.branches f }
+    ensures one { result ≡ true → size (tree_at d.now.branches f) ≤ 3 }
+    ensures more { result ≡ false → 3 < size (tree_at d.now.branches f) }
 {
     match d.branch(f) {
         None => true,
@@ -80,9 +83,11 @@ fn has_one(d: &Diagrams, f: Ref) -> bool
     }
 }
 
-// Whether a diagram has three branches at most. A no costs time alone.
+// Whether a diagram has a branch and one more at most on each side, which makes seven with their leaves. A no costs time alone.
 fn is_small(d: &Diagrams, f: Ref) -> bool
     requires { IsIn d.now.branches f }
+    ensures few { result ≡ true → size (tree_at d.now.branches f) ≤ 7 }
+    ensures many { result ≡ false → 5 ≤ size (tree_at d.now.branches f) }
 {
     match d.branch(f) {
         None => true,
@@ -103,6 +108,7 @@ fn add_small(
     requires child { IsIn d.old.branches parts.1 }
     requires sofar { IsIn d.old.branches sofar }
     requires arena { IsArena d.old }
+    requires small { size (tree_at d.old.branches parts.1) ≤ 7 }
     ensures { Adds d.old d.new sofar (term_at d.old.branches parts.0 parts.1 (trees_in d.old.branches now.now kind) ∷ []) result }
 {
     let beneath = composed(d, now, kind, parts.1)?;

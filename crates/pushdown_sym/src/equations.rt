@@ -1,5 +1,5 @@
 //! The cells of the next round.
-ghost use Rattle.std.specs.Prelude.{◌≡◌, ◌<◌, ◌==◌, ℕ, suc, true, false, [], length, IsErrOf, IfOk};
+ghost use Rattle.std.specs.Prelude.{◌≡◌, ◌≢◌, ◌<◌, ◌==◌, ℕ, suc, true, false, [], length, IsErrOf, IfOk};
 ghost use Rattle.class_diagrams.specs.References.{Reference};
 ghost use Rattle.class_diagrams.specs.Trees.{leaf};
 ghost use Rattle.class_diagrams.specs.Arena.{tree_at, IsIn, IsArena, StartsWith};
@@ -87,9 +87,11 @@ impl Equations {
 
     /// Whether a link from a child gives the atom.
     pub(crate) fn is_given_below(&self, atom: Atom) -> bool
-        ensures { result ≡ false → places_from (λ l. l.to == atom) 0 self.now.down ≡ [] }
+        ensures none { result ≡ false → places_from (λ l. l.to == atom) 0 self.now.down ≡ [] }
+        ensures some { result ≡ true → places_from (λ l. l.to == atom) 0 self.now.down ≢ [] }
     {
-        has_some(self.givers.downs.of(atom))
+        let places = self.givers.downs.of(atom);
+        places.len() > 0
     }
 
     /// The cell, where nothing is kept of the children that its links look at.
@@ -212,16 +214,11 @@ impl Equations {
     }
 }
 
-fn has_some(places: &[usize]) -> bool
-    ensures { result ≡ false → places.now ≡ [] }
-{
-    places.len() > 0
-}
-
-/// Whether a diagram is the one that holds for every label. A no costs time alone. Constant.
+/// Whether a diagram is the one that holds for every label. Constant.
 pub(crate) fn is_whole(d: &Diagrams, f: Ref) -> bool
     requires { IsIn d.now.branches f }
     ensures whole { result ≡ true → tree_at d.now.branches f ≡ leaf true }
+    ensures other { result ≡ false → tree_at d.now.branches f ≢ leaf true }
     ensures arena { IsArena d.now }
 {
     d.same(f, Diagrams::leaf(true))

@@ -18,7 +18,8 @@ fn is_less(atoms: &[Atom], place: usize, number: u64) -> bool
 
 // Whether the atom before a place is less than a number, where there is one.
 fn is_behind(atoms: &[Atom], place: usize, number: u64) -> bool
-    ensures { result ≡ true → (k : ℕ) → place ≡ suc k → (k < length atoms.now) × (get_or atoms.now k 0 < number) }
+    ensures less { result ≡ true → (k : ℕ) → place ≡ suc k → (k < length atoms.now) × (get_or atoms.now k 0 < number) }
+    ensures other { result ≡ false → (k : ℕ) × (place ≡ suc k) × (k < length atoms.now → number ≤ get_or atoms.now k 0) }
 {
     match place.checked_sub(1) {
         Some(last) => is_less(atoms, last, number),
@@ -31,6 +32,7 @@ fn parts(atoms: &[Atom], place: usize, number: u64) -> bool
     requires { IsNonDecreasing atoms.now }
     ensures within { result ≡ true → place ≤ length atoms.now }
     ensures start { result ≡ true → StartsAt number atoms.now place }
+    ensures other { result ≡ false → place ≤ length atoms.now → ¬ StartsAt number atoms.now place }
 {
     if !is_behind(atoms, place, number) {
         return false;

@@ -1,40 +1,20 @@
 -- Kinds that are marked, and what links may give to them.
-use Rattle.std.proofs.Common.{◌≡◌, ◌≢◌, ℕ, ◌<◌, Bool, true, false, List, [], ◌∷◌, ◌++◌, set, length, get_or, Contains, refl, sym, ap, subst, ◌∙◌, arith, inl, inr, ◌⊎◌}
-use Rattle.std.proofs.lemmas.Bool.{cases_Bool, cases_order}
-use Rattle.std.proofs.lemmas.List.{get_or-set_same, get_or-set_other, length-set}
+use Rattle.std.proofs.Common.{◌≡◌, ◌≢◌, ℕ, ◌<◌, Bool, true, false, List, [], ◌∷◌, ◌++◌, length, get_or, Contains, refl, sym, ap, subst, ◌∙◌, arith, inl, inr}
+use Rattle.std.proofs.lemmas.Bool.{cases_Bool}
 use Rattle.std.proofs.lemmas.List.Elements.{Contains-append_left, Contains-append_right, Contains-append_cases}
-use Rattle.tp_base.specs.Classes.{has_class, with_class}
-use Rattle.tp_base.proofs.ClassLemmas.{with_class-keeps, with_class-there, Contains-with_class}
+use Rattle.tp_base.specs.Classes.{has_class}
 use Rattle.tp_base.proofs.Lists.{Contains-flat_map, flat_map-Contains}
 use Rattle.tp_base.proofs.Rising.{Contains-here, Contains-none}
 use Rattle.class_diagrams.specs.References.{Reference}
 use Rattle.class_diagrams.specs.Trees.{leaf}
-use Rattle.row_index.specs.Rows.{row_of}
 use Rattle.simple_core.specs.declared.rules.Spawn.{Spawn}
 use Rattle.simple_core.specs.declared.system.System.{System}
 use Rattle.pushdown_sym.specs.Terms.{CellTrees}
-use Rattle.pushdown_sym.proofs.EndLemmas.{same_or_other}
 use Rattle.saturation.specs.Waking.{CellName, seen_by, seen_each, AreMarked, AreAllMarked, AreSeen, AreEnds}
 use Rattle.saturation.proofs.NoteLemmas.{last_cases}
 use Rattle.saturation.proofs.WakingLemmas.{named_one, one_named}
 
 -- ### kinds that are marked
-
-pub marked_same : (looked : List ℕ) (name : CellName) (marks : List Bool) → (has_class name.1 looked ≡ true → name.0 < length marks → get_or marks name.0 false ≡ true) → AreMarked looked name marks marks
-marked_same looked name marks here = record { count = refl; kept = λ j there. there; here = here }
-
-pub marked_one : (looked : List ℕ) (name : CellName) (marks : List Bool) → name.0 < length marks → AreMarked looked name marks (set marks name.0 true)
-marked_one looked name marks less = record {
-  count = length-set marks name.0 true;
-  kept = λ j there. elim (same_or_other j name.0) [
-    | inl is ↦ subst (λ z. get_or (set marks name.0 true) z false ≡ true) (sym is) (get_or-set_same marks name.0 true false less)
-    | inr other ↦ get_or-set_other marks name.0 j true false other ∙ there
-  ];
-  here = λ looks within. get_or-set_same marks name.0 true false less;
-}
-
-pub all_marked_none : (count : ℕ) (looked : List ℕ) (marks : List Bool) → length marks ≡ count → AreAllMarked count looked [] marks
-all_marked_none count looked marks long = record { long = long; marked = λ c listed. absurd (Contains-none c listed) }
 
 pub all_marked_more : (count : ℕ) (looked : List ℕ) (done : List (CellName × Reference)) (c : CellName × Reference) (old new : List Bool) → AreAllMarked count looked done old → AreMarked looked c.0 old new
     → AreAllMarked count looked (done ++ c ∷ []) new
@@ -46,6 +26,10 @@ all_marked_more count looked done c old new before marked = record {
         let kind : d.0.0 ≡ c.0.0 = ap (λ (e : CellName × Reference). e.0.0) last in
         let atom : d.0.1 ≡ c.0.1 = ap (λ (e : CellName × Reference). e.0.1) last in
         subst (λ z. get_or new z false ≡ true) (sym kind) (marked.here (subst (λ z. has_class z looked ≡ true) atom looks) (omega (arith, kind, within, before.long)))
+  ];
+  only = λ j there. elim (marked.only j there) [
+    | inl earlier ↦ let one = before.only j earlier in (one.0, Contains-append_left done (c ∷ []) one.0 one.1, one.2, one.3)
+    | inr here ↦ (c, Contains-append_right done (c ∷ []) c (Contains-here c c [] refl), sym here.0, here.1)
   ];
 }
 

@@ -9,7 +9,7 @@ use Rattle.class_diagrams.specs.Arena.{tree_at, IsIn}
 use Rattle.class_diagrams.specs.Gates.{IsGate}
 use Rattle.saturation.specs.declared.courses.Course.{Course}
 use Rattle.saturation.specs.Histories.{Change, AreGrowing, first_in, first_holding}
-use Rattle.saturation.specs.Courses.{is_shut, IsGated, HasGate}
+use Rattle.saturation.specs.Courses.{IsGated, HasGate}
 use Rattle.saturation.proofs.GrowthLemmas.{none_at}
 
 -- where there is none

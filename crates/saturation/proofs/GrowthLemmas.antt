@@ -52,14 +52,6 @@ module _ (branches : List Tree) (label : List ℕ) where
     pub none : (i : ℕ) (d : Change) → i < low → eval (tree_at branches (get_or cs i d).1) label ≡ false
     pub all : (i : ℕ) (d : Change) → high ≤ i → i < length cs → eval (tree_at branches (get_or cs i d).1) label ≡ true
 
-  pub between_all : (cs : List Change) → IsBetween cs 0 (length cs)
-  between_all cs = record {
-    ordered = omega arith;
-    within = omega arith;
-    none = λ i d less. absurd (omega arith);
-    all = λ i d past less. absurd (omega arith);
-  }
-
   module _ (cs all : List Change) (same : cs ≡ all) (grows : AreGrowing branches all label) (low high middle : ℕ) (between : IsBetween cs low high) (from : low ≤ middle) (below : middle < high) (e : Change) where
     inside : middle < length cs
     inside = let end = between.within in omega arith

@@ -1,17 +1,18 @@
 -- Changes that are noted kind by kind, and put in the order of their atoms.
-use Rattle.std.proofs.Common.{◌≡◌, ◌≢◌, ℕ, zero, suc, ◌+◌, ◌<◌, ◌≤◌, true, false, not, nat_lt, nat_le, eqb, ltb, ◌==◌, ◌&&◌, if◌then◌else◌, List, [], ◌∷◌, ◌++◌, length, map, filter, take, drop, get_or, refl, sym, ap, ◌∙◌, subst, arith, inl, inr}
+use Rattle.std.proofs.Common.{◌≡◌, ℕ, zero, suc, ◌+◌, ◌<◌, ◌≤◌, true, false, not, nat_lt, nat_le, eqb, ◌==◌, ◌&&◌, if◌then◌else◌, List, [], ◌∷◌, ◌++◌, length, map, filter, take, drop, get_or, refl, sym, ap, ◌∙◌, subst, arith, inl, inr}
 use Rattle.std.specs.List.{zip}
-use Rattle.std.specs.List.Sorted.{IsNonDecreasing, IsNonDecreasingBy, IsStableByKey, ties, IsPartitionPoint}
+use Rattle.std.specs.List.Sorted.{IsNonDecreasingBy, IsStableByKey, ties, IsPartitionPoint}
 use Rattle.std.specs.Ordering.{nat_cmp, is_lt}
-use Rattle.std.proofs.lemmas.Bool.{cases_Bool, cases_lt, cases_order, eqb-true, eq-eqb, ne_eqb, both_ways, lt-ltb, le-ltb, ltb-true, ltb-false, leb-true, leb-false, le-leb, lt-leb}
-use Rattle.std.proofs.lemmas.List.{map-append, length-map, get_or-map, get_or_default, take_more, take_all, length-take-le}
+use Rattle.std.proofs.lemmas.Bool.{cases_Bool, cases_lt, cases_order, eqb-true, eq-eqb, ne_eqb, lt-ltb, le-ltb, ltb-true, ltb-false, leb-true, leb-false, le-leb, lt-leb}
+use Rattle.std.proofs.lemmas.List.{map-append, length-map, get_or-map, take_all, length-take-le}
 use Rattle.std.proofs.lemmas.List.Elements.{filter-append, filter_agree}
+use Rattle.std.proofs.lemmas.Slice.Zip.{firsts-zip}
 use Rattle.row_index.specs.Rows.{row_of, IsNoted}
 use Rattle.row_index.proofs.RowLemmas.{noted_at}
 use Rattle.class_diagrams.specs.References.{leaf_reference}
 use Rattle.saturation.specs.Histories.{Change}
 use Rattle.pushdown_sym.specs.Starts.{StartsAt}
-use Rattle.saturation.specs.HistoryMap.{Noted, changes_of, AreApart, history_in, EndsAt}
+use Rattle.saturation.specs.HistoryMap.{Noted, changes_of, AreApart, history_in, EndsAt, IsBehind}
 
 -- ### one change more
 
@@ -79,13 +80,6 @@ columns_apart row order = record {
       subst (λ m. m ≤ get_or (map (λ (n : Noted). n.0) row) j d) (sym low) (subst (λ m. (get_or row i one).0 ≤ m) (sym high) rises);
   count = length-map row (λ (n : Noted). n.0) ∙ sym (length-map row (λ (n : Noted). n.1));
 }
-
--- a column with one more
-pub column_more : {X : Type 0} (f : Noted → X) (row : List Noted) (i : ℕ) (n : Noted) (old new : List X) (x : X) → i < length row → n ≡ get_or row i n → old ≡ map f (take i row) → x ≡ f n → new ≡ old ++ x ∷ []
-    → new ≡ map f (take (i + 1) row)
-column_more f row i n old new x less at before is pushed =
-    pushed ∙ (λ k. before k ++ is k ∷ [])
-    ∙ sym (ap (map f) (take_more row i n less ∙ (λ k. take i row ++ sym at k ∷ [])) ∙ map-append f (take i row) (n ∷ []))
 
 -- ### the part of one atom
 
@@ -167,6 +161,14 @@ part_of a atoms xs ys changes from to apart same_xs same_ys at_xs at_ys from_wit
     let long : length (take to changes) ≡ to = length-take-le to changes (omega (arith, to_in, apart.count)) in
     let ordered = part_ordered a atoms changes from to apart low high from_in to_in in
     (omega (arith, long, ordered), part_found a atoms changes from to apart low high from_in to_in)
+
+-- the place where they end, in the row
+pub place_behind : (a : ℕ) (atoms ys : List ℕ) (changes : List Change) (to : ℕ) → AreApart atoms changes → ys ≡ atoms → EndsAt a ys to → to ≤ length ys → IsBehind a (zip atoms changes) to
+place_behind a atoms ys changes to apart same at within =
+    let columns : map (λ (n : Noted). n.0) (zip atoms changes) ≡ atoms = firsts-zip atoms changes (sym apart.count) in
+    let long : length (zip atoms changes) ≡ length atoms = sym (length-map (zip atoms changes) (λ (n : Noted). n.0)) ∙ ap length columns in
+    let inside : to ≤ length atoms = subst (λ (z : List ℕ). to ≤ length z) same within in
+    (omega (arith, long, inside), subst (λ (z : List ℕ). EndsAt a z to) (same ∙ sym columns) at)
 
 -- columns that were filled to the end
 module _ (row : List Noted) (i : ℕ) (atoms : List ℕ) (changes : List Change) (end : length row ≤ i)

@@ -24,7 +24,10 @@ module _ (old new : ℕ → List ℕ) (key number : ℕ) (put : (a : ℕ) → ne
     ];
     noted = λ b same. subst (λ (ns : List ℕ). Contains ns number) (sym (at_key b (eq-eqb key b same))) (Contains-append_right (old b) (number ∷ []) number (Contains-here number number [] refl));
     only = λ b a there. elim (cases_Bool (key == b)) [
-      | inl here ↦ last_cases (old b) number a (subst (λ (ns : List ℕ). Contains ns a) (at_key b here) there)
+      | inl here ↦ elim (last_cases (old b) number a (subst (λ (ns : List ℕ). Contains ns a) (at_key b here) there)) [
+        | inl earlier ↦ inl earlier
+        | inr last ↦ inr (eqb-true key b here, last)
+      ]
       | inr other ↦ inl (subst (λ (ns : List ℕ). Contains ns a) (at_other b other) there)
     ];
   }
@@ -45,8 +48,14 @@ noted_more number f g h keys key i at before here = record {
     | inl earlier ↦ here.kept b number (before.noted b earlier)
     | inr last ↦ here.noted b (sym last)
   ];
-  only = λ b a there. elim (here.only b a there) [ inl earlier ↦ before.only b a earlier | inr new ↦ inr new ];
+  only = λ b a there. elim (here.only b a there) [
+    | inl earlier ↦ elim (before.only b a earlier) [ inl old ↦ inl old | inr given ↦ inr (longer b (Contains-append_left (take i keys) (key ∷ []) b given.0), given.1) ]
+    | inr new ↦ inr (longer b (Contains-append_right (take i keys) (key ∷ []) b (Contains-here b key [] (sym new.0))), new.1)
+  ];
 }
+  where
+    longer : (b : ℕ) → Contains (take i keys ++ key ∷ []) b → Contains (take (i + 1) keys) b
+    longer b there = subst (λ (ks : List ℕ). Contains ks b) (sym (take_next keys i key at)) there
 
 -- one rule more
 pub has_none : {X : Type 0} (keys : X → ℕ → Type 0) (number : X → ℕ) (xs : List X) (f : ℕ → List ℕ) → xs ≡ [] → ((b : ℕ) → f b ≡ []) → HasAll keys number xs f
@@ -65,7 +74,7 @@ has_more {X} keys number rules i x old new less at before here =
         | inr last ↦ subst (λ z. Contains (new b) (number z)) (sym last) (here.noted b (subst (λ z. keys z b) last key))
       ];
       only = λ b a there. elim (here.only b a there) [
-        | inl earlier ↦ let old_one = before.only b a earlier in (old_one.0, Contains-append_left (take i rules) (x ∷ []) old_one.0 old_one.1, old_one.2)
-        | inr last ↦ (x, Contains-append_right (take i rules) (x ∷ []) x (Contains-here x x [] refl), last)
+        | inl earlier ↦ let old_one = before.only b a earlier in (old_one.0, Contains-append_left (take i rules) (x ∷ []) old_one.0 old_one.1, old_one.2, old_one.3)
+        | inr last ↦ (x, Contains-append_right (take i rules) (x ∷ []) x (Contains-here x x [] refl), last.0, last.1)
       ];
     })

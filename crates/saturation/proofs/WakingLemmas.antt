@@ -5,8 +5,11 @@ use Rattle.std.proofs.lemmas.List.{take_all, map-append, get_or_past}
 use Rattle.std.specs.Cmp.{IsEquivalence}
 use Rattle.std.specs.List.Retain.{IsFiltered, DiffersFromLast}
 use Rattle.std.proofs.lemmas.Cmp.{nat_eq_equiv, on_equiv, and_equiv}
+use Rattle.std.specs.List.Sorted.{IsSorted, IsStrictlySortedBy}
+use Rattle.std.specs.Ordering.{eq_by_cmp, nat_cmp}
+use Rattle.std.specs.Cmp.{IsTotalOrder, nat_cmp_total, on_total, then_total, both_tied, unsigned_ties}
 use Rattle.std.proofs.lemmas.List.Filters.{dedup_is}
-use Rattle.std.proofs.lemmas.List.Kept.{Contains-dedup, Contains-from_dedup}
+use Rattle.std.proofs.lemmas.List.Kept.{Contains-dedup, Contains-from_dedup, IsStrictlySortedBy-dedup}
 use Rattle.std.proofs.lemmas.List.Elements.{All-contains, All-append, Contains-append_left, Contains-append_right, Contains-append_cases}
 use Rattle.std.proofs.lemmas.List.Concat.{flat_map-append}
 use Rattle.tp_base.proofs.ClassLemmas.{has_class-Contains}
@@ -25,7 +28,7 @@ use Rattle.pushdown_sym.specs.Rounds.{given_atoms}
 use Rattle.saturation.specs.Reads.{IsRead, by_rule, by_own, by_child}
 use Rattle.pushdown_sym.specs.Ends.{AreEndsNoted}
 use Rattle.saturation.specs.Tables.{AreReads}
-use Rattle.saturation.specs.Waking.{CellName, Fits, named, named_each, by_rules, by_makers, of_each, with_atom, AreAllMarked, AreMakers, AreAbove, AreSeen, AreEnds, HaveChanged, AreReaders}
+use Rattle.saturation.specs.Waking.{CellName, cell_cmp, Fits, named, named_each, by_rules, by_makers, of_each, with_atom, AreAllMarked, AreMakers, AreAbove, AreSeen, AreEnds, HaveChanged, AreReaders}
 use Rattle.saturation.proofs.GivenLemmas.{given_local, given_down}
 use Rattle.saturation.proofs.NoteLemmas.{last_cases}
 use Rattle.saturation.proofs.LoopLemmas.{all_one}
@@ -83,7 +86,8 @@ module _ (s : System) (spawned : (c : Spawn) → Contains s.child c → c.kind <
   pair_link m a there =
       let found = flat_map-Contains (λ (d : CellName × Reference). by_makers makers by_link d.0) changes (m, a) (pairs_only (m, a) there) in
       let both = there_named (makers found.0.0.0) (by_link found.0.0.1) (m, a) found.2 in
-      reads.child.only found.0.0.1 a both.1
+      let link = reads.child.only found.0.0.1 a both.1 in
+      (link.0, link.1, link.3)
 
   pub ends_now : AreEnds s now ends
   ends_now = record {
@@ -120,7 +124,7 @@ module _ (s : System) (spawned : (c : Spawn) → Contains s.child c → c.kind <
       let found = flat_map-Contains (λ (d : CellName × Reference). by_rules by_needs d.0) changes c (subst (λ (cs : List CellName). Contains cs c) cells_are there) in
       let one = one_named found.0.0.0 (by_needs found.0.0.1) c found.2 in
       let r = reads.needs.only found.0.0.1 c.1 one.1 in
-      (subst (λ k. k < length s.kinds) (sym one.0) (below_one found.0 found.1), subst (λ x. Contains (given_atoms s) x) (sym r.2) (given_local s r.0 r.1))
+      (subst (λ k. k < length s.kinds) (sym one.0) (below_one found.0 found.1), subst (λ x. Contains (given_atoms s) x) (sym r.3) (given_local s r.0 r.1))
 
   marked_below : (j : ℕ) → get_or marks j false ≡ true → j < length s.kinds
   marked_below j is = elim (cases_lt j (length marks)) [
@@ -271,3 +275,13 @@ once_kept xs ys filtered c there =
 pub once_only : (xs ys : List CellName) → IsFiltered (DiffersFromLast same_cell) [] xs ys → (c : CellName) → Contains ys c → Contains xs c
 once_only xs ys filtered c there =
     Contains-from_dedup same_cell xs c (subst (λ (zs : List CellName). Contains zs c) (dedup_is same_cell xs ys filtered) there)
+
+cell_total : IsTotalOrder cell_cmp
+cell_total = then_total (on_total (λ (c : CellName). c.0) nat_cmp_total) (on_total (λ (c : CellName). c.1) nat_cmp_total)
+
+same_tied : (x y : CellName) → same_cell x y ≡ eq_by_cmp cell_cmp x y
+same_tied x y = both_tied (nat_eq x.0 y.0) (nat_eq x.1 y.1) (nat_cmp x.0 y.0) (nat_cmp x.1 y.1) (unsigned_ties x.0 y.0) (unsigned_ties x.1 y.1)
+
+pub once_ordered : (xs ys : List CellName) → IsFiltered (DiffersFromLast same_cell) [] xs ys → IsSorted cell_cmp xs → IsStrictlySortedBy cell_cmp ys
+once_ordered xs ys filtered order =
+    subst (IsStrictlySortedBy cell_cmp) (sym (dedup_is same_cell xs ys filtered)) (IsStrictlySortedBy-dedup cell_total same_tied xs order)

@@ -18,11 +18,11 @@ noted_in = row_of
 pub record IsNoted (keys : ℕ → Type 0) (number : ℕ) (old new : ℕ → List ℕ) : Type 0 where
   pub kept : (b a : ℕ) → Contains (old b) a → Contains (new b) a
   pub noted : (b : ℕ) → keys b → Contains (new b) number
-  pub only : (b a : ℕ) → Contains (new b) a → Contains (old b) a ⊎ (a ≡ number)
+  pub only : (b a : ℕ) → Contains (new b) a → Contains (old b) a ⊎ (keys b × (a ≡ number))
 
 pub record HasAll {X : Type 0} (keys : X → ℕ → Type 0) (number : X → ℕ) (xs : List X) (f : ℕ → List ℕ) : Type 0 where
   pub whole : (x : X) → Contains xs x → (b : ℕ) → keys x b → Contains (f b) (number x)
-  pub only : (b a : ℕ) → Contains (f b) a → (x : X) × Contains xs x × (a ≡ number x)
+  pub only : (b a : ℕ) → Contains (f b) a → (x : X) × Contains xs x × keys x b × (a ≡ number x)
 
 abbrev pub OfNeeds : List Local → (ℕ → List ℕ) → Type 0
 OfNeeds rules f = HasAll (λ r b. Contains r.needs b) (λ r. r.gives) rules f

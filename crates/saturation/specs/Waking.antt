@@ -1,6 +1,8 @@
 -- Which cells are calculated again after some changes.
 use Rattle.std.specs.Prelude.{◌≡◌, ◌≢◌, ℕ, ◌<◌, Bool, true, false, get_or, List, [], map, length, All, Contains, if◌then◌else◌, ◌⊎◌}
 use Rattle.std.specs.List.{flat_map}
+use Rattle.std.specs.Ordering.{ordering_then, nat_cmp}
+use Rattle.std.specs.declared.cmp.Ordering.{Ordering}
 use Rattle.tp_base.specs.Classes.{has_class}
 use Rattle.class_diagrams.specs.References.{Reference}
 use Rattle.class_diagrams.specs.Trees.{leaf}
@@ -14,6 +16,10 @@ use Rattle.saturation.specs.Reads.{IsRead}
 -- a kind and an atom
 abbrev pub CellName : Type 0
 CellName = ℕ × ℕ
+
+-- kind by kind, and of a kind atom by atom
+abbrev pub cell_cmp : CellName → CellName → Ordering
+cell_cmp x y = ordering_then (nat_cmp x.0 y.0) (nat_cmp x.1 y.1)
 
 abbrev pub named : ℕ → List ℕ → List CellName
 named kind atoms = map (λ a. (kind, a)) atoms
@@ -47,16 +53,18 @@ pub record AreAbove (now : CellTrees) (count : ℕ) (pairs old new : List CellNa
   pub whole : (m a j : ℕ) → Contains pairs (m, a) → j < count → now j m ≢ leaf false → Contains new (j, a)
   pub only : (c : CellName) → Contains new c → Contains old c ⊎ ((m : ℕ) × Contains pairs (m, c.1) × (c.0 < count))
 
--- the kind of a cell is marked, where its atom is looked at
+-- the kind of a cell is marked, where its atom is looked at, and no other is
 pub record AreMarked (looked : List ℕ) (name : CellName) (old new : List Bool) : Type 0 where
   pub count : length new ≡ length old
   pub kept : (j : ℕ) → get_or old j false ≡ true → get_or new j false ≡ true
   pub here : has_class name.1 looked ≡ true → name.0 < length old → get_or new name.0 false ≡ true
+  pub only : (j : ℕ) → get_or new j false ≡ true → (get_or old j false ≡ true) ⊎ ((j ≡ name.0) × (has_class name.1 looked ≡ true))
 
 -- so is that of each changed cell
 pub record AreAllMarked (count : ℕ) (looked : List ℕ) (changes : List (CellName × Reference)) (marks : List Bool) : Type 0 where
   pub long : length marks ≡ count
   pub marked : (c : CellName × Reference) → Contains changes c → has_class c.0.1 looked ≡ true → c.0.0 < count → get_or marks c.0.0 false ≡ true
+  pub only : (j : ℕ) → get_or marks j false ≡ true → (c : CellName × Reference) × Contains changes c × (c.0.0 ≡ j) × (has_class c.0.1 looked ≡ true)
 
 -- the marked ones of some kinds, each with these atoms
 abbrev pub seen_by : List Bool → List ℕ → ℕ → List CellName

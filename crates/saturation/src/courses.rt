@@ -1,5 +1,5 @@
 //! What can come to a kind: the histories once more, by kinds, without the atoms that never come.
-ghost use Rattle.std.specs.Prelude.{◌≡◌, ◌<◌, ◌++◌, ◌||◌, nat_lt, ℕ, List, [], ◌∷◌, length, map, slice_get, Some, All, Contains, IfOk, OnOk, IfSome, IsNone};
+ghost use Rattle.std.specs.Prelude.{◌≡◌, ◌<◌, ◌-◌, ◌++◌, ◌||◌, nat_lt, ℕ, false, List, [], ◌∷◌, length, map, slice_get, Some, All, Contains, IfOk, OnOk, IfSome, IsNone};
 ghost use Rattle.std.specs.List.{flat_map};
 ghost use Rattle.std.specs.List.Sorted.{IsStrictlyIncreasing};
 ghost use Rattle.saturation.specs.declared.courses.Course.{Course};
@@ -7,7 +7,8 @@ ghost use Rattle.simple_core.specs.Systems.{kind_label, IsSound};
 ghost use Rattle.saturation.specs.Histories.{Change, first_in};
 ghost use Rattle.saturation.specs.HistoryMap.{history_in};
 ghost use Rattle.saturation.specs.Courses.{AreCourses, AreRows, CanBeAsked, first_by, is_shut, IsGated, HasGate};
-ghost use Rattle.class_diagrams.specs.Arena.{IsIn};
+ghost use Rattle.class_diagrams.specs.Arena.{tree_at, IsIn};
+ghost use Rattle.class_diagrams.specs.Gates.{EndsInFalse};
 
 use crate::histories::{Histories, first_round_under};
 use class_diagrams::{AtomSet, Diagrams, Marks, Ref, are_worth_marks};
@@ -61,7 +62,8 @@ fn may_come(starts: bool, history: &[(u64, Ref)]) -> bool
 // Two atoms of which a parent has to have one, by the diagram of the last change.
 fn gate_of(d: &Diagrams, starts: bool, history: &[(u64, Ref)]) -> Option<(Atom, Atom)>
     requires { All (λ c. IsIn d.now.branches c.1) history.now }
-    ensures { IsGated d.now.branches starts history.now result }
+    ensures gate { IsGated d.now.branches starts history.now result }
+    ensures none { IsNone result → starts ≡ false → (c : Change) → Some c ≡ slice_get history.now (length history.now - 1) → ¬ EndsInFalse (tree_at d.now.branches c.1) }
 {
     if starts {
         return None;
@@ -216,11 +218,12 @@ fn firsts_under<L: AtomSet>(
         let course = &courses[i];
         add_first(&mut firsts, course, d, parent)?;
     }
+    firsts.shrink_to_fit();
     Ok(firsts)
 }
 
-/// What comes by these courses below a parent with these visible atoms. One look into the diagrams for each course that
-/// has changes and isn't shut, and one more each time that their count doubles.
+/// What comes by these courses below a parent with these visible atoms, in no more room than it needs. One look into the
+/// diagrams for each course that has changes and isn't shut, and one more each time that their count doubles.
 pub(crate) fn firsts_by(
     alloc: Global,
     courses: &[Course],

@@ -4,7 +4,7 @@ ghost use Rattle.std.specs.List.Sorted.{IsNonDecreasingBy};
 ghost use Rattle.row_index.specs.Rows.{row_of};
 ghost use Rattle.class_diagrams.specs.Arena.{IsIn};
 ghost use Rattle.saturation.specs.Histories.{first_holding, AreGrowing};
-ghost use Rattle.saturation.specs.HistoryMap.{history_in, changes_of};
+ghost use Rattle.saturation.specs.HistoryMap.{history_in, changes_of, IsBehind};
 
 use class_diagrams::{AtomSet, Diagrams, Ref};
 use pushdown_sym::start_of;
@@ -139,7 +139,8 @@ impl HistoryRow {
     // The changes of an atom's cell, and where those of greater atoms begin. Constant where the atom's begin near a place and
     // are one at most, and else logarithmic in those of all.
     fn of(&self, atom: Atom, near: usize) -> (&[(u64, Ref)], usize)
-        ensures { result.0.now ≡ changes_of atom self.now }
+        ensures part { result.0.now ≡ changes_of atom self.now }
+        ensures behind { IsBehind atom self.now result.1 }
     {
         let number = atom.0 as u64;
         let from = start_of(&self.atoms, near, number);
@@ -183,7 +184,8 @@ impl Histories {
     /// The history of a cell, and the place behind it among the changes of its kind. Constant where it stands near the given
     /// place and is one change at most, and else logarithmic in the changes of its kind.
     pub(crate) fn near(&self, kind: u32, atom: Atom, place: usize) -> (&[(u64, Ref)], usize)
-        ensures { result.0.now ≡ history_in self.now kind atom }
+        ensures history { result.0.now ≡ history_in self.now kind atom }
+        ensures behind { IsBehind atom (row_of self.now kind) result.1 }
     {
         match self.rows.get(kind as usize) {
             Some(row) => row.of(atom, place),

@@ -1,5 +1,6 @@
 //! The cells that are calculated again.
 ghost use Rattle.std.specs.Prelude.{◌≡◌, ◌<◌, ◌++◌, ℕ, List, length, All, Contains, IfOk, OnOk};
+ghost use Rattle.std.specs.List.Sorted.{IsStrictlySortedBy};
 ghost use Rattle.simple_core.specs.declared.system.System.{System};
 ghost use Rattle.simple_core.specs.Systems.{IsSound};
 ghost use Rattle.pushdown_sym.specs.CellMap.{trees_in};
@@ -7,7 +8,7 @@ ghost use Rattle.pushdown_sym.specs.Terms.{CellTrees};
 ghost use Rattle.class_diagrams.specs.Trees.{Tree};
 ghost use Rattle.row_index.specs.Rows.{row_of};
 ghost use Rattle.saturation.specs.Tables.{noted_in, AreReadsOf};
-ghost use Rattle.saturation.specs.Waking.{CellName, named, named_each, by_rules, by_makers, of_each, AreMarked, AreAllMarked, AreReaders, AreEnds, HaveChanged};
+ghost use Rattle.saturation.specs.Waking.{CellName, cell_cmp, named, named_each, by_rules, by_makers, of_each, AreMarked, AreAllMarked, AreReaders, AreEnds, HaveChanged};
 
 use crate::parents::{add_above, add_seen};
 use crate::reads::Reads;
@@ -107,6 +108,7 @@ fn woken_by(
 
 /// Each cell once, kind by kind.
 pub(crate) fn sorted(cells: Vec<(u32, Atom)>) -> Result<Vec<(u32, Atom)>, NoMemory>
+    ensures order { IfOk result (λ once. IsStrictlySortedBy cell_cmp once.items) }
     ensures kept { IfOk result (λ once. (c : CellName) → Contains cells.items c → Contains once.items c) }
     ensures only { IfOk result (λ once. (c : CellName) → Contains once.items c → Contains cells.items c) }
 {

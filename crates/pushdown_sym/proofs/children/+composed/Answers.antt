@@ -6,7 +6,7 @@ use Rattle.pushdown_sym.proofs.children.+composed.Goals as goal
 pub composed-requires : goal.composed-requires
 composed-requires t c =
     let less = low_less c.args.d.now c.args.now.now c.args.kind c.args.f c.in_Some-d.branch.0 c.in_Some-d.branch.1 c.in_Some-d.branch.2 c.requires.arena c.requires.inside c.in_Some-d.ensures.low c.in_Some-d.ensures.high c.in_Some-d.ensures.tree in
-    (omega (arith, less, c.decreases), (c.requires.inside, (c.in_Some-d.ensures.low, c.requires.arena)))
+    (omega (arith, less, c.decreases), (c.requires.inside, (c.in_Some-d.ensures.low, (c.requires.arena, omega (arith, less, c.requires.small)))))
 
 pub returns-in_err-by_low-in_Some-d : goal.returns-in_err-by_low-in_Some-d
 returns-in_err-by_low-in_Some-d t c =
@@ -20,7 +20,7 @@ composed-requires-in_Some-d t c =
     let there = high_there c.args.d.now c.args.now.now c.args.kind c.args.f c.in_Some-d.branch.0 c.in_Some-d.branch.1 c.in_Some-d.branch.2 c.requires.arena c.requires.inside c.in_Some-d.ensures.low c.in_Some-d.ensures.high c.in_Some-d.ensures.tree
     c.composed.new.d c.in_ok-by_low-in_Some-d.by_low c.in_ok-by_low-in_Some-d.ensures in (
       omega (arith, less, c.decreases),
-      (cells_in c.args.d.now.branches c.composed.new.d.branches c.args.now.now c.in_ok-by_low-in_Some-d.ensures.brings.stays c.requires.inside, (there, c.in_ok-by_low-in_Some-d.ensures.brings.arena)),
+      (cells_in c.args.d.now.branches c.composed.new.d.branches c.args.now.now c.in_ok-by_low-in_Some-d.ensures.brings.stays c.requires.inside, (there, (c.in_ok-by_low-in_Some-d.ensures.brings.arena, omega (arith, less, c.requires.small)))),
     )
 
 pub returns-in_err-by_high-in_Some-d : goal.returns-in_err-by_high-in_Some-d

@@ -11,7 +11,7 @@ pub is_whole-requires : goal.is_whole-requires
 is_whole-requires c = subst (IsIn c.args.d.now.branches) (sym c.requires.start) (c.requires.inside c.args.cell.0 c.args.cell.1)
 
 pub next_by-requires-clause-children : goal.next_by-requires-clause-children
-next_by-requires-clause-children c = none_serve c.args.equations.now c.args.now.now c.args.cell.0 c.args.cell.1 (c.is_given_below.ensures c.if-not-is_given_below.true)
+next_by-requires-clause-children c = none_serve c.args.equations.now c.args.now.now c.args.cell.0 c.args.cell.1 (c.is_given_below.ensures.none c.if-not-is_given_below.true)
 
 pub next_by-requires-in-Ok-clause-children : goal.next_by-requires-in-Ok-clause-children
 next_by-requires-in-Ok-clause-children c = ap (beneath c.args.now.now c.args.cell.0) (c.of.ensures ∙ ap (λ o. unwrap_or o []) c.in-Ok.ensures.there)

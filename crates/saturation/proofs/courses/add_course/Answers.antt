@@ -16,4 +16,4 @@ returns-else-may_come-clause-courses c changes atoms is are =
 pub returns-in_ok-push-clause-gates : goal.returns-in_ok-push-clause-gates
 returns-in_ok-push-clause-gates c all =
     gate_pushed c.args.d.now.branches c.args.courses.now.items c.push.new.self.items c.args.atom c.has-starts.result c.gate_of-gate.result c.args.history.now c.new-changes.result
-    (c.new-changes.ensures ∙ c.in_ok-from_slice.ensures.items) c.gate_of-gate.ensures c.in_ok-push.ensures.items all
+    (c.new-changes.ensures ∙ c.in_ok-from_slice.ensures.items) c.gate_of-gate.ensures.gate c.in_ok-push.ensures.items all

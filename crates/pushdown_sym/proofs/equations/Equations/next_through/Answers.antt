@@ -15,7 +15,7 @@ returns-then-is_whole c =
     whole_stays c.args.self.now c.args.d.now c.args.now.now c.args.cell.0 c.args.cell.1 c.args.cell.2 c.is_whole.ensures.arena c.requires.inside c.requires.start (c.is_whole.ensures.whole c.if-is_whole.true)
 
 pub next_by-requires-clause-children : goal.next_by-requires-clause-children
-next_by-requires-clause-children c = none_serve c.args.self.now c.args.now.now c.args.cell.0 c.args.cell.1 (c.is_given_below.ensures c.if-not-is_given_below.true)
+next_by-requires-clause-children c = none_serve c.args.self.now c.args.now.now c.args.cell.0 c.args.cell.1 (c.is_given_below.ensures.none c.if-not-is_given_below.true)
 
 pub returns-in-Err : goal.returns-in-Err
 returns-in-Err c = record { answer = tt; brings = brings_itself c.args.d.now (results_in c.args.self.now c.args.d.now c.args.now.now c.args.cell.0 c.args.cell.1) c.is_whole.ensures.arena }
