@@ -20,7 +20,7 @@ use Rattle.need_table.specs.declared.entries.Entry.{Entry}
 use Rattle.need_table.specs.declared.agenda.Agenda.{Agenda}
 use Rattle.need_table.specs.Rows.{row_in, IsRicher, IsEmptyBelow, IsDue}
 use Rattle.need_table.specs.Agendas.{IsBehind, AreKnown, Hears, IsGoing, IsAppended}
-use Rattle.need_table.specs.Tables.{pair_of, labels, raised, rested, IsDone, IsHeard, IsAskedAt, IsUpTo, IsTable, IsMore, AllRest}
+use Rattle.need_table.specs.Tables.{pair_of, labels, raised, IsDone, IsHeard, IsAskedAt, IsUpTo, IsTable, IsMore, AllRest}
 use Rattle.need_table.proofs.OrderLemmas.{appended_at}
 use Rattle.need_table.proofs.FillLemmas.{set-alike, set-length, set-here, set-other, set-Contains, place_set, heard_set, more_set}
 use Rattle.need_table.proofs.ChildLemmas.{some_at}
@@ -359,6 +359,10 @@ going_start s pairs entries g table rest first =
       dues = λ i n j e c f at rounds hears at_j there from. absurd (never i n e at rounds);
       asking = λ i j e at some child. absurd (some (rest e (Contains-at entries i e at)));
     }
+
+-- the entry, at rest
+abbrev pub rested : Entry → Entry
+rested e = record e { rounds = None }
 
 -- all at rest, when nothing is due
 pub table_rested : (s : System) (pairs : ℕ) (entries : List Entry) (g : Agenda) → IsGoing s pairs entries g → ((q : ℕ) → row_in g.due q ≡ [])

@@ -2,7 +2,7 @@
 use Rattle.std.proofs.Common.{◌≡◌, ◌≢◌, ◌⊎◌, inl, inr, ℕ, zero, suc, ◌+◌, ◌<◌, ◌≤◌, List, [], ◌∷◌, ◌++◌, map, length, set, take, get_or, Contains, refl, sym, ap, ◌∙◌, arith, subst, length-append}
 use Rattle.std.proofs.lemmas.Bool.{cases_order}
 use Rattle.std.proofs.lemmas.List.{map-append}
-use Rattle.std.proofs.lemmas.List.Elements.{Contains-append_left, Contains-append_right}
+use Rattle.std.proofs.lemmas.List.Elements.{Contains-append_left, Contains-append_right, Contains-push_cases}
 use Rattle.tp_base.proofs.Rising.{Contains-here, Contains-cons, Contains-none}
 use Rattle.std.specs.Global.{Vec}
 use Rattle.std.proofs.Math.Seq.{take-append_seam}
@@ -70,18 +70,27 @@ pub added_last : (old new : List ℕ) (i : ℕ) → new ≡ old ++ i ∷ [] → 
 added_last old new i is = record {
   kept = λ j there. subst (λ (z : List ℕ). Contains z j) (sym is) (Contains-append_left old (i ∷ []) j there);
   here = subst (λ (z : List ℕ). Contains z i) (sym is) (Contains-append_right old (i ∷ []) i (Contains-here i i [] refl));
+  only = λ j there. elim (Contains-push_cases old i j (subst (λ (z : List ℕ). Contains z j) is there)) [
+    | inl before ↦ inl before
+    | inr last ↦ inr (sym last)
+  ];
 }
 
 pub added_already : (row xs : List ℕ) (i : ℕ) → row ≡ xs ++ i ∷ [] → IsAdded row row i
 added_already row xs i is = record {
   kept = λ j there. there;
   here = subst (λ (z : List ℕ). Contains z i) (sym is) (Contains-append_right xs (i ∷ []) i (Contains-here i i [] refl));
+  only = λ j there. inl there;
 }
 
 pub added_of : (old new was now : List ℕ) (i : ℕ) → was ≡ old → new ≡ now → IsAdded was now i → IsAdded old new i
 added_of old new was now i same is added = record {
   kept = λ j there. subst (λ (z : List ℕ). Contains z j) (sym is) (added.kept j (subst (λ (z : List ℕ). Contains z j) (sym same) there));
   here = subst (λ (z : List ℕ). Contains z i) (sym is) added.here;
+  only = λ j there. elim (added.only j (subst (λ (z : List ℕ). Contains z j) is there)) [
+    | inl before ↦ inl (subst (λ (z : List ℕ). Contains z j) same before)
+    | inr new ↦ inr new
+  ];
 }
 
 pub added_same : (old new : List (List ℕ)) (q k : ℕ) → k ≤ q → ((p : ℕ) → p ≢ q → row_in new p ≡ row_in old p) → AreSameBelow k old new

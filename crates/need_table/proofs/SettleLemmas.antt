@@ -21,12 +21,12 @@ use Rattle.need_table.specs.declared.entries.Entry.{Entry}
 use Rattle.need_table.specs.declared.agenda.Agenda.{Agenda}
 use Rattle.need_table.specs.Rows.{row_in}
 use Rattle.need_table.specs.Agendas.{IsGoing}
-use Rattle.need_table.specs.Tables.{pair_of, labels, round_in, IsDone, IsUpTo, IsTable, IsMore, IsKept, AllRest, AreInOrder, IsRested, AreRested, rested}
+use Rattle.need_table.specs.Tables.{pair_of, labels, round_in, IsDone, IsUpTo, IsTable, IsMore, IsKept, AllRest, AreInOrder, IsRested, AreRested}
 use Rattle.need_table.proofs.FillLemmas.{later_at, set-length, set-here, set-other}
 use Rattle.need_table.proofs.ChildLemmas.{some_at, and_at}
 use Rattle.need_table.proofs.PlaceLemmas.{pairs_rested}
 use Rattle.need_table.proofs.BoundLemmas.{rounds_few}
-use Rattle.need_table.proofs.GoingLemmas.{table_rested}
+use Rattle.need_table.proofs.GoingLemmas.{rested, table_rested}
 
 -- the entries before a place are at rest, and the others as they were
 pub record AreRestedTo (old now : List Entry) (i : ℕ) : Type 0 where
@@ -37,7 +37,7 @@ pub record AreRestedTo (old now : List Entry) (i : ℕ) : Type 0 where
 -- those below the first are at rest
 pub rest_start : (old : List Entry) (first : ℕ) → ((j : ℕ) (e : Entry) → j < first → slice_get old j ≡ Some e → e.rounds ≡ None) → AreRestedTo old old first
 rest_start old first resting = record {
-  done = λ j e less at. subst (λ o. IsSomeAnd o (IsRested e)) (sym at) (record { pair = refl; label = refl; firsts = refl; rounds = resting j e less at; at_rest = λ _. refl });
+  done = λ j e less at. subst (λ o. IsSomeAnd o (IsRested e)) (sym at) (record { pair = refl; label = refl; firsts = refl; rounds = resting j e less at; forgets = λ some. absurd (some (resting j e less at)); at_rest = λ _. refl });
   left = λ j from. refl;
   same = refl;
 }

@@ -1,14 +1,15 @@
 -- Rows of places.
-use Rattle.std.specs.Prelude.{◌≡◌, ◌≤◌, ◌<◌, ℕ, List, [], get_or, Contains}
+use Rattle.std.specs.Prelude.{◌≡◌, ◌⊎◌, ◌≤◌, ◌<◌, ℕ, List, [], get_or, Contains}
 
 -- the places in a row
 abbrev pub row_in : List (List ℕ) → ℕ → List ℕ
 row_in rows q = get_or rows q []
 
--- the place stands in the row, with what stood there
+-- the place stands in the row, with what stood there and nothing else
 pub record IsAdded (old new : List ℕ) (i : ℕ) : Type 0 where
   pub kept : (j : ℕ) → Contains old j → Contains new j
   pub here : Contains new i
+  pub only : (j : ℕ) → Contains new j → Contains old j ⊎ (j ≡ i)
 
 -- what stood in a row stands there still
 abbrev pub IsRicher : List (List ℕ) → List (List ℕ) → Type 0

@@ -131,16 +131,13 @@ AllDone entries t = (e : Entry) → Contains entries e → IsDone e.rounds t
 abbrev pub AllRest : List Entry → Type 0
 AllRest entries = (e : Entry) → Contains entries e → e.rounds ≡ None
 
--- the entry, at rest
-abbrev pub rested : Entry → Entry
-rested e = record e { rounds = None }
-
--- the same pair with its label at rest, where it wasn't
+-- the same pair with its label at rest, where it wasn't; what it asks is forgotten then
 pub record IsRested (old new : Entry) : Type 0 where
   pub pair : pair_of new ≡ pair_of old
   pub label : new.label ≡ old.label
   pub firsts : new.firsts.items ≡ old.firsts.items
   pub rounds : new.rounds ≡ None
+  pub forgets : old.rounds ≢ None → new.children.items ≡ []
   pub at_rest : old.rounds ≡ None → new ≡ old
 
 pub record AreRested (old new : List Entry) : Type 0 where

@@ -16,7 +16,7 @@ pub(crate) const A_FEW: usize = 8;
 
 /// A pair. `label` is its last label, and `firsts` has the atoms of this in the order of their first rounds. `rounds` is the last
 /// round for which it was worked out, and `None` where it has come to rest; `children` has the places of the pairs that its label
-/// asks.
+/// asked in the round before that one, and none once it was set at rest.
 #[derive(Drop)]
 pub(crate) struct Entry {
     pub(crate) kind: u32,
@@ -97,7 +97,7 @@ pub(crate) fn firsts_of(alloc: Global, label: &ClassSet) -> Result<Vec<First>, N
     Ok(firsts)
 }
 
-// Makes room for this many firsts more, where they are more than a few, so that no more is taken than for the last of them.
+// Makes room for this many firsts more at once, where they are more than a few.
 fn make_room(firsts: &mut Vec<First>, count: usize) -> Result<(), NoMemory>
     ensures { OnOk result (firsts.new.items ≡ firsts.old.items) }
 {

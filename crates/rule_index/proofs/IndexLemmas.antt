@@ -25,7 +25,7 @@ use Rattle.simple_core.specs.Labels.{given_by_rules, given_by_links}
 use Rattle.simple_core.proofs.Members.{all_among_each, flat_map-Contains, Contains-flat_map}
 use Rattle.simple_core.proofs.RoundLemmas.{set_of-is, is-set_of}
 use Rattle.simple_core.proofs.LabelLemmas.{IsByRule, given_by_rules-is, is-given_by_rules, given_by_links-is, is-given_by_links, kinds_at-is, is-kinds_at}
-use Rattle.rule_index.specs.Asking.{IsMore, AreMet, AreMetBy, AsksAnew, AreKinds}
+use Rattle.rule_index.specs.Asking.{IsMore, AreMet, AreMetBy, AreKinds}
 use Rattle.rule_index.specs.Indexes.{IsIndex, AreNeedsNoted, IsRuleNoted, IsOneKey, AreLocalsAt, AreRareAt, AreFound, AreLinksAt, AreSpawnsAt, at_place, at_row, by_label, given_in, to_of, kind_of}
 
 -- unions with the same members are one
@@ -427,13 +427,6 @@ seen_link s a sound seen =
     let from = λ (l : Link). l.from in
     let i = at_Contains (map from s.up) a (set_of-is (map from s.up) a (subst (λ (z : List ℕ). Contains z a) sound.visible seen)) in
     let l = at_map from s.up i.0 a i.1 in (l.0, Contains-at s.up i.0 l.0 l.1, l.2)
-
--- an atom that no link from a parent looks at and that adds no child
-pub not_asking : (s : System) (links : List Link) (a : ℕ) → IsSound s → links ≡ s.up → ((l : Link) → Contains links l → l.from ≡ a → ⊥) → ((c : Spawn) → Contains s.child c → c.needs ≡ a → ⊥) → AsksAnew s a → ⊥
-not_asking s links a sound same unseen childless (inl seen) =
-    let l = seen_link s a sound seen in
-    unseen l.0 (subst (λ (z : List Link). Contains z l.0) (sym same) l.1) l.2
-not_asking s links a sound same unseen childless (inr child) = childless child.0 child.1 child.2
 
 pub first_rest : {X : Type 0} (xs : List X) (x : X) (rest : List X) → IsFirstAndRest xs x rest → xs ≡ x ∷ rest
 first_rest xs x rest is = is.0

@@ -143,7 +143,8 @@ impl<'a> IndexedSystem<'a> {
         self.system.kinds.items()
     }
 
-    /// Whether a label that gets these atoms asks something else than before. A yes costs time alone. Linear in them.
+    /// Whether a label that gets these atoms asks something else than before. A yes costs time alone. It costs a search of the
+    /// visible atoms for each of them.
     pub fn is_asking(&self, fresh: &ClassSet) -> bool
         ensures { IsFalse result → (a : ℕ) → Contains fresh.now a → ¬ AsksAnew self.now a }
     {
@@ -155,7 +156,7 @@ impl<'a> IndexedSystem<'a> {
         false
     }
 
-    /// The same of what came last to a label. Linear in it.
+    /// The same of what came last to a label. Linear in that.
     pub fn is_asking_by(&self, fresh: &[First]) -> bool
         requires { IsSound self.now }
         ensures { IsFalse result → (f : First) → Contains fresh.now f → ¬ AsksAnew self.now f.atom }
@@ -178,7 +179,7 @@ impl<'a> IndexedSystem<'a> {
         self.up.of(atom.0 as usize).len() != 0
     }
 
-    /// The atoms of a label at which links from a parent look. Linear in the label.
+    /// The atoms of a label at which links from a parent look. Linear in the label: the sort at its end finds them in order.
     pub fn visible_of(&self, label: &ClassSet) -> Result<ClassSet, NoMemory>
         requires { IsSound self.now }
         ensures { IfOk result (λ s. s ≡ visible_in self.now label.now) }
@@ -198,7 +199,7 @@ impl<'a> IndexedSystem<'a> {
         requires { IsSound self.now }
         ensures { IsFalse result → ¬ AsksAnew self.now atom }
     {
-        is_seen(self.system.up.items(), &self.up, atom) || self.spawns(atom)
+        self.is_visible(atom) || self.spawns(atom)
     }
 
     // Whether a label that gets this atom asks something else than before.
