@@ -1,5 +1,4 @@
 pub mod ChoiceLemmas
-mod VisibleLemmas
 pub mod ValidLemmas
 pub mod UsedLemmas
 pub mod OneLemmas

@@ -4,6 +4,7 @@
 --     below_known, spawn_is      a child that a spawn rule adds
 --     popped, above_is           the label of a node's parent
 --     all_stop, all_next         all atoms of a list, one after the other
+--     shown, unshown             whether a part of a label has an atom
 --     IsSeen                     the visible part so far
 use Rattle.std.proofs.Common.{◌≡◌, ◌↔◌, ℕ, zero, suc, ◌+◌, ◌-◌, ◌<◌, ◌≤◌, Bool, true, false, leb, ◌&&◌, List, [], ◌∷◌, ◌++◌, length, take, drop, find, get_or, Contains, Option, Some, None, IsSome, IsNone, is_some, option_map, unwrap_or, slice_get, inl, inr, refl, sym, ap, ◌∙◌, subst, arith}
 use Rattle.std.specs.List.{list_all, range_with_len}
@@ -43,6 +44,25 @@ use Rattle.proof_maker.specs.declared.worlds.World.{World}
 use Rattle.proof_needs.specs.Choices.{spawn_needs, spawn_kind}
 use Rattle.proof_maker.specs.Worlds.{labels_of, above_on, IsPlace, IsAsking, IsReady, spawn_has}
 
+-- an atom of a part of a label
+module _ (all label : List ℕ) (a : ℕ) where
+  pub unshown : has_class a all ≡ false → false ≡ has_class a (cut_to all label)
+  unshown none = sym (false_from_ne_true (has_class a (cut_to all label)) (λ has.
+      both_ways (has_class a all) none (has_class-Contains a all ((Contains-cut_to all label a).0 (Contains-has_class a (cut_to all label) has)).0)))
+
+  pub shown : has_class a all ≡ true → has_class a label ≡ has_class a (cut_to all label)
+  shown in_all = elim (cases_Bool (has_class a label)) [
+    | inl there ↦ there ∙ sym (has_class-Contains a (cut_to all label) ((Contains-cut_to all label a).1 (Contains-has_class a all in_all, Contains-has_class a label there)))
+    | inr gone ↦ gone ∙ sym (false_from_ne_true (has_class a (cut_to all label)) (λ has.
+        both_ways (has_class a label) gone (has_class-Contains a label ((Contains-cut_to all label a).0 (Contains-has_class a (cut_to all label) has)).1)))
+  ]
+
+-- a set of which all atoms are among others
+cut_whole : (all xs : List ℕ) → IsStrictlyIncreasing xs → ((a : ℕ) → Contains xs a → Contains all a) → cut_to all xs ≡ xs
+cut_whole all xs rises within = same_members (cut_to all xs) xs (IsStrictlyIncreasing-cut_to all xs rises) rises
+    (All-from_Contains (Contains xs) (cut_to all xs) (λ b there. ((Contains-cut_to all xs b).0 there).1))
+    (All-from_Contains (Contains (cut_to all xs)) xs (λ b there. (Contains-cut_to all xs b).1 (within b there, there)))
+
 module _ (f : ℕ → List ℕ) (one : (k : ℕ) → Among (f k) (f (suc k))) (a : ℕ) where
   pub first_has : (r k : ℕ) → IsFirst f a (Some r) → leb r k ≡ has_class a (f k)
   first_has r k first =
@@ -76,12 +96,15 @@ module _ (s : System) (page : LabelTree) where
     pub node_never : None ≡ round_of c.firsts v a → false ≡ has_class a (page_round s page k v)
     node_never is = never_has (λ m. page_round s page m v) (page-one_more s page v) a k (subst (IsFirst (λ m. page_round s page m v) a) (sym is) (closed.firsts v a node))
 
-  -- what a closed label lacks comes in no round
-  pub closed_lacks : (c : ClosedPage) → IsClosedPage s page c → (v label : List ℕ) → label_at v c.labels ≡ Some label → (a k : ℕ) → has_class a label ≡ false → false ≡ has_class a (page_round s page k v)
-  closed_lacks c closed v label at a k none =
-      let own = page_round s page k v in
-      sym (false_from_ne_true (has_class a own) (λ has.
-      both_ways (has_class a label) none (has_class-Contains a label (is_closed s page v label (closed.closed v label at) a (k, Contains-has_class a own has)))))
+  pub seen_rises : (k : ℕ) (v : List ℕ) → IsStrictlyIncreasing (visible_in s (page_round s page k v))
+  seen_rises k v = IsStrictlyIncreasing-cut_to s.visible (page_round s page k v) (page-rises s page k v)
+
+  -- all that is seen in a round is of the closed label
+  pub closed_seen : (c : ClosedPage) → IsClosedPage s page c → (v own : List ℕ) → label_at v c.labels ≡ Some own → (k : ℕ) → cut_to own (visible_in s (page_round s page k v)) ≡ visible_in s (page_round s page k v)
+  closed_seen c closed v own at k =
+      let label = page_round s page k v in
+      cut_whole own (visible_in s label) (seen_rises k v)
+      (λ a there. is_closed s page v own (closed.closed v own at) a (k, ((Contains-cut_to s.visible label a).0 there).1))
 
   -- the least child that a closed page tells is the first of the page's that has the atom
   module _ (c : ClosedPage) (closed : IsClosedPage s page c) (v : List ℕ) (a k : ℕ) where
@@ -170,7 +193,7 @@ module _ (p : ℕ → Bool) (xs : List ℕ) where
   pub all_end : (i : ℕ) → length xs ≤ i → list_all p xs ≡ list_all p (drop i xs) → true ≡ list_all p xs
   all_end i past from = sym (from ∙ ap (list_all p) (drop_end xs i past))
 
--- the visible part, by the first i atoms that are visible
+-- what of a set is among the first i atoms of another: the visible part, by the atoms that are visible or by those of a closed label
 pub record IsSeen (visible own label : List ℕ) (i : ℕ) : Type 0 where
   pub rises : IsStrictlyIncreasing label
   pub each : (a : ℕ) → Contains label a ↔ (Contains (take i visible) a × Contains own a)

@@ -1,11 +1,11 @@
 //! The reason that is chosen for an atom at a place: the first one all of whose premises stand in the round before the atom's first round.
-ghost use Rattle.std.specs.Prelude.{◌≡◌, ◌&&◌, ◌-◌, ℕ, false, List, length, find, Contains, IsTrue, IfOk, IfSome, option_map};
+ghost use Rattle.std.specs.Prelude.{◌≡◌, ◌&&◌, ◌-◌, length, find, Contains, IfOk, IfSome, option_map};
 ghost use Rattle.std.specs.List.{flat_map, range_with_len};
-ghost use Rattle.tp_base.specs.Classes.{has_class, cut_to};
+ghost use Rattle.tp_base.specs.Classes.{has_class};
 ghost use Rattle.simple_core.specs.Labels.{visible_in};
 ghost use Rattle.simple_core.specs.Rounds.{grown};
 ghost use Rattle.proof_needs.specs.Choices.{by_local, by_up, ways_down, ways, chosen};
-ghost use Rattle.proof_maker.specs.Worlds.{setting_of, path_of, labels_of, IsPlace, HasArrivals, IsNodeOf, IsReady, stands_at, real_has, spawn_has};
+ghost use Rattle.proof_maker.specs.Worlds.{setting_of, path_of, labels_of, IsPlace, HasArrivals, IsNodeOf, IsAsking, IsReady, stands_at, real_has, spawn_has};
 ghost use Rattle.proof_maker.specs.Glances.{HasBelow};
 ghost use Rattle.proof_maker.specs.Reasons.{found_reason};
 
@@ -53,6 +53,7 @@ pub(crate) fn chosen<S: Summaries>(
     requires ready { IsReady S.Summaries world.now }
     requires place { IsPlace S.Summaries world.now place.now }
     requires arrivals { HasArrivals world.now.system.now place.now }
+    requires asking { IsAsking world.now.system.now (S.known world.now.sums.now) place.now }
     ensures choice { IfOk result (λ f. found_reason f ≡ chosen world.now.system.now (setting_of world.now.system.now world.now.page.now place.now) (path_of place.now) atom round) }
     ensures below { IfOk result (HasBelow world.now place.now (round - 1)) }
 {
@@ -116,6 +117,7 @@ fn way<S: Summaries>(
     requires ready { IsReady S.Summaries world.now }
     requires place { IsPlace S.Summaries world.now place.now }
     requires arrivals { HasArrivals world.now.system.now place.now }
+    requires asking { IsAsking world.now.system.now (S.known world.now.sums.now) place.now }
     ensures below { IfOk result (λ w. IfSome w (HasBelow world.now place.now round)) }
     ensures choice { IfOk result (λ w. option_map found_reason w
         ≡ find (stands_at world.now place.now round) (ways world.now.system.now (setting_of world.now.system.now world.now.page.now place.now) (path_of place.now) atom)) }
@@ -192,6 +194,7 @@ fn down_way<S: Summaries>(
     requires ready { IsReady S.Summaries world.now }
     requires place { IsPlace S.Summaries world.now place.now }
     requires arrivals { HasArrivals world.now.system.now place.now }
+    requires asking { IsAsking world.now.system.now (S.known world.now.sums.now) place.now }
     ensures below { IfOk result (λ w. IfSome w (HasBelow world.now place.now round)) }
     ensures choice { IfOk result (λ w. option_map found_reason w
         ≡ find (stands_at world.now place.now round) (flat_map (ways_down world.now.system.now (setting_of world.now.system.now world.now.page.now place.now) (path_of place.now)) links.now)) }
@@ -216,6 +219,7 @@ fn link_way<S: Summaries>(
     requires ready { IsReady S.Summaries world.now }
     requires place { IsPlace S.Summaries world.now place.now }
     requires arrivals { HasArrivals world.now.system.now place.now }
+    requires asking { IsAsking world.now.system.now (S.known world.now.sums.now) place.now }
     ensures below { IfOk result (λ w. IfSome w (HasBelow world.now place.now round)) }
     ensures choice { IfOk result (λ w. option_map found_reason w
         ≡ find (stands_at world.now place.now round) (ways_down world.now.system.now (setting_of world.now.system.now world.now.page.now place.now) (path_of place.now) link)) }
@@ -241,7 +245,7 @@ fn link_way<S: Summaries>(
     }
 }
 
-// The marks of a set for so many looks, where they are worth it.
+// The marks of a set for so many looks, where they are worth it, which is for time alone.
 fn marks_for(alloc: Global, set: &ClassSet, looks: usize) -> Result<Option<Marks>, NoMemory>
     ensures { IfOk result (λ m. IfSome m (λ n. n ≡ set.now)) }
 {
@@ -286,6 +290,7 @@ fn added_child<S: Summaries>(world: &World<'_, S>, scene: &Scene<'_>, from: Atom
     requires ready { IsReady S.Summaries world.now }
     requires place { IsPlace S.Summaries world.now scene.now.place.now }
     requires arrivals { HasArrivals world.now.system.now scene.now.place.now }
+    requires asking { IsAsking world.now.system.now (S.known world.now.sums.now) scene.now.place.now }
     requires visible { scene.now.visible.now ≡ visible_in world.now.system.now (labels_of world.now.system.now world.now.page.now scene.now.place.now scene.now.round) }
     requires marks { IfSome scene.now.marks.now (λ m. m ≡ scene.now.visible.now) }
     ensures { result ≡ find (spawn_has world.now scene.now.place.now scene.now.round from) (range_with_len 0 (length world.now.system.now.child)) }
@@ -311,28 +316,28 @@ fn spawn_stands<S: Summaries>(
     requires place { IsPlace S.Summaries world.now scene.now.place.now }
     requires visible { scene.now.visible.now ≡ visible_in world.now.system.now (labels_of world.now.system.now world.now.page.now scene.now.place.now scene.now.round) }
     requires marks { IfSome scene.now.marks.now (λ m. m ≡ scene.now.visible.now) }
+    requires asking { IsAsking world.now.system.now (S.known world.now.sums.now) scene.now.place.now }
     requires listed { Contains world.now.system.now.child spawn.now }
     ensures { result ≡ (has_class spawn.now.needs (labels_of world.now.system.now world.now.page.now scene.now.place.now scene.now.round) && has_class from (grown world.now.system.now scene.now.round spawn.now.kind scene.now.visible.now)) }
 {
-    if lacks(world.marks, scene, spawn.needs) {
-        return false;
-    }
-    if !has(world, scene.place, spawn.needs, scene.round) {
+    if !is_there(world, scene, spawn.needs) {
         return false;
     }
     added_has(world.sums, spawn.kind, scene.visible, from, scene.round)
 }
 
-// Whether the atom is a marked one that isn't among the atoms of a label that are marked.
-fn lacks(marks: &Marks, scene: &Scene<'_>, atom: Atom) -> bool
+// Whether the label has the atom, which the visible part of it tells of a visible one.
+fn is_there<S: Summaries>(world: &World<'_, S>, scene: &Scene<'_>, atom: Atom) -> bool
+    requires ready { IsReady S.Summaries world.now }
+    requires place { IsPlace S.Summaries world.now scene.now.place.now }
+    requires visible { scene.now.visible.now ≡ visible_in world.now.system.now (labels_of world.now.system.now world.now.page.now scene.now.place.now scene.now.round) }
     requires marks { IfSome scene.now.marks.now (λ m. m ≡ scene.now.visible.now) }
-    ensures { IsTrue result → (label : List ℕ) → scene.now.visible.now ≡ cut_to marks.now label → has_class atom label ≡ false }
+    ensures { result ≡ has_class atom (labels_of world.now.system.now world.now.page.now scene.now.place.now scene.now.round) }
 {
-    if marks.has(atom) {
-        !is_seen(scene, atom)
-    } else {
-        false
+    if world.marks.has(atom) {
+        return is_seen(scene, atom);
     }
+    has(world, scene.place, atom, scene.round)
 }
 
 // Whether the visible part of the label has the atom.

@@ -56,7 +56,8 @@ pub struct ProofGround<'a> {
 /// The canonical proof that the page's root gets the target, where it has no more entries than the limit. Each atom that is needed is
 /// looked at once: that costs a look-up of a first round for each premise of the rules that give it, twice at an added node. Where
 /// children of an added node are looked at, the summaries are asked what comes to it, once for each kind and label of a parent, and
-/// that is sorted.
+/// that is sorted. For each link from a child that gives the atom, where no child in the page has the link's left side, the visible
+/// part of the label is made, and each spawn rule looked at.
 pub fn prove<S: Summaries>(
     alloc: Global,
     page: &Tree,

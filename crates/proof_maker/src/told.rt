@@ -8,7 +8,8 @@ use simple_core::{Summaries, System};
 use std::alloc::Global;
 use tp_base::{Atom, ClassSet, NoMemory};
 
-/// What comes to an added node, and how many spawn rules there are before the first one whose atom may come to it.
+/// What comes to an added node, and how many spawn rules there are before the first one whose atom may come to it. That they are
+/// no fewer is for time alone.
 #[derive(Drop)]
 pub(crate) struct Told {
     pub(crate) arrivals: Arrivals,

@@ -83,10 +83,8 @@ pub(crate) fn added_has<S: Summaries>(
     ensures test { result ≡ has_class atom (grown (S.system sums.now) round kind parent.now) }
     ensures asking { KeepsAsking (S.system sums.now) (S.known sums.now) }
 {
-    match sums.first_round(kind, parent, atom) {
-        Some(first) => first <= round,
-        None => false,
-    }
+    let entry = sums.entry(kind, parent);
+    has_at(sums, entry, kind, parent, atom, round)
 }
 
 // The same, where the entry of its pair is at hand.
@@ -195,8 +193,9 @@ pub(crate) fn idle_at(place: &Place<'_>) -> usize
     }
 }
 
-/// The visible part of the label at the place in a round. It costs a sort of the atoms that are there, where what comes to the
-/// added node was asked; else a look-up for each visible atom.
+/// The visible part of the label at the place in a round. Where what comes to the added node was asked, it costs a sort of the
+/// atoms that are there; at a node of the page a look at each atom of its closed label, and a look-up for each that is visible;
+/// else a look-up for each visible atom.
 pub(crate) fn visible_at<S: Summaries>(
     alloc: Global,
     world: &World<'_, S>,
@@ -220,27 +219,20 @@ pub(crate) fn visible_at<S: Summaries>(
     }
 }
 
-// Whether a node of the page with this closed label has the atom by the round.
-fn own_has<S: Summaries>(
-    world: &World<'_, S>,
-    own: &ClassSet,
-    at: &Path,
-    atom: Atom,
-    round: u64,
-) -> bool
+// Whether the visible part of the label in a round of a node of the page has the atom.
+fn shows<S: Summaries>(world: &World<'_, S>, at: &Path, atom: Atom, round: u64) -> bool
     requires ready { IsReady S.Summaries world.now }
-    requires own { label_at at.now world.now.closed.now.labels ≡ Some own.now }
     requires node { IsSome (node_at at.now world.now.page.now) }
-    ensures { result ≡ has_class atom (page_round world.now.system.now world.now.page.now round at.now) }
+    ensures { result ≡ has_class atom (visible_in world.now.system.now (page_round world.now.system.now world.now.page.now round at.now)) }
 {
-    if !own.has(atom) {
+    if !world.marks.has(atom) {
         return false;
     }
     node_has(world, at, atom, round)
 }
 
-// The visible part of the label in a round of a node of the page with this closed label, by a look-up for each visible atom
-// of that.
+// The same of a node of the page with this closed label. It costs a look at each atom of that, and a look-up of its first round
+// for each that is visible.
 fn visible_on<S: Summaries>(
     alloc: Global,
     world: &World<'_, S>,
@@ -254,16 +246,16 @@ fn visible_on<S: Summaries>(
     ensures { IfOk result (λ l. l ≡ visible_in world.now.system.now (page_round world.now.system.now world.now.page.now round at.now)) }
 {
     let mut label = ClassSet::new(alloc);
-    for i in 0..world.system.visible.len() {
-        let atom = world.system.visible.at(i);
-        if own_has(world, own, at, atom, round) {
+    for i in 0..own.len() {
+        let atom = own.at(i);
+        if shows(world, at, atom, round) {
             label.add(atom)?;
         }
     }
     Ok(label)
 }
 
-// The same, by a look-up for each visible atom.
+// The same of any place, by a look-up of the first round for each visible atom.
 fn visible_now<S: Summaries>(
     alloc: Global,
     world: &World<'_, S>,

@@ -246,3 +246,13 @@ dealt_next wants ws count rs i r w o o' same at at_w from with_one =
 
 pub all_at : {X : Type 0} (P : X → Type 0) (xs : List X) (i : ℕ) (x : X) → All P xs → slice_get xs i ≡ Some x → P x
 all_at P xs i x all at = subst P (get_or_from_slice_get xs i x x at) (all i x (slice_get_within xs i x at))
+
+-- an order with no want more
+pub none_more : (orders orders' : List Order) (o : Order) → orders' ≡ orders ++ o ∷ [] → o.wants.items ≡ [] → ((m : ℕ) → wants_of orders m ≡ []) → (m : ℕ) → wants_of orders' m ≡ []
+none_more orders orders' o is none all m = subst (λ (z : List Order). wants_of z m ≡ []) (sym is) (go orders all m)
+  where
+    go : (os : List Order) → ((k : ℕ) → wants_of os k ≡ []) → (k : ℕ) → wants_of (os ++ o ∷ []) k ≡ []
+    go [] all zero = none
+    go [] all (suc k) = refl
+    go (x ∷ os) all zero = all 0
+    go (x ∷ os) all (suc k) = go os (λ j. all (suc j)) k

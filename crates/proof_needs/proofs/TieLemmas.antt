@@ -52,3 +52,7 @@ parent_is (k ∷ v) p above up same cut is =
 pub on_ok : {V E : Type 0} {P Q : Type 0} (r : Result V E) → (P → Q) → OnOk r P → OnOk r Q
 on_ok (Ok v) f h = f h
 on_ok (Err e) f h = tt
+
+pub ok_both : {V E : Type 0} {P Q R : Type 0} (r : Result V E) → (P → Q → R) → OnOk r P → OnOk r Q → OnOk r R
+ok_both (Ok v) f h k = f h k
+ok_both (Err e) f h k = tt

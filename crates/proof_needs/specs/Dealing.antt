@@ -6,11 +6,6 @@ use Rattle.proof_needs.specs.declared.spots.Spot.{Spot}
 use Rattle.proof_needs.specs.declared.spots.Spot.TheVariants.{Page, Added}
 use Rattle.proof_needs.specs.declared.spots.Want.{Want}
 use Rattle.proof_needs.specs.declared.needs.Draft.{Draft}
-use Rattle.proof_needs.specs.Triples.{Triple}
-use Rattle.proof_needs.specs.Spots.{no_triple}
-
-abbrev pub triple_at : List Triple → ℕ → Triple
-triple_at triples n = unwrap_or (slice_get triples n) no_triple
 
 abbrev pub IsOnPage : Spot → Type 0
 IsOnPage (Page n) = Unit {0}

@@ -39,13 +39,16 @@ pub record IsUsed (n from needs : ℕ) (spot : Spot) (tie : Tie) (ties ties' : L
   pub of_wants : IsWith wants (λ w. (w ≡ want_of spot needs) ⊎ ((w ≡ want_of (Added n) from) ⊎ IsOfEach spot tie.above w)) wants'
 
 module _ (nodes nodes' : List (List ℕ)) (ties ties' : List Tie) (wants wants' : List Want) where
+  -- the root has no parent, at which nothing is wanted then
   abbrev pub FollowsUp : Spot → ℕ → Type 0
   FollowsUp (Page n) from = (ties' ≡ ties) × ((v p : List ℕ) → slice_get nodes n ≡ Some v → parent_of v ≡ Some p → IsAtNode p from nodes nodes' wants wants')
+      × (slice_get nodes n ≡ Some [] → (nodes' ≡ nodes) × (wants' ≡ wants))
   FollowsUp (Added n) from = (nodes' ≡ nodes) × ((tie : Tie) → slice_get ties n ≡ Some tie → IsAbove n from tie ties ties' wants wants')
 
+  -- an added node has no child in the page
   abbrev pub FollowsDown : Spot → ℕ → ℕ → Type 0
   FollowsDown (Page n) k from = (ties' ≡ ties) × ((v : List ℕ) → slice_get nodes n ≡ Some v → IsAtNode (v ++ k ∷ []) from nodes nodes' wants wants')
-  FollowsDown (Added n) k from = Unit {0}
+  FollowsDown (Added n) k from = (nodes' ≡ nodes) × (ties' ≡ ties) × (wants' ≡ wants)
 
   abbrev pub Follows : System → Spot → Choice → Option ℕ → Type 0
   Follows s spot Start named = (nodes' ≡ nodes) × (ties' ≡ ties) × (wants' ≡ wants)
@@ -53,6 +56,7 @@ module _ (nodes nodes' : List (List ℕ)) (ties ties' : List Tie) (wants wants' 
   Follows s spot (Up l) named = FollowsUp spot (from_up s l)
   Follows s spot (Real l n) named = FollowsDown spot n (from_down s l)
   Follows s spot (Spawn l c) named = (nodes' ≡ nodes) × ((n : ℕ) (tie : Tie) → named ≡ Some n → slice_get ties n ≡ Some tie → IsUsed n (from_down s l) (spawn_needs s c) spot tie ties ties' wants wants')
+      × (named ≡ None → (ties' ≡ ties) × (wants' ≡ wants))
 
 -- the triple has a number, with a tie of its own
 pub record IsEntered (t : Triple) (triples triples' : List Triple) (ties ties' : List Tie) (number : ℕ) : Type 0 where

@@ -54,7 +54,8 @@ pub struct Needs {
     pub drafts: Vec<Draft>,
 }
 
-/// Wants the premises of a reason at the spot.
+/// Wants the premises of a reason at the spot. It costs a step for each atom that is wanted, on average, the path of a page's node,
+/// and where an added node needs one atom more of its parent, a look at those that it needs already.
 pub fn follow(
     alloc: Global,
     needs: &mut Needs,
@@ -90,7 +91,7 @@ pub fn follow(
     }
 }
 
-/// The left side of a link.
+/// The left side of a link. Constant.
 pub fn from_of(links: &[Link], link: usize) -> Atom
     ensures { result ≡ unwrap_or (option_map (λ l. l.from) (slice_get links.now link)) 0 }
 {
@@ -145,8 +146,9 @@ fn want_parent(
     n: usize,
     from: Atom,
 ) -> Result<(), NoMemory>
-    ensures { OnOk result ((v p : List ℕ) → slice_get (paths_in nodes.old.keys) n ≡ Some v → parent_of v ≡ Some p
+    ensures parent { OnOk result ((v p : List ℕ) → slice_get (paths_in nodes.old.keys) n ≡ Some v → parent_of v ≡ Some p
         → IsAtNode p from (paths_in nodes.old.keys) (paths_in nodes.new.keys) wants.old.keys wants.new.keys) }
+    ensures root { OnOk result (slice_get (paths_in nodes.old.keys) n ≡ Some [] → (nodes.new ≡ nodes.old) × (wants.new ≡ wants.old)) }
 {
     let mut above = path_of(alloc, nodes, n)?;
     if above.pop().is_none() {
@@ -233,6 +235,7 @@ fn follow_spawn(
     ensures nodes { needs.new.nodes ≡ needs.old.nodes }
     ensures follows { OnOk result ((n : ℕ) (tie : Tie) → triple ≡ Some n → slice_get needs.old.ties.items n ≡ Some tie
         → IsUsed n from spawner spot tie needs.old.ties.items needs.new.ties.items needs.old.wants.keys needs.new.wants.keys) }
+    ensures nothing { OnOk result (triple ≡ None → (needs.new.ties ≡ needs.old.ties) × (needs.new.wants ≡ needs.old.wants)) }
     ensures triples { needs.new.triples ≡ needs.old.triples }
     ensures drafts { needs.new.drafts ≡ needs.old.drafts }
     ensures target { needs.new.target ≡ needs.old.target }

@@ -89,7 +89,7 @@ fn push_visits(tasks: &mut Vec<Task>, triples: &[usize]) -> Result<(), NoMemory>
     Ok(())
 }
 
-/// The number of a triple: its place in the order.
+/// The number of a triple: its place in the order. Constant, on average.
 pub fn number_of(order: &IndexSet<usize>, triple: usize) -> u32
     requires few { length order.now.keys < 2 ^ 32 }
     ensures { result ≡ number_in order.now.keys triple }

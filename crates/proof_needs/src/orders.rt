@@ -34,7 +34,8 @@ pub struct Orders {
     pub triples: Vec<Order>,
 }
 
-/// All wants are sorted once, and dealt to their spots in this order.
+/// All wants are sorted once, and dealt to their spots in this order. Where first rounds are the same, a comparison costs a walk
+/// along the two paths.
 pub fn orders_of(alloc: Global, needs: &Needs) -> Result<Orders, NoMemory>
     requires sortable { IsSortable needs.now }
     ensures { IfOk result (AreDealt needs.now) }

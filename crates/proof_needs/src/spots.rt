@@ -102,7 +102,7 @@ fn steps_of(alloc: Global, at: &Path) -> Result<Vec<u32>, NoMemory>
     Ok(steps)
 }
 
-/// The path of a node.
+/// The path of a node. Linear in its length.
 pub fn path_of(alloc: Global, nodes: &IndexSet<Vec<u32>>, number: usize) -> Result<Path, NoMemory>
     ensures { IfOk result (λ p. (v : _) → slice_get (paths_in nodes.now.keys) number ≡ Some v → p ≡ v) }
 {

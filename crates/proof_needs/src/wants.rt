@@ -7,7 +7,7 @@ use crate::spots::{Spot, Want};
 use indexmap::IndexSet;
 use tp_base::{Atom, ClassSet, NoMemory};
 
-/// The atom at the spot.
+/// The atom at the spot. Constant, on average.
 pub fn want(wants: &mut IndexSet<Want>, spot: Spot, atom: Atom) -> Result<(), NoMemory>
     ensures { OnOk result (IsWith wants.old.keys (λ w. w ≡ record { spot = spot; atom = atom }) wants.new.keys) }
 {
