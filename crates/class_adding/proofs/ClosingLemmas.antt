@@ -69,53 +69,41 @@ closes_went S Q a b r may w spent asked told = record {
 }
 
 module _ {X A B : Type 0} (S : Ghosts X) (s : System) (Q : Pair → Type 0) (old new : X) where
-  -- with another answer
-  pub closes_on : (x : A) (y : B) → Closes S s Q (answer x) old new → Closes S s Q (answer y) old new
-  closes_on x y c = record {
-    asked = c.asked;
+  -- with another result, of which the same is true
+  closes_with : (r : Result A GainFault) (r' : Result B GainFault) → OnOk r' ((q : Pair) → Q q → S.known new q) → OnOk r' (TellsAfter s (S.told old) (S.told new) Q)
+      → (S.spent_on old ≡ None → (IsErrOf r' Spent ↔ IsSome (S.spent_on new))) → Closes S s Q r old new → Closes S s Q r' old new
+  closes_with r r' asked told spent c = record {
+    asked = asked;
     kept = c.kept;
-    told = c.told;
+    told = told;
     within = c.within;
     system = c.system;
     room = c.room;
     keeps_room = c.keeps_room;
-    spent = λ none. (λ is. absurd (never_err (answer y) y Spent refl is), λ some. absurd (never_err (answer x) x Spent refl ((c.spent none).1 some)));
+    spent = spent;
     stays_spent = c.stays_spent;
     spent_on = c.spent_on;
   }
 
+  -- with another answer
+  pub closes_on : (x : A) (y : B) → Closes S s Q (answer x) old new → Closes S s Q (answer y) old new
+  closes_on x y c =
+      closes_with (answer x) (answer y) c.asked c.told
+      (λ none. (λ is. absurd (never_err (answer y) y Spent refl is), λ some. absurd (never_err (answer x) x Spent refl ((c.spent none).1 some)))) c
+
   -- with a refusal that is handed on
   pub closes_err : (r : Result B GainFault) (e : GainFault) → IsErrAnd r (λ x. x ≡ e) → Closes S s Q (fault {A = A} e) old new → Closes S s Q r old new
-  closes_err r e is c = record {
-    asked = given_up ((q : Pair) → Q q → S.known new q);
-    kept = c.kept;
-    told = given_up (TellsAfter s (S.told old) (S.told new) Q);
-    within = c.within;
-    system = c.system;
-    room = c.room;
-    keeps_room = c.keeps_room;
-    spent = λ none. err_spent {U = A} r e (S.spent_on new) is (c.spent none);
-    stays_spent = c.stays_spent;
-    spent_on = c.spent_on;
-  }
+  closes_err r e is c =
+      closes_with (fault {A = A} e) r (given_up ((q : Pair) → Q q → S.known new q)) (given_up (TellsAfter s (S.told old) (S.told new) Q)) (λ none. err_spent {U = A} r e (S.spent_on new) is (c.spent none)) c
     where
       given_up : (P : Type 0) → OnOk r P
       given_up P = elim r as (λ z. IsErrAnd z (λ x. x ≡ e) → OnOk z P) [ Ok x ↦ λ h. absurd h | Err x ↦ λ h. tt ] is
 
   -- with no memory for what comes behind
   pub closes_refused : (x : A) (r : Result B GainFault) → IsRefused r → Closes S s Q (answer x) old new → Closes S s Q r old new
-  closes_refused x r memory c = record {
-    asked = refused_ok ((q : Pair) → Q q → S.known new q) r memory;
-    kept = c.kept;
-    told = refused_ok (TellsAfter s (S.told old) (S.told new) Q) r memory;
-    within = c.within;
-    system = c.system;
-    room = c.room;
-    keeps_room = c.keeps_room;
-    spent = λ none. (λ is. absurd (not_spent r memory is), λ some. absurd (never_err (answer x) x Spent refl ((c.spent none).1 some)));
-    stays_spent = c.stays_spent;
-    spent_on = c.spent_on;
-  }
+  closes_refused x r memory c =
+      closes_with (answer x) r (refused_ok ((q : Pair) → Q q → S.known new q) r memory) (refused_ok (TellsAfter s (S.told old) (S.told new) Q) r memory)
+      (λ none. (λ is. absurd (not_spent r memory is), λ some. absurd (never_err (answer x) x Spent refl ((c.spent none).1 some)))) c
 
 -- after questions that ended with a refusal
 pub closes_went_err : {X A B : Type 0} (S : Ghosts X) (Q : Pair → Type 0) (a b : Asker X) (e : GainFault) (r : Result B GainFault) (new : X) → new ≡ b.sums.now → MayClose S a.system.now a.sums.now → Went S Q a b

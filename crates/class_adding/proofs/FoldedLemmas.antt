@@ -11,7 +11,7 @@ use Rattle.simple_core.specs.declared.system.System.{System}
 use Rattle.simple_core.specs.Rounds.{IsFirst}
 use Rattle.simple_core.specs.Pages.{page_round, IsClosed}
 use Rattle.simple_core.specs.Pairs.{Pair, Asked}
-use Rattle.closed_page.specs.ClosedPages.{IsClosedPage, HasNoOthers, round_of}
+use Rattle.closed_page.specs.ClosedPages.{IsClosedPage, round_of}
 use Rattle.closed_page.specs.Firsts.{AreOfNodes}
 use Rattle.closed_page.specs.Labelled.{Labelled, node_of}
 use Rattle.closed_page.specs.Spread.{moved, from_at, IsSpread}
@@ -19,7 +19,6 @@ use Rattle.closed_page.specs.Views.{PageFirst, firsts_of}
 use Rattle.closed_page.proofs.FirstsLemmas.{round_of-some, round_of-none, round_nowhere}
 use Rattle.folded_page.specs.Folding.{image_at, IsFolded}
 use Rattle.folded_page.proofs.RoundLemmas.{image_node, rounds_folded, asked_folded}
-use Rattle.class_adding.proofs.FirstsLemmas.{no_others}
 
 pub asked_back : (s : System) (t u : LabelTree) (numbers : List ℕ) → IsFolded t u numbers → (q : Pair) → Asked s u q ↔ Asked s t q
 asked_back s t u numbers is q = let both = asked_folded s t u numbers is q in (both.1, both.0)
@@ -129,6 +128,3 @@ module _ (s : System) (t u : LabelTree) (numbers : List ℕ) (is : IsFolded t u 
           let o = round_of (firsts_of l.firsts) w a in
           subst (IsFirst (λ k. page_round s t k (path_at t i)) a) (sym (spread_round i a less))
           (first_alike (λ k. page_round s t k (path_at t i)) (λ k. page_round s u k w) a o (λ k. rounds_folded s t u numbers is k i less) (closed.firsts w a (image_node s t u numbers is i less)))
-
-  pub spread_others : HasNoOthers l'.labels (firsts_of l'.firsts)
-  spread_others = no_others s t (record { labels = l'.labels; firsts = firsts_of l'.firsts }) spread_closed

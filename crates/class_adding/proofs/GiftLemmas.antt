@@ -1,5 +1,5 @@
 -- What is remembered of added children.
-use Rattle.std.proofs.Common.{◌≡◌, ℕ, ◌<◌, ◌≤◌, ◌^◌, nat_le, Bool, true, false, List, [], ◌∷◌, ◌++◌, map, length, Option, Some, None, IfSome, slice_get, Contains, refl, sym, ap, ◌∙◌, inl, inr, arith, subst}
+use Rattle.std.proofs.Common.{◌≡◌, ℕ, ◌<◌, ◌≤◌, ◌^◌, nat_le, Bool, true, false, List, [], ◌∷◌, ◌++◌, map, Option, Some, None, IfSome, slice_get, Contains, refl, sym, ap, ◌∙◌, inl, inr, subst}
 use Rattle.std.specs.List.{filter}
 use Rattle.std.proofs.lemmas.List.{map-append}
 use Rattle.std.proofs.lemmas.List.Elements.{filter-append, Contains-append_cases}
@@ -81,14 +81,6 @@ giving_none s made kind seen gifts rest l others is split so_far first =
           ap (λ z. given_by k gifts ++ z) (sym none) ∙ f.whole k;
       early = f.early;
     }
-
-pub giving_all : (s : System) (kind : ℕ) (seen : List ℕ) (gifts : List Gift) (rest : List Link) → IsGiving s kind seen gifts rest → length rest ≡ 0 → IsGiven s kind seen gifts
-giving_all s kind seen gifts (l ∷ rest) f none = absurd (omega arith)
-giving_all s kind seen gifts [] f none = record { gives = λ k. sym (join_end (given_by k gifts)) ∙ f.whole k; early = f.early }
-  where
-    join_end : (xs : List ℕ) → xs ++ [] ≡ xs
-    join_end [] = refl
-    join_end (x ∷ xs) = ap (λ z. x ∷ z) (join_end xs)
 
 -- one gift more that comes as early in both rounds
 pub gifts_next : (k m : ℕ) (rest : List Gift) (g : Gift) (others : List Gift) → rest ≡ g ∷ others → nat_le g.round m ≡ nat_le g.round k → given_by m others ≡ given_by k others → given_by m rest ≡ given_by k rest

@@ -8,7 +8,6 @@ use Rattle.tp_base.specs.Classes.{has_class}
 use Rattle.tp_base.proofs.ClassLemmas.{has_class-Contains, Contains-has_class}
 use Rattle.tp_base.proofs.Rising.{Contains-none, Contains-here, Contains-behind, Contains-cons}
 use Rattle.tree_sem.specs.Trees.{LabelTree}
-use Rattle.row_index.specs.Rows.{row_of}
 use Rattle.closed_page.specs.Labelled.{AreKidsAll, IsHeard}
 use Rattle.closed_page.proofs.CallLemmas.{kids_none}
 use Rattle.class_adding.specs.declared.looking.Look.{Look}
@@ -45,9 +44,6 @@ done_next P P' looks rest l others split f more now m there = elim (f m there) [
 pub done_all : (P : Look → Type 0) (looks rest : List Look) → length rest ≡ 0 → ((m : Look) → Contains looks m → Contains rest m ⊎ P m) → (m : Look) → Contains looks m → P m
 done_all P looks (l ∷ rest) none f m there = absurd (omega arith)
 done_all P looks [] none f m there = elim (f m there) [ inl left ↦ absurd (Contains-none m left) | inr is ↦ is ]
-
-pub done_start : (P : Look → Type 0) (looks : List Look) → (m : Look) → Contains looks m → Contains looks m ⊎ P m
-done_start P looks m there = inl there
 
 -- those that are left are among them
 pub left_next : (looks rest : List Look) (l : Look) (others : List Look) → rest ≡ l ∷ others → ((m : Look) → Contains rest m → Contains looks m) → (m : Look) → Contains others m → Contains looks m
@@ -106,9 +102,6 @@ writing_all value none looks [] old new empty f = record {
 }
 
 -- ---- waiting
-
-pub awaited_none : (old : List (ℕ × List ℕ)) (number : ℕ) → IsAwaited old old number None
-awaited_none old number = record { kept = λ r i there. there; right = λ r i there. inl there; there = tt }
 
 pub awaited_some : (old new : List (ℕ × List ℕ)) (number round : ℕ) → ((r : ℕ) → nodes_in new r ≡ (if round == r then nodes_in old round ++ number ∷ [] else nodes_in old r)) → IsAwaited old new number (Some round)
 awaited_some old new number round put = record {
@@ -171,12 +164,6 @@ until_more None m n le h = tt
 until_more (Some r) m n le h = let early : r ≤ m = h in omega (arith, early, le)
 
 -- ---- callers
-
-pub less_next : (old new new' : List (List ℕ)) (key : ℕ) → IsLessOf old new → row_of new' key ≡ [] → ((k : ℕ) → k ≢ key → row_of new' k ≡ row_of new k) → IsLessOf old new'
-less_next old new new' key f here others i c there = elim (same_or_not i key) [
-  | inl same ↦ absurd (Contains-none c (subst (λ (z : List ℕ). Contains z c) here (subst (λ z. Contains (row_of new' z) c) same there)))
-  | inr other ↦ f i c (subst (λ (z : List ℕ). Contains z c) (others i other) there)
-]
 
 pub kids_less : (nodes old new : List (List ℕ)) → IsLessOf old new → AreKidsAll nodes old → AreKidsAll nodes new
 kids_less nodes old new less h = λ i c there. h i c (less i c there)

@@ -6,7 +6,7 @@ use Rattle.std.proofs.lemmas.List.Elements.{Contains-get_or, Contains-append_lef
 use Rattle.tp_base.proofs.Rising.{Contains-none, Contains-here, Contains-cons}
 use Rattle.row_index.specs.Rows.{row_of, IsNoted}
 use Rattle.row_index.proofs.RowLemmas.{noted_kept, noted_cases}
-use Rattle.closed_page.specs.Labelled.{AreKids, IsAbove, IsParentIn, AreKidsAll, IsHeard, IsCalled}
+use Rattle.closed_page.specs.Labelled.{AreKids, IsAbove, AreKidsAll, IsHeard, IsCalled}
 use Rattle.closed_page.proofs.LabelledLemmas.{one_number, rooted_page}
 use Rattle.tree_sem.specs.Trees.{LabelTree}
 use Rattle.tree_sem.specs.Order.{paths_of}
@@ -69,15 +69,6 @@ all_told t numbers new told is c less =
 
 -- ---- a node's parent
 
-pub parent_none : (nodes : List (List ℕ)) (c : ℕ) (due : List ℕ) → IsAbove nodes (get_or nodes c []) None → IsParentIn nodes c due
-parent_none nodes c due above p n less at = absurd (above (get_or nodes p []) n at (Contains-get_or nodes p [] less))
-
-pub parent_some : (nodes : List (List ℕ)) (c : ℕ) (old new : List ℕ) (p : ℕ) → ((i j : ℕ) → i < length nodes → j < length nodes → get_or nodes i [] ≡ get_or nodes j [] → i ≡ j)
-    → IsAbove nodes (get_or nodes c []) (Some p) → new ≡ old ++ p ∷ [] → IsParentIn nodes c new
-parent_some nodes c old new p once above is q n less at =
-    let same : p ≡ q = once p q above.0 less (same_parent (get_or nodes p []) (get_or nodes q []) above.1 n (sym above.2 ∙ at)) in
-    subst (Contains new) same (pushed_there old new p is)
-
 -- ---- each node at its parent
 
 module _ (nodes : List (List ℕ)) (once : (i j : ℕ) → i < length nodes → j < length nodes → get_or nodes i [] ≡ get_or nodes j [] → i ≡ j) (c : ℕ) (less : c < length nodes) where
@@ -107,9 +98,3 @@ heard_more nodes old new c kept h = λ i n within at. kept i c (h i n within at)
 
 pub kids_none : (nodes rows : List (List ℕ)) → rows ≡ [] → AreKidsAll nodes rows
 kids_none nodes rows none = λ i c there. absurd (Contains-none c (subst (λ (z : List (List ℕ)). Contains (row_of z i) c) none there))
-
-pub heard_next : (nodes old new : List (List ℕ)) (i : ℕ) → ((k j : ℕ) → Contains (get_or old k []) j → Contains (get_or new k []) j) → IsHeard nodes new i → ((c : ℕ) → c < i → IsHeard nodes old c) → (c : ℕ) → c < i + 1 → IsHeard nodes new c
-heard_next nodes old new i kept now f c less = elim (cases_lt c i) [
-  | inl before ↦ λ p n within at. kept p c (f c before p n within at)
-  | inr late ↦ let same : i ≡ c = omega (arith, less, late) in subst (λ z. IsHeard nodes new z) same now
-]

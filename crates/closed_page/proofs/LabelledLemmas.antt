@@ -1,10 +1,9 @@
 -- The labels of a page, by the numbers of its nodes.
 use Rattle.tree_sem.proofs.EditLemmas.{node_at-label_at}
 use Rattle.tree_sem.specs.Nodes.{IsNode}
-use Rattle.std.proofs.Common.{◌≡◌, ◌≢◌, ℕ, ◌<◌, List, [], ◌∷◌, ◌++◌, length, get_or, set, Option, Some, IsSome, option_map, unwrap_or, Contains, refl, sym, ap, ◌∙◌, inl, inr, arith, subst, All}
+use Rattle.std.proofs.Common.{◌≡◌, ◌≢◌, ℕ, ◌<◌, List, [], ◌∷◌, ◌++◌, length, get_or, set, Option, Some, IsSome, option_map, unwrap_or, Contains, refl, sym, ap, ◌∙◌, inl, inr, arith, subst}
 use Rattle.std.proofs.lemmas.List.{get_or_default, get_or-set_same, get_or-set_other}
 use Rattle.std.proofs.lemmas.Bool.{cases_order}
-use Rattle.tp_base.proofs.Rising.{All-from_Contains}
 use Rattle.std.proofs.Math.ListN.{length-set}
 use Rattle.tp_base.specs.Classes.{union_of}
 use Rattle.tree_sem.specs.Trees.{LabelTree, node_at, label_at, children_at, edit_at, count_of, length_of}
@@ -76,9 +75,6 @@ child_number v n t is =
     subst (λ o. n < unwrap_or o 0) (sym count) (tree_of-number family.0.below n family.1 family.3)
 
 -- ---- what is a node
-
-pub paths_there : (t : LabelTree) → All (IsNode t) (paths_of t)
-paths_there t = All-from_Contains (IsNode t) (paths_of t) (λ v there. (Contains-paths_of t v).0 there)
 
 -- what has a label is a node
 pub labelled_node : (u : LabelTree) (nodes own : List (List ℕ)) (n i : ℕ) → AreAllLabels u nodes own n → i < n → IsNode u (get_or nodes i [])

@@ -1,7 +1,7 @@
 -- The nodes of a page by the numbers of their parents and their steps.
-use Rattle.std.proofs.Common.{◌≡◌, ℕ, zero, suc, ◌+◌, ◌-◌, ◌<◌, ◌≤◌, List, [], ◌∷◌, ◌++◌, length, get_or, take, drop, reverse, slice_get, Option, Some, None, IfSome, IsNone, Contains, refl, sym, ap, ◌∙◌, inl, inr, arith, subst, add-one, append-nil}
+use Rattle.std.proofs.Common.{◌≡◌, ℕ, zero, suc, ◌+◌, ◌-◌, ◌<◌, ◌≤◌, List, [], ◌∷◌, ◌++◌, length, get_or, take, drop, slice_get, Option, Some, None, IfSome, IsNone, Contains, refl, sym, ap, ◌∙◌, inl, inr, arith, subst, add-one, append-nil}
 use Rattle.std.proofs.lemmas.Bool.{cases_lt}
-use Rattle.std.proofs.lemmas.List.{length_push, length-map, get_or-map, append_assoc, take-append-drop, reverse-append, get_or_append_left, get_or_push, get_or_default, get_or-take, take_more, take_all}
+use Rattle.std.proofs.lemmas.List.{length-map, get_or-map, append_assoc, take-append-drop, get_or_default, get_or-take, take_more, take_all}
 use Rattle.std.proofs.lemmas.List.Elements.{Contains-get_or}
 use Rattle.std.proofs.lemmas.Option.{slice_get_within, slice_get-get_or, get_or_from_slice_get}
 use Rattle.tree_sem.specs.Trees.{LabelTree, count_of}
@@ -13,7 +13,7 @@ use Rattle.node_marks.specs.Marks.{path_at}
 use Rattle.node_marks.specs.Numbering.{IsNumbering}
 use Rattle.node_marks.proofs.NumberLemmas.{one_number, take_step}
 use Rattle.closed_page.specs.Labelled.{IsAbove, AreKids}
-use Rattle.closed_page.specs.Numbered.{path_next, paths_up, paths_by, AreNumbered, parent_told, AreTold, told}
+use Rattle.closed_page.specs.Numbered.{path_next, paths_up, paths_by, AreNumbered, parent_told, told}
 use Rattle.closed_page.specs.Spreading.{IsNumberAt}
 use Rattle.closed_page.proofs.FirstsLemmas.{same_step, not_root, path_there, path_root}
 
@@ -28,9 +28,6 @@ told-each [] i less = absurd (omega (arith, less))
 told-each (number ∷ numbers) zero less = refl
 told-each (number ∷ numbers) (suc i) less = get_or-map Some numbers i 0 None (omega (arith, less))
 
-pub told_all : (numbers : List ℕ) → AreTold numbers (told numbers) (length numbers)
-told_all numbers = record { count = told-length numbers; each = told-each numbers }
-
 pub told_here : (numbers lent : List ℕ) (i : ℕ) (o : Option ℕ) → lent ≡ numbers → i < length numbers → o ≡ parent_told lent i → get_or (told numbers) i None ≡ o
 told_here numbers lent i o same less is = told-each numbers i less ∙ sym (is ∙ ap (λ z. parent_told z i) same)
 
@@ -44,15 +41,24 @@ paths_up-zero : (parents : List (Option ℕ)) (steps : List ℕ) → paths_up pa
 unfolding paths_up
 paths_up-zero parents steps = refl
 
-module _ (t : LabelTree) (numbers steps : List ℕ) (labels : List (List ℕ)) (is : IsNumbering t numbers steps labels) (parents : List (Option ℕ)) (told : AreTold numbers parents (count_of t)) where
+module _ (t : LabelTree) (numbers steps : List ℕ) (labels : List (List ℕ)) (is : IsNumbering t numbers steps labels) where
+  abbrev parents : List (Option ℕ)
+  parents = told numbers
+
+  told_count : length parents ≡ count_of t
+  told_count = told-length numbers ∙ is.parents_count
+
+  told_at : (i : ℕ) → i < count_of t → get_or parents i None ≡ parent_told numbers i
+  told_at i less = let count = is.parents_count in told-each numbers i (omega (arith, less, count))
+
   next_is : (n : ℕ) → n < count_of t → path_next (take n (paths_of t)) (get_or parents n None) (get_or steps n 0) ≡ path_at t n
-  next_is zero less = ap (λ o. path_next (take 0 (paths_of t)) o (get_or steps 0 0)) (told.each 0 less)
+  next_is zero less = ap (λ o. path_next (take 0 (paths_of t)) o (get_or steps 0 0)) (told_at 0 less)
   next_is (suc m) less =
       let n = suc m in
       let p = get_or numbers n 0 in
       let count = is.parents_count in
       let lower = is.smaller n (omega arith) (omega (arith, less, count)) in
-      ap (λ o. path_next (take n (paths_of t)) o (get_or steps n 0)) (told.each n less)
+      ap (λ o. path_next (take n (paths_of t)) o (get_or steps n 0)) (told_at n less)
       ∙ ap (λ v. v ++ get_or steps n 0 ∷ []) (get_or-take n (paths_of t) p [] lower)
       ∙ sym (is.above n (omega arith) less)
 
@@ -70,16 +76,16 @@ module _ (t : LabelTree) (numbers steps : List ℕ) (labels : List (List ℕ)) (
   pub paths_are : paths_by parents steps ≡ paths_of t
   paths_are =
       let count = length-paths_of t in
-      ap (λ n. paths_up parents steps n) told.count ∙ paths_up_are (count_of t) (omega arith) ∙ take_all (count_of t) (paths_of t) (omega (arith, count))
+      ap (λ n. paths_up parents steps n) told_count ∙ paths_up_are (count_of t) (omega arith) ∙ take_all (count_of t) (paths_of t) (omega (arith, count))
 
   root_is : (i : ℕ) → i < count_of t → get_or parents i None ≡ None → path_at t i ≡ []
   root_is zero less none = refl
-  root_is (suc i) less none = let never : None ≡ Some (get_or numbers (suc i) 0) = sym none ∙ told.each (suc i) less in absurd (cc)
+  root_is (suc i) less none = let never : None ≡ Some (get_or numbers (suc i) 0) = sym none ∙ told_at (suc i) less in absurd (cc)
 
   above_is : (i p : ℕ) → i < count_of t → get_or parents i None ≡ Some p → (p < i) × (path_at t i ≡ path_at t p ++ get_or steps i 0 ∷ [])
-  above_is zero p less some = let never : Some p ≡ None = sym some ∙ told.each 0 less in absurd (cc)
+  above_is zero p less some = let never : Some p ≡ None = sym some ∙ told_at 0 less in absurd (cc)
   above_is (suc i) p less some =
-      let both : Some (get_or numbers (suc i) 0) ≡ Some p = sym (told.each (suc i) less) ∙ some in
+      let both : Some (get_or numbers (suc i) 0) ≡ Some p = sym (told_at (suc i) less) ∙ some in
       let same : get_or numbers (suc i) 0 ≡ p = cc in
       let count = is.parents_count in
       let lower = is.smaller (suc i) (omega arith) (omega (arith, less, count)) in
@@ -90,7 +96,7 @@ module _ (t : LabelTree) (numbers steps : List ℕ) (labels : List (List ℕ)) (
       let count = length-paths_of t in
       subst (λ (z : List (List ℕ)). AreNumbered z parents steps kids) (sym paths_are) (record {
         some = omega (arith, count);
-        parents_count = told.count ∙ sym count;
+        parents_count = told_count ∙ sym count;
         steps_count = is.steps_count ∙ sym count;
         root = λ i less. root_is i (omega (arith, less, count));
         above = λ i p less. above_is i p (omega (arith, less, count));
@@ -202,25 +208,6 @@ module _ (nodes : List (List ℕ)) (parents : List (Option ℕ)) (steps : List �
       let front : Contains nodes (take (suc m) v) = rooted_front (take (suc m) v) (drop (suc m) v) (subst (Contains nodes) (sym (take-append-drop (suc m) v)) there) in
       let path : get_or nodes front.0 [] ≡ get_or nodes i [] ++ k ∷ [] = get_or_default nodes front.0 [] (take (suc m) v) front.1 ∙ front.2 ∙ take_step v m k at ∙ ap (λ z. z ++ k ∷ []) (sym here) in
       none front.0 front.1 path
-
--- ---- a path that is made from the node up
-
-pub up_next : (at above ups ups' whole : List ℕ) (n s : ℕ) → at ≡ above ++ n ∷ [] → s ≡ n → at ++ reverse ups ≡ whole → ups' ≡ ups ++ s ∷ [] → above ++ reverse ups' ≡ whole
-up_next at above ups ups' whole n s path step so_far more =
-    ap (λ z. above ++ reverse z) more
-    ∙ ap (λ z. above ++ z) (reverse-append ups (s ∷ []))
-    ∙ sym (append_assoc above (s ∷ []) (reverse ups))
-    ∙ ap (λ z. (above ++ z ∷ []) ++ reverse ups) step
-    ∙ ap (λ z. z ++ reverse ups) (sym path)
-    ∙ so_far
-
-pub down_next : (at at' ups ups' whole : List ℕ) (s : ℕ) → ups ≡ ups' ++ s ∷ [] → at' ≡ at ++ s ∷ [] → at ++ reverse ups ≡ whole → at' ++ reverse ups' ≡ whole
-down_next at at' ups ups' whole s last more so_far =
-    ap (λ z. z ++ reverse ups') more
-    ∙ append_assoc at (s ∷ []) (reverse ups')
-    ∙ ap (λ z. at ++ z) (sym (reverse-append ups' (s ∷ [])))
-    ∙ ap (λ z. at ++ reverse z) (sym last)
-    ∙ so_far
 
 -- ---- the number of a parent, and the number that is sought in a row
 

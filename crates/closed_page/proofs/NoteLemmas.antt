@@ -57,9 +57,6 @@ joined_set xs ys zs up up_ys first second either =
 abbrev pub AreApartTo : List ℕ → List ℕ → ℕ → ℕ → Type 0
 AreApartTo xs ys i j = (k l : ℕ) → k < length xs → l < length ys → (k < i) ⊎ (l < j) → get_or xs k 0 ≡ get_or ys l 0 → ⊥
 
-pub apart_start : (xs ys : List ℕ) → AreApartTo xs ys 0 0
-apart_start xs ys k l in_xs in_ys before same = elim before [ inl less ↦ omega (arith, less) | inr less ↦ omega (arith, less) ]
-
 module _ (xs ys : List ℕ) (i j x y : ℕ) (x_is : slice_get xs i ≡ Some x) (y_is : slice_get ys j ≡ Some y) (so_far : AreApartTo xs ys i j) where
   x_at : get_or xs i 0 ≡ x
   x_at = get_or_from_slice_get xs i x 0 x_is

@@ -231,9 +231,6 @@ module _ (notes : List NodeNews) (i j : ℕ) (y : Run) (alike : AreAlike notes i
   i_within : i ≤ length notes
   i_within = let more = alike.more in let le = alike.within in omega (arith, more, le)
 
-  pub run_full : y.first ≤ y.last
-  run_full = let more = alike.more in let last = of.last in omega (arith, more, last)
-
   -- the last of the notes ends the run
   pub run_end : (d : NodeNews) → (get_or notes (j - 1) d).spot ≡ end_of y
   run_end d =

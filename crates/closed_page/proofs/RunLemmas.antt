@@ -1,7 +1,7 @@
 -- Runs in a row, and what a search in it finds.
-use Rattle.std.proofs.Common.{◌≡◌, ◌⊎◌, ◌==◌, ◌+◌, ◌<◌, ◌≤◌, ℕ, true, false, List, [], ◌∷◌, ◌++◌, length, get_or, set, Some, None, Contains, refl, sym, ap, ◌∙◌, inl, inr, arith, subst}
+use Rattle.std.proofs.Common.{◌≡◌, ◌⊎◌, ◌+◌, ◌<◌, ◌≤◌, ℕ, true, false, List, [], ◌∷◌, ◌++◌, length, get_or, set, Some, None, Contains, refl, sym, ap, ◌∙◌, inl, inr, arith, subst}
 use Rattle.std.specs.List.Sorted.{IsPartitionedBy, IsPartitionPoint}
-use Rattle.std.proofs.lemmas.Bool.{cases_lt, cases_eq, cases_order, cases_Bool, both_ways, eqb-true}
+use Rattle.std.proofs.lemmas.Bool.{cases_lt, cases_eq, cases_order, both_ways}
 use Rattle.std.proofs.lemmas.List.{get_or_default, get_or-set_same, get_or-set_other, length-set}
 use Rattle.std.proofs.lemmas.List.Elements.{Contains-get_or, Contains-push, Contains-push_cases, Contains-append_left}
 use Rattle.std.proofs.lemmas.List.Quantifiers.{all_pairs_push}
@@ -172,18 +172,6 @@ pub ends_from : (x : Run) (spot : Spot) → EndsBefore x spot → ends_before x 
 ends_from x spot (inl less) = grind (arith, less)
 ends_from x spot (inr beside) = let same = beside.0 in let less = beside.1 in grind (arith, same, less)
 
-pub covers_true : (x : Run) (spot : Spot) → covers x spot ≡ true → IsIn x spot
-covers_true x spot pass = elim (cases_Bool (x.parent == spot.parent)) [
-  | inl parent ↦ elim (cases_lt spot.step x.first) [
-    | inl under ↦ absurd (both_ways (covers x spot) (grind (arith, parent, under)) pass)
-    | inr from ↦ elim (cases_lt x.last spot.step) [
-      | inl over ↦ absurd (both_ways (covers x spot) (grind (arith, parent, from, over)) pass)
-      | inr to ↦ record { parent = eqb-true x.parent spot.parent parent; from = from; to = to }
-    ]
-  ]
-  | inr other ↦ absurd (both_ways (covers x spot) (rw other refl) pass)
-]
-
 pub covers_false : (x : Run) (spot : Spot) → covers x spot ≡ false → IsIn x spot → ⊥
 covers_false x spot fail is =
     let parent = is.parent in
@@ -245,26 +233,12 @@ module _ (row : List Run) (ordered : AreOrdered row) (spot : Spot) (place : ℕ)
             here.1 (subst (λ v. IsIn v spot) one is)
       ]
 
-  pub round_here : (x : Run) → place < length row → x ≡ get_or row place x → IsIn x spot → IsRoundInRow row spot (Some x.round)
-  round_here x inside at is = (x, (place, inside, sym at), is, refl)
-
 -- ---- the least step to one that came by a round
 
 -- none of the runs before the i-th is such, and those from it on are not of earlier parents
 pub record AreLeft (row : List Run) (p k i : ℕ) : Type 0 where
   pub before : (j : ℕ) (d : Run) → j < i → j < length row → IsBelowIn p k (get_or row j d) → ⊥
   pub from : (j : ℕ) (d : Run) → i ≤ j → j < length row → p ≤ (get_or row j d).parent
-
-pub left_start : (row : List Run) (p k place : ℕ) → IsPartitionPoint (λ x. ends_before x (record { parent = p; step = 0 }) ≡ true) (λ x. ends_before x (record { parent = p; step = 0 }) ≡ false) row place → AreLeft row p k place
-left_start row p k place point = record {
-  before = λ j d less within is.
-      let parent = is.parent in
-      elim (ends_true (get_or row j d) (record { parent = p; step = 0 }) (point.0 j d (omega arith) less)) [ inl under ↦ omega (arith, under, parent) | inr beside ↦ let never = beside.1 in omega (arith, never) ];
-  from = λ j d le within. elim (cases_lt (get_or row j d).parent p) [
-    | inl under ↦ absurd (both_ways (ends_before (get_or row j d) (record { parent = p; step = 0 })) (point.1 j d le within) (ends_from (get_or row j d) (record { parent = p; step = 0 }) (inl under)))
-    | inr over ↦ over
-  ];
-}
 
 module _ (row : List Run) (ordered : AreOrdered row) (p k i : ℕ) (left : AreLeft row p k i) where
   -- where the i-th isn't of this parent, none is from there on

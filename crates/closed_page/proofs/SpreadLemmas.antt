@@ -96,9 +96,6 @@ module _ (t : LabelTree) (nodes own : List (List ℕ)) (all : nodes ≡ paths_of
 
 -- ---- notes by the numbers of their nodes
 
-pub of_none : (nodes : List (List ℕ)) (ns : List NodeNews) (numbers : List (Option ℕ)) → numbers ≡ [] → AreNumbersOf nodes ns numbers 0
-of_none nodes ns numbers none = record { count = ap length none; each = λ j less. absurd (omega (arith, less)) }
-
 pub of_more : (nodes : List (List ℕ)) (ns : List NodeNews) (old new : List (Option ℕ)) (i : ℕ) (o : Option ℕ) → AreNumbersOf nodes ns old i → IsNumberAt nodes (news_at ns i).spot.parent (news_at ns i).spot.step o → new ≡ old ++ o ∷ [] → AreNumbersOf nodes ns new (i + 1)
 of_more nodes ns old new i o before here is =
     let count : length old ≡ i = before.count in

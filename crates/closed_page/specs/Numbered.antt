@@ -4,7 +4,6 @@
 --     paths_by parents steps      those of all
 --     AreNumbered nodes ..        the nodes at these paths have such parents, steps and children; the root stands first
 --     parent_told numbers i       the number of the i-th node's parent, where the root's is of no account
---     AreTold numbers parents n   these are the parents of the first n nodes
 --     told numbers                the parents of all nodes
 --     AreColumns t numbers steps  the parents and steps are those of the nodes of t
 use Rattle.std.specs.Prelude.{◌≡◌, ℕ, zero, suc, ◌<◌, List, [], ◌∷◌, ◌++◌, map, Option, Some, None, length, get_or}
@@ -35,10 +34,6 @@ pub record AreNumbered (nodes : List (List ℕ)) (parents : List (Option ℕ)) (
 abbrev pub parent_told : List ℕ → ℕ → Option ℕ
 parent_told numbers zero = None
 parent_told numbers (suc i) = Some (get_or numbers (suc i) 0)
-
-pub record AreTold (numbers : List ℕ) (parents : List (Option ℕ)) (n : ℕ) : Type 0 where
-  pub count : length parents ≡ n
-  pub each : (i : ℕ) → i < n → get_or parents i None ≡ parent_told numbers i
 
 abbrev pub told : List ℕ → List (Option ℕ)
 told [] = []

@@ -1,5 +1,5 @@
 //! What nodes of a page came to have, node by node and round by round.
-ghost use Rattle.std.specs.Prelude.{◌≡◌, ◌∷◌, ◌++◌, ◌<◌, ◌^◌, ℕ, List, [], length, Contains, IfOk, OnOk, IsTrue};
+ghost use Rattle.std.specs.Prelude.{◌≡◌, ◌↔◌, ◌∷◌, ◌++◌, ◌<◌, ◌^◌, ℕ, List, [], length, Contains, IfOk, OnOk, IsTrue};
 ghost use Rattle.std.specs.List.Sorted.{IsStrictlyIncreasing};
 ghost use Rattle.closed_page.specs.Firsts.{IsSpotOf};
 ghost use Rattle.closed_page.specs.Gains.{new_of};
@@ -20,7 +20,7 @@ pub(crate) struct NodeNews {
 
 /// Whether the other set has none of these atoms, each of which is sought there.
 pub fn are_all_missing(set: &ClassSet, other: &ClassSet) -> bool
-    ensures { IsTrue result → (a : ℕ) → Contains set.now a → ¬ Contains other.now a }
+    ensures { IsTrue result ↔ ((a : ℕ) → Contains set.now a → ¬ Contains other.now a) }
 {
     for i in 0..set.len() {
         if other.has(set.at(i)) {

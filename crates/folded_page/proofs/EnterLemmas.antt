@@ -1,20 +1,17 @@
 -- One node of the page more, as the code enters it.
-use Rattle.std.proofs.Common.{◌≡◌, ℕ, ◌+◌, ◌<◌, ◌≤◌, List, [], ◌∷◌, ◌++◌, length, map, get_or, Option, Some, None, Result, Ok, Err, IfOk, IfSome, sym, ap, ◌∙◌, subst, arith, length-append}
-use Rattle.std.proofs.lemmas.List.{get_or_default, get_or-map}
+use Rattle.std.proofs.Common.{◌≡◌, ℕ, ◌+◌, ◌/◌, ◌<◌, ◌≤◌, List, [], ◌∷◌, ◌++◌, length, map, get_or, Option, Some, None, Result, Ok, Err, IfOk, IfSome, sym, ap, ◌∙◌, subst, arith, length-append}
+use Rattle.std.proofs.lemmas.List.{get_or_read, get_or-map}
 use Rattle.tree_sem.specs.Trees.{leaf, count_of}
 use Rattle.tree_sem.specs.Growing.{GrowingTree}
 use Rattle.node_marks.specs.Marks.{path_at}
 use Rattle.node_marks.specs.Numbering.{parent_number}
-use Rattle.folded_page.specs.Leads.{lead_of, AreLeads}
+use Rattle.folded_page.specs.Leads.{lead_of, own_count, AreLeads}
 use Rattle.folded_page.specs.Built.{IsAddedLast, IsInOrder, AreFoldable, IsFolding}
 use Rattle.folded_page.proofs.FoldLemmas.{folded_first, folded_same, folded_more}
 
 -- the label of a number
 pub label_there : {X : Type 0} (f : X → List ℕ) (xs : List X) (i : ℕ) (x : X) → i < length xs → x ≡ get_or xs i x → get_or (map f xs) i [] ≡ f x
 label_there f xs i x within at = get_or-map f xs i x [] within ∙ ap f (sym at)
-
-there : (xs : List ℕ) (i x : ℕ) → i < length xs → x ≡ get_or xs i x → get_or xs i 0 ≡ x
-there xs i x within at = get_or_default xs i 0 x within ∙ sym at
 
 module _ (parents leads : List ℕ) (labels : List (List ℕ)) (are : AreFoldable parents leads labels) where
   pub entered_first : (g : GrowingTree) (line : List ℕ) (n : ℕ) (numbers : List ℕ) → IsInOrder g line n → g.tree ≡ leaf (get_or labels 0 []) → numbers ≡ 0 ∷ [] → IsFolding parents leads labels g line n numbers 1
@@ -34,7 +31,7 @@ module _ (parents leads : List ℕ) (labels : List (List ℕ)) (are : AreFoldabl
         let long = folding.long in
         let same : length numbers ≡ m = long in
         let low : lead_of leads (length numbers) < length numbers = subst (λ k. lead_of leads k < k) (sym long) led in
-        let number : get_or numbers (lead_of leads (length numbers)) 0 ≡ x = ap (λ k. get_or numbers (lead_of leads k) 0) long ∙ there numbers (lead_of leads m) x (omega (arith, led, long)) at in
+        let number : get_or numbers (lead_of leads (length numbers)) 0 ≡ x = ap (λ k. get_or numbers (lead_of leads k) 0) long ∙ sym (get_or_read numbers (lead_of leads m) x (omega (arith, led, long)) at 0) in
         let pushed = length-append numbers (x ∷ []) in
         let long' = ap length is in
         record {
@@ -52,9 +49,9 @@ module _ (parents leads : List ℕ) (labels : List (List ℕ)) (are : AreFoldabl
         let some : 0 < m = folding.some in
         let first' : length numbers ≤ lead_of leads (length numbers) = subst (λ j. j ≤ lead_of leads j) (sym long) first in
         let page : m < length parents = omega (arith, less, same) in
-        let parent : get_or parents m 0 ≡ p = there parents m p page up in
+        let parent : get_or parents m 0 ≡ p = sym (get_or_read parents m p page up 0) in
         let low = are.smaller m some page in
-        let number : get_or numbers (parent_number parents (length numbers)) 0 ≡ x = ap (λ j. get_or numbers (parent_number parents j) 0) long ∙ ap (λ j. get_or numbers j 0) parent ∙ there numbers p x (omega (arith, low, parent, same)) at in
+        let number : get_or numbers (parent_number parents (length numbers)) 0 ≡ x = ap (λ j. get_or numbers (parent_number parents j) 0) long ∙ ap (λ j. get_or numbers j 0) parent ∙ sym (get_or_read numbers p x (omega (arith, low, parent, same)) at 0) in
         let label' : get_or labels (length numbers) [] ≡ l = ap (λ j. get_or labels j []) long ∙ label in
         let pushed = length-append numbers (k ∷ []) in
         let long' = ap length is in
@@ -77,3 +74,7 @@ both_further (Err e) P Q S p q further = tt
 pub same_leads : (parents parents' leads leads' : List ℕ) (labels labels' : List (List ℕ)) → parents ≡ parents' → labels ≡ labels' → leads' ≡ leads → AreLeads parents labels leads → AreLeads parents' labels' leads'
 same_leads parents parents' leads leads' labels labels' is_parents is_labels is_leads are =
     subst (λ (ps : List ℕ). AreLeads ps labels' leads') is_parents (subst (λ (ls : List (List ℕ)). AreLeads parents ls leads') is_labels (subst (λ (ls : List ℕ). AreLeads parents labels ls) (sym is_leads) are))
+
+-- where few nodes are their own leads, few are left
+pub few_led : (leads : List ℕ) (left count own n : ℕ) → left ≡ own_count leads (length leads) → own ≡ own_count leads (length leads) → n ≡ length leads → length leads ≡ count → own ≤ n / 2 → left + left ≤ count
+few_led leads left count own n left_is own_is n_is count_is few = omega arith

@@ -1,8 +1,7 @@
 -- The folded tree with one node of the page more, and when the last one is in it.
-use Rattle.std.proofs.Common.{◌≡◌, ℕ, zero, suc, ◌<◌, ◌≤◌, List, [], ◌∷◌, ◌++◌, length, get_or, Some, refl, sym, ap, ◌∙◌, subst, inl, inr, arith, length-append}
-use Rattle.std.proofs.lemmas.Bool.{cases_lt}
-use Rattle.std.proofs.lemmas.List.{get_or_append_left}
-use Rattle.std.proofs.Math.Seq.{get_or-append_seam}
+use Rattle.std.proofs.Common.{◌≡◌, ◌≢◌, ℕ, zero, suc, ◌+◌, ◌<◌, ◌≤◌, if◌then◌else◌, List, [], ◌∷◌, ◌++◌, length, get_or, Some, refl, sym, ap, ◌∙◌, subst, inl, inr, arith, length-append}
+use Rattle.std.proofs.lemmas.Bool.{cases_lt, eq-eqb, ne_eqb}
+use Rattle.std.proofs.lemmas.List.{get_or_append_left, get_or_push}
 use Rattle.tree_sem.specs.Trees.{LabelTree, leaf, count_of, label_at}
 use Rattle.tree_sem.specs.Nodes.{IsNode}
 use Rattle.tree_sem.proofs.PathLemmas.{same_parent}
@@ -10,20 +9,25 @@ use Rattle.node_marks.specs.Marks.{path_at}
 use Rattle.node_marks.specs.Numbering.{parent_number, IsNumbering}
 use Rattle.node_marks.proofs.NumberLemmas.{node_there, number_there, one_number}
 use Rattle.folded_page.specs.Folding.{image_at, IsFolded}
-use Rattle.folded_page.specs.Leads.{lead_of, AreLeads, HasChildLed}
+use Rattle.folded_page.specs.Leads.{lead_of, own_count, AreLeads, HasChildLed}
 use Rattle.folded_page.specs.Built.{IsAddedLast, AreFoldable, IsFoldedTo}
 use Rattle.folded_page.proofs.LastLemmas.{count_more, path_kept, path_more}
 
 push_length : (xs : List ℕ) (x : ℕ) → length (xs ++ x ∷ []) ≡ suc (length xs)
 push_length xs x = let long = length-append xs (x ∷ []) in omega (arith, long)
 
-push_last : (xs : List ℕ) (x n : ℕ) → n ≡ length xs → get_or (xs ++ x ∷ []) n 0 ≡ x
-push_last xs x n last = ap (λ k. get_or (xs ++ x ∷ []) k 0) last ∙ get_or-append_seam xs x [] 0
+-- one node more is its own lead, or isn't
+pub own_more : (leads : List ℕ) (m : ℕ) → lead_of leads m ≡ m → own_count leads (suc m) ≡ suc (own_count leads m)
+own_more leads m itself = let one = ap (λ b. own_count leads m + (if b then 1 else 0)) (eq-eqb (lead_of leads m) m itself) in omega (arith, one)
+
+pub own_same : (leads : List ℕ) (m : ℕ) → lead_of leads m ≢ m → own_count leads (suc m) ≡ own_count leads m
+own_same leads m other = let none = ap (λ b. own_count leads m + (if b then 1 else 0)) (ne_eqb (lead_of leads m) m other) in omega (arith, none)
 
 -- the root alone
 pub folded_first : (parents leads : List ℕ) (labels : List (List ℕ)) → AreFoldable parents leads labels → IsFoldedTo parents leads labels (leaf (get_or labels 0 [])) (0 ∷ [])
 folded_first parents leads labels are = record {
   within = λ i lt. let first : i ≡ 0 = omega (arith, lt) in subst (λ k. get_or (0 ∷ []) k 0 < 1) (sym first) (omega arith);
+  few = let early = are.are_leads.early 0 are.some in sym (own_more leads 0 (omega (arith, early)));
   root = refl;
   led = λ i lt.
       let first : i ≡ 0 = omega (arith, lt) in
@@ -52,12 +56,13 @@ module _ (parents leads : List ℕ) (labels : List (List ℕ)) (are : AreFoldabl
         let x = get_or numbers (lead_of leads (length numbers)) 0 in
         let count : length numbers' ≡ suc (length numbers) = ap length is ∙ push_length numbers x in
         let old : (i : ℕ) → i < length numbers → get_or numbers' i 0 ≡ get_or numbers i 0 = λ i lt. ap (λ xs. get_or xs i 0) is ∙ get_or_append_left numbers (x ∷ []) 0 i lt in
-        let last : (i : ℕ) → i ≡ length numbers → get_or numbers' i 0 ≡ get_or numbers (lead_of leads (length numbers)) 0 = λ i at. ap (λ xs. get_or xs i 0) is ∙ push_last numbers x i at in
+        let last : (i : ℕ) → i ≡ length numbers → get_or numbers' i 0 ≡ get_or numbers (lead_of leads (length numbers)) 0 = λ i at. ap (λ xs. get_or xs i 0) is ∙ get_or_push numbers x 0 i (sym at) in
         record {
           within = λ i lt. elim (cases_lt i (length numbers)) [
             | inl before ↦ subst (λ k. k < count_of u) (sym (old i before)) (so.within i before)
             | inr behind ↦ subst (λ k. k < count_of u) (sym (last i (omega (arith, behind, lt, count)))) (so.within (lead_of leads (length numbers)) led)
           ];
+          few = so.few ∙ sym (own_same leads (length numbers) (λ itself. omega (arith, itself, led))) ∙ sym (ap (own_count leads) count);
           root = old 0 (omega (arith, led)) ∙ so.root;
           led = λ i lt. elim (cases_lt i (length numbers)) [
             | inl before ↦
@@ -110,7 +115,7 @@ module _ (parents leads : List ℕ) (labels : List (List ℕ)) (are : AreFoldabl
         let w = path_at u (get_or numbers (parent_number parents (length numbers)) 0) ++ added.step ∷ [] in
         let count : length numbers' ≡ suc (length numbers) = ap length is ∙ push_length numbers (count_of u) in
         let old : (i : ℕ) → i < length numbers → get_or numbers' i 0 ≡ get_or numbers i 0 = λ i lt. ap (λ xs. get_or xs i 0) is ∙ get_or_append_left numbers (count_of u ∷ []) 0 i lt in
-        let last : (i : ℕ) → i ≡ length numbers → get_or numbers' i 0 ≡ count_of u = λ i at. ap (λ xs. get_or xs i 0) is ∙ push_last numbers (count_of u) i at in
+        let last : (i : ℕ) → i ≡ length numbers → get_or numbers' i 0 ≡ count_of u = λ i at. ap (λ xs. get_or xs i 0) is ∙ get_or_push numbers (count_of u) 0 i (sym at) in
         let nodes : count_of u' ≡ suc (count_of u) = count_more u u' w added.paths in
         let kept : (i : ℕ) → i < length numbers → image_at u' numbers' i ≡ image_at u numbers i = λ i lt. ap (path_at u') (old i lt) ∙ path_kept u u' w added.paths (get_or numbers i 0) (so.within i lt) in
         let made : (i : ℕ) → i ≡ length numbers → image_at u' numbers' i ≡ w = λ i at. ap (path_at u') (last i at) ∙ path_more u u' w added.paths in
@@ -119,6 +124,7 @@ module _ (parents leads : List ℕ) (labels : List (List ℕ)) (are : AreFoldabl
             | inl before ↦ let low = so.within i before in let same = old i before in omega (arith, low, same, nodes)
             | inr behind ↦ let same = last i (omega (arith, behind, lt, count)) in omega (arith, same, nodes)
           ];
+          few = nodes ∙ ap suc so.few ∙ sym (own_more leads (length numbers) its_own) ∙ sym (ap (own_count leads) count);
           root = old 0 some ∙ so.root;
           led = λ i lt. elim (cases_lt i (length numbers)) [
             | inl before ↦

@@ -1,8 +1,7 @@
 -- A tree that grows at its end, with the numbers of the nodes on the way to the last one.
 use Rattle.std.proofs.Common.{◌≡◌, ℕ, suc, ◌-◌, ◌<◌, List, [], ◌∷◌, ◌++◌, length, take, get_or, Some, IfSome, refl, sym, ap, ◌∙◌, subst, inl, inr, arith, length-append, length-take-le}
 use Rattle.std.proofs.lemmas.Bool.{cases_lt}
-use Rattle.std.proofs.lemmas.List.{get_or_append_left, get_or-take, take-append-le, take_all}
-use Rattle.std.proofs.Math.Seq.{get_or-append_seam}
+use Rattle.std.proofs.lemmas.List.{get_or_append_left, get_or_push, get_or-take, take-append-le, take_all}
 use Rattle.tree_sem.specs.Trees.{LabelTree, length_of, count_of, node_at, edit_at, add_child}
 use Rattle.tree_sem.specs.Nodes.{IsNode}
 use Rattle.tree_sem.specs.Order.{paths_of}
@@ -12,9 +11,6 @@ use Rattle.tree_sem.proofs.PathLemmas.{take_take}
 use Rattle.node_marks.specs.Marks.{path_at}
 use Rattle.folded_page.specs.Built.{IsOnLastWay, IsAddedLast, IsInOrder}
 use Rattle.folded_page.proofs.LastLemmas.{node_on_way, way_above, way_to_last, added_last, paths_of-last, count_more, path_kept, path_more}
-
-pushed_last : {X : Type 0} (xs : List X) (x d : X) (n : ℕ) → n ≡ length xs → get_or (xs ++ x ∷ []) n d ≡ x
-pushed_last xs x d n last = ap (λ k. get_or (xs ++ x ∷ []) k d) last ∙ get_or-append_seam xs x [] d
 
 -- a child more at the node of this level
 module _ (g : GrowingTree) (line : List ℕ) (n level : ℕ) (order : IsInOrder g line n) (within : level < length line) where
@@ -67,7 +63,7 @@ module _ (g : GrowingTree) (line : List ℕ) (n level : ℕ) (order : IsInOrder 
                 let less = order.within m (omega (arith, before, within)) in
                 omega (arith, same, less, count)
             | inr behind ↦
-                let same : get_or (take (suc level) line ++ n ∷ []) m 0 ≡ n = pushed_last (take (suc level) line) n 0 m (omega (arith, behind, lt, long, long')) in
+                let same : get_or (take (suc level) line ++ n ∷ []) m 0 ≡ n = get_or_push (take (suc level) line) n 0 m (omega (arith, behind, lt, long, long')) in
                 omega (arith, same, old, count)
           ];
           way = λ m lt. elim (cases_lt m (suc level)) [
@@ -79,7 +75,7 @@ module _ (g : GrowingTree) (line : List ℕ) (n level : ℕ) (order : IsInOrder 
                 ∙ sym (take-append-le m (take level g.at) (step ∷ []) (omega (arith, before, deep)) ∙ take_take m level g.at (omega (arith, before)))
             | inr behind ↦
                 let at : m ≡ suc level = omega (arith, behind, lt, long, long') in
-                let same : get_or (take (suc level) line ++ n ∷ []) m 0 ≡ count_of g.tree = pushed_last (take (suc level) line) n 0 m (omega (arith, at, long)) ∙ old in
+                let same : get_or (take (suc level) line ++ n ∷ []) m 0 ≡ count_of g.tree = get_or_push (take (suc level) line) n 0 m (omega (arith, at, long)) ∙ old in
                 ap (path_at (edit_at (take level g.at) (add_child l) g.tree)) same
                 ∙ path_more g.tree (edit_at (take level g.at) (add_child l) g.tree) (take level g.at ++ length_of here.0.below ∷ []) more
                 ∙ ap (λ k. take level g.at ++ k ∷ []) (sym step_is)

@@ -4,7 +4,8 @@
 --     IsInOrder g line n    the current node is the last one; its number, and the numbers of the nodes on the way to it, are
 --                           the line, and there are n nodes
 --     AreFoldable           leads of a page's nodes
---     IsFoldedTo .. u ns    the first nodes of the page have these numbers in u, and no others are nodes of u
+--     IsFoldedTo .. u ns    the first nodes of the page have these numbers in u, and no others are nodes of u, which has one for
+--                           each of them that is its own lead
 --     IsFolding .. m        the same of the first m nodes, with the line of u
 use Rattle.std.specs.Prelude.{◌≡◌, ℕ, suc, ◌<◌, List, [], ◌∷◌, ◌++◌, length, take, get_or, Some}
 use Rattle.tree_sem.specs.Trees.{LabelTree, tree_of, length_of, count_of, label_at}
@@ -14,7 +15,7 @@ use Rattle.tree_sem.specs.Growing.{GrowingTree}
 use Rattle.node_marks.specs.Marks.{path_at}
 use Rattle.node_marks.specs.Numbering.{parent_number, AreAbove}
 use Rattle.folded_page.specs.Folding.{image_at}
-use Rattle.folded_page.specs.Leads.{lead_of, AreLeads}
+use Rattle.folded_page.specs.Leads.{lead_of, own_count, AreLeads}
 
 abbrev pub IsOnLastWay : List ℕ → LabelTree → Type 0
 IsOnLastWay [] t = Unit {0}
@@ -41,6 +42,7 @@ pub record AreFoldable (parents leads : List ℕ) (labels : List (List ℕ)) : T
 
 pub record IsFoldedTo (parents leads : List ℕ) (labels : List (List ℕ)) (u : LabelTree) (numbers : List ℕ) : Type 0 where
   pub within : (i : ℕ) → i < length numbers → get_or numbers i 0 < count_of u
+  pub few : count_of u ≡ own_count leads (length numbers)
   pub root : get_or numbers 0 0 ≡ 0
   pub led : (i : ℕ) → i < length numbers → get_or numbers (lead_of leads i) 0 ≡ get_or numbers i 0
   pub label : (i : ℕ) → i < length numbers → label_at (image_at u numbers i) u ≡ Some (get_or labels i [])

@@ -19,7 +19,7 @@ pub struct Folded {
 
 /// The folded page, from the leads of the page's nodes; nothing where it can't be built. Linear in the page's nodes and in the
 /// labels of those that are their own leads.
-pub fn built(
+pub(crate) fn built(
     alloc: Global,
     columns: &Columns<'_>,
     leads: &[usize],

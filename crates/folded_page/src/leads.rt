@@ -1,5 +1,5 @@
 //! Of each node of a page the number of the one that stands for it.
-ghost use Rattle.std.specs.Prelude.{◌≡◌, ◌<◌, ℕ, List, map, length, IsTrue, IfOk};
+ghost use Rattle.std.specs.Prelude.{◌≡◌, ◌<◌, ℕ, List, map, length, IsTrue, IfOk, IfSome};
 ghost use Rattle.tree_sem.specs.Trees.{LabelTree};
 ghost use Rattle.node_marks.specs.Numbering.{IsNumbering, AreAbove, parent_number};
 ghost use Rattle.folded_page.specs.Leads.{AreLeads, lead_of};
@@ -116,50 +116,36 @@ fn are_leads(parents: &[usize], labels: &[&ClassSet], links: &Links, leads: &[us
     true
 }
 
-// Each of the nodes for itself.
-fn selves(alloc: Global, parents: &[usize], labels: &[&ClassSet]) -> Result<Vec<usize>, NoMemory>
-    requires { AreAbove parents.now }
-    ensures { IfOk result (λ v. AreLeads parents.now (map (λ b. b.now) labels.now) v.items) }
-{
-    let mut leads = Vec::new(alloc);
-    for i in 0..parents.len() {
-        leads.push(i)?;
-    }
-    Ok(leads)
-}
-
 // The candidates, where they are leads.
 fn checked(
-    alloc: Global,
     parents: &[usize],
     labels: &[&ClassSet],
     links: &Links,
     leads: Vec<usize>,
-) -> Result<Vec<usize>, NoMemory>
+) -> Option<Vec<usize>>
     requires above { AreAbove parents.now }
     requires as_many { length labels.now ≡ length parents.now }
     requires links { AreLinks parents.now links.now.first.items links.now.next.items }
-    ensures { IfOk result (λ v. AreLeads parents.now (map (λ b. b.now) labels.now) v.items) }
+    ensures { IfSome result (λ v. AreLeads parents.now (map (λ b. b.now) labels.now) v.items) }
 {
     if are_leads(parents, labels, links, &leads) {
-        Ok(leads)
+        Some(leads)
     } else {
-        selves(alloc, parents, labels)
+        None
     }
 }
 
 /// Of each node of a page the one that stands for it, from the numbers of the nodes' parents, where the root's is of no account,
-/// and their labels. Where hashes of subtrees that differ are the same, each node stands for itself. Linear in the nodes and
-/// their atoms.
+/// and their labels; nothing where hashes of subtrees that differ are the same. Linear in the nodes and their atoms.
 pub(crate) fn leads_of(
     alloc: Global,
     parents: &[usize],
     labels: &[&ClassSet],
-) -> Result<Vec<usize>, NoMemory>
+) -> Result<Option<Vec<usize>>, NoMemory>
     requires { (steps : List ℕ) × (t : LabelTree) × IsNumbering t parents.now steps (map (λ b. b.now) labels.now) }
-    ensures { IfOk result (λ v. AreLeads parents.now (map (λ b. b.now) labels.now) v.items) }
+    ensures { IfOk result (λ o. IfSome o (λ v. AreLeads parents.now (map (λ b. b.now) labels.now) v.items)) }
 {
     let links = Links::of(alloc, parents, labels)?;
     let leads = candidates(alloc, parents, &links)?;
-    checked(alloc, parents, labels, &links, leads)
+    Ok(checked(parents, labels, &links, leads))
 }

@@ -11,18 +11,18 @@ use tree_sem::{MOST_NODES, Tree, TreeBuilder, TreeFault};
 
 /// A tree that grows at its end: each node comes behind those that were there.
 #[derive(Drop)]
-pub struct PageBuilder {
+pub(crate) struct PageBuilder {
     /// Stands at the last node.
-    pub builder: TreeBuilder,
+    pub(crate) builder: TreeBuilder,
     /// The numbers of the nodes on the way to the last node, and of itself.
-    pub line: Vec<usize>,
+    pub(crate) line: Vec<usize>,
     /// How many nodes there are.
-    pub count: usize,
+    pub(crate) count: usize,
 }
 
 impl PageBuilder {
     /// A tree of one node. Constant.
-    pub fn new(alloc: Global, label: ClassSet) -> Result<PageBuilder, NoMemory>
+    pub(crate) fn new(alloc: Global, label: ClassSet) -> Result<PageBuilder, NoMemory>
         ensures tree { IfOk result (λ b. b.builder.tree ≡ leaf label) }
         ensures order { IfOk result (λ b. IsInOrder b.builder b.line.items b.count) }
     {
@@ -38,7 +38,7 @@ impl PageBuilder {
 
     /// Gives the node of a number one child more, and gives the child's number; nothing where the node is neither the last one
     /// nor above it, or where there are as many nodes as can be. Linear in the levels from the last node up to that one.
-    pub fn add(&mut self, parent: usize, label: ClassSet) -> Result<Option<usize>, NoMemory>
+    pub(crate) fn add(&mut self, parent: usize, label: ClassSet) -> Result<Option<usize>, NoMemory>
         requires { IsInOrder self.old.builder self.old.line.items self.old.count }
         ensures number { IfOk result (λ o. IfSome o (λ k. k ≡ count_of self.old.builder.tree)) }
         ensures added { IfOk result (λ o. IfSome o (λ k. IsAddedLast self.old.builder.tree self.new.builder.tree (path_at self.old.builder.tree parent) label)) }
@@ -61,7 +61,7 @@ impl PageBuilder {
     }
 
     /// The tree. Constant.
-    pub fn finish(self) -> Tree
+    pub(crate) fn finish(self) -> Tree
         ensures { result ≡ self.builder.tree }
     {
         self.builder.finish()

@@ -26,8 +26,11 @@ static ROWS: [NodeRow; 16] = [
     (&[3], &[4]),
 ];
 
-// The number of each node where they are folded: the fourth row stands for none of its own.
+// The number of each node where they are folded: the second and the fourth row are folded into the first one.
 static NUMBERS: [usize; 17] = [0, 1, 2, 2, 3, 1, 2, 2, 3, 4, 5, 5, 6, 1, 2, 2, 3];
+
+// Nodes of which, with the root, half stay.
+static HALF: [NodeRow; 3] = [(&[], &[2]), (&[], &[2]), (&[], &[2])];
 
 // Nodes of which more than half stay.
 static OTHERS: [NodeRow; 3] = [(&[], &[2]), (&[0], &[3]), (&[0], &[3])];
@@ -57,12 +60,13 @@ fn folds(alloc: Global, page: &Tree) -> Result<bool, NoMemory> {
     }
 }
 
-// Whether the rows are folded, and the others aren't.
+// Whether the rows and the half are folded, and the others aren't.
 fn folds_rows(alloc: Global) -> Result<bool, TreeFault> {
     let rows = folds(alloc, &tree_of(alloc, &[1], &ROWS)?)?;
+    let half = fold(alloc, &tree_of(alloc, &[1], &HALF)?)?.is_some();
     let others = tree_of(alloc, &[1], &OTHERS)?;
     let none = fold(alloc, &others)?.is_none();
-    Ok(rows && none)
+    Ok(rows && half && none)
 }
 
 #[test]

@@ -1,4 +1,4 @@
-use Rattle.std.proofs.Common.{List, ℕ, Option, sym, subst, take, arith}
+use Rattle.std.proofs.Common.{List, ℕ, Option, sym, subst, arith}
 use Rattle.std.proofs.lemmas.List.{take_all}
 use Rattle.row_index.specs.Rows.{IsNotedIf, AreByNumber}
 use Rattle.row_index.proofs.NumberLemmas.{numbers_start, numbers_next}

@@ -1,4 +1,4 @@
-use Rattle.std.proofs.Common.{List, ℕ, Contains, map, sym, subst}
+use Rattle.std.proofs.Common.{List, ℕ, Contains, map, subst}
 use Rattle.tp_base.proofs.Rising.{Contains-none}
 use Rattle.closed_page.specs.declared.notes.NodeNews.{NodeNews}
 use Rattle.closed_page.proofs.SpreadLemmas.{labels_spread, related_spread}
