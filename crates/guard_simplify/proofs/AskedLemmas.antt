@@ -1,5 +1,5 @@
 -- Guards that are asked for, and a compound below another, of which no guard is made.
-use Rattle.std.proofs.Common.{◌≡◌, ℕ, ◌+◌, ◌<◌, List, [], ◌∷◌, ◌++◌, length, map, take, Result, Ok, Err, IfOk, refl, sym, ap, ◌∙◌, subst}
+use Rattle.std.proofs.Common.{◌≡◌, ℕ, ◌+◌, ◌<◌, List, [], ◌∷◌, ◌++◌, length, map, take, Result, Ok, Err, IfOk, refl, sym, ap, ◌∙◌, subst, append_assoc}
 use Rattle.std.specs.Prelude.{get_or}
 use Rattle.std.proofs.lemmas.List.{map-append, take_more}
 use Rattle.sel_text.specs.Selectors.{Join, child as to_parent, inside}
@@ -52,8 +52,11 @@ asked_numbered n old mid new guards i x numbers pushed a listed one at less last
     let grown = numbered_push n old mid new (map asked_of (take i guards)) numbers (asked_of x) a listed one in
     subst (λ z. AreNumbered n old new (guards_of z) pushed) (sym whole) (subst (λ z. AreNumbered n old new (guards_of (map asked_of (take i guards) ++ asked_of x ∷ [])) z) (sym last) grown)
 
--- the same guards, asked for one by one
-pub asked_pushed : (guards : List Guard) (i : ℕ) (g : Guard) (old new : List Asked) (x : Asked) → map asked_of old ≡ take i guards → new ≡ old ++ x ∷ [] → asked_of x ≡ g → g ≡ get_or guards i g → i < length guards → map asked_of new ≡ take (i + 1) guards
-asked_pushed guards i g old new x before last is at less =
+-- one guard more that is asked for, behind those of a front
+pub asked_pushed : (front guards : List Guard) (i : ℕ) (g : Guard) (old new : List Asked) (x : Asked) → map asked_of old ≡ front ++ take i guards → new ≡ old ++ x ∷ [] → asked_of x ≡ g → g ≡ get_or guards i g → i < length guards
+    → map asked_of new ≡ front ++ take (i + 1) guards
+asked_pushed front guards i g old new x before last is at less =
     let next : take (i + 1) guards ≡ take i guards ++ g ∷ [] = take_more guards i g less ∙ ap (λ z. take i guards ++ z ∷ []) (sym at) in
-    ap (map asked_of) last ∙ map-append asked_of old (x ∷ []) ∙ ap (λ z. z ++ asked_of x ∷ []) before ∙ ap (λ z. take i guards ++ z ∷ []) is ∙ sym next
+    ap (map asked_of) last ∙ map-append asked_of old (x ∷ [])
+    ∙ ap (λ z. z ++ asked_of x ∷ []) before ∙ append_assoc front (take i guards) (asked_of x ∷ [])
+    ∙ ap (λ z. front ++ (take i guards ++ z ∷ [])) is ∙ ap (λ z. front ++ z) (sym next)

@@ -1,5 +1,5 @@
 -- Places of numbers in a table.
-use Rattle.std.proofs.Common.{◌≡◌, ℕ, suc, ◌==◌, ◌≤◌, Bool, true, false, if◌then◌else◌, List, [], ◌∷◌, ◌++◌, length, get_or, Option, Some, None, refl, sym, ap, ◌∙◌, subst, inl, inr, arith}
+use Rattle.std.proofs.Common.{◌≡◌, ℕ, suc, ◌==◌, ◌≤◌, Bool, true, false, if◌then◌else◌, List, [], ◌∷◌, ◌++◌, length, get_or, Option, Some, None, option_map, refl, sym, ap, ◌∙◌, subst, inl, inr, arith}
 use Rattle.std.proofs.lemmas.Bool.{cases_Bool, eqb-true, eq-eqb}
 use Rattle.guard_simplify.specs.Firsts.{is_among, with_new, place_of}
 use Rattle.guard_simplify.specs.NumberSets.{noted, ArePlaces, IsNoted}
@@ -7,14 +7,10 @@ use Rattle.guard_simplify.specs.NumberSets.{noted, ArePlaces, IsNoted}
 abbrev same : ℕ → ℕ → Bool
 same x y = x == y
 
-noted_is : (n : ℕ) (ns : List ℕ) → noted n ns ≡ (if is_among same n ns then Some (place_of same n ns) else None)
-noted_is n [] = refl
-noted_is n (m ∷ ns) = elim (cases_Bool (n == m)) [
-  | inl here ↦ rw here refl
-  | inr apart ↦ elim (cases_Bool (is_among same n ns)) [
-    | inl there ↦ let rest = rw there at (noted_is n ns) in rw (apart, there, rest) refl
-    | inr none ↦ let rest = rw none at (noted_is n ns) in rw (apart, none, rest) refl
-  ]
+noted_behind : (n m : ℕ) (ns : List ℕ) → (n == m) ≡ false → noted n (m ∷ ns) ≡ option_map suc (noted n ns)
+noted_behind n m ns apart = elim (cases_Bool (is_among same n ns)) [
+  | inl there ↦ rw (apart, there) refl
+  | inr none ↦ rw (apart, none) refl
 ]
 
 absent_long : (n : ℕ) (ns : List ℕ) → is_among same n ns ≡ false → length ns ≡ place_of same n ns
@@ -26,36 +22,38 @@ absent_long n (m ∷ ns) none = elim (cases_Bool (n == m)) [
 
 some_among : (n p : ℕ) (ns : List ℕ) → noted n ns ≡ Some p → (is_among same n ns ≡ true) × (p ≡ place_of same n ns)
 some_among n p ns is = elim (cases_Bool (is_among same n ns)) [
-  | inl there ↦ let rest = rw there at (noted_is n ns) in (there, cc)
-  | inr none ↦ let rest = rw none at (noted_is n ns) in absurd (cc)
+  | inl there ↦ let is' = rw there at is in (there, cc)
+  | inr none ↦ let is' = rw none at is in absurd (cc)
 ]
 
 none_among : (n : ℕ) (ns : List ℕ) → noted n ns ≡ None → is_among same n ns ≡ false
 none_among n ns is = elim (cases_Bool (is_among same n ns)) [
-  | inl there ↦ let rest = rw there at (noted_is n ns) in absurd (cc)
+  | inl there ↦ let is' = rw there at is in absurd (cc)
   | inr none ↦ none
 ]
 
 -- one number more
 noted_push : (m n : ℕ) (ns : List ℕ) → is_among same n ns ≡ false → noted m (ns ++ n ∷ []) ≡ (if m == n then Some (length ns) else noted m ns)
-noted_push m n [] none = refl
+noted_push m n [] none = elim (cases_Bool (m == n)) [
+  | inl new' ↦ rw new' refl
+  | inr old' ↦ rw old' refl
+]
 noted_push m n (k ∷ ns) none = elim (cases_Bool (n == k)) [
   | inl here ↦ let none' = rw here at none in absurd (cc)
-  | inr apart ↦
-      let rest = noted_push m n ns (rw apart at none) in
-      elim (cases_Bool (m == k)) [
-        | inl first ↦
-            let one : m ≡ k = eqb-true m k first in
-            let other : (m == n) ≡ false = elim (cases_Bool (m == n)) [
-              | inl same' ↦ let both : (n == k) ≡ true = eq-eqb n k (sym (eqb-true m n same') ∙ one) in absurd (cc)
-              | inr no' ↦ no'
-            ] in
-            rw (first, other) refl
-        | inr later ↦ elim (cases_Bool (m == n)) [
-          | inl new' ↦ let rest' = rw new' at rest in rw (later, new', rest') refl
-          | inr old' ↦ let rest' = rw old' at rest in rw (later, old', rest') refl
+  | inr apart ↦ elim (cases_Bool (m == k)) [
+    | inl first ↦
+        let one : m ≡ k = eqb-true m k first in
+        let other : (m == n) ≡ false = elim (cases_Bool (m == n)) [
+          | inl same' ↦ let both : (n == k) ≡ true = eq-eqb n k (sym (eqb-true m n same') ∙ one) in absurd (cc)
+          | inr no' ↦ no'
+        ] in
+        rw (first, other) refl
+    | inr later ↦
+        noted_behind m k (ns ++ n ∷ []) later ∙ ap (option_map suc) (noted_push m n ns (rw apart at none)) ∙ elim (cases_Bool (m == n)) [
+          | inl new' ↦ rw new' refl
+          | inr old' ↦ rw old' (sym (noted_behind m k ns later))
         ]
-      ]
+  ]
 ]
 
 -- a number that has a place, and one that gets the next

@@ -1,6 +1,6 @@
 -- What a simple system does is what the rules do.
 --     IsAdded t rules steps p w      the node at w was added in one of the steps, as the node at p of its rule's forest
---     Means ..  a w                  what the atom a says of the node at w
+--     IsTrueOf t steps w x           what an auxiliary says of the node at w, after these steps from t
 --     Follows, GoesBack              the two halves of the law
 use Rattle.std.specs.Prelude.{◌≡◌, ◌⊎◌, ℕ, ◌+◌, ◌<◌, List, [], ◌∷◌, ◌++◌, All, Contains, Some, unwrap_or, slice_get}
 use Rattle.tree_sem.specs.Trees.{LabelTree, children_at}

@@ -1,4 +1,4 @@
--- What tells a key from others, as one number: its shape and the numbers of its parts, mixed.
+-- What tells a key from others, its shape and the numbers of its parts, mixed to one number.
 use Rattle.std.specs.Prelude.{◌≡◌, ℕ, ◌+◌, ◌*◌, ◌%◌, ◌^◌, ◌&&◌, IsTrue, List, fold}
 use Rattle.std.proofs.Common.{rules}
 use Rattle.std.proofs.lemmas.Bool.{and_parts}

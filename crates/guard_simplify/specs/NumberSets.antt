@@ -1,12 +1,12 @@
--- Numbers without repeats, and a table that has at each number its place among them.
+-- A table that has at each number its place among some numbers.
 --     noted n numbers             the place of n among the numbers, if it is there
 --     ArePlaces places numbers    the table has at each number what is noted of it
 --     IsNoted old new n p         the place p was put at n into the table, and nothing else changed
-use Rattle.std.specs.Prelude.{◌≡◌, ◌≢◌, ℕ, suc, ◌==◌, if◌then◌else◌, List, [], ◌∷◌, get_or, Option, Some, None, option_map}
+use Rattle.std.specs.Prelude.{◌≡◌, ◌≢◌, ℕ, ◌==◌, if◌then◌else◌, List, get_or, Option, Some, None}
+use Rattle.guard_simplify.specs.Firsts.{is_among, place_of}
 
 abbrev pub noted : ℕ → List ℕ → Option ℕ
-noted n [] = None
-noted n (m ∷ numbers) = if n == m then Some 0 else option_map suc (noted n numbers)
+noted n numbers = if is_among (λ x y. x == y) n numbers then Some (place_of (λ x y. x == y) n numbers) else None
 
 abbrev pub ArePlaces : List (Option ℕ) → List ℕ → Type 0
 ArePlaces places numbers = (n : ℕ) → get_or places n None ≡ noted n numbers

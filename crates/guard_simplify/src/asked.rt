@@ -108,7 +108,7 @@ pub(crate) fn each_asked(alloc: Global, guards: &[Guard]) -> Result<Vec<Asked<'_
     Ok(asked)
 }
 
-/// The numbers of the atoms of the guards, one after another. One guard of a selector is there at a time.
+/// The numbers of the atoms of the guards, one after another, at the cost of `number`. One guard of a selector is there at a time.
 pub(crate) fn asked_numbers(
     alloc: Global,
     first: usize,

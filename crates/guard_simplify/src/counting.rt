@@ -47,8 +47,8 @@ impl<'r> Counted<'r> {
     ghost use Rattle.guard_simplify.specs.Counted.{IsCountedWithin};
     ghost use Rattle.guard_simplify.specs.Asked.{asked_of};
 
-    /// Numbers the formulas of the guards, the nodes of the forests, and what is seen, where the table has the atoms
-    /// below `first`; nothing where there are too many atoms. Linear in the guards and the forests, but for the look-ups.
+    /// Numbers the formulas of the guards, the nodes of the forests, and what is seen, where the table has the atoms below
+    /// `first`; nothing where there are too many atoms. Linear in the table, the guards and the forests, but for the look-ups.
     pub(crate) fn new(
         alloc: Global,
         first: u32,

@@ -43,8 +43,8 @@ fn rule_numbers(
 }
 
 impl Formulas {
-    /// Numbers the formulas of the guards, where the table has the atoms below `first`. Linear in the guards, but for
-    /// the look-ups.
+    /// Numbers the formulas of the guards, where the table has the atoms below `first`. Linear in the table and the
+    /// guards, but for the look-ups.
     pub(crate) fn new(
         alloc: Global,
         first: usize,

@@ -7,8 +7,8 @@ use std::alloc::Global;
 use std::marker::Model;
 use tp_base::NoMemory;
 
-/// Numbers, each once, in the order in which they come first, and for each number below a bound its place among them, if it
-/// has one. A contract sees the list of the numbers.
+/// Numbers in their order, and for each number below a bound its first place among them, if it has one. A contract sees the
+/// list of the numbers.
 #[derive(Drop)]
 pub(crate) struct NumberSet {
     numbers: Vec<usize>,

@@ -17,8 +17,8 @@ use std::alloc::Global;
 use tp_base::AtomTable;
 use tree_sem::Tree;
 
-/// The system of the rules and of the guards that are handed in. Linear in the guards, the classes and the forests,
-/// but for the look-ups and the sets of atoms.
+/// The system of the rules and of the guards that are handed in. Linear in the table, the guards, the classes and the
+/// forests, but for the look-ups and the sets of atoms.
 pub fn simplify_asked(
     alloc: Global,
     rules: &[Rule],

@@ -1,15 +1,15 @@
 use Rattle.std.proofs.Common.{◌≡◌, length, map, take, refl, ap, ◌∙◌, arith}
 use Rattle.std.proofs.Math.Seq.{take-length}
 use Rattle.guard_sem.specs.OfSelectors.{of_selector}
+use Rattle.guard_simplify.proofs.AskedLemmas.{asked_pushed}
 use Rattle.css_read.specs.Views.{item_of}
 use Rattle.judge.specs.Answers.{judged_in}
 use Rattle.judge.specs.Outcomes.{guards_in}
-use Rattle.judge.proofs.GuardLemmas.{guard_pushed}
 use Rattle.judge.proofs.simplifying.all_guards.Goals as goal
 
 pub guards-preserved : goal.guards-preserved
 guards-preserved c =
-    guard_pushed (map of_selector (judged_in (map item_of c.args.items.now))) c.args.extra.now c.guards.guard-index c.guard-item.result c.guards.guards.items c.push.new.self.items _
+    asked_pushed (map of_selector (judged_in (map item_of c.args.items.now))) c.args.extra.now c.guards.guard-index c.guard-item.result c.guards.guards.items c.push.new.self.items _
     c.guards.invariant c.in_ok-push.ensures.items refl c.guard-item.is c.guards-test.true
 
 pub returns : goal.returns
