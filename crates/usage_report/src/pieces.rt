@@ -4,14 +4,12 @@ ghost use Rattle.std.specs.List.{flat_map};
 ghost use Rattle.std.specs.Fmt.{decimal};
 ghost use Rattle.usage_report.specs.Report as spec;
 
+use itoa::Buffer;
 use std::alloc::Global;
 use tp_base::{NoMemory, Path, Place};
 
 /// What a report begins with: the command, and the version of the report's text.
 pub const VERSION: &[u8] = b"treeped 2";
-
-// How many digits a number may have.
-const MOST_DIGITS: usize = 20;
 
 /// Bytes of a report, one line after another. What is put stands behind what is there; after a refusal some of it may.
 #[derive(Drop)]
@@ -45,43 +43,12 @@ impl Piece {
         Ok(())
     }
 
-    // A number below ten, by its digit.
-    #[tactic(auto, using(std::proofs::lemmas::Fmt::decimal_digit))]
-    fn digit(&mut self, digit: u64) -> Result<(), NoMemory>
-        requires { digit < 10 }
-        ensures { OnOk result (self.new.bytes.items ≡ self.old.bytes.items ++ decimal digit) }
-    {
-        self.bytes.push(b'0' + digit as u8)?;
-        Ok(())
-    }
-
     /// A number, by its decimal digits. Linear in them.
     pub fn number(&mut self, number: u64) -> Result<(), NoMemory>
         ensures { OnOk result (self.new.bytes.items ≡ self.old.bytes.items ++ decimal number) }
     {
-        if number < 10 {
-            self.digit(number)
-        } else {
-            self.digits(number)
-        }
-    }
-
-    // A number by its digits, which are found from the last one on.
-    #[tactic(auto, using(crate::proofs::PieceLemmas::place_fewer, crate::proofs::PieceLemmas::one_digit_more, crate::proofs::PieceLemmas::first_digit))]
-    fn digits(&mut self, number: u64) -> Result<(), NoMemory>
-        ensures { OnOk result (self.new.bytes.items ≡ self.old.bytes.items ++ decimal number) }
-    {
-        let mut digits = [0u8; MOST_DIGITS];
-        let mut from = MOST_DIGITS;
-        let mut left = number;
-        'digits: while left >= 10 {
-            from -= 1;
-            digits[from] = b'0' + (left % 10) as u8;
-            left /= 10;
-        }
-        from -= 1;
-        digits[from] = b'0' + left as u8;
-        self.put(&digits[from..])
+        let mut digits = Buffer::new();
+        self.put(digits.format(number).as_bytes())
     }
 
     /// `line:column`.
