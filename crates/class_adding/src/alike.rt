@@ -1,4 +1,4 @@
-//! Which nodes are alike, and what was found at one of them, taken over at the next one.
+//! Nodes that behave alike: what was computed at one is reused at the next.
 ghost use Rattle.std.specs.Prelude.{◌≡◌, ◌<◌, ℕ, suc, List, false, length, get_or, Contains, IfOk, IfSome, IsSome, IsTrue};
 ghost use Rattle.tree_sem.specs.Paths.{parent_of};
 ghost use Rattle.simple_core.specs.Pairs.{Asks};

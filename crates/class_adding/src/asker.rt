@@ -1,4 +1,4 @@
-//! What closing a page asks, and of what.
+//! The context of closing a page: the rules, the summaries and what is remembered of them.
 ghost use Rattle.std.specs.Prelude.{◌≡◌, ◌<◌, length, Contains, All, OnOk};
 ghost use Rattle.class_adding.specs.Asking.{IsReady, Went, TellsSpent};
 

@@ -1,4 +1,4 @@
-//! What the children that a label adds give, where it isn't given yet.
+//! What added children give in a round, where the node wakes or has fresh atoms that matter to them.
 ghost use Rattle.std.specs.Prelude.{◌≡◌, ℕ, false, Contains, IfOk, OnOk, IsFalse};
 ghost use Rattle.std.specs.List.{flat_map};
 ghost use Rattle.std.specs.List.Sorted.{IsStrictlyIncreasing};

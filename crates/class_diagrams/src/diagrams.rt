@@ -1,4 +1,4 @@
-//! Diagrams in one arena, and the operations on them.
+//! The arena of decision diagrams, with conjunction, disjunction and evaluation.
 ghost use Rattle.std.specs.Prelude.{◌≡◌, ◌<◌, ◌≤◌, ◌↔◌, ◌&&◌, ◌||◌, ℕ, List, [], length, Ok, false, IsTrue, IsNone, IsOk, IsErrOf, IfSome, IfOk, OnOk, OnErr};
 ghost use Rattle.tp_base.specs.Classes.{has_class};
 ghost use Rattle.class_diagrams.specs.declared.refs.Target.{Target};

@@ -1,4 +1,4 @@
-//! A mark for each atom of a set.
+//! A set of atoms as one bit for each atom.
 ghost use Rattle.std.specs.Prelude.{◌≡◌, ◌<◌, ◌≤◌, ℕ, false, get_or, All, IfOk};
 ghost use Rattle.tp_base.specs.Classes.{has_class};
 

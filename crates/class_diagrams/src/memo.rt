@@ -1,4 +1,4 @@
-//! Results of operations that are remembered, in bounded memory.
+//! The memo of operations: a hash table of bounded size.
 ghost use Rattle.std.specs.Prelude.{◌≡◌, [], Contains, IfSome, IfOk, ◌⊎◌};
 ghost use Rattle.std.specs.Hash.{u64};
 ghost use Rattle.class_diagrams.specs.declared.memo.Task.{Task};

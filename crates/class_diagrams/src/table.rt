@@ -1,4 +1,4 @@
-//! The branches of an arena, each different one once.
+//! The unique table: each branch is stored once.
 ghost use Rattle.std.specs.Prelude.{◌≡◌, ◌<◌, ◌≤◌, length, [], Ok, Err, IfSome, IfNone, IsNone, IsTrue, ◌↔◌};
 ghost use Rattle.class_diagrams.specs.Trees.{branch, join, IsLeaf, IsOrdered};
 ghost use Rattle.class_diagrams.specs.Arena.{tree_at, IsIn, IsArena};

@@ -1,4 +1,4 @@
-//! The variables of atoms that were made.
+//! The diagrams of single atoms, found by the atom's number.
 ghost use Rattle.std.specs.Prelude.{◌≡◌, ◌≢◌, ◌<◌, ◌⊎◌, ℕ, [], None, Some, length, get_or, OnOk};
 ghost use Rattle.tp_base.specs.declared.atoms.TheConstants.{MOST_ATOMS};
 ghost use Rattle.class_diagrams.specs.declared.refs.Target.{Target};

@@ -1,4 +1,4 @@
-//! What is left of a sheet does at each node what the sheet does.
+//! Laws: the pruned sheet does at each node what the sheet does.
 ghost use Rattle.std.specs.Prelude.{Bool, List, ℕ};
 ghost use Rattle.sel_text.specs.Selectors.{Selector as selector};
 ghost use Rattle.jq_stmts.specs.Views.{statements_of};

@@ -1,4 +1,4 @@
-//! Parts of a text.
+//! Slices of a text.
 ghost use Rattle.std.specs.Prelude.{◌≡◌, ◌≤◌, drop, take, length, slice_range};
 ghost use Rattle.css_prune.specs.Parts as spec;
 

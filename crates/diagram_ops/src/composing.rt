@@ -1,4 +1,4 @@
-//! Diagrams put in the place of atoms, all at once.
+//! Simultaneous composition: diagrams in the place of all atoms at once.
 ghost use Rattle.std.specs.Prelude.{◌≡◌, ◌<◌, ℕ, List, ◌∷◌, [], All, Contains, map, length, IsErrOf, IfOk};
 ghost use Rattle.std.specs.List.Sorted.{IsStrictlyIncreasing};
 ghost use Rattle.class_diagrams.specs.References.{Reference};

@@ -1,4 +1,4 @@
-//! What a diagram looks at, and how large it is.
+//! The support of a diagram, and its size.
 ghost use Rattle.std.specs.Prelude.{◌≡◌, All, IfOk, OnOk};
 ghost use Rattle.class_diagrams.specs.Arena.{tree_at, IsIn};
 ghost use Rattle.diagram_ops.specs.Compositions.{atoms_of, size_of};

@@ -1,4 +1,4 @@
-//! The children of each node of a page, by numbers, and a hash of each subtree.
+//! The children of each node as linked lists of numbers, and a hash of each subtree.
 ghost use Rattle.std.specs.Prelude.{◌≡◌, IfOk, length, get_or};
 ghost use Rattle.node_marks.specs.Numbering.{AreAbove};
 ghost use Rattle.folded_page.specs.Links.{AreLinks};

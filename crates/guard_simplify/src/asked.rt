@@ -1,4 +1,4 @@
-//! Guards that are asked for, of which those of selectors aren't kept.
+//! The goals: guards that are asked for. A selector's guard is made while it is numbered, and not kept.
 ghost use Rattle.std.specs.Prelude.{◌≡◌, ◌<◌, ◌^◌, map, IfOk};
 ghost use Rattle.guard_sem.specs.Guards.{always, both, guards_of};
 ghost use Rattle.guard_sem.specs.OfSelectors as spec;

@@ -1,4 +1,4 @@
-//! The rules of the classes that rules add.
+//! Local rules for the atoms that the rules' actions add.
 ghost use Rattle.std.specs.Prelude.{◌≡◌, ◌≤◌, ◌++◌, length, IfOk, OnOk, All};
 ghost use Rattle.simple_core.specs.Systems.{IsAtom};
 ghost use Rattle.guard_simplify.specs.Auxiliaries.{by_rule};

@@ -1,4 +1,4 @@
-//! The forests that rules add, and their nodes.
+//! The forests of the rules' actions, and their nodes.
 ghost use Rattle.std.specs.Prelude.{◌≡◌, ◌≤◌, length, map, fold, filter, nat_lt, IfOk, OnOk};
 ghost use Rattle.std.specs.List.{flat_map};
 ghost use Rattle.tree_sem.specs.Order.{paths_from};

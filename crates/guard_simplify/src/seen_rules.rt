@@ -1,4 +1,4 @@
-//! The rules of what is seen of the guards that are handed in.
+//! The rules that carry the atom of a goal from where its guard holds up to the root.
 ghost use Rattle.std.specs.Prelude.{◌≡◌, ◌+◌, ◌≤◌, ◌++◌, length, IfOk, OnOk};
 ghost use Rattle.tp_base.specs.declared.atoms.TheConstants.{MOST_ATOMS};
 ghost use Rattle.guard_simplify.specs.AtomNumbers.{AreAtoms};

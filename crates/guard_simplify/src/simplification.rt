@@ -1,4 +1,4 @@
-//! The simple system of rules, and the law that ties its steps to theirs.
+//! The simple system of rules and goals, and the law that ties its steps to theirs.
 ghost use Rattle.std.specs.Prelude.{◌≡◌, ◌≤◌, length, map, IfOk, All};
 ghost use Rattle.simple_core.specs.declared.system.TheConstants.{MOST_KINDS};
 ghost use Rattle.simple_core.specs.Systems.{IsSound};

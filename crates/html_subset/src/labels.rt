@@ -1,4 +1,4 @@
-//! Labels: the names that a tag gives are entered into the table, and their atoms make a node's label.
+//! Labels: a tag's names are entered into the table, and their atoms form the node's label.
 ghost use Rattle.std.specs.Prelude.{◌≡◌, ◌<◌, true, not, if◌then◌else◌, [], ◌∷◌, ◌++◌, Some, length, take, drop, IfOk, OnOk};
 ghost use Rattle.text_bytes.specs.Attributes.{is_among, with_value};
 ghost use Rattle.tp_base.specs.Names.{with_name};

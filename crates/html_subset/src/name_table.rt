@@ -1,4 +1,4 @@
-//! The table of names while tokens are read, and the atoms of elements by their names as they are written.
+//! The table of names with a cache of element names as they are written.
 ghost use Rattle.std.specs.Prelude.{◌≡◌, [], Some, None, IfOk, IsErrOf, OnErr};
 ghost use Rattle.tp_base.specs.Names.{with_name, IsDistinct};
 ghost use Rattle.tp_base.specs.declared.atoms.AtomKind.TheVariants as named;

@@ -1,4 +1,4 @@
-//! html, head and body of a page, whose tags may come again and again while it is read.
+//! html, head and body of a page, whose tags may stand several times in it.
 ghost use Rattle.std.specs.Prelude.{◌≡◌, [], IfOk, OnOk};
 ghost use Rattle.html_subset.specs.Labels as spec;
 ghost use Rattle.html_subset.specs.Building.{unless_given, with_given};

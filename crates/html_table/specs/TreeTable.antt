@@ -1,4 +1,4 @@
--- The tree table: which open elements a tag closes, and what is implied. Open elements are listed from the innermost outward.
+-- The tree table: which open elements a tag closes, and what it implies. Open elements are listed from the innermost outward.
 use Rattle.std.specs.Prelude.{ℕ, ◌&&◌, ◌||◌, not, Bool, true, false, if◌then◌else◌, List, [], ◌∷◌, length, codes, Option, Some, None, unwrap_or}
 use Rattle.std.specs.List.{list_any}
 use Rattle.std.specs.Str.{bytes_eq}

@@ -1,4 +1,4 @@
-//! What tags look for among the open elements, remembered from each of these outward.
+//! For each open element the nearest ones outside that tags look for.
 ghost use Rattle.std.specs.Prelude.{◌≡◌, ◌+◌, ◌<◌, ◌||◌, [], ◌∷◌, Some, None, List, length, if◌then◌else◌};
 ghost use Rattle.html_table.specs.declared.elements.Kind.TheVariants as k;
 ghost use Rattle.html_table.specs.Elements.{is, Element};

@@ -1,4 +1,4 @@
-//! Calls, each with what is kept of its set.
+//! Calls and chains with marks. A mark names the sharp call in whose place a wider one is judged.
 ghost use Rattle.std.specs.Prelude.{◌≡◌, IfOk};
 ghost use Rattle.jq_stmts.specs.Sharp.{plain};
 ghost use Rattle.jq_stmts.specs.Views.{call_of};

@@ -1,4 +1,4 @@
-//! Calls that several chains may share.
+//! A persistent list of calls, which several chains share.
 ghost use Rattle.std.specs.Prelude.{◌≡◌, ◌||◌, not, nat_lt, [], ◌∷◌, ◌++◌, map, IfOk};
 ghost use Rattle.jq_stmts.specs.Sharp.{wide_call};
 ghost use Rattle.jq_stmts.specs.Statements.{standing};

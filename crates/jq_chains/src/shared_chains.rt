@@ -1,4 +1,4 @@
-//! Chains that share their parts.
+//! Chains that share their root and their calls.
 ghost use Rattle.std.specs.Prelude.{◌≡◌, [], ◌∷◌, ◌++◌, IfOk};
 ghost use Rattle.jq_stmts.specs.Views.{root_of};
 ghost use Rattle.jq_chains.specs.MarkedCalls.{marked_of, marked_chain_of};

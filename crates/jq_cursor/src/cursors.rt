@@ -1,4 +1,4 @@
-//! A place among the words of a file.
+//! A cursor over the words of a file.
 ghost use Rattle.std.specs.Prelude.{◌≡◌, ◌<◌, drop, IfOk, IfErr, OnOk};
 ghost use Rattle.jq_words.specs.Words as words;
 ghost use Rattle.jq_words.specs.FreeLists as lists;

@@ -1,4 +1,4 @@
-//! The answers for the statements that are judged, settled by a replay of the steps of sharper calls.
+//! Answers for the judged statements, settled by an exact replay of their steps.
 ghost use Rattle.std.specs.Prelude.{◌≡◌, ◌≤◌, All, length, map, IfOk, IfSome};
 ghost use Rattle.limits.specs.declared.budgets.TheConstants.{MOST_LIST};
 ghost use Rattle.jq_stmts.specs.Sharp.{is_sharp_statement};

@@ -1,4 +1,4 @@
-//! What the arguments of a call leave.
+//! The value that a call leaves for the rest of its chain, and what the call does.
 ghost use Rattle.std.specs.Prelude.{◌≡◌, None};
 ghost use Rattle.jq_parts.specs.Views.{value_of};
 ghost use Rattle.jq_read.specs.Views.{done_of};

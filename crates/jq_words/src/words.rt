@@ -1,4 +1,4 @@
-//! The words of a script: its tokens, with their spelling and with the ends of lines between them.
+//! The words of a script: its tokens, each with its spelling and whether a line ends before it.
 ghost use Rattle.std.specs.Prelude.{◌≡◌, ◌≤◌, ◌<◌, ◌+◌, ◌==◌, not, true, false, [], ◌∷◌, length, map, drop, codes, Ok, Err, IfOk, IfErr, IfSome, IfNone, OnOk, IsTrue, IsUtf8};
 ghost use Rattle.jq_words.specs.Words as spec;
 ghost use Rattle.js_scan.specs.Tokens.{InOrder};

@@ -1,4 +1,4 @@
--- What is to be done, while a table is filled.
+-- The worklist of the table.
 use Rattle.std.specs.Prelude.{◌≡◌, ◌≢◌, ◌⊎◌, ◌++◌, ◌-◌, ◌≤◌, ◌<◌, ℕ, List, [], length, Option, Some, None, Contains, slice_get}
 use Rattle.simple_core.specs.declared.system.System.{System}
 use Rattle.simple_core.specs.Rounds.{IsFirst}

@@ -1,4 +1,4 @@
-//! Questions to the table.
+//! Questions to the table: a label, or the first round of an atom.
 ghost use Rattle.std.specs.Prelude.{◌≡◌, ◌<◌, ℕ, List, map, length, Contains, IfOk, OnOk, OnErr, IfSome};
 ghost use Rattle.std.specs.List.{filter};
 ghost use Rattle.tp_base.specs.Classes.{has_class};

@@ -1,4 +1,4 @@
-//! Rows of places.
+//! Rows of places, by number.
 ghost use Rattle.std.specs.Prelude.{◌≡◌, ◌≢◌, ◌<◌, ◌++◌, ◌∷◌, [], ℕ, List, None, length, IfSome, IsTrue, OnOk};
 ghost use Rattle.need_table.specs.Rows.{row_in, IsAdded};
 

@@ -1,4 +1,4 @@
-//! A mark for each node of a tree.
+//! A set of nodes as one bit for each node of a tree.
 ghost use Rattle.std.specs.Prelude.{◌≡◌, IfOk};
 ghost use Rattle.node_marks.specs.Marks.{mark};
 

@@ -1,4 +1,4 @@
-//! The least numbers of nodes above or below each node of a tree.
+//! For each node the least numbered node of a set above or below it.
 ghost use Rattle.std.specs.Prelude.{◌<◌, ◌⊎◌, ◌↔◌, ℕ, IfOk, IsTrue};
 ghost use Rattle.tree_sem.specs.Nodes.{IsNode};
 ghost use Rattle.node_marks.specs.Marks.{IsMarked, IsSetOf, HasParentIn, HasAncestorIn, HasChildIn, HasDescendantIn, HasOtherIn};

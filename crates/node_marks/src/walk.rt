@@ -1,4 +1,4 @@
-//! The columns of a numbered tree, filled by one walk.
+//! One walk that fills the columns of a numbered tree.
 ghost use Rattle.std.specs.Prelude.{◌≡◌, ◌<◌, [], ◌∷◌, ◌++◌, length, take, map, get_or, OnOk};
 ghost use Rattle.node_marks.specs.Numbering.{number_above, last_step};
 

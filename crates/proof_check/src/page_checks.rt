@@ -1,4 +1,4 @@
-//! Whether the items of a page hold.
+//! The check of a proof's items at nodes of the page.
 ghost use Rattle.std.specs.Prelude.{◌≡◌, ℕ, ◌==◌, ◌&&◌, [], Some, IfOk, length, is_some, slice_get, IsTrue, true, false, unwrap_or};
 ghost use Rattle.tp_base.specs.Classes.{has_class};
 ghost use Rattle.tree_sem.specs.Trees.{label_at, node_at};

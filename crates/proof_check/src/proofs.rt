@@ -1,4 +1,4 @@
-//! Proofs that the root of a page gets an atom.
+//! The types of a proof that the root of a page gets an atom.
 use tp_base::{Atom, ClassSet, Items, Path};
 
 /// The child of a `down` link: a child of the page by its number, or the child that a spawn rule adds, with its entry.

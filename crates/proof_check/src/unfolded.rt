@@ -1,4 +1,4 @@
-//! What a proof unfolds to.
+//! The trace that a proof unfolds to.
 use tp_base::{Items, Path};
 use tree_sem::Step;
 

@@ -1,4 +1,4 @@
-//! The visible atoms that come to an added node, each with its first round.
+//! The visible atoms of an added node, each with its first round.
 ghost use Rattle.std.specs.Prelude.{◌↔◌, ℕ, Contains, IfOk};
 ghost use Rattle.std.specs.List.Sorted.{IsStrictlyIncreasing, IsPermutation};
 ghost use Rattle.simple_core.specs.Rounds.{grown};

@@ -1,4 +1,4 @@
-//! The entries and the items of a proof, from the orders of wants.
+//! The entries and items of a proof, from the sorted wants.
 ghost use Rattle.std.specs.Prelude.{◌≡◌, ◌<◌, ◌^◌, min, length, map, All, slice_get, option_map, unwrap_or, IfOk};
 ghost use Rattle.proof_check.specs.Kept.{kept_steps};
 ghost use Rattle.proof_check.specs.Unfolding.{items_count};

@@ -1,4 +1,4 @@
-//! What is looked up of one atom.
+//! What one look at an atom finds: its first round and its reason.
 ghost use Rattle.std.specs.Prelude.{◌≡◌, ℕ, List, slice_get, Some, IfOk, OnOk};
 ghost use Rattle.simple_core.specs.Knowledge.{KeepsAsking};
 ghost use Rattle.simple_core.specs.Rounds.{IsFirst};

@@ -1,4 +1,4 @@
-//! What is true of canonical proofs.
+//! Laws of canonical proofs.
 ghost use Rattle.std.specs.Prelude.{◌≡◌, ◌<◌, ◌↔◌, length};
 ghost use Rattle.simple_core.specs.Systems.{IsSound};
 ghost use Rattle.proof_check.specs.Validity.{IsValid};

@@ -1,4 +1,4 @@
-//! Looks at one atom after another, until what each needs is wanted too.
+//! The worklist of a proof: each atom that is wanted is looked at, and its premises are wanted then.
 ghost use Rattle.std.specs.Prelude.{◌≡◌, ◌<◌, [], suc, length, slice_get, Some, unwrap_or, option_map, Contains, IfOk, OnOk, MatchOption};
 ghost use Rattle.tree_sem.specs.Nodes.{HasAtom};
 ghost use Rattle.proof_maker.specs.Needs.{UsesMore};

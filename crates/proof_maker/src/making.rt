@@ -1,4 +1,4 @@
-//! The canonical proof.
+//! The construction of the canonical proof.
 ghost use Rattle.std.specs.Prelude.{◌≡◌, ◌≤◌, [], length, IfOk, IsErrOf};
 ghost use Rattle.tree_sem.specs.Nodes.{HasAtom};
 ghost use Rattle.simple_core.specs.Systems.{IsSound};

@@ -1,4 +1,4 @@
-//! What comes to added nodes, remembered, so that it is asked once.
+//! A memo of what summaries tell of added nodes.
 ghost use Rattle.std.specs.Prelude.{◌≡◌, ◌<◌, List, length, Some, slice_get, IfOk};
 ghost use Rattle.simple_core.specs.declared.system.System.{System};
 ghost use Rattle.pair_table.specs.declared.table.Row.{Row};

@@ -1,4 +1,4 @@
-//! What is told of an added node.
+//! What summaries tell of an added node.
 ghost use Rattle.std.specs.Prelude.{◌≡◌, ℕ, false, None, IfOk};
 ghost use Rattle.simple_core.specs.Rounds.{grown, IsFirst};
 ghost use Rattle.proof_maker.specs.Tellings.{AreIdle, IsTold};

@@ -1,4 +1,4 @@
-//! A closed page, and the places at which its labels are looked at.
+//! The context of a proof: a closed page with its rules, and the places at which labels are looked at.
 ghost use Rattle.std.specs.Prelude.{◌≡◌, Some, IsSome, IfOk};
 ghost use Rattle.tp_base.specs.Classes.{has_class, all_among};
 ghost use Rattle.tree_sem.specs.Trees.{LabelTree, node_at, label_at};

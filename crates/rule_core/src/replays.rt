@@ -1,4 +1,4 @@
-//! Steps of a script's statements, and events, taken one after another.
+//! The replay of steps, and of events, one after another.
 ghost use Rattle.std.specs.Prelude.{◌≡◌, ◌⊎◌, ◌↔◌, ℕ, ◌<◌, ◌≤◌, [], length, take, IsTrue, OnOk, IfErr, IsErrOf};
 ghost use Rattle.tree_sem.specs.Replays.{step_of, IsReplay, IsStep};
 ghost use Rattle.tree_sem.specs.Series.{CanTake, IsIllegalAt, IsFullAt};

@@ -1,4 +1,4 @@
-//! How a run ends.
+//! Exit statuses.
 ghost use Rattle.std.specs.Prelude.{◌≡◌};
 ghost use Rattle.run_ends.specs.Stops as spec;
 

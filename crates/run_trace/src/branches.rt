@@ -1,4 +1,4 @@
-//! Trees after runs with which several lists begin.
+//! A memo of trees after common prefixes of runs.
 ghost use Rattle.std.specs.Prelude.{◌≡◌, ◌<◌, [], length, All, IfOk};
 ghost use Rattle.jq_sem.specs.WholeRuns.{runs_of};
 ghost use Rattle.run_trace.specs.Known.{IsBranch, IsLedBranch};

@@ -1,5 +1,5 @@
-//! Whether a selector matches a node. It is walked from right to left: compounds that are joined by `>` stand one
-//! above the other, so they are placed as one group, and each group takes the nearest place that fits.
+//! Matching a selector from right to left. Compounds that `>` joins stand one above the other, so they form one group. Each
+//! group takes the nearest place that fits.
 ghost use Rattle.std.specs.Prelude.{◌≡◌, ◌<◌, ◌+◌, ◌↔◌, length, IsTrue, IfNone, IfSome};
 ghost use Rattle.tp_base.specs.Classes.{all_among};
 ghost use Rattle.tree_sem.specs.Nodes.{HasAtoms};

@@ -1,4 +1,4 @@
-//! Selectors as they are written: compounds from left to right, and the joins between them.
+//! The syntax tree of a selector: compounds from left to right, with a combinator between each two.
 ghost use Rattle.std.specs.Prelude.{◌≡◌, ◌+◌, [], ◌∷◌, length, IfOk};
 ghost use Rattle.sel_text.specs.Selectors.{simple};
 ghost use Rattle.sel_text.specs.Parts.{selector_from};

@@ -1,4 +1,4 @@
-//! Lists within types that a contract looks into.
+//! Lists inside types, which contracts see as lists.
 ghost use Rattle.std.specs.Prelude.{◌≡◌, ◌∷◌, ◌++◌, [], IfOk, OnOk, OnErr};
 
 use crate::no_memory::NoMemory;

@@ -1,4 +1,4 @@
-//! The fault of a call that only lack of memory can refuse.
+//! The fault of a call that can fail for want of memory alone.
 use std::alloc::{AllocError, AllocFailed};
 use thiserror::Error;
 

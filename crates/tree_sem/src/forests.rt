@@ -1,4 +1,4 @@
-//! Trees in a row, as an action adds them.
+//! Forests: the trees that an action adds, in their order.
 ghost use Rattle.std.specs.Prelude.{◌≡◌, IfOk};
 
 use crate::label_tree::Tree;

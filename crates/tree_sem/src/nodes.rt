@@ -1,4 +1,4 @@
-//! A node of a tree, from which one goes upward.
+//! A reference to a node of a tree, from which a caller climbs to the root.
 ghost use Rattle.std.specs.Prelude.{◌≡◌, Some};
 ghost use Rattle.tree_sem.specs.Table.{tree_in, IsTable};
 ghost use Rattle.tree_sem.specs.TreeNodes.{node_of, parent_node};

@@ -1,4 +1,4 @@
-//! Text, and the lines of the three files for one box.
+//! The lines of the three files for one box.
 ghost use Rattle.std.specs.Prelude.{◌≡◌, [], ◌++◌, OnOk};
 ghost use Rattle.std.specs.Fmt.{decimal};
 ghost use Rattle.triple_gen.specs.Ring as spec;

@@ -1,4 +1,4 @@
-//! What is said of a selector.
+//! The answer for a selector.
 use proof_check::{Proof, Unfolded};
 use sel_text::Skip;
 

@@ -1,4 +1,4 @@
-//! Pieces of the report: numbers, places and paths.
+//! Pieces of a report: numbers, places and paths as bytes.
 ghost use Rattle.std.specs.Prelude.{◌≡◌, ◌<◌, ◌++◌, [], ◌∷◌, codes, OnOk};
 ghost use Rattle.std.specs.List.{flat_map};
 ghost use Rattle.std.specs.Fmt.{decimal};
