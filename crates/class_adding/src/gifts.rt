@@ -17,7 +17,7 @@ pub(crate) struct Gift {
     pub(crate) round: u64,
 }
 
-/// What a known child of the kind gives. It costs a question for each link from a child.
+/// The gifts of a known child of the kind. It costs a question for each link from a child.
 pub(crate) fn gifts_of<S: Summaries>(
     alloc: Global,
     system: &IndexedSystem,

@@ -8,8 +8,8 @@ use std::alloc::Global;
 use std::marker::Model;
 use tp_base::{Atom, MOST_ATOMS, NoMemory};
 
-/// For some atoms the reference of their variable, with a place for each atom up to the largest of them. A contract sees the
-/// places.
+/// An index of variables: for some atoms the reference of their diagram, with a place for each atom up to the largest of
+/// them. A contract sees the places.
 #[derive(Drop)]
 pub(crate) struct Variables {
     places: Vec<Option<Ref>>,

@@ -9,8 +9,8 @@ use class_diagrams::{Diagrams, Ref};
 use std::alloc::Global;
 use tp_base::{ClassSet, NoMemory};
 
-/// The atoms that a diagram looks at. A step for each different branch, on average, and one for each atom's place
-/// among the others.
+/// The support: the atoms that a diagram looks at. A step for each different branch, on average, and one for each atom's
+/// place among the others.
 pub fn support(alloc: Global, d: &Diagrams, f: Ref) -> Result<ClassSet, NoMemory>
     requires { IsIn d.now.branches f }
     ensures { IfOk result (λ atoms. atoms ≡ atoms_of (tree_at d.now.branches f)) }

@@ -6,8 +6,8 @@ use crate::passes::number_at;
 use std::alloc::Global;
 use tp_base::{ClassSet, NoMemory, Path};
 
-/// What is known of the nodes that a walk has come to, by their numbers, and the numbers of the nodes on the way to
-/// the last of them and of itself.
+/// The columns of the nodes that a walk has reached, by their numbers. Also the numbers of the nodes on the way to the last
+/// of them, and of itself.
 #[derive(Drop)]
 pub struct Walk<'a> {
     pub parents: Vec<usize>,

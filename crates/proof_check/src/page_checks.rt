@@ -44,7 +44,7 @@ pub fn page_holds(items: &[PageItem], ground: &Ground<'_>, target: Atom) -> Resu
     Ok(node_gives(ground.nodes, &known, &root, target))
 }
 
-/// Whether the item holds after those of which the table knows, which gets it too.
+/// Whether the item holds after those before it, whose atoms the table has. The table gets its atom, too.
 pub fn item_placed(
     item: &PageItem,
     ground: &Ground<'_>,

@@ -59,7 +59,7 @@ fn set_of(atoms: Vec<Atom>) -> Result<ClassSet, NoMemory>
     ClassSet::of(atoms)
 }
 
-/// The visible atoms that come to an added node. The summaries tell all of them at once, and they are sorted.
+/// The visible atoms of an added node. The summaries tell all of them at once, and they are sorted by first round.
 pub(crate) fn arrivals_of<S: Summaries>(
     alloc: Global,
     sums: &S,

@@ -18,7 +18,7 @@ use simple_core::System;
 use std::alloc::Global;
 use tp_base::{Atom, NoMemory};
 
-/// The entries of the triples that have numbers, in their order. Linear in all their items, but for look-ups.
+/// The entries of the triples that have numbers, in the order of these. Linear in all their items, but for look-ups.
 pub(crate) fn entries_of(
     alloc: Global,
     needs: &Needs,

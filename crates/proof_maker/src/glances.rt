@@ -17,7 +17,7 @@ use simple_core::Summaries;
 use std::alloc::Global;
 use tp_base::{Atom, ClassSet, NoMemory};
 
-/// What is looked up of an atom: its first round, the reason for it, and for a spawn the visible label in the round before.
+/// What a look at an atom finds: its first round, its reason, and for a spawn the visible label in the round before.
 #[derive(Drop)]
 pub(crate) struct Glance {
     pub(crate) round: u64,

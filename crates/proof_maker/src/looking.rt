@@ -164,7 +164,7 @@ fn start(alloc: Global, target: Atom) -> Result<Needs, NoMemory>
     Ok(needs)
 }
 
-/// Everything that the target needs at the page's root; nothing where it uses more triples than the limit.
+/// All that the target needs at the page's root, by a worklist. Nothing where it uses more triples than the limit.
 pub(crate) fn needs_of<S: Summaries>(
     alloc: Global,
     world: &World<'_, S>,

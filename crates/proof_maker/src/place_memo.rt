@@ -13,8 +13,8 @@ use std::alloc::Global;
 use std::marker::Model;
 use tp_base::{ClassSet, NoMemory};
 
-/// What the proofs over a system were told of added nodes, so that each is asked for once: a row for each kind below a visible
-/// label, with what is told of it. A contract sees the rows.
+/// A memo of what summaries told of added nodes, so that each is asked for once. It has a row for each kind below a visible
+/// label. A contract sees the rows.
 #[derive(Drop)]
 pub struct PlaceMemo {
     table: PairTable<Told>,

@@ -8,8 +8,8 @@ use simple_core::{Summaries, System};
 use std::alloc::Global;
 use tp_base::{Atom, ClassSet, NoMemory};
 
-/// What comes to an added node, and how many spawn rules there are before the first one whose atom may come to it. That they are
-/// no fewer is for time alone.
+/// What summaries tell of an added node: its visible atoms, and how many spawn rules stand before the first one whose atom
+/// it may have. That they are no fewer is for time alone.
 #[derive(Drop)]
 pub(crate) struct Told {
     pub(crate) arrivals: Arrivals,

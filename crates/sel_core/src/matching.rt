@@ -12,9 +12,9 @@ use sel_text::{Compound, Join, Selector};
 use tp_base::{Atom, ClassSet, Path};
 use tree_sem::{Node, Tree};
 
-/// Whether the selector matches the node at the path; false where no node is there. Each node above is tried for one
-/// group at most, so at most as many compounds are tested as the path's nodes times the longest group, each in the time
-/// of its atoms times the logarithm of a label's.
+/// Whether the selector matches the node at the path; false where no node is there. Each node above is tried for one group
+/// at most. So at most as many compounds are tested as the path's nodes times the longest group. Each test takes the time of
+/// its atoms times the logarithm of a label's.
 pub fn matches(tree: &Tree, at: &Path, s: &Selector) -> bool
     ensures { IsTrue result ↔ Matches tree.now at.now (selector_of s.now) }
 {
