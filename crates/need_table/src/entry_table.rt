@@ -201,7 +201,7 @@ fn raise(entries: &mut Vec<Entry>, i: usize, k: u64)
     entries[i].rounds = Some(k);
 }
 
-// Sets an entry at rest, if it isn't. It forgets what it asks, and its firsts keep no more room than they need.
+// Marks an entry as a fixpoint, if it isn't. It forgets what it asks, and its firsts keep no more room than they need.
 fn rest(entry: &mut Entry)
     ensures { IsRested entry.old entry.new }
 {
@@ -213,7 +213,7 @@ fn rest(entry: &mut Entry)
     }
 }
 
-// Sets all entries at rest. Those before this place are so already.
+// Marks all entries as fixpoints. Those before this place are marked already.
 fn rest_all(entries: &mut Vec<Entry>, first: usize)
     requires within { first ≤ length entries.old.items }
     requires at_rest { (j : ℕ) (e : Entry) → j < first → slice_get entries.old.items j ≡ Some e → e.rounds ≡ None }

@@ -15,7 +15,7 @@ use rule_index::IndexedSystem;
 use simple_core::GainFault;
 use std::alloc::Global;
 
-// Whether there is an entry at i that isn't at rest, and no round after k was worked out for it.
+// Whether there is an entry at i that is no fixpoint yet, and no round after k was computed for it.
 fn is_behind(entries: &[Entry], i: usize, k: u64) -> bool
     ensures yes { IsTrue result → IsSomeAnd (slice_get entries.now i) (λ e. IsBehind e.rounds k) }
     ensures no { result ≡ false → (e : Entry) → slice_get entries.now i ≡ Some e → IsDone e.rounds (suc k) }
