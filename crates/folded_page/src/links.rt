@@ -17,7 +17,8 @@ pub(crate) struct Links {
 }
 
 impl Links {
-    /// Those of all nodes, by one walk from the last node to the first. Constant for each node and each atom of its label.
+    /// The links and hashes of all nodes, by one walk from the last node to the first. Constant for each node and each atom
+    /// of its label.
     pub(crate) fn of(
         alloc: Global,
         parents: &[usize],

@@ -97,7 +97,7 @@ fn asked_number(
     }
 }
 
-/// These guards, one after another. Linear in them.
+/// Goals for these guards, one after another. Linear in them.
 pub(crate) fn each_asked(alloc: Global, guards: &[Guard]) -> Result<Vec<Asked<'_>>, NoMemory>
     ensures { IfOk result (λ v. map asked_of v.items ≡ guards.now) }
 {

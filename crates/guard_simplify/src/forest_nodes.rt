@@ -189,7 +189,7 @@ pub(crate) fn all_nodes(
     Ok(nodes)
 }
 
-/// Those of the nodes of all forests that have children. Linear in the forests.
+/// The nodes of all forests that have children. Linear in the forests.
 pub(crate) fn all_owners(
     alloc: Global,
     forests: &[RuleForest],

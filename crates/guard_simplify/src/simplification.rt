@@ -42,7 +42,7 @@ pub fn simplify_asked(
     Ok(made)
 }
 
-/// The same of guards that are there.
+/// The simple system of rules and of guards that are made already.
 pub fn simplify(
     alloc: Global,
     rules: &[Rule],

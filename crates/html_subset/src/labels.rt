@@ -94,7 +94,7 @@ fn only(alloc: Global, atom: Atom) -> Result<ClassSet, NoMemory>
 }
 
 impl LabelBuilder {
-    /// With the names of this table, and no label.
+    /// A reader of labels over this table of names, with an empty label.
     pub(crate) fn new(alloc: Global, atoms: AtomTable) -> Self
         ensures { result.atoms ≡ atoms }
     {

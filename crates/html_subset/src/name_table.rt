@@ -38,7 +38,7 @@ fn have_one_place(atoms: &AtomTable)
 }
 
 impl NameTable {
-    /// With the names of this table.
+    /// A table with the names of this one, and an empty cache.
     pub(crate) fn new(alloc: Global, atoms: AtomTable) -> Self
         ensures { result ≡ atoms }
     {

@@ -33,7 +33,7 @@ fn unless_given<'a>(given: bool, value: Option<&'a [u8]>) -> Option<&'a [u8]>
 }
 
 impl Root {
-    /// One with this label, to which no tag gave anything.
+    /// A root element with this label, to which no tag gave anything.
     pub(crate) fn new(alloc: Global, label: Gathered) -> Self
         ensures { root_of result ≡ pages.root label }
     {

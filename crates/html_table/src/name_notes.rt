@@ -31,7 +31,7 @@ fn place_of(name: &[u8]) -> usize {
 }
 
 impl<V: Copy + Drop> NameNotes<V> {
-    /// None.
+    /// An empty cache.
     pub fn new(alloc: Global) -> Self
         ensures { (q : List ℕ) (v : V) → IsNoted result q v → ⊥ }
     {

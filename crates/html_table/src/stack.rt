@@ -70,7 +70,7 @@ fn new_element(name: &[u8]) -> (Element<'_>, bool)
 }
 
 impl<'a> OpenElements<'a> {
-    /// None.
+    /// An empty stack.
     pub fn new(alloc: Global) -> Self
         ensures { result ≡ [] }
     {

@@ -22,7 +22,7 @@ impl MarkedCall {
         MarkedCall { call, kind: None }
     }
 
-    /// The same call once more. Constant: both share the compounds or selectors.
+    /// A copy of the call. Constant: both share the compounds or selectors.
     pub fn copy(&self) -> Result<MarkedCall, NoMemory>
         ensures { IfOk result (λ c. marked_of c ≡ marked_of self.now) }
     {

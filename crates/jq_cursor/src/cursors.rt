@@ -48,7 +48,7 @@ impl<'l, 'a> Cursor<'l, 'a> {
         }
     }
 
-    /// The same place again, to look ahead. Constant.
+    /// A second cursor at this place, to look ahead. Constant.
     pub fn again(&self) -> Cursor<'l, 'a>
         ensures { result ≡ self.now }
     {

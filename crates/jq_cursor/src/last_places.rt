@@ -13,7 +13,7 @@ pub struct LastPlaces<'a> {
 }
 
 impl<'a> LastPlaces<'a> {
-    /// No places yet. Constant.
+    /// An empty index. Constant.
     pub fn new(alloc: Global) -> Self
         ensures { (q : List ℕ) → place_in result q ≡ None }
     {

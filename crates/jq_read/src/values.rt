@@ -15,7 +15,7 @@ pub(crate) struct Done {
 }
 
 impl Done {
-    /// With this value, and nothing done. Constant.
+    /// This value, and no action. Constant.
     pub(crate) fn nothing(reached: Value) -> Self
         ensures { done_of result ≡ (value_of reached, None) }
     {

@@ -128,7 +128,7 @@ impl<'a> Word<'a> {
         }
     }
 
-    /// Its spelling, as letters of its own.
+    /// The word's spelling, as letters of its own.
     pub fn letters(&self, alloc: Global) -> Result<Letters, ScriptFault>
         ensures letters { IfOk result (λ l. l ≡ self.now.spelling) }
         ensures only_memory { IfErr result (λ e. e ≡ ScriptFault.Memory) }
@@ -150,7 +150,7 @@ impl<'a> Word<'a> {
         self.gap.contains(&b'\n')
     }
 
-    /// Its bytes as they stand in the file, which are UTF-8. Constant.
+    /// The word's bytes as they stand in the file, which are UTF-8. Constant.
     pub fn spelling(&self) -> &'a [u8]
         ensures bytes { result.now ≡ self.now.spelling }
         ensures utf8 { IsUtf8 result.now }
@@ -196,7 +196,7 @@ impl<'a> Words<'a> {
         }
     }
 
-    /// The same words again, to look ahead.
+    /// A second reference to these words, to look ahead.
     pub fn again(&self) -> Words<'a>
         ensures { result ≡ self.now }
     {

@@ -24,7 +24,7 @@ impl<K: Eq + Hash, V> Model for Multimap<K, V> {
 }
 
 impl<K: Copy + Eq + Hash, V: Drop> Multimap<K, V> {
-    /// No keys yet.
+    /// An empty map.
     pub fn new(alloc: Global) -> Self
         ensures { result ≡ [] }
     {

@@ -21,7 +21,7 @@ impl Model for Rows {
 }
 
 impl Rows {
-    /// No row.
+    /// No rows.
     pub(crate) fn new(alloc: Global) -> Rows
         ensures { result ≡ [] }
     {

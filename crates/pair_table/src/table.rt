@@ -37,7 +37,7 @@ impl<V> Model for PairTable<V> {
 }
 
 impl<V: Drop> PairTable<V> {
-    /// No row.
+    /// An empty table.
     pub fn new(alloc: Global) -> Self
         ensures { result ≡ [] }
     {

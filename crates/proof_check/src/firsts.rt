@@ -19,7 +19,7 @@ pub struct Firsts {
 }
 
 impl Firsts {
-    /// None yet. Constant.
+    /// An empty table. Constant.
     pub fn new(alloc: Global) -> Firsts
         ensures { (n a : ℕ) → first_in result n a ≡ None }
     {

@@ -25,7 +25,7 @@ impl Model for Arrivals {
 }
 
 impl Arrivals {
-    /// Those that are there by the round, which are the first of the list. It costs a sort of them.
+    /// The atoms that are there by the round, which are the first of the list. It costs a sort of them.
     pub(crate) fn by(&self, alloc: Global, round: u64) -> Result<ClassSet, NoMemory>
         requires { AreByRounds self.now }
         ensures rises { IfOk result IsStrictlyIncreasing }

@@ -31,7 +31,7 @@ impl Model for PlaceMemo {
 }
 
 impl PlaceMemo {
-    /// Nothing yet.
+    /// An empty memo.
     pub fn new(alloc: Global) -> PlaceMemo
         ensures { (s : System) → IsPlaceMemo s result }
     {

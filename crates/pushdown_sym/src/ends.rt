@@ -24,7 +24,7 @@ impl Model for Ends {
 }
 
 impl Ends {
-    /// No end.
+    /// An empty index.
     pub fn new(alloc: Global) -> Self
         ensures { result ≡ [] }
     {

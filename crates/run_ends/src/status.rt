@@ -18,7 +18,7 @@ pub enum Status {
     ReadFault,
     /// Standard output or standard error took no more.
     WriteFault,
-    /// No memory was to be had.
+    /// There was no memory.
     NoMemory,
     /// The text is written; a selector or a statement is `maybe`, `used-unshown`, `live-unshown` or `spent`.
     Budget,

@@ -34,7 +34,7 @@ impl Branch {
         })
     }
 
-    /// The same branch once more. Linear in the runs and in the tree.
+    /// A copy of the branch. Linear in the runs and in the tree.
     pub fn copy(&self) -> Result<Branch, NoMemory>
         ensures lists { IfOk result (λ b. (b.from ≡ self.now.from) × (b.to ≡ self.now.to)) }
         ensures runs { IfOk result (λ b. b.runs.items ≡ self.now.runs.items) }

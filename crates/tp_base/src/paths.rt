@@ -62,7 +62,7 @@ impl Path {
         self.steps.pop()
     }
 
-    /// The same path once more. Linear in its length.
+    /// A copy of the path. Linear in its length.
     pub fn copy(&self) -> Result<Path, NoMemory>
         ensures { IfOk result (λ p. p ≡ self.now) }
     {

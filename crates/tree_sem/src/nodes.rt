@@ -40,7 +40,7 @@ impl<'a> Node<'a> {
         Some(Node { slots, place })
     }
 
-    /// Its label. Constant.
+    /// The node's label. Constant.
     pub fn label(&self) -> &'a ClassSet
         ensures { Some result.now ≡ label_at self.now.path self.now.tree }
     {
@@ -54,7 +54,7 @@ impl<'a> Node<'a> {
         self.slots[self.place].children.len() as u32
     }
 
-    /// Its parent, which the root alone has not. Constant.
+    /// The node's parent, which the root alone has not. Constant.
     pub fn parent(&self) -> Option<Node<'a>>
         ensures { result ≡ parent_node self.now }
     {

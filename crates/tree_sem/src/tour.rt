@@ -55,7 +55,7 @@ impl<'a> Tour<'a> {
         &self.at
     }
 
-    /// That node's label. Constant.
+    /// The label of the node at which the tour stands. Constant.
     pub fn label(&self) -> &'a ClassSet
         ensures { Some result.now ≡ label_at self.now.at self.now.tree }
     {

@@ -22,7 +22,7 @@ impl Model for Text {
 }
 
 impl Text {
-    /// No bytes.
+    /// An empty text.
     pub fn new(alloc: Global) -> Self
         ensures { result ≡ [] }
     {

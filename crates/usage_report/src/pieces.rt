@@ -18,7 +18,7 @@ pub struct Piece {
 }
 
 impl Piece {
-    /// No bytes yet.
+    /// An empty piece.
     pub fn new(alloc: Global) -> Self
         ensures { result.bytes.items ≡ [] }
     {
@@ -27,7 +27,7 @@ impl Piece {
         }
     }
 
-    /// These bytes more. Linear in them.
+    /// Appends these bytes. Linear in them.
     pub fn put(&mut self, bytes: &[u8]) -> Result<(), NoMemory>
         ensures { OnOk result (self.new.bytes.items ≡ self.old.bytes.items ++ bytes.now) }
     {
