@@ -1,4 +1,4 @@
--- Nodes that get the same in every round.
+-- Nodes whose labels are equal in every round.
 --     IsLeaf u v             the node at v has no children
 --     IsAlike u v w          the nodes at v and w have one label and one parent, and no children
 --     AreAlike u nodes alike   each node that is marked is alike the one numbered just before it

@@ -1,4 +1,4 @@
--- What closing a page asks of summaries, and what it makes of them.
+-- The contract of closing a page: what it asks of summaries, and what it leaves of them.
 --     MayClose S s x          what holds of the summaries x of the rules s before a page is closed
 --     Closes S s Q r old new  what closing a page that asks Q made of them, with the result r
 use Rattle.std.specs.Prelude.{◌≡◌, ◌↔◌, None, Result, IfSome, IsSome, IsErrOf, OnOk}

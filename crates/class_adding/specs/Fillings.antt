@@ -1,4 +1,4 @@
--- A page between its rounds.
+-- The state of the iteration between two rounds.
 --     IsBegun t f            f has the labels of the page t, each of their atoms as a first of round 0, and every node is due;
 --                            nodes that are marked are alike
 --     IsTaken f r latest k f'   f' is f with what the round r brought, as round k

@@ -1,4 +1,4 @@
--- What a round found at the nodes that were due.
+-- What a round finds at the nodes of its worklist.
 --     gain_of c news         the node with the number c gains these atoms
 --     MayLook S a f k number a look at the node with this number tells what is new there after one more round than k
 --     IsLookAt .. number l   the look l says what is new at the node with this number, and when it wakes

@@ -1,4 +1,4 @@
--- What is still to come to the nodes of a page. Nodes have their numbers in the order of the document.
+-- The worklist of a page. Nodes are numbered in document order.
 --     nodes_in awaited r     the nodes for which something is awaited in the round r
 --     IsNear nodes l due     the list has the node of the look l, its parent and its children where links look at what is new
 --     AreCallersOf nodes fresh i row   the row has children of the i-th node, and each of them at which something is new

@@ -1,4 +1,4 @@
-//! Which nodes are alike, and what was found at one of them, taken over at the next one.
+//! Nodes that behave alike: what was computed at one is reused at the next.
 ghost use Rattle.std.specs.Prelude.{◌≡◌, ◌<◌, ℕ, suc, List, false, length, get_or, Contains, IfOk, IfSome, IsSome, IsTrue};
 ghost use Rattle.tree_sem.specs.Paths.{parent_of};
 ghost use Rattle.simple_core.specs.Pairs.{Asks};
@@ -77,8 +77,8 @@ fn is_alike(labels: &PageLabels, number: usize) -> bool
     are_alike(labels, number - 1, number)
 }
 
-/// Whether each node is alike the one numbered just before it, which then is so in every round. It costs a walk along each
-/// label.
+/// Whether each node is alike the one numbered just before it, so that both have equal labels in every round. It costs a
+/// walk along each label.
 pub(crate) fn all_alike(alloc: Global, labels: &PageLabels) -> Result<Vec<bool>, NoMemory>
     ensures { IfOk result (λ v. AreAlike labels.now.labels labels.now.nodes v.items) }
 {

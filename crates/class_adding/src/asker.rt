@@ -1,4 +1,4 @@
-//! What closing a page asks, and of what.
+//! The context of closing a page: the rules, the summaries and what is remembered of them.
 ghost use Rattle.std.specs.Prelude.{◌≡◌, ◌<◌, length, Contains, All, OnOk};
 ghost use Rattle.class_adding.specs.Asking.{IsReady, Went, TellsSpent};
 
@@ -9,8 +9,8 @@ use rule_index::IndexedSystem;
 use simple_core::{GainFault, Summaries};
 use tp_base::{ClassSet, Items};
 
-/// The rules of a system, the summaries that are asked for added children, what is remembered of these, which is a row for each
-/// kind below a visible label with what it gives, and sets of atoms that nodes share.
+/// The context of closing a page: the rules of a system, the summaries of added children, and sets of atoms that nodes
+/// share. What summaries told is remembered: a row with the gifts for each kind below a visible label.
 #[derive(Drop)]
 pub(crate) struct Asker<'a, 's, S: Summaries> {
     pub(crate) system: &'a IndexedSystem<'s>,
@@ -20,7 +20,7 @@ pub(crate) struct Asker<'a, 's, S: Summaries> {
 }
 
 impl<'a, 's, S: Summaries> Asker<'a, 's, S> {
-    /// Asks for a child of the kind, so that it is known.
+    /// Asks the summaries for a child of the kind, so that it is known.
     pub(crate) fn ask(&mut self, kind: u32, seen: &ClassSet) -> Result<(), GainFault>
         requires kind { kind < length self.old.system.now.kinds }
         requires visible { All (Contains self.old.system.now.visible) seen.now }

@@ -1,4 +1,4 @@
-//! What the children that a label adds give, where it isn't given yet.
+//! What added children give in a round, where the node wakes or has fresh atoms that matter to them.
 ghost use Rattle.std.specs.Prelude.{◌≡◌, ℕ, false, Contains, IfOk, OnOk, IsFalse};
 ghost use Rattle.std.specs.List.{flat_map};
 ghost use Rattle.std.specs.List.Sorted.{IsStrictlyIncreasing};
@@ -26,8 +26,8 @@ fn is_due(system: &IndexedSystem, fresh: &ClassSet, wake: Option<u64>, k: u64) -
 }
 
 impl<'a, 's, S: Summaries> Asker<'a, 's, S> {
-    /// Adds what the children that a label adds give after k rounds, if it wakes then or has fresh atoms that matter to them,
-    /// and tells the next round in which they give more.
+    /// Adds what added children give after k rounds, and tells the next round in which they give more. It does so only where
+    /// the label wakes then or has fresh atoms that matter to them.
     pub(crate) fn look_below(
         &mut self,
         own: &ClassSet,

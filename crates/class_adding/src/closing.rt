@@ -1,4 +1,4 @@
-//! Closes a page.
+//! Closing a page: its least fixpoint.
 ghost use Rattle.std.specs.Prelude.{◌≡◌, ◌↔◌, ℕ, List, None, IfOk, OnOk, OnErr, IfSome, IsSome, IsErrOf};
 ghost use Rattle.simple_core.specs.Systems.{IsSound};
 ghost use Rattle.simple_core.specs.Pairs.{Pair, Asked};
@@ -29,18 +29,18 @@ fn close_over<S: Summaries>(
     Ok(closed)
 }
 
-/// Closes the page. Each pair that it asks is asked of the summaries once, with a first round for each link from a child. To
-/// find whether children of one node are alike costs a few steps for each node and each atom of a label. Where at most half
-/// of the nodes are left when those that are alike are folded to one, what follows is done at these, and in the end each node
-/// gets the label and the first rounds of the one that stands for it, which costs a few steps for each round in which it
-/// gained something. Closing costs a walk along each label at first, a few steps for each round, and a look at a node for
-/// each round in which its label or what an added child gives has changed, or its parent's or a child's label by an atom at
-/// which a link looks from the node. A look costs a few steps for each atom that is new there or next to it, and for each
-/// rule that is found by one of these or needs none; a child that got the same atoms as the one before it costs a comparison
-/// of these. Where an added child gives more, or a new atom adds a child or can be seen by one, a look costs a few steps for
-/// each atom of the label and of what such a child sees, too. Where a node has the parent and at first the label of the one
-/// before it, and neither has children, it takes over that look by a few steps. A change costs at most the length of the
-/// node's label, in steps that only copy or move.
+/// Computes the least fixpoint on the page. Each pair that it asks is asked of the summaries once, with a first round for
+/// each link from a child. Whether children of one node are alike costs a few steps for each node and each atom of a label.
+/// Where folding such children leaves at most half of the nodes, the fixpoint is computed on the folded page. In the end
+/// each node then gets the label and the first rounds of the node that represents it. This costs a few steps for each round
+/// in which it gained something. The fixpoint costs a walk along each label at first, and a few steps for each round. A node
+/// is looked at in each round after its label or what an added child gives has changed. It is looked at, too, where its
+/// parent's or a child's label got an atom that a link from there looks at. A look costs a few steps for each atom that is
+/// fresh there or next to it, and for each rule that needs one of these or none. A child that got the same atoms as the one
+/// before it costs a comparison of these. A look costs more where an added child gives more, or a fresh atom adds a child or
+/// is visible to one. It then takes a few steps for each atom of the label and of what such a child sees. A node without
+/// children takes over the look at the node before it by a few steps, where both have one parent and the same label at
+/// first. A change costs at most the length of the node's label, in steps that only copy or move.
 pub fn close_page<S: Summaries>(
     alloc: Global,
     page: &Tree,

@@ -1,4 +1,4 @@
-//! Which nodes a round looks at, by their numbers.
+//! The worklist of the next round, by node numbers.
 ghost use Rattle.std.specs.Prelude.{◌≡◌, ◌↔◌, ◌<◌, ◌⊎◌, ℕ, length, Contains, IfOk, OnOk, IsTrue};
 ghost use Rattle.closed_page.specs.Labelled.{IsParentIn};
 ghost use Rattle.class_adding.specs.declared.looking.Look.{Look};
@@ -106,8 +106,8 @@ fn in_order(numbers: Vec<usize>) -> Result<Vec<usize>, NoMemory>
     Ok(due)
 }
 
-/// The nodes at which something is new, those next to them from which a link looks at it, and those that wake, in the order
-/// of the document. What is there too much costs time alone. It costs these nodes, but for a sort.
+/// The worklist of the next round, in document order: the nodes with fresh atoms, those next to them from which a link looks
+/// at these, and those that wake. What is there too much costs time alone. It costs these nodes, but for a sort.
 pub(crate) fn next_due(
     alloc: Global,
     labels: &PageLabels,

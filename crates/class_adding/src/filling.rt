@@ -1,4 +1,4 @@
-//! The rounds of a page, one after another, until nothing more comes.
+//! The iteration of a page, round by round, up to the fixpoint.
 ghost use Rattle.std.specs.Prelude.{◌≡◌, ◌<◌, map, length, All, Contains, IfOk, OnOk};
 ghost use Rattle.tree_sem.specs.Order.{paths_of};
 ghost use Rattle.node_marks.specs.Numbering.{IsNumbering};
@@ -23,8 +23,8 @@ use std::alloc::Global;
 use tp_base::NoMemory;
 use tree_sem::Tree;
 
-/// What is known of a page between two rounds: its labels with the first round of each of their atoms, whether each node is
-/// alike the one numbered just before it, and what is still to come to its nodes.
+/// The state of the iteration between two rounds: the labels with the first round of each of their atoms, whether each node
+/// is alike the one numbered before it, and the worklist.
 #[derive(Drop)]
 pub(crate) struct Filling {
     pub(crate) labels: PageLabels,
@@ -72,7 +72,7 @@ fn take_round(
 }
 
 impl<'a, 's, S: Summaries> Asker<'a, 's, S> {
-    /// Goes on until nothing more comes.
+    /// Iterates up to the fixpoint.
     pub(crate) fn fill(
         &mut self,
         alloc: Global,

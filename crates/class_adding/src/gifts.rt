@@ -1,4 +1,4 @@
-//! What an added child gives to its parent.
+//! Gifts: the atoms that an added child gives to its parent, with their rounds.
 ghost use Rattle.std.specs.Prelude.{◌≡◌, ◌≤◌, ◌<◌, ◌^◌, ℕ, nat_le, IfSome, IfOk, OnOk};
 ghost use Rattle.tp_base.specs.Classes.{union_of};
 ghost use Rattle.class_adding.specs.Gifts.{given_by, AreEarly, IsGiven};
@@ -17,7 +17,7 @@ pub(crate) struct Gift {
     pub(crate) round: u64,
 }
 
-/// What a known child of the kind gives. It costs a question for each link from a child.
+/// The gifts of a known child of the kind. It costs a question for each link from a child.
 pub(crate) fn gifts_of<S: Summaries>(
     alloc: Global,
     system: &IndexedSystem,

@@ -1,4 +1,4 @@
-//! The labels of a page once nothing more comes to its nodes.
+//! The labels of a page at the fixpoint.
 ghost use Rattle.std.specs.Prelude.{◌≡◌, map, IfOk};
 ghost use Rattle.tree_sem.specs.Order.{paths_of};
 ghost use Rattle.node_marks.specs.Numbering.{IsNumbering};

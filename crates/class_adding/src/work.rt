@@ -1,4 +1,4 @@
-//! What is still to come to the nodes of a page, from one round to the next.
+//! The state of the iteration between two rounds: fresh atoms, waiting nodes and the worklist.
 ghost use Rattle.std.specs.Prelude.{◌≡◌, ◌≤◌, ◌<◌, ℕ, [], None, length, get_or, set, Contains, IfOk, OnOk, IfSome, IsTrue};
 ghost use Rattle.row_index.specs.Rows.{row_of};
 ghost use Rattle.closed_page.specs.Labelled.{AreKidsAll, IsHeard};
@@ -13,11 +13,11 @@ use row_index::Index;
 use std::alloc::Global;
 use tp_base::{ClassSet, NoMemory};
 
-/// What is still to come to the nodes, by their numbers: the atoms that the last round brought to each; whether no round
-/// was taken in yet, so that all atoms are new; those of its children to which the last round brought some; the round in
-/// which the children that its label adds give something new, and for each such round the nodes that wait for it; the last
-/// of these rounds; the nodes that the next round looks at, in order; and the set without atoms, which all nodes share that
-/// got nothing.
+/// The state of each node between two rounds, by its number. It has the atoms that the last round brought, and whether no
+/// round was taken in yet, so that all atoms are fresh. It has the children to which the last round brought some. It has the
+/// round in which its added children give something new, and for each such round the nodes that wait for it, with the last
+/// of these rounds. It has the worklist of the next round, in order, and the empty set, which all nodes share that got
+/// nothing.
 #[derive(Drop)]
 pub(crate) struct Work {
     pub(crate) fresh: Vec<SharedSet>,
@@ -44,7 +44,8 @@ fn no_wakes(alloc: Global, count: usize) -> Result<Vec<Option<u64>>, NoMemory>
     Ok(wakes)
 }
 
-/// Before the first round: all atoms are new, and every node is due. No callers are noted yet. Linear in the nodes.
+/// Before the first round: all atoms are fresh, and every node is in the worklist. No callers are noted yet. Linear in the
+/// nodes.
 pub(crate) fn begin_work(alloc: Global, labels: &PageLabels) -> Result<Work, NoMemory>
     ensures { IfOk result (λ w. IsStart labels.now.labels labels.now.nodes w) }
 {

@@ -1,4 +1,4 @@
--- What an operation that answers a tree does to an arena.
+-- The effect on an arena of an operation that gives a diagram.
 use Rattle.std.specs.Prelude.{◌≡◌, ◌<◌, List, length, Result, Ok, Err}
 use Rattle.class_diagrams.specs.declared.refs.Target.{Target}
 use Rattle.class_diagrams.specs.declared.faults.DiagramFault.{DiagramFault}

@@ -1,4 +1,4 @@
--- Arenas of diagrams, and the trees that references stand for.
+-- Arenas of diagrams, and the decision trees that references denote.
 use Rattle.std.specs.Prelude.{◌≡◌, ℕ, ◌<◌, ◌≤◌, true, false, List, ◌++◌, length, slice_index_or, All}
 use Rattle.class_diagrams.specs.declared.refs.Target.{Target}
 use Rattle.class_diagrams.specs.declared.refs.Target.TheVariants.{Leaf, Branch}

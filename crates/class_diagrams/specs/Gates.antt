@@ -1,4 +1,4 @@
--- Atoms without which a tree isn't satisfied.
+-- Gates: pairs of atoms of which each satisfying set has one.
 use Rattle.std.specs.Prelude.{◌≡◌, ℕ, false, List, ◌⊎◌}
 use Rattle.tp_base.specs.Classes.{has_class}
 use Rattle.class_diagrams.specs.Trees.{Tree, leaf, branch, eval}

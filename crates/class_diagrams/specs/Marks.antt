@@ -1,4 +1,4 @@
--- Sets of numbers as marks.
+-- Sets of numbers as bit vectors.
 use Rattle.std.specs.Prelude.{ℕ, suc, Bool, true, false, List, [], ◌∷◌}
 
 -- the numbers that are marked, where the first mark is that of n

@@ -1,4 +1,4 @@
--- Results and variables that are remembered.
+-- The memo of operations and of variables.
 use Rattle.std.specs.Prelude.{◌≡◌, ℕ, Bool, List, Contains, Option, Some, None, get_or}
 use Rattle.class_diagrams.specs.declared.refs.Target.{Target}
 use Rattle.class_diagrams.specs.declared.memo.Operation.{Operation}

@@ -1,4 +1,4 @@
--- Two diagrams as an operation takes them apart.
+-- Two diagrams, split at the first atom of either.
 use Rattle.std.specs.Prelude.{◌≡◌, ℕ, ◌+◌, ◌<◌, Bool, List}
 use Rattle.class_diagrams.specs.declared.refs.Target.{Target}
 use Rattle.class_diagrams.specs.declared.table.Pair.{Pair}

@@ -1,4 +1,4 @@
--- How an operation begins.
+-- The cases in which an operation ends at once.
 use Rattle.std.specs.Prelude.{Ok}
 use Rattle.class_diagrams.specs.declared.refs.Target.{Target}
 use Rattle.class_diagrams.specs.declared.memo.Operation.{Operation}

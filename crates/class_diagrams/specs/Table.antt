@@ -1,4 +1,4 @@
--- The stored branches, and the trees that they stand for.
+-- The unique table, and the decision trees that its branches denote.
 use Rattle.std.specs.Prelude.{◌≡◌, ℕ, ◌+◌, ◌*◌, ◌<◌, List, [], ◌∷◌, ◌++◌, slice_get, Some}
 use Rattle.class_diagrams.specs.declared.table.BranchNode.{BranchNode}
 use Rattle.class_diagrams.specs.declared.refs.Target.{Target}

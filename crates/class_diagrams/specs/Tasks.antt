@@ -1,4 +1,4 @@
--- Operations on two diagrams, as they are remembered.
+-- Operations on two diagrams, as keys of the memo.
 --     task_on o f g       the operation on the two, in this order
 --     IsTaskOf o f g s    s is the operation on the two, the smaller number first
 --     task_key s          s as one number: of `and` the smaller number is the upper half, of `or` the lower one

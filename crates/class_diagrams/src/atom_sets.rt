@@ -1,4 +1,4 @@
-//! Sets of atoms that diagrams are asked for.
+//! Sets of atoms at which a diagram is evaluated.
 ghost use Rattle.std.specs.Prelude.{◌≡◌, ◌↔◌, ◌<◌, ◌+◌, ◌*◌, IsTrue, All};
 ghost use Rattle.tp_base.specs.Classes.{has_class};
 ghost use Rattle.class_diagrams.specs.Trees.{eval};

@@ -1,4 +1,4 @@
-//! Diagrams in one arena, and the operations on them.
+//! The arena of decision diagrams, with conjunction, disjunction and evaluation.
 ghost use Rattle.std.specs.Prelude.{◌≡◌, ◌<◌, ◌≤◌, ◌↔◌, ◌&&◌, ◌||◌, ℕ, List, [], length, Ok, false, IsTrue, IsNone, IsOk, IsErrOf, IfSome, IfOk, OnOk, OnErr};
 ghost use Rattle.tp_base.specs.Classes.{has_class};
 ghost use Rattle.class_diagrams.specs.declared.refs.Target.{Target};
@@ -31,7 +31,7 @@ enum Start {
     },
 }
 
-/// An arena of decision diagrams, in which equal trees have equal references. A contract sees the branches
+/// An arena of reduced ordered decision diagrams, in which equal trees have equal references. A contract sees the branches
 /// that it holds, each as its tree, and how many it may hold.
 #[derive(Drop)]
 pub struct Diagrams {
@@ -102,7 +102,8 @@ impl Diagrams {
         self.table.branch(f)
     }
 
-    /// Whether a set satisfies the diagram. Linear in its depth, logarithmic in the set's length.
+    /// The value of the diagram at a set: whether the set satisfies it. Linear in its depth, logarithmic in the set's
+    /// length.
     pub fn eval(&self, f: Ref, set: &ClassSet) -> bool
         requires { IsIn self.now.branches f }
         ensures { result ≡ eval (tree_at self.now.branches f) set.now }
@@ -126,8 +127,8 @@ impl Diagrams {
         at.is(Diagrams::leaf(true))
     }
 
-    /// Two atoms of which each set has one that satisfies the diagram, where the low parts end in false behind two branches at
-    /// most. Constant.
+    /// A gate: two atoms of which each set has one that satisfies the diagram. It is found where the low parts end in false
+    /// behind two branches at most. Constant.
     pub fn gate(&self, f: Ref) -> Option<(Atom, Atom)>
         requires { IsIn self.now.branches f }
         ensures some { IfSome result (λ g. IsGate g.0 g.1 (tree_at self.now.branches f)) }
@@ -169,8 +170,8 @@ impl Diagrams {
         self.variable(atom)
     }
 
-    /// The diagram of the sets that satisfy both. At most the product of the two sizes while the memo has room
-    /// for the results, and a recursion no deeper than the number of different atoms in the two.
+    /// The conjunction. It costs at most the product of the two sizes while the memo has room for the results. The recursion
+    /// is no deeper than the number of different atoms in the two.
     pub fn and(&mut self, f: Ref, g: Ref) -> Result<Ref, DiagramFault>
         requires first { IsIn self.old.branches f }
         requires second { IsIn self.old.branches g }
@@ -191,8 +192,8 @@ impl Diagrams {
         self.operated(Operation::And, f, g)
     }
 
-    /// The diagram of the sets that satisfy one or both. At most the product of the two sizes while the memo
-    /// has room for the results, and a recursion no deeper than the number of different atoms in the two.
+    /// The disjunction. It costs at most the product of the two sizes while the memo has room for the results. The recursion
+    /// is no deeper than the number of different atoms in the two.
     pub fn or(&mut self, f: Ref, g: Ref) -> Result<Ref, DiagramFault>
         requires first { IsIn self.old.branches f }
         requires second { IsIn self.old.branches g }

@@ -1,4 +1,4 @@
-//! Decision diagrams of monotone conditions on class sets, in one arena where equal trees have equal numbers.
+//! Reduced ordered decision diagrams of monotone conditions on class sets. Equal diagrams have equal references.
 #![tactic(auto)]
 
 mod atom_sets;

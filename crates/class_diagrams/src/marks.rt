@@ -1,4 +1,4 @@
-//! A mark for each atom of a set.
+//! A set of atoms as one bit for each atom.
 ghost use Rattle.std.specs.Prelude.{◌≡◌, ◌<◌, ◌≤◌, ℕ, false, get_or, All, IfOk};
 ghost use Rattle.tp_base.specs.Classes.{has_class};
 
@@ -6,8 +6,8 @@ use std::alloc::Global;
 use std::marker::Model;
 use tp_base::{Atom, ClassSet, NoMemory};
 
-/// A set of atoms that is asked many times: a mark for each number up to that of its largest atom. A contract sees the
-/// set, as a list that rises.
+/// A set of atoms as a bit vector, with a byte for each number up to its largest atom, for a set that is asked many times. A
+/// contract sees the set, as a list that rises.
 #[derive(Drop)]
 pub struct Marks {
     marks: Vec<bool>,

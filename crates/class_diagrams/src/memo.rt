@@ -1,4 +1,4 @@
-//! Results of operations that are remembered, in bounded memory.
+//! The memo of operations: a hash table of bounded size.
 ghost use Rattle.std.specs.Prelude.{◌≡◌, [], Contains, IfSome, IfOk, ◌⊎◌};
 ghost use Rattle.std.specs.Hash.{u64};
 ghost use Rattle.class_diagrams.specs.declared.memo.Task.{Task};
@@ -22,7 +22,7 @@ pub(crate) enum Operation {
     Or,
 }
 
-/// An operation on two diagrams, of which the first has no greater number than the second.
+/// A key of the memo: an operation on two diagrams, of which the first has no greater number than the second.
 #[derive(Clone, Copy, Debug, PartialEq, Eq)]
 pub(crate) struct Task {
     operation: Operation,
@@ -72,7 +72,7 @@ impl Hash for Task {
     }
 }
 
-/// The results of the tasks that were used last.
+/// The memo: the results of the operations that were used last.
 #[derive(Drop)]
 pub(crate) struct Memo {
     results: LruCache<Task, Ref>,

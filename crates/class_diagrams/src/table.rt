@@ -1,4 +1,4 @@
-//! The branches of an arena, each different one once.
+//! The unique table: each branch is stored once.
 ghost use Rattle.std.specs.Prelude.{◌≡◌, ◌<◌, ◌≤◌, length, [], Ok, Err, IfSome, IfNone, IsNone, IsTrue, ◌↔◌};
 ghost use Rattle.class_diagrams.specs.Trees.{branch, join, IsLeaf, IsOrdered};
 ghost use Rattle.class_diagrams.specs.Arena.{tree_at, IsIn, IsArena};
@@ -60,7 +60,7 @@ pub(crate) enum Pair {
     },
 }
 
-/// Different branches by number, each behind its parts.
+/// The unique table: different branches by number, each behind its parts.
 #[derive(Drop)]
 pub(crate) struct BranchTable {
     nodes: IndexSet<BranchNode>,
@@ -129,7 +129,7 @@ impl BranchTable {
         f.is(g)
     }
 
-    /// What two diagrams are for an operation.
+    /// Two diagrams, split at the first atom of either.
     pub(crate) fn pair(&self, f: Ref, g: Ref) -> Pair
         requires first { IsIn self.now.branches f }
         requires second { IsIn self.now.branches g }
@@ -171,7 +171,7 @@ impl BranchTable {
         }
     }
 
-    /// The branch on an atom, or its one part where both are the same.
+    /// The branch on an atom, or its one part where both are the same, which keeps diagrams reduced.
     pub(crate) fn join(&mut self, atom: Atom, low: Ref, high: Ref) -> Result<Ref, DiagramFault>
         requires low_in { IsIn self.old.branches low }
         requires high_in { IsIn self.old.branches high }

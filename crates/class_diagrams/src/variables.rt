@@ -1,4 +1,4 @@
-//! The variables of atoms that were made.
+//! The diagrams of single atoms, found by the atom's number.
 ghost use Rattle.std.specs.Prelude.{◌≡◌, ◌≢◌, ◌<◌, ◌⊎◌, ℕ, [], None, Some, length, get_or, OnOk};
 ghost use Rattle.tp_base.specs.declared.atoms.TheConstants.{MOST_ATOMS};
 ghost use Rattle.class_diagrams.specs.declared.refs.Target.{Target};
@@ -8,8 +8,8 @@ use std::alloc::Global;
 use std::marker::Model;
 use tp_base::{Atom, MOST_ATOMS, NoMemory};
 
-/// For some atoms the reference of their variable, with a place for each atom up to the largest of them. A contract sees the
-/// places.
+/// An index of variables: for some atoms the reference of their diagram, with a place for each atom up to the largest of
+/// them. A contract sees the places.
 #[derive(Drop)]
 pub(crate) struct Variables {
     places: Vec<Option<Ref>>,

@@ -1,4 +1,4 @@
-//! The command by which the words are read.
+//! The description of the command line for `clap`.
 ghost use Rattle.std.specs.Prelude.{◌≡◌, IfOk};
 ghost use Rattle.clap.specs.Simple.{app_of, with_rule};
 ghost use Rattle.command_words.specs.Command as spec;

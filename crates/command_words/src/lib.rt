@@ -1,4 +1,4 @@
-//! The words of a command line, read through a command of clap.
+//! The command line, read through a command of `clap`.
 #![tactic(auto)]
 
 mod command;

@@ -1,4 +1,4 @@
-//! What the matches say.
+//! The order, from the matches of `clap`.
 ghost use Rattle.std.specs.Prelude.{◌≡◌, List, length};
 ghost use Rattle.clap.specs.Matches.{found_of, first_value};
 ghost use Rattle.command_words.specs.Parts.{Flag, Part, flag_name};

@@ -1,4 +1,4 @@
-//! Numbers as values of options.
+//! The values of options as numbers.
 ghost use Rattle.std.specs.Prelude.{◌≡◌, if◌then◌else◌, Some, None};
 ghost use Rattle.command_words.specs.Orders as spec;
 

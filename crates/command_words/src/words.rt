@@ -1,4 +1,4 @@
-//! What a command line orders.
+//! The order that a command line gives.
 ghost use Rattle.std.specs.Prelude.{◌≡◌, ◌↔◌, ◌≤◌, ◌+◌, ◌*◌, List, [], true, length, is_some, IsSome, IfSome, None, Some, map, IfOk, IsErrOf, string_bytes};
 ghost use Rattle.triple_gen.specs.declared.triple.TheConstants.{MOST_BOXES};
 ghost use Rattle.limits.specs.Budgets.{IsInRange};

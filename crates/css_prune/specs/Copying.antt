@@ -1,4 +1,4 @@
--- Ranges of a text in the order of their first bytes.
+-- Ranges of a text, sorted by their first bytes.
 use Rattle.std.specs.Prelude.{ℕ, ◌≤◌, List, [], ◌∷◌}
 use Rattle.css_read.specs.declared.sheets.Range.{Range}
 

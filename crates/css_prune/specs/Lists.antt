@@ -1,4 +1,4 @@
--- What goes of a list, selector by selector.
+-- The ranges that are deleted from a list, selector by selector.
 use Rattle.std.specs.Prelude.{Bool, if◌then◌else◌, List, [], ◌∷◌}
 use Rattle.css_read.specs.declared.sheets.Range.{Range}
 use Rattle.css_read.specs.Sheets.{Item}

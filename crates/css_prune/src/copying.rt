@@ -1,4 +1,4 @@
-//! A text without some ranges.
+//! A text without some ranges, which are sorted and skipped.
 ghost use Rattle.std.specs.Prelude.{◌≡◌, ◌++◌, ℕ, max, drop, slice_range, IfOk, OnOk};
 ghost use Rattle.std.specs.List.{list_any};
 ghost use Rattle.css_read.specs.Pruned as spec;

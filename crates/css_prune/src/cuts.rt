@@ -1,4 +1,4 @@
-//! The ranges of a sheet that go.
+//! The ranges of a sheet that are deleted.
 ghost use Rattle.std.specs.Prelude.{◌≡◌, ◌≤◌, ◌==◌, ◌||◌, ◌++◌, not, length, IfOk, OnOk, map};
 ghost use Rattle.std.specs.List.{list_any};
 ghost use Rattle.tp_base.specs.declared.places.TheConstants.{MOST_BYTES};

@@ -1,4 +1,4 @@
-//! Rules that stay as they are.
+//! Rules that stay as they are, whatever is unused.
 ghost use Rattle.std.specs.Prelude.{◌≡◌, ◌&&◌, ◌||◌, drop, map};
 ghost use Rattle.std.specs.List.{list_any};
 ghost use Rattle.std.specs.Char.{to_ascii_lowercase};

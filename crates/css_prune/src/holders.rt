@@ -1,4 +1,4 @@
-//! Which holders go: at-rules with a block that holds rules.
+//! Which at-rules with a block of rules are deleted.
 ghost use Rattle.std.specs.Prelude.{◌≡◌, ◌&&◌, ◌<◌, ℕ, length, get_or, replicate, false, IfOk};
 ghost use Rattle.css_read.specs.Pruned as spec;
 ghost use Rattle.css_prune.specs.declared.holders.Held.TheVariants.{Nothing};

@@ -1,4 +1,4 @@
-//! What is left of a sheet does at each node what the sheet does.
+//! Laws: the pruned sheet does at each node what the sheet does.
 ghost use Rattle.std.specs.Prelude.{Bool, List, ℕ};
 ghost use Rattle.sel_text.specs.Selectors.{Selector as selector};
 ghost use Rattle.jq_stmts.specs.Views.{statements_of};
@@ -8,9 +8,9 @@ ghost use Rattle.css_prune.specs.NodeEffects.{KeepsEffects, Tells};
 use jq_stmts::Stmt;
 use tree_sem::Tree;
 
-/// Where the script of a page never reaches the selectors that are flagged, whatever is lost between its steps, what
-/// is left of a sheet does at each node of each tree that the page becomes what the sheet does there: the same
-/// selectors match, with the same blocks and the same at-rules round them.
+/// Where the script of a page never reaches the flagged selectors, with losses or without, the pruned sheet has the effects
+/// of the sheet. At each node of each tree that the page becomes the same selectors match. They have the same blocks and the
+/// same at-rules round them.
 pub fn pruning_keeps_the_effects(page: &Tree, stmts: &[Stmt], text: &[u8])
     ensures effects { KeepsEffects page.now (statements_of stmts.now) text.now }
     ensures tests { (v : List ℕ) → (test : selector → Bool) × Tells page.now v test }

@@ -1,4 +1,4 @@
-//! Sheets without the selectors that nothing uses.
+//! Sheets without their unused selectors.
 #![tactic(auto)]
 
 mod copying;

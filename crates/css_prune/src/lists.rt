@@ -1,4 +1,4 @@
-//! What goes of the list of a rule that stays.
+//! The ranges that are deleted from the list of a rule that stays.
 ghost use Rattle.std.specs.Prelude.{◌≡◌, ◌-◌, ◌++◌, if◌then◌else◌, List, length, map, OnOk};
 ghost use Rattle.css_read.specs.Pruned.{list_cuts};
 ghost use Rattle.css_read.specs.Views.{item_of};

@@ -1,4 +1,4 @@
-//! Parts of a text.
+//! Slices of a text.
 ghost use Rattle.std.specs.Prelude.{◌≡◌, ◌≤◌, drop, take, length, slice_range};
 ghost use Rattle.css_prune.specs.Parts as spec;
 
@@ -12,7 +12,7 @@ pub(crate) fn from_offset(text: &[u8], at: usize) -> &[u8]
     text.split_at(at.min(text.len())).1
 }
 
-/// Its first bytes, so many if it has them.
+/// The first bytes of a text, so many if it has them.
 #[tactic(auto, using(std::proofs::lemmas::List::take_min))]
 pub(crate) fn first_bytes(text: &[u8], count: usize) -> &[u8]
     ensures { result.now ≡ take count text.now }

@@ -1,4 +1,4 @@
-//! The text of a sheet without the selectors that nothing uses.
+//! The text of the pruned sheet.
 ghost use Rattle.std.specs.Prelude.{◌≡◌, ◌≤◌, List, Ok, length, IfOk};
 ghost use Rattle.tp_base.specs.Names.{Named};
 ghost use Rattle.tp_base.specs.declared.places.TheConstants.{MOST_BYTES};

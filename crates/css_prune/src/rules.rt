@@ -1,4 +1,4 @@
-//! What becomes of each rule.
+//! The fate of each rule: deleted, cut or kept.
 ghost use Rattle.std.specs.Prelude.{◌≡◌, ◌≤◌, ◌==◌, ◌&&◌, not, false, if◌then◌else◌, List, [], ◌∷◌, ◌++◌, length, map, IfOk, OnOk};
 ghost use Rattle.std.specs.List.{list_all, list_any};
 ghost use Rattle.css_read.specs.Pruned as spec;

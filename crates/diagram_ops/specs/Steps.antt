@@ -1,4 +1,4 @@
--- What a calculation of several steps does to an arena.
+-- The effect on an arena of a computation of several operations.
 use Rattle.std.specs.Prelude.{◌≡◌, ℕ, ◌<◌, true, List, [], ◌∷◌, fold, length, Result, Ok, Err}
 use Rattle.class_diagrams.specs.References.{Reference}
 use Rattle.class_diagrams.specs.declared.faults.DiagramFault.{DiagramFault}

@@ -1,4 +1,4 @@
-//! The branches of a diagram.
+//! The set of a diagram's branches, by a walk.
 ghost use Rattle.std.specs.Prelude.{◌≡◌, ◌+◌, ◌^◌, ◌<◌, ℕ, slice_get, Some, IfOk, OnOk};
 ghost use Rattle.std.specs.List.{IsDistinct};
 ghost use Rattle.indexmap.specs.IndexSet.{index_set_len};

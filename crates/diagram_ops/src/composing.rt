@@ -1,4 +1,4 @@
-//! Diagrams put in the place of atoms, all at once.
+//! Simultaneous composition: diagrams in the place of all atoms at once.
 ghost use Rattle.std.specs.Prelude.{◌≡◌, ◌<◌, ℕ, List, ◌∷◌, [], All, Contains, map, length, IsErrOf, IfOk};
 ghost use Rattle.std.specs.List.Sorted.{IsStrictlyIncreasing};
 ghost use Rattle.class_diagrams.specs.References.{Reference};
@@ -20,8 +20,8 @@ enum Start {
     Parts { atom: Atom, low: Ref, high: Ref },
 }
 
-/// `f` with the diagram of each atom in its place. An atom that `by` does not name is never in the set. Two
-/// operations for each different branch of `f`, and a recursion no deeper than the number of its atoms.
+/// Simultaneous composition: `f` with the diagram of each atom in the atom's place. An atom that `by` doesn't name is in no
+/// set. It costs two operations for each different branch of `f`, and a recursion no deeper than the number of its atoms.
 pub fn compose(
     alloc: Global,
     d: &mut Diagrams,

@@ -1,4 +1,4 @@
-//! Diagrams put in the place of atoms, and what a diagram is made of.
+//! Composition of decision diagrams, the atoms that a diagram looks at, and its size.
 #![tactic(auto)]
 
 mod branches;

@@ -1,4 +1,4 @@
-//! What a diagram looks at, and how large it is.
+//! The support of a diagram, and its size.
 ghost use Rattle.std.specs.Prelude.{◌≡◌, All, IfOk, OnOk};
 ghost use Rattle.class_diagrams.specs.Arena.{tree_at, IsIn};
 ghost use Rattle.diagram_ops.specs.Compositions.{atoms_of, size_of};
@@ -9,8 +9,8 @@ use class_diagrams::{Diagrams, Ref};
 use std::alloc::Global;
 use tp_base::{ClassSet, NoMemory};
 
-/// The atoms that a diagram looks at. A step for each different branch, on average, and one for each atom's place
-/// among the others.
+/// The support: the atoms that a diagram looks at. A step for each different branch, on average, and one for each atom's
+/// place among the others.
 pub fn support(alloc: Global, d: &Diagrams, f: Ref) -> Result<ClassSet, NoMemory>
     requires { IsIn d.now.branches f }
     ensures { IfOk result (λ atoms. atoms ≡ atoms_of (tree_at d.now.branches f)) }

@@ -1,4 +1,4 @@
--- What is looked at of each node's lead.
+-- The check of each node's lead, which represents it.
 --     IsPlaced    it stands early enough, for itself, and below the lead of the parent
 --     AreAlike    two nodes have one label
 --     AreMatched  each lead below the node's lead stands for a child of the node, too

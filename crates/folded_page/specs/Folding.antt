@@ -1,4 +1,4 @@
--- A page in which children of one node that are alike are folded to one.
+-- The quotient of a page in which like children of one node are folded to one.
 --     image_at u numbers i   the path in u of the node that stands for the i-th one
 --     IsFolded t u numbers   the i-th node of t is, in u, the one with the i-th of these numbers: with its label, below the one
 --                            that its parent is there; and each child there is one of its children

@@ -1,4 +1,4 @@
-//! The folded page, from the leads of the page's nodes.
+//! The folded page, built from the representative of each node.
 ghost use Rattle.std.specs.Prelude.{◌≡◌, ◌+◌, ◌<◌, map, length, IfOk, IfSome};
 ghost use Rattle.std.specs.Bool.{OnTrue};
 ghost use Rattle.folded_page.specs.Built.{AreFoldable, IsFoldedTo, IsFolding};
@@ -9,8 +9,8 @@ use std::alloc::Global;
 use tp_base::NoMemory;
 use tree_sem::Tree;
 
-/// A page in which children of one node that are alike are folded to one, and of each node of the page itself the number of
-/// the one that stands for it.
+/// A page in which like children of one node are folded to one, and for each node of the page itself the number of the node
+/// that represents it.
 #[derive(Drop)]
 pub struct Folded {
     pub tree: Tree,

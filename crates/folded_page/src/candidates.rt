@@ -1,5 +1,5 @@
-//! Which nodes may stand for which, by a hash of each subtree. Nothing here is promised but that it ends: what it gives is looked
-//! at before it is used.
+//! Candidates for representatives, by a hash of each subtree. Nothing here is promised but that it ends: each candidate is
+//! checked before it is used.
 use crate::links::{Links, mixed, number_at};
 use std::alloc::Global;
 use tp_base::NoMemory;

@@ -1,4 +1,4 @@
-//! A page folded, where that is worth it.
+//! The folded page, where folding removes at least half of the nodes.
 ghost use Rattle.std.specs.Prelude.{◌≡◌, ◌≤◌, ◌+◌, map, length, IfOk, IfSome};
 ghost use Rattle.tree_sem.specs.Trees.{count_of};
 ghost use Rattle.node_marks.specs.Numbering.{IsNumbering};

@@ -1,4 +1,4 @@
-//! Of each node of a page the number of the one that stands for it.
+//! The lead of each node, which is the node that represents it, and its check.
 ghost use Rattle.std.specs.Prelude.{◌≡◌, ◌<◌, ℕ, List, map, length, IsTrue, IfOk, IfSome};
 ghost use Rattle.tree_sem.specs.Trees.{LabelTree};
 ghost use Rattle.node_marks.specs.Numbering.{IsNumbering, AreAbove, parent_number};
@@ -135,8 +135,9 @@ fn checked(
     }
 }
 
-/// Of each node of a page the one that stands for it, from the numbers of the nodes' parents, where the root's is of no account,
-/// and their labels; nothing where hashes of subtrees that differ are the same. Linear in the nodes and their atoms.
+/// The lead of each node, which is the node that represents it, from the numbers of the nodes' parents and from their
+/// labels. The root's parent is of no account. Nothing where subtrees that differ have one hash. Linear in the nodes and
+/// their atoms.
 pub(crate) fn leads_of(
     alloc: Global,
     parents: &[usize],

@@ -1,4 +1,4 @@
-//! A page in which children of one node that are alike are folded to one.
+//! The quotient of a page in which like children of one node are folded to one.
 #![tactic(auto)]
 
 mod building;

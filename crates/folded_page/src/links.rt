@@ -1,4 +1,4 @@
-//! The children of each node of a page, by numbers, and a hash of each subtree.
+//! The children of each node as linked lists of numbers, and a hash of each subtree.
 ghost use Rattle.std.specs.Prelude.{◌≡◌, IfOk, length, get_or};
 ghost use Rattle.node_marks.specs.Numbering.{AreAbove};
 ghost use Rattle.folded_page.specs.Links.{AreLinks};
@@ -17,7 +17,8 @@ pub(crate) struct Links {
 }
 
 impl Links {
-    /// Those of all nodes, by one walk from the last node to the first. Constant for each node and each atom of its label.
+    /// The links and hashes of all nodes, by one walk from the last node to the first. Constant for each node and each atom
+    /// of its label.
     pub(crate) fn of(
         alloc: Global,
         parents: &[usize],

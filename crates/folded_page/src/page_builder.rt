@@ -1,4 +1,4 @@
-//! A tree that grows node by node in the order of the document.
+//! A builder of trees that takes nodes in document order.
 ghost use Rattle.std.specs.Prelude.{◌≡◌, ◌<◌, [], ◌∷◌, ◌++◌, length, get_or, IfOk, IfSome, OnOk};
 ghost use Rattle.tree_sem.specs.Nodes.{IsNode};
 ghost use Rattle.tree_sem.specs.Trees.{leaf, count_of, length_of, node_at, edit_at, add_child};

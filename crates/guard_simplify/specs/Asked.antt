@@ -1,4 +1,4 @@
--- The guard that is asked for.
+-- Goals: guards that are asked for.
 use Rattle.guard_sem.specs.Guards.{Guard}
 use Rattle.guard_sem.specs.OfSelectors.{of_selector}
 use Rattle.sel_text.specs.Views.{selector_of}

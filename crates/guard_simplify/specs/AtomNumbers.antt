@@ -1,4 +1,4 @@
--- Numbers that are counted, each of which is the atom of a system, and forests with few nodes.
+-- Numbers that are atoms of a system, and forests within the limit on nodes.
 use Rattle.std.specs.Prelude.{ℕ, ◌≤◌, List, [], ◌∷◌, length, All}
 use Rattle.std.specs.Coded.{×_prop, Π_prop, Unit-prop, le_prop}
 use Rattle.simple_core.specs.Systems.{IsAtom}

@@ -1,4 +1,4 @@
--- What is known of rules and guards once each part of them is numbered.
+-- Rules and guards with all parts numbered.
 --     IsNumbering rules guards n f    f has the formulas, the numbers of the guards' atoms, and what is seen, over a table of n atoms
 --     IsCounted guards c             c has this of its rules, and the forests and their nodes
 --     counted_system, counted_seen    the system and its seen atoms, from what is counted

@@ -1,4 +1,4 @@
--- The forests of rules as the program keeps them, and the numbers of their nodes.
+-- The forests of rules as the code keeps them, and the numbers of their nodes.
 --     planted f            what the program keeps of a forest
 --     plantings i rules    the same of the forests of rules, which count from i
 --     kinds_by n f         the kinds of the nodes of a forest, where n has the numbers of all nodes

@@ -1,4 +1,4 @@
--- The atoms of guards while only some formulas have numbers yet.
+-- The atoms of guards while the numbering is at work.
 use Rattle.std.specs.Prelude.{ℕ, ◌+◌, ◌<◌, List, Contains}
 use Rattle.guard_sem.specs.Guards.{Guard, always, atom, all, any, parent, ancestor, child, descendant, somewhere, Guards, no_guards, guard, same_guard}
 use Rattle.guard_simplify.specs.Firsts.{place_of}

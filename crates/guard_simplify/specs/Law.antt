@@ -1,4 +1,4 @@
--- What a simple system does is what the rules do.
+-- The law of simplification: simple steps follow rule steps, and go back to them.
 --     IsAdded t rules steps p w      the node at w was added in one of the steps, as the node at p of its rule's forest
 --     IsTrueOf t steps w x           what an auxiliary says of the node at w, after these steps from t
 --     Follows, GoesBack              the two halves of the law

@@ -1,4 +1,4 @@
--- What tells a key from others, its shape and the numbers of its parts, mixed to one number.
+-- The hash of a formula's key, which is its shape and the numbers of its parts.
 use Rattle.std.specs.Prelude.{◌≡◌, ℕ, ◌+◌, ◌*◌, ◌%◌, ◌^◌, ◌&&◌, IsTrue, List, fold}
 use Rattle.std.proofs.Common.{rules}
 use Rattle.std.proofs.lemmas.Bool.{and_parts}

@@ -1,4 +1,4 @@
--- A table that has at each number its place among some numbers.
+-- The table of places of a number set.
 --     noted n numbers             the place of n among the numbers, if it is there
 --     ArePlaces places numbers    the table has at each number what is noted of it
 --     IsNoted old new n p         the place p was put at n into the table, and nothing else changed

@@ -1,4 +1,4 @@
--- The rules of classes, and those of what is seen, from the atoms of guards.
+-- The rules for added atoms and for goals, from the atoms of guards.
 --     class_rules guards i r      the rules of the classes that the rule i adds, with the atoms of all rules' guards
 --     seen_rules first guards     the rules that give the atom of each of these guards' atoms, which count from `first`
 use Rattle.std.specs.Prelude.{ℕ, ◌+◌, ◌==◌, List, [], ◌∷◌, map, Some, None, get_or}

@@ -1,4 +1,4 @@
-//! Guards that are asked for, of which those of selectors aren't kept.
+//! The goals: guards that are asked for. A selector's guard is made while it is numbered, and not kept.
 ghost use Rattle.std.specs.Prelude.{◌≡◌, ◌<◌, ◌^◌, map, IfOk};
 ghost use Rattle.guard_sem.specs.Guards.{always, both, guards_of};
 ghost use Rattle.guard_sem.specs.OfSelectors as spec;
@@ -97,7 +97,7 @@ fn asked_number(
     }
 }
 
-/// These guards, one after another. Linear in them.
+/// Goals for these guards, one after another. Linear in them.
 pub(crate) fn each_asked(alloc: Global, guards: &[Guard]) -> Result<Vec<Asked<'_>>, NoMemory>
     ensures { IfOk result (λ v. map asked_of v.items ≡ guards.now) }
 {

@@ -1,4 +1,4 @@
-//! A system, put together from what is counted.
+//! The lists of a simple system, put together from numbered formulas and forest nodes.
 ghost use Rattle.std.specs.Prelude.{◌≡◌, IfOk};
 ghost use Rattle.guard_simplify.specs.Counted.{first_seen, counted_locals, counted_ups, counted_downs, left_sides_of, counted_system, counted_seen, counted_visibly};
 

@@ -1,4 +1,4 @@
-//! The rules of the classes that rules add.
+//! Local rules for the atoms that the rules' actions add.
 ghost use Rattle.std.specs.Prelude.{◌≡◌, ◌≤◌, ◌++◌, length, IfOk, OnOk, All};
 ghost use Rattle.simple_core.specs.Systems.{IsAtom};
 ghost use Rattle.guard_simplify.specs.Auxiliaries.{by_rule};
@@ -49,8 +49,8 @@ fn add_action(
     }
 }
 
-/// Puts the rules of the classes that all rules add behind those that are there, in the order of the rules, where
-/// `guards` are the numbers of the atoms of the rules' guards. Linear in the classes.
+/// Appends the local rules for the classes that the rules' actions add, in the order of the rules. `guards` are the numbers
+/// of the atoms of the rules' guards. Linear in the classes.
 pub(crate) fn add_all_classes(
     alloc: Global,
     rules: &[Rule],

@@ -1,4 +1,4 @@
-//! What a system is made of, counted.
+//! All formulas and forest nodes of a system, numbered.
 ghost use Rattle.std.specs.Prelude.{◌≡◌, ◌+◌, ◌≤◌, ◌↔◌, length, IsTrue};
 ghost use Rattle.tp_base.specs.declared.atoms.TheConstants.{MOST_ATOMS};
 ghost use Rattle.guard_simplify.specs.AtomNumbers.{HasAtoms, HasAtoms-prop};

@@ -1,4 +1,4 @@
-//! The forests that rules add, and their nodes.
+//! The forests of the rules' actions, and their nodes.
 ghost use Rattle.std.specs.Prelude.{◌≡◌, ◌≤◌, length, map, fold, filter, nat_lt, IfOk, OnOk};
 ghost use Rattle.std.specs.List.{flat_map};
 ghost use Rattle.tree_sem.specs.Order.{paths_from};
@@ -189,7 +189,7 @@ pub(crate) fn all_nodes(
     Ok(nodes)
 }
 
-/// Those of the nodes of all forests that have children. Linear in the forests.
+/// The nodes of all forests that have children. Linear in the forests.
 pub(crate) fn all_owners(
     alloc: Global,
     forests: &[RuleForest],

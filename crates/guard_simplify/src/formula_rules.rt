@@ -1,4 +1,4 @@
-//! The rules that give the atoms of formulas.
+//! The rules that give a formula's atom: local, from the parent or from a child.
 ghost use Rattle.std.specs.Prelude.{◌≡◌, ◌+◌, ◌≤◌, [], ◌∷◌, ◌++◌, length, map, IfOk, OnOk, All};
 ghost use Rattle.tp_base.specs.declared.atoms.TheConstants.{MOST_ATOMS};
 ghost use Rattle.simple_core.specs.Labels.{set_of};

@@ -1,4 +1,4 @@
-//! The formulas of a system, and the atoms of its guards.
+//! The numbered formulas of a system, and the atoms of its guards.
 ghost use Rattle.std.specs.Prelude.{◌≡◌, ◌<◌, ◌^◌, length, map, All, IfOk};
 ghost use Rattle.guard_sem.specs.Guards.{guards_of};
 ghost use Rattle.guard_simplify.specs.Law.{IsOver, IsRuleOver};

@@ -1,4 +1,4 @@
-//! Rules and guards, simplified to rules that look at one node and the one next to it.
+//! The translation of rules and guards to a simple system, whose rules look at one node and a neighbour.
 #![tactic(auto)]
 
 mod asked;

@@ -1,4 +1,4 @@
-//! The numbers of forest nodes: of their kinds, and of the atoms of those with children.
+//! The numbers of forest nodes: their kinds, and the atoms of those that have children.
 ghost use Rattle.std.specs.Prelude.{◌≡◌, ◌+◌, ◌≤◌, length, map};
 ghost use Rattle.tp_base.specs.declared.atoms.TheConstants.{MOST_ATOMS};
 ghost use Rattle.simple_core.specs.declared.system.TheConstants.{MOST_KINDS};

@@ -1,4 +1,4 @@
-//! Different numbers in the order in which they come first, found by a table.
+//! A set of numbers in the order of insertion, with a table of their places.
 ghost use Rattle.std.specs.Prelude.{◌≡◌, ◌==◌, ◌<◌, ◌≤◌, ℕ, length, get_or, None, IfOk, OnOk};
 ghost use Rattle.guard_simplify.specs.Firsts.{with_new, different, place_of};
 ghost use Rattle.guard_simplify.specs.NumberSets.{IsNoted, ArePlaces};

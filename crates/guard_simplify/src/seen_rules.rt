@@ -1,4 +1,4 @@
-//! The rules of what is seen of the guards that are handed in.
+//! The rules that carry the atom of a goal from where its guard holds up to the root.
 ghost use Rattle.std.specs.Prelude.{◌≡◌, ◌+◌, ◌≤◌, ◌++◌, length, IfOk, OnOk};
 ghost use Rattle.tp_base.specs.declared.atoms.TheConstants.{MOST_ATOMS};
 ghost use Rattle.guard_simplify.specs.AtomNumbers.{AreAtoms};
@@ -10,8 +10,8 @@ use simple_core::{Link, Local};
 use std::alloc::Global;
 use tp_base::{Atom, NoMemory};
 
-/// Puts the rules that give the seen atoms, of guards whose atoms have these numbers, behind those that are there. Seen atoms count
-/// from `first`. Linear in the guards.
+/// Appends the local rules that give the seen atoms, of guards whose atoms have these numbers. Seen atoms count from
+/// `first`. Linear in the guards.
 pub(crate) fn add_seen(
     alloc: Global,
     first: u32,
@@ -36,7 +36,7 @@ pub(crate) fn add_seen(
     Ok(())
 }
 
-/// Puts the rules that hand the seen atoms on to the parents behind those that are there. Linear in the guards.
+/// Appends the links that carry the seen atoms from a child to its parent. Linear in the guards.
 pub(crate) fn hand_up(first: u32, guards: &[usize], links: &mut Vec<Link>) -> Result<(), NoMemory>
     requires { first + length guards.now ≤ MOST_ATOMS }
     ensures { OnOk result (links.new.items ≡ links.old.items ++ seen_links first guards.now) }

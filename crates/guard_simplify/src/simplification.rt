@@ -1,4 +1,4 @@
-//! The simple system of rules, and the law that ties its steps to theirs.
+//! The simple system of rules and goals, and the law that ties its steps to theirs.
 ghost use Rattle.std.specs.Prelude.{◌≡◌, ◌≤◌, length, map, IfOk, All};
 ghost use Rattle.simple_core.specs.declared.system.TheConstants.{MOST_KINDS};
 ghost use Rattle.simple_core.specs.Systems.{IsSound};
@@ -42,7 +42,7 @@ pub fn simplify_asked(
     Ok(made)
 }
 
-/// The same of guards that are there.
+/// The simple system of rules and of guards that are made already.
 pub fn simplify(
     alloc: Global,
     rules: &[Rule],

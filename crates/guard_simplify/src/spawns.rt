@@ -1,4 +1,4 @@
-//! What spawns the nodes of forests.
+//! The rules that spawn the nodes of forests.
 ghost use Rattle.std.specs.Prelude.{◌≡◌, ◌++◌, length, IfOk, OnOk, All};
 ghost use Rattle.std.specs.List.{flat_map};
 ghost use Rattle.simple_core.specs.Systems.{IsAtom};

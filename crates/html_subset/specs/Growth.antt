@@ -1,4 +1,4 @@
--- Trees that grow at their end.
+-- Trees that grow at their right end.
 use Rattle.std.specs.Prelude.{ℕ, zero, suc, ◌+◌, List, [], ◌∷◌}
 use Rattle.tree_sem.specs.Trees.{Row, no_nodes, node}
 

@@ -1,4 +1,4 @@
--- What is noted of the names of elements.
+-- The cache of element names.
 use Rattle.std.specs.Prelude.{◌≡◌, ℕ, List, slice_get, Some}
 use Rattle.tp_base.specs.Names.{Named}
 use Rattle.tp_base.specs.declared.atoms.AtomKind.TheVariants as kind

@@ -1,4 +1,4 @@
--- What the calls return, as the definitions see it.
+-- The results of the reader's calls, as the definitions see them.
 use Rattle.std.specs.Prelude.{◌≡◌, ◌≢◌, List, Result, Ok, Err}
 use Rattle.tp_base.specs.Names.{Named}
 pub use Rattle.tp_base.specs.Names.{IsFront}

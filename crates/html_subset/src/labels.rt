@@ -1,4 +1,4 @@
-//! Labels: the names that a tag gives are entered into the table, and their atoms make a node's label.
+//! Labels: a tag's names are entered into the table, and their atoms form the node's label.
 ghost use Rattle.std.specs.Prelude.{◌≡◌, ◌<◌, true, not, if◌then◌else◌, [], ◌∷◌, ◌++◌, Some, length, take, drop, IfOk, OnOk};
 ghost use Rattle.text_bytes.specs.Attributes.{is_among, with_value};
 ghost use Rattle.tp_base.specs.Names.{with_name};
@@ -94,7 +94,7 @@ fn only(alloc: Global, atom: Atom) -> Result<ClassSet, NoMemory>
 }
 
 impl LabelBuilder {
-    /// With the names of this table, and no label.
+    /// A reader of labels over this table of names, with an empty label.
     pub(crate) fn new(alloc: Global, atoms: AtomTable) -> Self
         ensures { result.atoms ≡ atoms }
     {

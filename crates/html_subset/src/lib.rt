@@ -1,4 +1,4 @@
-//! Pages and markup: their tokens are read as trees of labelled nodes.
+//! The parser of pages and markup, from tokens to trees.
 #![tactic(auto)]
 
 mod builder;

@@ -1,4 +1,4 @@
-//! The table of names while tokens are read, and the atoms of elements by their names as they are written.
+//! The table of names with a cache of element names as they are written.
 ghost use Rattle.std.specs.Prelude.{◌≡◌, [], Some, None, IfOk, IsErrOf, OnErr};
 ghost use Rattle.tp_base.specs.Names.{with_name, IsDistinct};
 ghost use Rattle.tp_base.specs.declared.atoms.AtomKind.TheVariants as named;
@@ -38,7 +38,7 @@ fn have_one_place(atoms: &AtomTable)
 }
 
 impl NameTable {
-    /// With the names of this table.
+    /// A table with the names of this one, and an empty cache.
     pub(crate) fn new(alloc: Global, atoms: AtomTable) -> Self
         ensures { result ≡ atoms }
     {

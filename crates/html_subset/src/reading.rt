@@ -1,4 +1,4 @@
-//! Reading a page, or markup: its tokens are taken one after the other.
+//! Reading a page or markup: each token goes to the tree builder.
 ghost use Rattle.std.specs.Prelude.{◌≤◌, length, option_map, All, IfOk};
 ghost use Rattle.text_bytes.specs.OrderMark as order_mark;
 ghost use Rattle.tree_sem.specs.Nodes.{IsTreeOver};

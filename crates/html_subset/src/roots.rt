@@ -1,4 +1,4 @@
-//! html, head and body of a page, whose tags may come again and again while it is read.
+//! html, head and body of a page, whose tags may stand several times in it.
 ghost use Rattle.std.specs.Prelude.{◌≡◌, [], IfOk, OnOk};
 ghost use Rattle.html_subset.specs.Labels as spec;
 ghost use Rattle.html_subset.specs.Building.{unless_given, with_given};
@@ -33,7 +33,7 @@ fn unless_given<'a>(given: bool, value: Option<&'a [u8]>) -> Option<&'a [u8]>
 }
 
 impl Root {
-    /// One with this label, to which no tag gave anything.
+    /// A root element with this label, to which no tag gave anything.
     pub(crate) fn new(alloc: Global, label: Gathered) -> Self
         ensures { root_of result ≡ pages.root label }
     {

@@ -1,4 +1,4 @@
--- What was noted of names.
+-- The cache of names as they are written.
 use Rattle.std.specs.Prelude.{◌≡◌, ℕ, List, slice_get, Some}
 use Rattle.html_table.specs.declared.name_notes.Note.{Note}
 use Rattle.html_table.specs.declared.name_notes.NameNotes.{NameNotes}

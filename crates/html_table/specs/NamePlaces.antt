@@ -1,4 +1,4 @@
--- What a table of names and places says.
+-- The table from names to the innermost open elements.
 use Rattle.std.specs.Prelude.{◌≡◌, ℕ, ◌<◌, ◌≤◌, List, length, get_or, bytes_eq}
 use Rattle.std.specs.List.{position_or_len}
 use Rattle.html_tokens.specs.Bytes.{lowered}

@@ -1,4 +1,4 @@
--- What is remembered of the open elements, so that no tag looks through them.
+-- What is cached of the open elements, so that no tag looks through them.
 use Rattle.std.specs.Prelude.{◌≡◌, ℕ, ◌+◌, ◌-◌, ◌==◌, ◌||◌, nat_lt, if◌then◌else◌, List, [], ◌∷◌, length, take, map, reverse, Option, Some, None, option_map}
 use Rattle.std.specs.List.{list_any}
 use Rattle.html_table.specs.declared.elements.Kind.{Kind}

@@ -1,4 +1,4 @@
--- The tree table: which open elements a tag closes, and what is implied. Open elements are listed from the innermost outward.
+-- The tree table: which open elements a tag closes, and what it implies. Open elements are listed from the innermost outward.
 use Rattle.std.specs.Prelude.{ℕ, ◌&&◌, ◌||◌, not, Bool, true, false, if◌then◌else◌, List, [], ◌∷◌, length, codes, Option, Some, None, unwrap_or}
 use Rattle.std.specs.List.{list_any}
 use Rattle.std.specs.Str.{bytes_eq}
@@ -111,7 +111,8 @@ end_scope t = if is t k.Table then within.Page else (if is_table_part t then wit
 unfoldable pub closed_at_end : Element → List Element → List Element
 closed_at_end e elements = without (has_name e.name) (end_scope e.kind) elements
 
--- What an end tag does: nothing where its element is a root or holds nothing, and that of a paragraph stands apart.
+-- What an end tag does: nothing where its element is a root or holds nothing. That of a paragraph is `paragraph_end` in
+-- `html_subset`, since it may add one.
 abbrev pub ending : Element → List Element → Ending
 ending e elements =
     if is_root e.kind || is_void e.kind then does.Nothing

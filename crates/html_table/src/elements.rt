@@ -1,4 +1,4 @@
-//! Elements by their names: what matters of each for the tree.
+//! The kinds of elements that matter for the tree, by the elements' names.
 ghost use Rattle.std.specs.Prelude.{◌≡◌, map};
 ghost use Rattle.html_tokens.specs.Bytes.{lowered};
 ghost use Rattle.html_table.specs.Elements as spec;

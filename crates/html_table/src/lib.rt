@@ -1,4 +1,4 @@
-//! The table of a page's open elements: which of them a tag closes, and where a start tag's element goes.
+//! The stack of a page's open elements: which of them a tag closes, and where a start tag's element goes.
 #![tactic(auto)]
 
 mod elements;

@@ -1,4 +1,4 @@
-//! Notes of names as they are written, so that a name that comes again needs neither a copy nor a hash.
+//! A cache of names as they are written: a name that comes again needs neither a copy nor a hash.
 ghost use Rattle.std.specs.Prelude.{◌≡◌, ◌<◌, ◌⊎◌, ℕ, List, length, slice_get, Some, IfSome, OnOk};
 ghost use Rattle.html_table.specs.declared.name_notes.Note.{Note};
 ghost use Rattle.html_table.specs.NameNotes.{IsNoted};
@@ -31,7 +31,7 @@ fn place_of(name: &[u8]) -> usize {
 }
 
 impl<V: Copy + Drop> NameNotes<V> {
-    /// None.
+    /// An empty cache.
     pub fn new(alloc: Global) -> Self
         ensures { (q : List ℕ) (v : V) → IsNoted result q v → ⊥ }
     {

@@ -1,4 +1,4 @@
-//! Names of open elements, and where the innermost of each is.
+//! For each name of an open element the innermost one that has it.
 ghost use Rattle.std.specs.Prelude.{◌≡◌, ◌<◌, ◌≤◌, ℕ, List, if◌then◌else◌, length, get_or, bytes_eq, IfSome, IfOk, OnOk};
 ghost use Rattle.html_tokens.specs.Bytes.{lowered};
 ghost use Rattle.html_tokens.specs.Names.{is_raw};

@@ -1,4 +1,4 @@
-//! What tags look for among the open elements, remembered from each of these outward.
+//! For each open element the nearest ones outside that tags look for.
 ghost use Rattle.std.specs.Prelude.{◌≡◌, ◌+◌, ◌<◌, ◌||◌, [], ◌∷◌, Some, None, List, length, if◌then◌else◌};
 ghost use Rattle.html_table.specs.declared.elements.Kind.TheVariants as k;
 ghost use Rattle.html_table.specs.Elements.{is, Element};
@@ -11,21 +11,21 @@ use crate::scopes::Scope;
 /// What is nearest to some open element, from itself outward. Each number counts open elements, from the outermost on.
 #[derive(Clone, Copy, Debug)]
 pub(crate) struct Nearest {
-    /// Those outside of the paragraph that would be closed, if one would.
+    /// The elements outside of the paragraph that would be closed, if one would.
     pub(crate) paragraph: Option<usize>,
-    /// Those outside of the item of a list.
+    /// The elements outside of the item of a list.
     pub(crate) item: Option<usize>,
-    /// Those outside of the term.
+    /// The elements outside of the term.
     pub(crate) term: Option<usize>,
-    /// Those up to the table, with it; none where there is no table.
+    /// The elements up to the table, with it; none where there is no table.
     table: usize,
-    /// Those up to what holds a column.
+    /// The elements up to what holds a column.
     columns: usize,
-    /// Those up to what holds a row.
+    /// The elements up to what holds a row.
     rows: usize,
-    /// Those up to what holds a cell.
+    /// The elements up to what holds a cell.
     cells: usize,
-    /// Those up to the table, cell or caption past which most end tags close nothing.
+    /// The elements up to the table, cell or caption past which most end tags close nothing.
     cells_end: usize,
     /// Whether one of them is svg or math.
     pub(crate) foreign: bool,

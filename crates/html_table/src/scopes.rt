@@ -1,4 +1,4 @@
-//! How far outward an element is looked for that a tag closes.
+//! Scopes: how far outward a tag looks for the element that it closes.
 ghost use Rattle.std.specs.Prelude.{◌≡◌};
 ghost use Rattle.html_table.specs.TreeTable as spec;
 

@@ -1,4 +1,4 @@
-//! The open elements, each with what is remembered of it and of those outside.
+//! The stack of open elements, each with what is cached of those outside.
 ghost use Rattle.std.specs.Prelude.{◌≡◌, ℕ, List, ◌==◌, ◌-◌, ◌<◌, ◌≤◌, [], ◌∷◌, ◌++◌, length, take, map, reverse, option_map, IfOk, OnOk};
 ghost use Rattle.html_tokens.specs.Bytes.{lowered};
 ghost use Rattle.html_tokens.specs.Names.{is_raw};
@@ -70,7 +70,7 @@ fn new_element(name: &[u8]) -> (Element<'_>, bool)
 }
 
 impl<'a> OpenElements<'a> {
-    /// None.
+    /// An empty stack.
     pub fn new(alloc: Global) -> Self
         ensures { result ≡ [] }
     {

@@ -1,4 +1,4 @@
-//! Classes of bytes, how far a run of one goes, and names without their case.
+//! Classes of bytes, runs of one class, and names compared without case.
 ghost use Rattle.std.specs.Prelude.{◌≡◌, ◌≤◌, length};
 ghost use Rattle.std.specs.List.{prefix_len};
 ghost use Rattle.std.specs.Str.{str_eq_ignore_ascii_case};

@@ -1,4 +1,4 @@
-//! Where markup begins, and how far what is passed over goes.
+//! Where markup begins, and where comments, declarations and the like end.
 ghost use Rattle.std.specs.Prelude.{◌≡◌};
 ghost use Rattle.text_bytes.specs.Rests.{IsRest};
 ghost use Rattle.html_tokens.specs.Markup as spec;

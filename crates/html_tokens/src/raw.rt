@@ -1,4 +1,4 @@
-//! Raw elements, whose text is passed over.
+//! Raw elements such as `script`, whose text is no markup.
 ghost use Rattle.std.specs.Prelude.{◌≡◌, map};
 ghost use Rattle.text_bytes.specs.Rests.{IsRest};
 ghost use Rattle.html_tokens.specs.Markup as spec;

@@ -1,4 +1,4 @@
--- Calls that are linked, each to those before it, and how many stand.
+-- Linked lists of calls, each with a link to those before it, and the count of those that stand.
 use Rattle.std.specs.Prelude.{ℕ, suc, List, [], ◌∷◌, ◌++◌}
 use Rattle.jq_chains.specs.declared.marked_calls.MarkedCall.{MarkedCall}
 use Rattle.jq_chains.specs.declared.shared_calls.Link.{Link, Start, After'}

@@ -1,4 +1,4 @@
--- What calls with marks are to the definitions.
+-- Calls with marks, as the definitions see them.
 use Rattle.std.specs.Prelude.{ℕ, List, length, map, sum}
 use Rattle.jq_stmts.specs.Statements.{Call}
 use Rattle.jq_stmts.specs.Sharp.{ExactCall, ExactChain}

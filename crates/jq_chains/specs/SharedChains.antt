@@ -1,4 +1,4 @@
--- What chains that share their parts are to the definitions.
+-- Chains with shared parts, as the definitions see them.
 use Rattle.std.specs.Prelude.{Bool, true, false, map}
 use Rattle.jq_stmts.specs.Sharp.{ExactChain}
 use Rattle.jq_stmts.specs.Statements.{Root, matched, this}

@@ -1,4 +1,4 @@
-//! Chains of a script as they are read: calls with their marks, which chains may share.
+//! Chains while they are read: persistent lists of calls, of which several chains share the beginning.
 #![tactic(auto)]
 
 mod marked_calls;

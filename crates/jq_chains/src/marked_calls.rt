@@ -1,4 +1,4 @@
-//! Calls, each with what is kept of its set.
+//! Calls and chains with marks. A mark names the sharp call in whose place a wider one is judged.
 ghost use Rattle.std.specs.Prelude.{◌≡◌, IfOk};
 ghost use Rattle.jq_stmts.specs.Sharp.{plain};
 ghost use Rattle.jq_stmts.specs.Views.{call_of};
@@ -22,7 +22,7 @@ impl MarkedCall {
         MarkedCall { call, kind: None }
     }
 
-    /// The same call once more. Constant: both share the compounds or selectors.
+    /// A copy of the call. Constant: both share the compounds or selectors.
     pub fn copy(&self) -> Result<MarkedCall, NoMemory>
         ensures { IfOk result (λ c. marked_of c ≡ marked_of self.now) }
     {

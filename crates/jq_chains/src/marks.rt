@@ -1,4 +1,4 @@
-//! The marks of a statement's calls, apart from the calls.
+//! The marks of a statement's sharp calls, apart from the calls.
 ghost use Rattle.std.specs.Prelude.{◌≡◌, ◌<◌, ◌≤◌, ◌∷◌, ◌++◌, length, map, Some, None, IfOk, OnOk};
 ghost use Rattle.jq_stmts.specs.Views.{call_of, chain_of};
 ghost use Rattle.jq_words.specs.declared.faults.TheConstants.{MOST_CALLS, MOST_OPEN};

@@ -1,4 +1,4 @@
-//! Calls that several chains may share.
+//! A persistent list of calls, which several chains share.
 ghost use Rattle.std.specs.Prelude.{◌≡◌, ◌||◌, not, nat_lt, [], ◌∷◌, ◌++◌, map, IfOk};
 ghost use Rattle.jq_stmts.specs.Sharp.{wide_call};
 ghost use Rattle.jq_stmts.specs.Statements.{standing};
@@ -90,7 +90,7 @@ fn and_parents(before: bool, call: &Call) -> bool
 #[derive(Drop)]
 pub struct SharedCalls {
     last: Rc<Link>,
-    /// Those that stand, as each `end` takes the last one back.
+    /// The calls that stand, as each `end` takes the last one back.
     left: Rc<Standing>,
     /// Whether one is of `parents`, also one that was taken back.
     parents: bool,
@@ -112,7 +112,7 @@ impl Model for SharedCalls {
 }
 
 impl SharedCalls {
-    /// None. Constant.
+    /// An empty list of calls. Constant.
     pub fn none(alloc: Global) -> Result<Self, NoMemory>
         ensures { IfOk result (λ c. c ≡ []) }
     {
@@ -123,7 +123,7 @@ impl SharedCalls {
         })
     }
 
-    /// The same calls once more. Constant: both share them.
+    /// A second reference to the calls. Constant: both share them.
     pub fn share(&self) -> Result<Self, NoMemory>
         ensures { IfOk result (λ c. c ≡ self.now) }
     {

@@ -1,4 +1,4 @@
-//! Chains that share their parts.
+//! Chains that share their root and their calls.
 ghost use Rattle.std.specs.Prelude.{◌≡◌, [], ◌∷◌, ◌++◌, IfOk};
 ghost use Rattle.jq_stmts.specs.Views.{root_of};
 ghost use Rattle.jq_chains.specs.MarkedCalls.{marked_of, marked_chain_of};
@@ -28,7 +28,7 @@ impl SharedChain {
         })
     }
 
-    /// The same chain once more. Constant: both share their parts.
+    /// A second reference to the chain. Constant: both share their parts.
     pub fn share(&self) -> Result<Self, NoMemory>
         ensures { IfOk result (λ c. shared_of c ≡ shared_of self.now) }
     {
@@ -56,7 +56,7 @@ impl SharedChain {
         matches!(self.root, Root::This)
     }
 
-    /// The same chain, whose calls are its own. Linear in the calls.
+    /// A chain with calls of its own. Linear in the calls.
     pub fn copy(&self, alloc: Global) -> Result<MarkedChain, NoMemory>
         ensures { IfOk result (λ c. marked_chain_of c ≡ shared_of self.now) }
     {

@@ -1,4 +1,4 @@
--- Arguments that are to be noted, and one comma more among them.
+-- One more comma among the arguments of open brackets.
 use Rattle.std.specs.Prelude.{◌+◌, Option, Some, None, Box}
 use Rattle.std.specs.Global.{Global}
 use Rattle.jq_cursor.specs.declared.open_lists.Pending.{Pending}

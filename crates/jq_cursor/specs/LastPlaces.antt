@@ -1,4 +1,4 @@
--- Where each name stands last in a list.
+-- The index from each name to its last place in a list.
 use Rattle.std.specs.Prelude.{ℕ, List, bytes_eq, Option, None, unwrap_or}
 use Rattle.indexmap.specs.IndexMap.{get_by}
 use Rattle.jq_cursor.specs.declared.last_places.LastPlaces.{LastPlaces}

@@ -1,4 +1,4 @@
-//! The arguments in a bracket, read word by word.
+//! The number and the ends of a call's arguments, counted word by word.
 ghost use Rattle.std.specs.Prelude.{◌≡◌, ◌<◌, List, false, IfOk, IfErr};
 ghost use Rattle.jq_words.specs.Brackets as brackets;
 ghost use Rattle.jq_words.specs.declared.brackets.Bracket.{Bracket};

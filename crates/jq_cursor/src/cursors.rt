@@ -1,4 +1,4 @@
-//! A place among the words of a file.
+//! A cursor over the words of a file.
 ghost use Rattle.std.specs.Prelude.{◌≡◌, ◌<◌, drop, IfOk, IfErr, OnOk};
 ghost use Rattle.jq_words.specs.Words as words;
 ghost use Rattle.jq_words.specs.FreeLists as lists;
@@ -48,7 +48,7 @@ impl<'l, 'a> Cursor<'l, 'a> {
         }
     }
 
-    /// The same place again, to look ahead. Constant.
+    /// A second cursor at this place, to look ahead. Constant.
     pub fn again(&self) -> Cursor<'l, 'a>
         ensures { result ≡ self.now }
     {

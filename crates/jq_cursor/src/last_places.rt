@@ -1,4 +1,4 @@
-//! Where each name stands last in a list.
+//! An index from each name to its last place in a list.
 ghost use Rattle.std.specs.Prelude.{◌≡◌, ℕ, List, None, if◌then◌else◌, bytes_eq, IsSome, OnOk, OnErr};
 ghost use Rattle.jq_cursor.specs.LastPlaces.{place_in};
 
@@ -13,7 +13,7 @@ pub struct LastPlaces<'a> {
 }
 
 impl<'a> LastPlaces<'a> {
-    /// No places yet. Constant.
+    /// An empty index. Constant.
     pub fn new(alloc: Global) -> Self
         ensures { (q : List ℕ) → place_in result q ≡ None }
     {

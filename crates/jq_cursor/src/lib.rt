@@ -1,4 +1,4 @@
-//! A place among the words of a script, how far arguments reach there, and what their letters are.
+//! A position among the words of a script, and how arguments are read there.
 #![tactic(auto)]
 
 mod argument_lists;

@@ -1,4 +1,4 @@
-//! The words of a file, and how far the arguments in its brackets reach.
+//! The words of a file, with the extent of the arguments in each bracket.
 ghost use Rattle.std.specs.Prelude.{◌≡◌, ◌≤◌, [], ◌∷◌, ◌++◌, Some, None, true, false, length, drop, codes, OnOk, IfOk, IfErr, IfSome, IfNone};
 ghost use Rattle.js_scan.specs.Tokens.{InOrder};
 ghost use Rattle.js_scan.specs.Utf8.{AreTexts};

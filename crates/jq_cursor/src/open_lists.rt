@@ -1,4 +1,4 @@
-//! Brackets that are open, with the arguments in them.
+//! The stack of open brackets, with the arguments in each.
 ghost use Rattle.std.specs.Prelude.{◌≡◌, ◌<◌, IfSome};
 ghost use Rattle.jq_cursor.specs.Commas.{pending_in, with_comma};
 

@@ -1,4 +1,4 @@
-//! What stays the same while a script is read.
+//! The context of a reader: what stays the same while a script is read.
 ghost use Rattle.std.specs.Prelude.{◌≤◌, length};
 ghost use Rattle.tp_base.specs.declared.places.TheConstants.{MOST_BYTES};
 

@@ -1,4 +1,4 @@
-//! The letters of an argument as selectors, as compounds, as classes and as an attribute.
+//! A string argument read as selectors, compounds, classes or an attribute.
 ghost use Rattle.std.specs.Prelude.{◌≡◌, ◌≢◌, ◌<◌, true, false, [], length, take, drop, map, IfOk, IfErr, IfSome, IfNone};
 ghost use Rattle.std.specs.List.{list_all};
 ghost use Rattle.tp_base.specs.Names.{with_name};

@@ -1,4 +1,4 @@
-//! Arguments as words, and those that are Texts.
+//! Arguments as words, and arguments that are string literals.
 ghost use Rattle.std.specs.Prelude.{◌≡◌, IfOk, OnOk};
 ghost use Rattle.jq_words.specs.Words.{place};
 ghost use Rattle.jq_words.specs.Results.{Finds, Turns, InFile, IsBehind};

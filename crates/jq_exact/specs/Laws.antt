@@ -1,4 +1,4 @@
--- What exact statements have in common with those that are judged in their place.
+-- Laws: exact statements are within those that are judged in their place.
 --     IsNarrower t s         what the statement selects exactly, the wide one selects
 --     AreNarrower t stmts    legal lists of exact steps are legal lists of the wide statements' steps
 --     ReachesLess t stmts s   what exact events reach, losses among them, events of the wide statements reach

@@ -1,4 +1,4 @@
--- That steps never make too many nodes of a page.
+-- Listed steps never make more nodes than a page may have.
 --     added_by a            how many nodes an action adds, where its node has a parent
 --     HasRoom page stmts    as many steps as a trace has that is listed leave the tree within the limit
 use Rattle.std.specs.Prelude.{ℕ, ◌+◌, ◌*◌, ◌≤◌, List, All}

@@ -1,4 +1,4 @@
--- What becomes of the answers for the statements that are judged, where some calls are sharper.
+-- Settled answers: what the exact replay of their steps leaves of them.
 --     IsBrokenAt page stmts steps i     the step i is the first that isn't legal exactly
 --     IsSettled page stmts system a b   b is said in the place of a
 --     AreSettled                        the same, answer by answer

@@ -1,4 +1,4 @@
-//! The sets of chains and statements: for all nodes at once that `this` may name, which go on as one set.
+//! Evaluation of chains and statements: for all nodes that `this` may name at once, as one set.
 ghost use Rattle.std.specs.Prelude.{◌≡◌, ◌↔◌, ◌⊎◌, ◌+◌, ◌<◌, ℕ, length, take, drop, List, Option, Some, true, false, IfOk, IsTrue};
 ghost use Rattle.node_marks.specs.Marks.{IsMarked, path_at};
 ghost use Rattle.tree_sem.specs.Trees.{count_of};

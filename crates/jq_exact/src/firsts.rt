@@ -1,5 +1,5 @@
-//! Calls from each of several nodes that ask for a first node, for all these nodes at once: of each node the least number in the
-//! set that the calls make of it.
+//! Evaluation of chains with `first` for all nodes that `this` may name at once. For each node it keeps the least number in
+//! the set that the calls make of it.
 ghost use Rattle.std.specs.Prelude.{◌≡◌, ◌↔◌, ◌<◌, ◌≤◌, [], ◌∷◌, Some, true, false, length, take, map, get_or, IsTrue, IsNone, IfSome, IfOk};
 ghost use Rattle.tree_sem.specs.Trees.{count_of};
 ghost use Rattle.tree_sem.specs.Nodes.{IsNode};

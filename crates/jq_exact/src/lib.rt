@@ -1,4 +1,4 @@
-//! What a statement selects exactly where some of its calls are sharper than what is judged in their place.
+//! The exact semantics of statements with sharp calls, and how it compares to the wider calls that are judged.
 #![tactic(auto)]
 
 mod evaluation;

@@ -1,4 +1,4 @@
-//! Statements and the marks of their sharp calls, apart and together.
+//! The join of statements with the marks of their sharp calls, and its inverse.
 ghost use Rattle.std.specs.Prelude.{◌≡◌, List, [], ◌∷◌, IfOk};
 ghost use Rattle.std.specs.List.{list_any};
 ghost use Rattle.std.specs.Vec.Iter.{into_iter_items};

@@ -1,4 +1,4 @@
-//! Exact steps of a script's statements, taken one after another.
+//! The replay of exact steps, one after another.
 ghost use Rattle.std.specs.Prelude.{◌≡◌, ◌⊎◌, ℕ, ◌<◌, length, take, OnOk, IfErr, IsErrOf};
 ghost use Rattle.tree_sem.specs.Replays.{step_of};
 ghost use Rattle.tree_sem.specs.Series.{CanTake, IsIllegalAt, IsFullAt};

@@ -1,4 +1,4 @@
-//! The sets that exact calls make, as marks for all nodes of a tree.
+//! The sets that exact calls make, as one bit for each node.
 ghost use Rattle.std.specs.Prelude.{◌≡◌, ◌↔◌, ℕ, List, [], ◌∷◌, false, Some, IsTrue, IfOk};
 ghost use Rattle.node_marks.specs.Marks.{IsMarked};
 ghost use Rattle.jq_stmts.specs.Views.{atoms_of, call_of};

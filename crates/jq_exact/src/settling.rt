@@ -1,4 +1,4 @@
-//! The answers for the statements that are judged, settled by a replay of the steps of sharper calls.
+//! Answers for the judged statements, settled by an exact replay of their steps.
 ghost use Rattle.std.specs.Prelude.{◌≡◌, ◌≤◌, All, length, map, IfOk, IfSome};
 ghost use Rattle.limits.specs.declared.budgets.TheConstants.{MOST_LIST};
 ghost use Rattle.jq_stmts.specs.Sharp.{is_sharp_statement};
@@ -31,10 +31,10 @@ pub(crate) enum Outcome {
     NotShown,
 }
 
-/// What is said where some calls of the statements are sharper than what was judged in their place: an answer that is used by steps
-/// of which one is of a statement with a sharp call stays so where these are shown and each is legal exactly, and may be used
-/// else. All other answers stay. Shown steps cost a copy of the page and what `replay_exact` costs; each other answer costs one pass
-/// over its proof.
+/// Settles answers, where some statements have sharp calls. A `used` answer has steps of the judged statements. Where one of
+/// these is of a statement with a sharp call, the answer stays if all steps are shown and each is legal exactly. Else it
+/// becomes `maybe`. All other answers stay. Shown steps cost a copy of the page and what `replay_exact` costs; each other
+/// answer costs one pass over its proof.
 pub fn settle(
     alloc: Global,
     page: &Tree,

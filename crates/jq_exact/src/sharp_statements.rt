@@ -1,4 +1,4 @@
-//! Which statements have a call that is sharper than what is judged in its place.
+//! Which statements have a sharp call.
 ghost use Rattle.std.specs.Prelude.{◌≡◌, Some, map, IfOk};
 ghost use Rattle.jq_stmts.specs.Sharp.{is_sharp, has_sharp, have_sharp, is_sharp_statement};
 ghost use Rattle.jq_stmts.specs.SharpViews.{with_kind, exact_calls, exact_handlers, exact_of, exacts_of};

@@ -1,4 +1,4 @@
--- The parts of statements that are lists of any expressions.
+-- Parts of statements that are lists of expressions without effect.
 --     list_statement    a list, as a statement
 --     returned          behind `return`
 --     set               a name that gets another value

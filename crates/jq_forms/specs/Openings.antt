@@ -1,4 +1,4 @@
--- What a statement is, by its first words.
+-- The form of a statement, decided by its first words.
 use Rattle.std.specs.Prelude.{ℕ, ◌&&◌, ◌||◌, not, Bool, if◌then◌else◌, List, [], ◌∷◌, codes}
 use Rattle.jq_words.specs.Words.{Word, is_mark, is_name, is_any_name, is_mark_among, is_name_among, fits, first_is, begins, begins_name}
 use Rattle.jq_cursor.specs.Keywords.{jquery}

@@ -1,4 +1,4 @@
-//! What stands before the blocks of functions, and between the arguments of a call.
+//! What stands before the block of a function, and between the arguments of a call.
 ghost use Rattle.std.specs.Prelude.{◌≡◌, true, drop, OnOk};
 ghost use Rattle.jq_words.specs.Results.{Leaves, InFile, IsRest, IsBehind};
 ghost use Rattle.jq_forms.specs.Heads as spec;

@@ -1,4 +1,4 @@
-//! What the words of a script are before any of its chains is read: statements by their first words, values that are chains, lists.
+//! Which form a statement has, by its first words; which values are chains; lists of expressions without effect.
 #![tactic(auto)]
 
 mod forms;

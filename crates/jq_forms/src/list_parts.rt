@@ -1,4 +1,4 @@
-//! The parts of statements that are lists of any expressions.
+//! Parts of statements that are lists of expressions without effect.
 ghost use Rattle.std.specs.Prelude.{false, OnOk};
 ghost use Rattle.jq_words.specs.FreeLists.{free};
 ghost use Rattle.jq_words.specs.Results.{Leaves, InFile, IsRest, IsBehind};

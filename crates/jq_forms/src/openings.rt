@@ -1,4 +1,4 @@
-//! What a statement is, by its first words.
+//! The form of a statement, decided by its first words.
 ghost use Rattle.std.specs.Prelude.{◌≡◌, ◌&&◌, ◌||◌, [], ◌∷◌, map, codes};
 ghost use Rattle.jq_words.specs.Words.{is_mark, is_name, is_any_name, is_mark_among, is_name_among, fits, first_is};
 ghost use Rattle.jq_forms.specs.Openings as spec;

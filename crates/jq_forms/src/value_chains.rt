@@ -148,8 +148,8 @@ fn begins_bound(bound: bool, words: &Words<'_>) -> bool
     bound
 }
 
-/// Whether a declared value that begins with these words, the first of which may be bound to a chain, is a chain, of calls that a
-/// script may have that is read exactly, or not. A look-up for each call.
+/// Whether a declared value that begins with these words is a chain. The first word may be bound to a chain. `exact` says
+/// whether sharp calls count. A look-up for each call.
 #[tactic(auto, unfolding(crate::specs::Values::is_chain), using(jq_words::proofs::Rests::two_passed))]
 pub fn is_chain(
     alloc: Global,

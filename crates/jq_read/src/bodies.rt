@@ -1,4 +1,4 @@
-//! Functions, where they stand and where they are handed over.
+//! The bodies of functions, where they are declared or passed to a call.
 ghost use Rattle.std.specs.Prelude.{◌≡◌, false, option_map, None, IfOk, IfErr};
 ghost use Rattle.jq_words.specs.Results.{Leaves, IsBehind};
 ghost use Rattle.jq_words.specs.declared.faults.ScriptFault.TheVariants.{Memory};

@@ -1,4 +1,4 @@
-//! What stands at a place, where its first word may be a name that is bound to a chain.
+//! The value at a place whose first word may be a name that is bound to a chain.
 ghost use Rattle.std.specs.Prelude.{◌≡◌, is_some, IfOk, IfErr};
 ghost use Rattle.jq_words.specs.Words.{spelled};
 ghost use Rattle.jq_words.specs.declared.faults.ScriptFault.TheVariants.{Memory};

@@ -1,4 +1,4 @@
-//! What calls listen to, and what they do.
+//! Calls that listen to events, and calls that act.
 ghost use Rattle.std.specs.Prelude.{◌≡◌, OnOk};
 ghost use Rattle.sel_text.specs.Results.{IsFront};
 ghost use Rattle.jq_words.specs.Results.{Leaves, Turns, IsRest, IsBehind};

@@ -1,4 +1,4 @@
-//! Scripts: the statements that a page's jQuery code makes.
+//! The parser of scripts: the statements that a page's jQuery code makes.
 #![tactic(auto)]
 
 mod arguments;

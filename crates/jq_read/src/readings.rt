@@ -1,4 +1,4 @@
-//! What a reader of a script knows at a place.
+//! The state of the parser at a place: its scope, its output and what is left to read.
 use jq_cursor::{Cursor, Reader};
 use jq_parts::{Grown, Scope, Stated};
 use std::rc::Rc;

@@ -1,4 +1,4 @@
-//! Statements, one after another, and in blocks.
+//! Sequences of statements, and blocks.
 ghost use Rattle.std.specs.Prelude.{◌≡◌, ◌<◌, true, false, []};
 ghost use Rattle.jq_words.specs.Results.{Leaves, Turns, InFile, IsRest, IsBehind};
 ghost use Rattle.jq_read.specs.Sequences as turns;

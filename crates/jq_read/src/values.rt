@@ -1,4 +1,4 @@
-//! What the arguments of a call leave.
+//! The value that a call leaves for the rest of its chain, and what the call does.
 ghost use Rattle.std.specs.Prelude.{◌≡◌, None};
 ghost use Rattle.jq_parts.specs.Views.{value_of};
 ghost use Rattle.jq_read.specs.Views.{done_of};
@@ -15,7 +15,7 @@ pub(crate) struct Done {
 }
 
 impl Done {
-    /// With this value, and nothing done. Constant.
+    /// This value, and no action. Constant.
     pub(crate) fn nothing(reached: Value) -> Self
         ensures { done_of result ≡ (value_of reached, None) }
     {

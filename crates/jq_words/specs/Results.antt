@@ -1,4 +1,4 @@
--- How a result stands to what the definitions give.
+-- The results of readers, as the definitions see them.
 use Rattle.std.specs.Prelude.{◌≡◌, ◌≢◌, List, drop, Option, Some, None, Result, Ok, Err}
 pub use Rattle.text_bytes.specs.Rests.{IsRest}
 use Rattle.tp_base.specs.Outcomes.{GivesUnless}

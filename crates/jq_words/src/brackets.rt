@@ -67,7 +67,7 @@ impl Model for OpenBrackets {
 }
 
 impl OpenBrackets {
-    /// None is open. Constant.
+    /// An empty stack of brackets. Constant.
     pub fn none(alloc: Global) -> Self
         ensures { result ≡ [] }
     {

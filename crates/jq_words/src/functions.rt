@@ -1,4 +1,4 @@
-//! The functions that a script declares, anywhere in it.
+//! The names of the functions that a script declares anywhere.
 ghost use Rattle.std.specs.Prelude.{◌≡◌, ◌∷◌, ◌++◌, map, OnOk, IfOk, IfErr};
 ghost use Rattle.jq_words.specs.Functions as spec;
 ghost use Rattle.jq_words.specs.Views.{listed};

@@ -1,5 +1,5 @@
-//! The words of a script, and what is read of them without its names: brackets, strings that are joined, lists of any expressions, and
-//! the calls of a chain.
+//! A script as words, and what needs no names to be read: brackets, joined strings, expressions of no effect, the table of
+//! jQuery's calls.
 #![tactic(auto)]
 
 mod brackets;

@@ -1,4 +1,4 @@
-//! Texts that are joined by `+`.
+//! Strings that are joined by `+`.
 ghost use Rattle.std.specs.Prelude.{◌≡◌, [], ◌∷◌, drop, Some, None, option_map, IfOk, IfErr};
 ghost use Rattle.jq_words.specs.Texts as spec;
 ghost use Rattle.jq_words.specs.declared.faults.ScriptFault.TheVariants.{Memory};

@@ -1,4 +1,4 @@
-//! The words of a script: its tokens, with their spelling and with the ends of lines between them.
+//! The words of a script: its tokens, each with its spelling and whether a line ends before it.
 ghost use Rattle.std.specs.Prelude.{◌≡◌, ◌≤◌, ◌<◌, ◌+◌, ◌==◌, not, true, false, [], ◌∷◌, length, map, drop, codes, Ok, Err, IfOk, IfErr, IfSome, IfNone, OnOk, IsTrue, IsUtf8};
 ghost use Rattle.jq_words.specs.Words as spec;
 ghost use Rattle.js_scan.specs.Tokens.{InOrder};
@@ -128,7 +128,7 @@ impl<'a> Word<'a> {
         }
     }
 
-    /// Its spelling, as letters of its own.
+    /// The word's spelling, as letters of its own.
     pub fn letters(&self, alloc: Global) -> Result<Letters, ScriptFault>
         ensures letters { IfOk result (λ l. l ≡ self.now.spelling) }
         ensures only_memory { IfErr result (λ e. e ≡ ScriptFault.Memory) }
@@ -150,7 +150,7 @@ impl<'a> Word<'a> {
         self.gap.contains(&b'\n')
     }
 
-    /// Its bytes as they stand in the file, which are UTF-8. Constant.
+    /// The word's bytes as they stand in the file, which are UTF-8. Constant.
     pub fn spelling(&self) -> &'a [u8]
         ensures bytes { result.now ≡ self.now.spelling }
         ensures utf8 { IsUtf8 result.now }
@@ -196,7 +196,7 @@ impl<'a> Words<'a> {
         }
     }
 
-    /// The same words again, to look ahead.
+    /// A second reference to these words, to look ahead.
     pub fn again(&self) -> Words<'a>
         ensures { result ≡ self.now }
     {

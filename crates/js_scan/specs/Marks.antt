@@ -1,4 +1,4 @@
--- The marks.
+-- Marks, which are the punctuators of a script.
 use Rattle.std.specs.Prelude.{ℕ, List, [], ◌∷◌, length, Option, Some, None, if◌then◌else◌, nat_eq, codes}
 use Rattle.std.specs.List.{starts_with}
 

@@ -1,4 +1,4 @@
--- Texts in quotes.
+-- String literals.
 use Rattle.std.specs.Prelude.{ℕ, zero, suc, ◌+◌, ◌-◌, ◌&&◌, ◌==◌, not, Bool, if◌then◌else◌, List, [], ◌∷◌, ◌++◌, take, Option, Some, None, Result, Ok, Err, nat_eq, codes}
 pub use Rattle.std.specs.Option.{ok_or}
 use Rattle.std.specs.Str.{byte}

@@ -1,4 +1,4 @@
--- Where the bytes of a file may be cut.
+-- Where the bytes of a file may be cut without cutting a character.
 use Rattle.std.specs.Prelude.{ℕ, ◌+◌, ◌<◌, List, [], ◌∷◌, length, drop, slice_index, slice_range, IsUtf8}
 use Rattle.js_scan.specs.declared.token.Token.{Token}
 

@@ -1,4 +1,4 @@
--- How a result stands to what the definitions give.
+-- The results of the scanner, as the definitions see them.
 use Rattle.std.specs.Prelude.{◌≡◌, ◌≢◌, ℕ, List, [], ◌∷◌, take, Option, Some, None, Result, Ok, Err, encode_utf8}
 use Rattle.tp_base.specs.Outcomes.{GivesUnless}
 use Rattle.js_scan.specs.declared.token.ScanFault.{ScanFault}

@@ -1,4 +1,4 @@
-//! Classes of bytes, and how far a run of one goes.
+//! Classes of bytes, and runs of one class.
 ghost use Rattle.std.specs.Prelude.{◌≡◌, ◌<◌, ◌≤◌, IsTrue, length};
 ghost use Rattle.std.specs.Char.{is_ascii_hexdigit};
 ghost use Rattle.std.specs.List.{prefix_len};

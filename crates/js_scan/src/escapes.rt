@@ -1,4 +1,4 @@
-//! Escapes in a text.
+//! Escapes in a string literal.
 ghost use Rattle.std.specs.Prelude.{◌≡◌, ◌+◌, ◌≤◌, ◌<◌, length, Some, IfSome};
 ghost use Rattle.std.specs.Option.{option_map};
 ghost use Rattle.js_scan.specs.Escapes as spec;

@@ -1,4 +1,4 @@
-//! The tokens of a script file: names, numbers, strings with their escapes decoded, and marks.
+//! The scanner of scripts: names, numbers, strings with their escapes decoded, and marks.
 #![tactic(auto)]
 
 mod bytes;

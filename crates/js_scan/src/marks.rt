@@ -1,4 +1,4 @@
-//! Marks, by their spelling.
+//! Marks, which are the punctuators of a script.
 ghost use Rattle.std.specs.Prelude.{◌≡◌, ◌≤◌, length, IfSome};
 ghost use Rattle.js_scan.specs.Marks as spec;
 

@@ -1,4 +1,4 @@
-//! From bytes to tokens.
+//! The scanner, from bytes to tokens.
 ghost use Rattle.std.specs.Prelude.{◌≡◌, ◌+◌, ◌≤◌, ◌<◌, ◌++◌, length, All, IfOk, OnOk, IfErr, IsUtf8};
 ghost use Rattle.js_scan.specs.Tokens as spec;
 ghost use Rattle.js_scan.specs.Utf8.{TextBehindAscii, AreTexts};

@@ -1,4 +1,4 @@
-//! Texts in quotes.
+//! String literals.
 ghost use Rattle.std.specs.Prelude.{◌≡◌, ◌≤◌, ◌<◌, ◌++◌, length, IfOk, OnOk, IfSome, IsUtf8};
 ghost use Rattle.std.specs.Option.{option_map};
 ghost use Rattle.js_scan.specs.Texts as spec;

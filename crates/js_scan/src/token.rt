@@ -1,4 +1,4 @@
-//! Tokens, and why bytes are none.
+//! Tokens, and the faults of the scanner.
 ghost use Rattle.std.specs.Prelude.{◌≡◌, string_bytes, IsUtf8};
 
 use std::alloc::{AllocError, AllocFailed};

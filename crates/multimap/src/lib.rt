@@ -1,4 +1,4 @@
-//! Maps from keys to lists.
+//! A map from each key to a list of values.
 #![tactic(auto)]
 
 mod multimap;

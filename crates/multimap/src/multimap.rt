@@ -1,4 +1,4 @@
-//! For each key a list.
+//! A hash map from each key to a list of values.
 ghost use Rattle.std.specs.Prelude.{◌≡◌, ◌++◌, [], ◌∷◌, if◌then◌else◌, false, Some, IfOk, OnOk, OnErr};
 ghost use Rattle.std.specs.Map.{lookup};
 ghost use Rattle.multimap.specs.Values.{values_at};
@@ -24,7 +24,7 @@ impl<K: Eq + Hash, V> Model for Multimap<K, V> {
 }
 
 impl<K: Copy + Eq + Hash, V: Drop> Multimap<K, V> {
-    /// No keys yet.
+    /// An empty map.
     pub fn new(alloc: Global) -> Self
         ensures { result ≡ [] }
     {

@@ -1,4 +1,4 @@
--- What is to be done, while a table is filled.
+-- The worklist of the table.
 use Rattle.std.specs.Prelude.{◌≡◌, ◌≢◌, ◌⊎◌, ◌++◌, ◌-◌, ◌≤◌, ◌<◌, ℕ, List, [], length, Option, Some, None, Contains, slice_get}
 use Rattle.simple_core.specs.declared.system.System.{System}
 use Rattle.simple_core.specs.Rounds.{IsFirst}
@@ -8,7 +8,7 @@ use Rattle.need_table.specs.declared.agenda.Agenda.{Agenda}
 use Rattle.need_table.specs.Rows.{row_in, IsDue}
 use Rattle.need_table.specs.Tables.{pair_of, labels, IsTable}
 
--- the entry isn't at rest, and no round after k was worked out
+-- the entry is no fixpoint yet, and no round after k was computed
 abbrev pub IsBehind : Option ℕ → ℕ → Type 0
 IsBehind None k = ⊥
 IsBehind (Some n) k = n ≤ k
@@ -25,7 +25,7 @@ AreKnown s k entries = (e : Entry) → Contains entries e → IsKnown s k e
 abbrev pub Hears : ℕ → Entry → ℕ → Type 0
 Hears i e j = (j ≡ i) ⊎ Contains e.children.items j
 
--- a table whose entries from `first` on are not at rest: each atom that an entry has not heard of makes it due, in the round
+-- a table whose entries from `first` on are no fixpoints yet: each atom that an entry has not heard of makes it due, in the round
 -- in which the atom came or before, and what it asks knows that it asks
 pub record IsGoing (s : System) (pairs : ℕ) (entries : List Entry) (g : Agenda) : Type 0 where
   pub table : IsTable s pairs entries

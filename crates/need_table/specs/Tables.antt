@@ -1,4 +1,4 @@
--- The table of pairs, while it is filled.
+-- The table of pairs, while the fixpoint is computed.
 use Rattle.std.specs.Prelude.{◌≡◌, ◌≢◌, ◌↔◌, ◌⊎◌, ◌&&◌, ◌++◌, set, ◌≤◌, ◌<◌, ◌+◌, ℕ, suc, List, [], ◌∷◌, map, drop, length, not, nat_le, Option, Some, None, Contains, IsSomeAnd, slice_get, ◌==◌, if◌then◌else◌}
 use Rattle.std.specs.List.{filter}
 use Rattle.std.specs.List.Sorted.{IsStrictlyIncreasing}
@@ -87,7 +87,7 @@ pub record IsTable (s : System) (pairs : ℕ) (entries : List Entry) : Type 0 wh
   pub different : AreDifferent (map pair_of entries)
   pub few : length entries ≤ pairs
 
--- the same pair, worked out as far or farther, and the same where it was at rest
+-- the same pair, computed as far or farther, and the same where it was a fixpoint
 pub record IsKept (old new : Entry) : Type 0 where
   pub pair : pair_of new ≡ pair_of old
   pub rounds : (k : ℕ) → IsDone old.rounds k → IsDone new.rounds k
@@ -131,7 +131,7 @@ AllDone entries t = (e : Entry) → Contains entries e → IsDone e.rounds t
 abbrev pub AllRest : List Entry → Type 0
 AllRest entries = (e : Entry) → Contains entries e → e.rounds ≡ None
 
--- the same pair with its label at rest, where it wasn't; what it asks is forgotten then
+-- the same pair with its label as a fixpoint, where it wasn't; what it asks is forgotten then
 pub record IsRested (old new : Entry) : Type 0 where
   pub pair : pair_of new ≡ pair_of old
   pub label : new.label ≡ old.label

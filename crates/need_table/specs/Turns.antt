@@ -1,4 +1,4 @@
--- One round more of an entry.
+-- One iteration of an entry.
 --     given_at s entries from to j             what the entry at j gives to one that asks it, by atoms of these rounds
 --     given_above s k parent                   what the label of the parent gives in the round after k, that isn't there already
 --     IsAsked s entries q k own fresh from children   what the pair q asks in the round k, and what is new in it

@@ -1,4 +1,4 @@
-//! What is to be done, while the table is filled.
+//! The worklist: which pairs are computed again, and in which round.
 ghost use Rattle.std.specs.Prelude.{◌≡◌, ◌≤◌, ◌<◌, ◌-◌, ◌+◌, ◌^◌, ℕ, [], Contains, length, Some, slice_get, IfSome, IsSomeAnd, IsTrue, OnOk};
 ghost use Rattle.simple_core.specs.declared.summaries.First.{First};
 ghost use Rattle.need_table.specs.declared.entries.Entry.{Entry};
@@ -12,8 +12,8 @@ use simple_core::First;
 use std::alloc::Global;
 use tp_base::{Atom, NoMemory};
 
-/// What is to be done for the entries from `first` on. `due` has places by rounds: the entry is to be worked out for the round
-/// after. `askers` has the places of those that ask an entry, by its place, counted from `first`.
+/// The worklist for the entries from `first` on. `due` has, for each round, the places of the entries to be computed for the
+/// round after. `askers` has, for each entry, the places of those that depend on it, counted from `first`.
 #[derive(Drop)]
 pub(crate) struct Agenda {
     pub(crate) first: usize,
@@ -24,7 +24,7 @@ pub(crate) struct Agenda {
 }
 
 impl Agenda {
-    /// Nothing yet, for the entries from this place on.
+    /// An empty worklist for the entries from this place on.
     pub(crate) fn new(alloc: Global, first: usize) -> Agenda
         ensures first { result.first ≡ first }
         ensures due { result.due ≡ [] }
@@ -40,7 +40,7 @@ impl Agenda {
     }
 }
 
-/// Makes the entries at these places due in round 0.
+/// Enters these places into the worklist of round 0.
 pub(crate) fn start(due: &mut Rows, from: usize, to: usize) -> Result<(), NoMemory>
     ensures started { OnOk result ((i : ℕ) → from ≤ i → i < to → Contains (row_in due.new 0) i) }
     ensures more { OnOk result (IsRicher due.old due.new) }
@@ -53,7 +53,7 @@ pub(crate) fn start(due: &mut Rows, from: usize, to: usize) -> Result<(), NoMemo
     Ok(())
 }
 
-/// Makes the entries at these places due in the round k.
+/// Enters these places into the worklist of round k.
 pub(crate) fn wake(due: &mut Rows, places: &[usize], k: usize) -> Result<(), NoMemory>
     ensures woken { OnOk result ((i : ℕ) → Contains places.now i → Contains (row_in due.new k) i) }
     ensures more { OnOk result (IsRicher due.old due.new) }
@@ -67,8 +67,8 @@ pub(crate) fn wake(due: &mut Rows, places: &[usize], k: usize) -> Result<(), NoM
     Ok(())
 }
 
-/// Notes that the entry at i asks those at the places `anew`, where it asked those of `old` before. Where there are none, it asks
-/// these still.
+/// Notes that the entry at i depends on those at the places `anew`, where it depended on those of `old` before. Where there
+/// are none, it still depends on the old ones.
 pub(crate) fn listen_anew(
     askers: &mut Rows,
     first: usize,
@@ -155,7 +155,8 @@ fn next_at(entries: &[Entry], j: usize, from: u64) -> Option<u64>
     }
 }
 
-/// Makes the entry at i due where one at these places has an atom from this round on. Logarithmic in the atoms of each.
+/// Enters i into the worklist where an entry at these places has an atom from this round on. Logarithmic in the atoms of
+/// each.
 pub(crate) fn expect(
     entries: &[Entry],
     due: &mut Rows,
@@ -178,8 +179,8 @@ pub(crate) fn expect(
     Ok(())
 }
 
-/// Makes due whom it concerns that the entry at i has the round after k now: those that ask it and itself, if it got atoms in it,
-/// else itself alone, for what its children got since.
+/// After round k of the entry at i: where it got atoms, the entries that depend on it and itself enter the worklist. Else it
+/// enters alone, if its children got some since.
 pub(crate) fn tell(
     entries: &[Entry],
     agenda: &mut Agenda,

@@ -1,4 +1,4 @@
-//! Questions to the table.
+//! Questions to the table: a label, or the first round of an atom.
 ghost use Rattle.std.specs.Prelude.{◌≡◌, ◌<◌, ℕ, List, map, length, Contains, IfOk, OnOk, OnErr, IfSome};
 ghost use Rattle.std.specs.List.{filter};
 ghost use Rattle.tp_base.specs.Classes.{has_class};
@@ -41,7 +41,7 @@ pub(crate) fn first_of(entry: &Entry, atom: Atom) -> Option<u64>
     round_of(&entry.firsts, atom)
 }
 
-/// Those whose atom is visible, with no more room than they need. Linear in all.
+/// The firsts whose atom is visible, with no more room than they need. Linear in all.
 pub(crate) fn visible_firsts(
     alloc: Global,
     system: &IndexedSystem,
@@ -109,7 +109,7 @@ fn try_ask(
     Ok(label)
 }
 
-/// The same, with the table as it was after a refusal.
+/// Answers a question, and leaves the table as it was after a refusal.
 pub(crate) fn ask(
     alloc: Global,
     system: &IndexedSystem,

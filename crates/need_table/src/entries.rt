@@ -1,4 +1,4 @@
-//! One pair of the table, and its label in each round so far.
+//! A pair of the table with its label, which grows round by round.
 ghost use Rattle.std.specs.Prelude.{◌≡◌, ◌↔◌, ◌≤◌, ◌<◌, ◌+◌, ◌++◌, ◌^◌, [], map, take, drop, length, Some, Contains, IfOk, OnOk, IsTrue};
 ghost use Rattle.std.specs.List.Sorted.{IsStrictlyIncreasing};
 ghost use Rattle.tp_base.specs.Classes.{union_of};
@@ -14,9 +14,9 @@ use tp_base::{Atom, ClassSet, NoMemory};
 /// So many of the last firsts are looked at before the others, and so many new atoms one by one.
 pub(crate) const A_FEW: usize = 8;
 
-/// A pair. `label` is its last label, and `firsts` has the atoms of this in the order of their first rounds. `rounds` is the last
-/// round for which it was worked out, and `None` where it has come to rest; `children` has the places of the pairs that its label
-/// asked in the round before that one, and none once it was set at rest.
+/// A pair. `label` is its last label, and `firsts` has the label's atoms in the order of their first rounds. `rounds` is the
+/// last round for which it was computed, and `None` at its fixpoint. `children` has the places of the pairs that its label
+/// asked in the round before, and none at its fixpoint.
 #[derive(Drop)]
 pub(crate) struct Entry {
     pub(crate) kind: u32,

@@ -1,4 +1,4 @@
-//! The entries of the table.
+//! The entries of the table, with a hash index over their pairs.
 ghost use Rattle.std.specs.Prelude.{◌≡◌, ◌↔◌, ◌+◌, ◌≤◌, ◌<◌, ◌^◌, ◌∷◌, ◌++◌, [], ℕ, None, Some, map, take, set, length, slice_get, get_or, Contains, IsNone, IfSome, IsSomeAnd, IsTrue, IsFalse, false, IfOk, OnOk, OnErr};
 ghost use Rattle.need_table.specs.declared.entries.Entry.{Entry};
 ghost use Rattle.need_table.specs.Tables.{pair_of, fresh_of, raised, replaced, IsNotAt, IsNoted, IsUntouched, IsRested, AreRested};
@@ -11,8 +11,8 @@ use std::alloc::Global;
 use std::marker::Model;
 use tp_base::{Atom, ClassSet, NoMemory};
 
-/// Entries, and for each hash of pairs the places where one that has it stands, or stood before it was forgotten. A contract sees
-/// the list of the entries.
+/// Entries with a hash index: for each hash of a pair the places where such an entry stands, or stood before it was
+/// forgotten. A contract sees the list of the entries.
 #[derive(Drop)]
 pub(crate) struct Table {
     entries: Vec<Entry>,
@@ -115,7 +115,7 @@ impl Table {
         raise(&mut self.entries, i, k);
     }
 
-    /// Sets all entries at rest. Those before this place are so already.
+    /// Marks all entries as fixpoints. Those before this place are marked already.
     pub(crate) fn rest_all(&mut self, first: usize)
         requires within { first ≤ length self.old }
         requires at_rest { (j : ℕ) (e : Entry) → j < first → slice_get self.old j ≡ Some e → e.rounds ≡ None }
@@ -201,7 +201,7 @@ fn raise(entries: &mut Vec<Entry>, i: usize, k: u64)
     entries[i].rounds = Some(k);
 }
 
-// Sets an entry at rest, if it isn't. It forgets what it asks, and its firsts keep no more room than they need.
+// Marks an entry as a fixpoint, if it isn't. It forgets what it asks, and its firsts keep no more room than they need.
 fn rest(entry: &mut Entry)
     ensures { IsRested entry.old entry.new }
 {
@@ -213,7 +213,7 @@ fn rest(entry: &mut Entry)
     }
 }
 
-// Sets all entries at rest. Those before this place are so already.
+// Marks all entries as fixpoints. Those before this place are marked already.
 fn rest_all(entries: &mut Vec<Entry>, first: usize)
     requires within { first ≤ length entries.old.items }
     requires at_rest { (j : ℕ) (e : Entry) → j < first → slice_get entries.old.items j ≡ Some e → e.rounds ≡ None }

@@ -1,4 +1,4 @@
-//! What an entry asks.
+//! The pairs that an entry depends on.
 ghost use Rattle.std.specs.Prelude.{◌≡◌, ◌+◌, ◌<◌, ◌^◌, IsFalse, ℕ, List, [], map, filter, length, slice_get, Some, Contains, IsSomeAnd, IfSome, IfOk, OnOk};
 ghost use Rattle.std.specs.List.Sorted.{IsStrictlyIncreasing};
 ghost use Rattle.tp_base.specs.Classes.{has_class, union_of};
@@ -219,8 +219,9 @@ fn asks_other(system: &IndexedSystem, fresh: &[First], k: u64) -> bool
     k == 0 || system.is_asking_by(fresh)
 }
 
-/// What an entry asks in its last round: from which place on its firsts are of this round, and where what it asks stands, if that
-/// was looked for anew. Of what it asks, the atoms count whose first round is one from `from` on.
+/// What an entry depends on in its last round. `place` is where its firsts of this round begin. `anew` has the places of the
+/// entries that it asks, where these were looked up anew. Of these entries the atoms count whose first round is `from` or
+/// later.
 #[derive(Drop)]
 pub(crate) struct Asked {
     pub(crate) place: usize,
@@ -238,8 +239,8 @@ pub(crate) fn asked_places<'a>(anew: &'a Option<Vec<usize>>, old: &'a [usize]) -
     }
 }
 
-/// What the entry asks in the round k, its last one. Pairs that are new are added. Where what is new of the label asks nothing else
-/// than before, neither the rest of it is looked at nor a pair searched for.
+/// What the entry depends on in the round k, its last one. New pairs are added. Where fresh atoms ask nothing else than
+/// before, neither the rest of the label is looked at nor a pair searched for.
 pub(crate) fn asked_by(
     alloc: Global,
     system: &IndexedSystem,

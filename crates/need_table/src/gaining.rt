@@ -1,4 +1,4 @@
-//! One round more of an entry.
+//! One iteration of an entry: what its label gains in the next round.
 ghost use Rattle.std.specs.Prelude.{◌≡◌, ◌+◌, ◌<◌, ◌^◌, ℕ, suc, map, slice_get, Some, Contains, IsSomeAnd, OnOk};
 ghost use Rattle.std.specs.List.{flat_map};
 ghost use Rattle.std.specs.List.Sorted.{IsStrictlyIncreasing};
@@ -133,7 +133,7 @@ fn gained(
     Ok(())
 }
 
-/// Gives an entry one round more than k, its last one, and tells those whom that concerns.
+/// Computes round k + 1 of an entry, where k is its last round, and enters those that depend on it into the worklist.
 pub(crate) fn step(
     system: &IndexedSystem,
     table: &mut Table,

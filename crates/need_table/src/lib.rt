@@ -1,4 +1,4 @@
-//! A table of what is known of pairs, pair by pair.
+//! Summaries by a worklist over a table of pairs: the engine of `--plain`.
 #![tactic(auto)]
 
 mod agenda;

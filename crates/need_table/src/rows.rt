@@ -1,4 +1,4 @@
-//! Rows of places.
+//! Rows of places, by number.
 ghost use Rattle.std.specs.Prelude.{◌≡◌, ◌≢◌, ◌<◌, ◌++◌, ◌∷◌, [], ℕ, List, None, length, IfSome, IsTrue, OnOk};
 ghost use Rattle.need_table.specs.Rows.{row_in, IsAdded};
 
@@ -21,7 +21,7 @@ impl Model for Rows {
 }
 
 impl Rows {
-    /// No row.
+    /// No rows.
     pub(crate) fn new(alloc: Global) -> Rows
         ensures { result ≡ [] }
     {

@@ -1,4 +1,4 @@
-//! From a question to a table at rest.
+//! From a question to the fixpoint of all pairs that it needs.
 ghost use Rattle.std.specs.Prelude.{◌≡◌, ◌<◌, [], ℕ, List, map, length, slice_get, Contains, IsSomeAnd, IfOk, OnOk};
 ghost use Rattle.simple_core.specs.Pairs.{Pair, Needed, HasMore};
 ghost use Rattle.need_table.specs.Tables.{pair_of, IsTable, IsMore, AreNeeded, AllRest};
@@ -40,7 +40,7 @@ fn settle(
     Ok(())
 }
 
-/// Adds the pair with all that it needs, and sets the table at rest.
+/// Adds the pair with all pairs that it needs, and computes their fixpoint.
 pub(crate) fn fill(
     alloc: Global,
     system: &IndexedSystem,

@@ -1,4 +1,4 @@
-//! Summaries in a table of pairs, with a limit on them.
+//! Summaries in a table of pairs, with a limit on their number.
 ghost use Rattle.std.specs.Prelude.{◌≡◌, ◌↔◌, ◌<◌, ◌^◌, ◌∷◌, [], List, length, None, Contains, All, IfOk, OnOk, OnErr, IfSome, IsSome, IsErrOf};
 ghost use Rattle.simple_core.specs.Systems.{IsSound};
 ghost use Rattle.simple_core.specs.Firsts.{AreFirsts};
@@ -21,15 +21,16 @@ struct Question {
     parent: ClassSet,
 }
 
-/// A table of pairs, at most so many. It answers what it knows, and works out what it doesn't. A new pair has a turn, and then
-/// one in each round after one in which its label, or one that it asks or asked, got an atom. A turn costs a look at what is new
-/// of the label and at the rules that need that, and at the pairs that it asks and what is new of these; where it brings atoms, a
-/// search of the label for each of them, or a copy of the label where they are many, and a look at each pair that asks it, too.
-/// Where what is new of the label makes it ask something else, all of it and all atoms of what it asks then are looked at. Where
-/// it asks new pairs, it waits for them and is made again, which costs a step for each round so far besides.
-/// A pair is found by a number that is worked out of its atoms, so that a look for its entry is linear in these, on average. The
-/// first round of an atom at an entry costs a search of the label, and where the label has it, a look at the atoms that came before.
-/// All visible atoms of a pair cost a look for its entry and at each atom of its label.
+/// Summaries in a table of pairs, of which there are at most so many. It answers what it knows and computes what it doesn't.
+/// A new pair is computed once, and then in each round after one in which its label, or that of a pair that it asks or
+/// asked, got an atom. Such a turn costs a look at the fresh atoms of the label, at the rules that need these, at the pairs
+/// that it asks, and at their fresh atoms. Where it brings atoms, it also costs a search of the label for each, or a copy of
+/// the label where they are many. Then each pair that depends on it costs a look, too. Where fresh atoms of the label ask
+/// something else, the whole label is looked at, and all atoms of what it asks then. Where it asks new pairs, it waits for
+/// them and is computed again, which costs a step for each round so far. A pair is found by a hash of its atoms, so that a
+/// look for its entry is linear in these, on average. The first round of an atom costs a search of the label, and a look at
+/// the atoms before it where the label has it. All visible atoms of a pair cost a look for its entry and at each atom of its
+/// label.
 #[derive(Drop)]
 pub struct PlainSummaries<'a> {
     system: IndexedSystem<'a>,

@@ -1,4 +1,4 @@
-//! A turn of an entry that is due.
+//! One step of the worklist: an entry that is due is computed again.
 ghost use Rattle.std.specs.Prelude.{◌≡◌, ◌⊎◌, ◌<◌, ◌+◌, ◌++◌, ◌∷◌, [], ◌^◌, ℕ, suc, List, length, slice_get, Some, false, Contains, IsTrue, IsSomeAnd, IfOk, OnOk};
 ghost use Rattle.simple_core.specs.Pairs.{Pair, Needed, HasMore};
 ghost use Rattle.need_table.specs.declared.entries.Entry.{Entry};
@@ -15,7 +15,7 @@ use rule_index::IndexedSystem;
 use simple_core::GainFault;
 use std::alloc::Global;
 
-// Whether there is an entry at i that isn't at rest, and no round after k was worked out for it.
+// Whether there is an entry at i that is no fixpoint yet, and no round after k was computed for it.
 fn is_behind(entries: &[Entry], i: usize, k: u64) -> bool
     ensures yes { IsTrue result → IsSomeAnd (slice_get entries.now i) (λ e. IsBehind e.rounds k) }
     ensures no { result ≡ false → (e : Entry) → slice_get entries.now i ≡ Some e → IsDone e.rounds (suc k) }
@@ -61,7 +61,7 @@ fn turn(
     Ok(())
 }
 
-/// Does the next thing that is due in the round k, an entry's turn, and answers the round with which to go on.
+/// Takes one entry from the worklist of round k and computes it, and answers the round with which to go on.
 pub(crate) fn advance(
     alloc: Global,
     system: &IndexedSystem,

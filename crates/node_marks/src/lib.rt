@@ -1,4 +1,4 @@
-//! Sets of a tree's nodes as marks, and what is made of one set by a step up or down, for all nodes at once.
+//! Sets of a tree's nodes as bit vectors by node number. A step up or down maps one set to another, for all nodes at once.
 #![tactic(auto)]
 
 mod marks;

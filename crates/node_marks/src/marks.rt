@@ -1,4 +1,4 @@
-//! A mark for each node of a tree.
+//! A set of nodes as one bit for each node of a tree.
 ghost use Rattle.std.specs.Prelude.{◌≡◌, IfOk};
 ghost use Rattle.node_marks.specs.Marks.{mark};
 
@@ -21,7 +21,7 @@ impl Model for Marks {
 }
 
 impl Marks {
-    /// These marks. Constant.
+    /// The set with these marks. Constant.
     pub fn new(items: Vec<bool>) -> Self
         ensures { result ≡ items.items }
     {
@@ -45,7 +45,7 @@ impl Marks {
         }
     }
 
-    /// The same set once more.
+    /// A copy of the set.
     pub fn copy(&self) -> Result<Marks, NoMemory>
         ensures { IfOk result (λ m. m ≡ self.now) }
     {

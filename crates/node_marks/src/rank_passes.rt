@@ -1,4 +1,5 @@
-//! Passes over a number for each of a tree's nodes: the least of those at nodes above or below. A number past all nodes is none.
+//! Passes over a number for each node: the least one among its ancestors or its descendants. A number past all nodes stands
+//! for none.
 ghost use Rattle.std.specs.Prelude.{◌≡◌, ◌↔◌, ◌⊎◌, ℕ, ◌<◌, ◌≤◌, nat_lt, min, true, ◌&&◌, length, get_or, replicate, set, if◌then◌else◌, IfOk, IsTrue};
 ghost use Rattle.node_marks.specs.Marks.{mark};
 ghost use Rattle.node_marks.specs.Numbering.{parent_number, AreAbove};

@@ -1,4 +1,4 @@
-//! The least numbers of nodes above or below each node of a tree.
+//! For each node the least numbered node of a set above or below it.
 ghost use Rattle.std.specs.Prelude.{◌<◌, ◌⊎◌, ◌↔◌, ℕ, IfOk, IsTrue};
 ghost use Rattle.tree_sem.specs.Nodes.{IsNode};
 ghost use Rattle.node_marks.specs.Marks.{IsMarked, IsSetOf, HasParentIn, HasAncestorIn, HasChildIn, HasDescendantIn, HasOtherIn};
@@ -25,21 +25,21 @@ impl<'a> NumberedTree<'a> {
         Ok(Ranks::new(passes::chosen(self.allocator(), self.count(), set.items(), ranks.items())?))
     }
 
-    /// That of the parent.
+    /// For each node the number of its parent.
     pub fn ranks_below(&self, ranks: &Ranks) -> Result<Ranks, NoMemory>
         ensures { IfOk result (λ m. AreRanked self.now m (λ k v. IsNode self.now v × HasParentIn (IsUnder self.now k ranks.now) v)) }
     {
         Ok(Ranks::new(passes::below(self.allocator(), self.parents(), ranks.items())?))
     }
 
-    /// The least one of the nodes above.
+    /// For each node the least number of the nodes above it.
     pub fn ranks_far_below(&self, ranks: &Ranks) -> Result<Ranks, NoMemory>
         ensures { IfOk result (λ m. AreRanked self.now m (λ k v. IsNode self.now v × HasAncestorIn (IsUnder self.now k ranks.now) v)) }
     {
         Ok(Ranks::new(passes::far_below(self.allocator(), self.parents(), ranks.items())?))
     }
 
-    /// The least one of the children.
+    /// For each node the least number of its children.
     pub fn ranks_over(&self, ranks: &Ranks) -> Result<Ranks, NoMemory>
         ensures { IfOk result (λ m. AreRanked self.now m (λ k. HasChildIn (IsUnder self.now k ranks.now))) }
     {
@@ -53,7 +53,7 @@ impl<'a> NumberedTree<'a> {
         Ok(Ranks::new(passes::far_over(self.allocator(), self.parents(), ranks.items())?))
     }
 
-    /// That of the first node from each one upward, itself first, that is in the set.
+    /// For each node the number of the nearest one upward, itself first, that is in the set.
     pub fn nearest_ranks(&self, ranks: &Ranks, set: &Marks) -> Result<Ranks, NoMemory>
         ensures { IfOk result (λ m. AreRanked self.now m (λ k v. IsNode self.now v × HasNearestIn (IsMarked self.now set.now) (IsUnder self.now k ranks.now) v)) }
     {

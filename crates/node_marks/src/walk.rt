@@ -1,4 +1,4 @@
-//! The columns of a numbered tree, filled by one walk.
+//! One walk that fills the columns of a numbered tree.
 ghost use Rattle.std.specs.Prelude.{◌≡◌, ◌<◌, [], ◌∷◌, ◌++◌, length, take, map, get_or, OnOk};
 ghost use Rattle.node_marks.specs.Numbering.{number_above, last_step};
 
@@ -6,8 +6,8 @@ use crate::passes::number_at;
 use std::alloc::Global;
 use tp_base::{ClassSet, NoMemory, Path};
 
-/// What is known of the nodes that a walk has come to, by their numbers, and the numbers of the nodes on the way to
-/// the last of them and of itself.
+/// The columns of the nodes that a walk has reached, by their numbers. Also the numbers of the nodes on the way to the last
+/// of them, and of itself.
 #[derive(Drop)]
 pub struct Walk<'a> {
     pub parents: Vec<usize>,

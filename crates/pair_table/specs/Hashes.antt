@@ -1,4 +1,4 @@
--- A hash of a kind and a label.
+-- The hash of a pair of a kind and a label.
 use Rattle.std.specs.Prelude.{ℕ, ◌*◌, ◌%◌, ◌^◌, List, fold, bit_xor}
 
 -- one number more, by the prime of the 64-bit FNV hash

@@ -1,4 +1,4 @@
-//! Rows by a kind and a label, each found by a hash of the two.
+//! A hash table whose keys are pairs of a kind and a label.
 #![tactic(auto)]
 
 mod pairs;

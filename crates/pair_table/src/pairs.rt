@@ -1,4 +1,4 @@
-//! Pairs of a kind and a label.
+//! The hash of a pair of a kind and a label, and whether two labels are equal.
 ghost use Rattle.std.specs.Prelude.{◌≡◌, ◌↔◌, IsTrue};
 ghost use Rattle.pair_table.specs.Hashes.{hash_of};
 

@@ -1,4 +1,4 @@
-//! Rows in the order in which they were put, each found by its pair.
+//! Rows in the order of their insertion, with a hash index over their pairs.
 ghost use Rattle.std.specs.Prelude.{◌≡◌, ◌↔◌, ◌<◌, ◌∷◌, ◌++◌, [], Some, map, take, length, slice_get, Contains, IsTrue, IsNone, IfSome, IfOk, OnOk, OnErr};
 ghost use Rattle.pair_table.specs.declared.table.Row.{Row};
 ghost use Rattle.pair_table.specs.Rows.{pair_of, IsRowOf, NoneAt};
@@ -37,7 +37,7 @@ impl<V> Model for PairTable<V> {
 }
 
 impl<V: Drop> PairTable<V> {
-    /// No row.
+    /// An empty table.
     pub fn new(alloc: Global) -> Self
         ensures { result ≡ [] }
     {

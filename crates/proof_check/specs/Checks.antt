@@ -1,4 +1,4 @@
--- The test of a proof, as truth values.
+-- The check of a proof, as a Boolean function.
 --     is_valid system page proof target      true exactly where the proof is valid for the target
 use Rattle.std.specs.Prelude.{ℕ, suc, min, Bool, true, false, not, is_some, ◌==◌, ◌&&◌, ◌||◌, nat_lt, List, [], ◌∷◌, ◌++◌, length, find, Option, Some, None, slice_get}
 use Rattle.tp_base.specs.Classes.{has_class, all_among}

@@ -1,4 +1,4 @@
--- The numbers of steps that entries keep.
+-- The counts of steps that entries keep.
 use Rattle.std.specs.Prelude.{ℕ, List, option_map, unwrap_or, slice_get}
 use Rattle.proof_check.specs.declared.proofs.Entry.{Entry}
 

@@ -1,4 +1,4 @@
--- What the items of a proof do to a page, in their order.
+-- The unfolding of a proof: the steps of its items, in their order.
 --     unfolded system proof page target     the steps, and the node at which the walk from the root for the target ends
 --     proof_steps system proof               how many steps there are
 use Rattle.std.specs.Prelude.{ℕ, zero, suc, ◌+◌, ◌==◌, Bool, false, if◌then◌else◌, List, [], ◌∷◌, ◌++◌, length, find, sum_by, Option, Some, None, option_map, option_and_then, unwrap_or, slice_get, bytes_eq}

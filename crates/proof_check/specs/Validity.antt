@@ -1,4 +1,4 @@
--- Proofs that hold.
+-- Valid proofs.
 --     IsValid system page proof target       the proof shows that the page's root gets the target
 use Rattle.std.specs.Prelude.{◌≡◌, ◌⊎◌, ℕ, suc, ◌<◌, min, ◌==◌, IsTrue, IsSome, IsSomeAnd, List, [], ◌∷◌, ◌++◌, map, length, find, filter, All, Contains, Option, Some, None, option_map, unwrap_or, slice_get, bytes_eq}
 use Rattle.tree_sem.specs.Trees.{LabelTree, node_at, label_at}

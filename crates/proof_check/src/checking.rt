@@ -1,4 +1,4 @@
-//! The test of a whole proof.
+//! The check of a whole proof.
 ghost use Rattle.std.specs.Prelude.{◌≡◌, ◌==◌, ◌&&◌, ◌↔◌, IsTrue, IfOk, slice_get};
 ghost use Rattle.tp_base.specs.Classes.{has_class};
 ghost use Rattle.proof_check.specs.Checks.{is_some_and, is_valid};

@@ -1,4 +1,4 @@
-//! Whether the entries of a proof hold.
+//! The check of a proof's entries.
 ghost use Rattle.std.specs.Prelude.{◌≡◌, ℕ, ◌==◌, ◌&&◌, [], List, min, length, slice_get, Some, None, IsTrue, IfOk, OnOk, IfErr};
 ghost use Rattle.tp_base.specs.Classes.{has_class};
 ghost use Rattle.simple_core.specs.Systems.{kind_label};

@@ -1,4 +1,4 @@
-//! Which atoms are known of which nodes.
+//! The atoms that the items so far prove of each node.
 ghost use Rattle.std.specs.Prelude.{◌≡◌, ℕ, ◌==◌, ◌&&◌, if◌then◌else◌, Some, OnOk, unwrap_or, false, None};
 ghost use Rattle.proof_check.specs.Firsts.{first_in};
 
@@ -19,7 +19,7 @@ pub struct Firsts {
 }
 
 impl Firsts {
-    /// None yet. Constant.
+    /// An empty table. Constant.
     pub fn new(alloc: Global) -> Firsts
         ensures { (n a : ℕ) → first_in result n a ≡ None }
     {

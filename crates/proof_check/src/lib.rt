@@ -1,4 +1,4 @@
-//! Proofs that a selector is used: what they are, whether they hold, and how many steps they have.
+//! Proofs as certificates that a selector is used: their types, their check and the count of their steps.
 #![tactic(auto)]
 
 mod checking;

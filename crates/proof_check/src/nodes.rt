@@ -1,4 +1,4 @@
-//! The nodes of items, by numbers.
+//! The nodes of items, numbered.
 ghost use Rattle.std.specs.Prelude.{◌≡◌, IfOk};
 ghost use Rattle.proof_check.specs.Nodes.{number_in, HasAll};
 

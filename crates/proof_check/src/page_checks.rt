@@ -1,4 +1,4 @@
-//! Whether the items of a page hold.
+//! The check of a proof's items at nodes of the page.
 ghost use Rattle.std.specs.Prelude.{◌≡◌, ℕ, ◌==◌, ◌&&◌, [], Some, IfOk, length, is_some, slice_get, IsTrue, true, false, unwrap_or};
 ghost use Rattle.tp_base.specs.Classes.{has_class};
 ghost use Rattle.tree_sem.specs.Trees.{label_at, node_at};
@@ -44,7 +44,7 @@ pub fn page_holds(items: &[PageItem], ground: &Ground<'_>, target: Atom) -> Resu
     Ok(node_gives(ground.nodes, &known, &root, target))
 }
 
-/// Whether the item holds after those of which the table knows, which gets it too.
+/// Whether the item holds after those before it, whose atoms the table has. The table gets its atom, too.
 pub fn item_placed(
     item: &PageItem,
     ground: &Ground<'_>,

@@ -1,4 +1,4 @@
-//! Whether the premises of an item are known.
+//! Whether the premises of an item are proved before it.
 ghost use Rattle.std.specs.Prelude.{◌≡◌, ◌==◌, ◌&&◌, slice_get};
 ghost use Rattle.proof_check.specs.Checks.{is_some_and, is_inside};
 ghost use Rattle.proof_check.specs.Firsts.{first_in, all_known, named_by, below_by, spawn_by, grown_by, alone_at};

@@ -1,4 +1,4 @@
-//! Proofs that the root of a page gets an atom.
+//! The types of a proof that the root of a page gets an atom.
 use tp_base::{Atom, ClassSet, Items, Path};
 
 /// The child of a `down` link: a child of the page by its number, or the child that a spawn rule adds, with its entry.
@@ -8,7 +8,7 @@ pub enum Below {
     Grown(u64, u32),
 }
 
-/// Why a node has an atom: from the start, or by a rule of this number.
+/// The reason why a node has an atom: from the start, or by a rule of this number.
 #[derive(Clone, Copy, Debug, PartialEq, Eq)]
 pub enum Reason {
     Start,
@@ -27,7 +27,8 @@ pub struct ProofItem {
 /// Items at one node, in their order. A contract sees the list of them.
 pub type ProofItems = Items<ProofItem>;
 
-/// What a node of a kind gets below a parent that has the atoms of `parent`, and in how many steps.
+/// An entry: what a node of a kind gets below a parent that has the atoms of `parent`, and in how many steps. It may be used
+/// many times.
 #[derive(Drop)]
 pub struct Entry {
     pub kind: u32,

@@ -1,4 +1,4 @@
--- What comes to added nodes, each with its first round.
+-- The visible atoms of added nodes, with their first rounds.
 --     AreArrivals visible labels items     the items are the visible atoms that come, with their first rounds, in the order of these
 --     CameBy items k a                     the atom is there by the round
 use Rattle.std.specs.Prelude.{◌≡◌, ℕ, ◌≤◌, List, Contains}

@@ -1,4 +1,4 @@
--- A proof, made from the worklist.
+-- The construction of a proof from the worklist.
 --     IsNumbered        an order has the triples that are named, each once, and is that of a proof's entries
 --     IsMakeable n      a proof can be made from the worklist
 --     IsMade            an entry has the items of a triple

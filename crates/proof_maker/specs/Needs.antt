@@ -1,4 +1,4 @@
--- The proof of an atom at the root of a page: what it needs, and nothing else.
+-- The canonical proof of an atom at the root: what it needs, and nothing else.
 --     Needed s page target spot a the proof of the target needs the atom a at the spot
 --     Used s page target t        it uses the triple
 --     IsCanonical                 the proof has exactly what is needed, in its order, and one entry for each triple that is named

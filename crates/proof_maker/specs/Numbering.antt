@@ -1,4 +1,4 @@
--- Numbers for what is named: each after those that it names, in their order, and once.
+-- A numbering in topological order: each item after those that it names, and once.
 --     Post names seen ts out     with these numbered, the walk through ts leaves those numbered
 use Rattle.std.specs.Prelude.{ℕ, List, [], ◌∷◌, ◌++◌, Contains}
 

@@ -1,4 +1,4 @@
--- What is remembered of added nodes.
+-- The memo of added nodes.
 --     IsPlaceMemo s rows     each row has what is told of its pair of a kind and a parent's visible label
 use Rattle.std.specs.Prelude.{List, Contains}
 use Rattle.pair_table.specs.declared.table.Row.{Row}

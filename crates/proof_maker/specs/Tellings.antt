@@ -1,4 +1,4 @@
--- What is told of an added node.
+-- What summaries tell of an added node.
 --     AreIdle s labels n     none of the first n spawn rules has its atom in any of the labels
 --     IsTold s labels told   the visible atoms that come, and spawn rules whose atom never does
 use Rattle.std.specs.Prelude.{◌≡◌, ℕ, ◌<◌, false, List}

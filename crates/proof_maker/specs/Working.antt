@@ -1,4 +1,4 @@
--- The worklist as the code has it.
+-- The worklist of a proof, as the code keeps it.
 --     IsWorking s page known n    what it has is what is needed
 --     IsStart, IsDone             its beginning and its end
 use Rattle.std.specs.Prelude.{◌≡◌, ℕ, ◌≤◌, [], length, Some, slice_get}

@@ -1,4 +1,4 @@
--- The worklist: what is needed, and for the first of it the reason that was looked at.
+-- The worklist of a proof: what is needed, and the reasons that were looked at so far.
 --     IsDraft                    it is the chosen reason of what is wanted
 --     IsFollowed                 the premises of a reason are wanted
 --     IsUserAt, IsAboveAt        a spot has the node of a triple as a child, and what the node needs of its parent

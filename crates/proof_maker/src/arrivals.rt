@@ -1,4 +1,4 @@
-//! The visible atoms that come to an added node, each with its first round.
+//! The visible atoms of an added node, each with its first round.
 ghost use Rattle.std.specs.Prelude.{◌↔◌, ℕ, Contains, IfOk};
 ghost use Rattle.std.specs.List.Sorted.{IsStrictlyIncreasing, IsPermutation};
 ghost use Rattle.simple_core.specs.Rounds.{grown};
@@ -25,7 +25,7 @@ impl Model for Arrivals {
 }
 
 impl Arrivals {
-    /// Those that are there by the round, which are the first of the list. It costs a sort of them.
+    /// The atoms that are there by the round, which are the first of the list. It costs a sort of them.
     pub(crate) fn by(&self, alloc: Global, round: u64) -> Result<ClassSet, NoMemory>
         requires { AreByRounds self.now }
         ensures rises { IfOk result IsStrictlyIncreasing }
@@ -59,7 +59,7 @@ fn set_of(atoms: Vec<Atom>) -> Result<ClassSet, NoMemory>
     ClassSet::of(atoms)
 }
 
-/// The visible atoms that come to an added node. The summaries tell all of them at once, and they are sorted.
+/// The visible atoms of an added node. The summaries tell all of them at once, and they are sorted by first round.
 pub(crate) fn arrivals_of<S: Summaries>(
     alloc: Global,
     sums: &S,

@@ -1,4 +1,5 @@
-//! The reason that is chosen for an atom at a place: the first one all of whose premises stand in the round before the atom's first round.
+//! The canonical reason of an atom at a place: the first rule whose premises all stand in the round before the atom's first
+//! round.
 ghost use Rattle.std.specs.Prelude.{◌≡◌, ◌&&◌, ◌-◌, length, find, Contains, IfOk, IfSome, option_map};
 ghost use Rattle.std.specs.List.{flat_map, range_with_len};
 ghost use Rattle.tp_base.specs.Classes.{has_class};

@@ -1,4 +1,4 @@
-//! The entries and the items of a proof, from the orders of wants.
+//! The entries and items of a proof, from the sorted wants.
 ghost use Rattle.std.specs.Prelude.{◌≡◌, ◌<◌, ◌^◌, min, length, map, All, slice_get, option_map, unwrap_or, IfOk};
 ghost use Rattle.proof_check.specs.Kept.{kept_steps};
 ghost use Rattle.proof_check.specs.Unfolding.{items_count};
@@ -18,7 +18,7 @@ use simple_core::System;
 use std::alloc::Global;
 use tp_base::{Atom, NoMemory};
 
-/// The entries of the triples that have numbers, in their order. Linear in all their items, but for look-ups.
+/// The entries of the triples that have numbers, in the order of these. Linear in all their items, but for look-ups.
 pub(crate) fn entries_of(
     alloc: Global,
     needs: &Needs,

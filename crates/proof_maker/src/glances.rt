@@ -1,4 +1,4 @@
-//! What is looked up of one atom.
+//! What one look at an atom finds: its first round and its reason.
 ghost use Rattle.std.specs.Prelude.{◌≡◌, ℕ, List, slice_get, Some, IfOk, OnOk};
 ghost use Rattle.simple_core.specs.Knowledge.{KeepsAsking};
 ghost use Rattle.simple_core.specs.Rounds.{IsFirst};
@@ -17,7 +17,7 @@ use simple_core::Summaries;
 use std::alloc::Global;
 use tp_base::{Atom, ClassSet, NoMemory};
 
-/// What is looked up of an atom: its first round, the reason for it, and for a spawn the visible label in the round before.
+/// What a look at an atom finds: its first round, its reason, and for a spawn the visible label in the round before.
 #[derive(Drop)]
 pub(crate) struct Glance {
     pub(crate) round: u64,

@@ -1,4 +1,4 @@
-//! What is true of canonical proofs.
+//! Laws of canonical proofs.
 ghost use Rattle.std.specs.Prelude.{◌≡◌, ◌<◌, ◌↔◌, length};
 ghost use Rattle.simple_core.specs.Systems.{IsSound};
 ghost use Rattle.proof_check.specs.Validity.{IsValid};
@@ -25,7 +25,7 @@ pub fn canonical_is_one(page: &Tree, system: &System, target: Atom, proof: &Proo
     ensures { proof.now ≡ other.now }
 {}
 
-/// It has more than n entries exactly where the atom uses more than n different triples.
+/// A canonical proof has more than n entries exactly where the atom uses more than n different triples.
 pub fn canonical_length(page: &Tree, system: &System, target: Atom, proof: &Proof, n: u32)
     requires canonical { IsCanonical system.now page.now target proof.now }
     ensures { UsesMore system.now page.now target n ↔ (n < length proof.now.entries) }

@@ -1,4 +1,4 @@
-//! The canonical proof that the root of a page gets an atom: it has what the atom needs and nothing else, in one order.
+//! The canonical proof that the root of a page gets an atom: what the atom needs and nothing else, in one order.
 #![tactic(auto)]
 
 mod arrivals;

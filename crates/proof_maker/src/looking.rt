@@ -1,4 +1,4 @@
-//! Looks at one atom after another, until what each needs is wanted too.
+//! The worklist of a proof: each atom that is wanted is looked at, and its premises are wanted then.
 ghost use Rattle.std.specs.Prelude.{◌≡◌, ◌<◌, [], suc, length, slice_get, Some, unwrap_or, option_map, Contains, IfOk, OnOk, MatchOption};
 ghost use Rattle.tree_sem.specs.Nodes.{HasAtom};
 ghost use Rattle.proof_maker.specs.Needs.{UsesMore};
@@ -164,7 +164,7 @@ fn start(alloc: Global, target: Atom) -> Result<Needs, NoMemory>
     Ok(needs)
 }
 
-/// Everything that the target needs at the page's root; nothing where it uses more triples than the limit.
+/// All that the target needs at the page's root, by a worklist. Nothing where it uses more triples than the limit.
 pub(crate) fn needs_of<S: Summaries>(
     alloc: Global,
     world: &World<'_, S>,

@@ -1,4 +1,4 @@
-//! The canonical proof.
+//! The construction of the canonical proof.
 ghost use Rattle.std.specs.Prelude.{◌≡◌, ◌≤◌, [], length, IfOk, IsErrOf};
 ghost use Rattle.tree_sem.specs.Nodes.{HasAtom};
 ghost use Rattle.simple_core.specs.Systems.{IsSound};
@@ -44,7 +44,7 @@ impl From<NoMemory> for ProveFault {
     }
 }
 
-/// What proofs are made from: a page, a system with its rules looked up, and the page that it closes.
+/// The ground of proofs: a page, a system with its rules indexed, and the closed page.
 #[derive(Clone, Copy)]
 pub struct ProofGround<'a> {
     pub page: &'a Tree,
@@ -53,11 +53,11 @@ pub struct ProofGround<'a> {
     pub closed: &'a Closed,
 }
 
-/// The canonical proof that the page's root gets the target, where it has no more entries than the limit. Each atom that is needed is
-/// looked at once: that costs a look-up of a first round for each premise of the rules that give it, twice at an added node. Where
-/// children of an added node are looked at, the summaries are asked what comes to it, once for each kind and label of a parent, and
-/// that is sorted. For each link from a child that gives the atom, where no child in the page has the link's left side, the visible
-/// part of the label is made, and each spawn rule looked at.
+/// The canonical proof that the page's root gets the target, where it has no more entries than the limit. Each atom that is
+/// needed is looked at once. A look costs a look-up of a first round for each premise of the rules that give the atom, twice
+/// at an added node. Where children of an added node are looked at, the summaries are asked for its atoms, once for each
+/// kind and label of a parent, and these are sorted. A link from a child that gives the atom costs more where no child in
+/// the page has its left side. Then the visible part of the label is made, and each spawn rule is looked at.
 pub fn prove<S: Summaries>(
     alloc: Global,
     page: &Tree,
@@ -89,8 +89,8 @@ pub fn prove<S: Summaries>(
     prove_next(alloc, &ground, sums, &mut memo, target, limit)
 }
 
-/// The same, one proof after another over one system, whose rules are looked up already. What comes to an added node is asked in the
-/// first proof that looks at its children.
+/// The same, proof after proof over one system whose rules are indexed already. The atoms of an added node are asked for in
+/// the first proof that looks at its children, and remembered.
 pub fn prove_next<S: Summaries>(
     alloc: Global,
     ground: &ProofGround<'_>,

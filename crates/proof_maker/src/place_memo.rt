@@ -1,4 +1,4 @@
-//! What comes to added nodes, remembered, so that it is asked once.
+//! A memo of what summaries tell of added nodes.
 ghost use Rattle.std.specs.Prelude.{◌≡◌, ◌<◌, List, length, Some, slice_get, IfOk};
 ghost use Rattle.simple_core.specs.declared.system.System.{System};
 ghost use Rattle.pair_table.specs.declared.table.Row.{Row};
@@ -13,8 +13,8 @@ use std::alloc::Global;
 use std::marker::Model;
 use tp_base::{ClassSet, NoMemory};
 
-/// What the proofs over a system were told of added nodes, so that each is asked for once: a row for each kind below a visible
-/// label, with what is told of it. A contract sees the rows.
+/// A memo of what summaries told of added nodes, so that each is asked for once. It has a row for each kind below a visible
+/// label. A contract sees the rows.
 #[derive(Drop)]
 pub struct PlaceMemo {
     table: PairTable<Told>,
@@ -31,7 +31,7 @@ impl Model for PlaceMemo {
 }
 
 impl PlaceMemo {
-    /// Nothing yet.
+    /// An empty memo.
     pub fn new(alloc: Global) -> PlaceMemo
         ensures { (s : System) → IsPlaceMemo s result }
     {

@@ -1,4 +1,4 @@
-//! What is told of an added node.
+//! What summaries tell of an added node.
 ghost use Rattle.std.specs.Prelude.{◌≡◌, ℕ, false, None, IfOk};
 ghost use Rattle.simple_core.specs.Rounds.{grown, IsFirst};
 ghost use Rattle.proof_maker.specs.Tellings.{AreIdle, IsTold};
@@ -8,8 +8,8 @@ use simple_core::{Summaries, System};
 use std::alloc::Global;
 use tp_base::{Atom, ClassSet, NoMemory};
 
-/// What comes to an added node, and how many spawn rules there are before the first one whose atom may come to it. That they are
-/// no fewer is for time alone.
+/// What summaries tell of an added node: its visible atoms, and how many spawn rules stand before the first one whose atom
+/// it may have. That they are no fewer is for time alone.
 #[derive(Drop)]
 pub(crate) struct Told {
     pub(crate) arrivals: Arrivals,

@@ -1,4 +1,4 @@
-//! A closed page, and the places at which its labels are looked at.
+//! The context of a proof: a closed page with its rules, and the places at which labels are looked at.
 ghost use Rattle.std.specs.Prelude.{◌≡◌, Some, IsSome, IfOk};
 ghost use Rattle.tp_base.specs.Classes.{has_class, all_among};
 ghost use Rattle.tree_sem.specs.Trees.{LabelTree, node_at, label_at};
@@ -18,7 +18,8 @@ use std::alloc::Global;
 use tp_base::{Atom, ClassSet, NoMemory, Path};
 use tree_sem::Tree;
 
-/// A closed page, the rules of its system by what they give, the marks of its visible atoms, and the summaries of its added nodes.
+/// The context of proofs: a closed page, the rules of its system by what they give, the marks of its visible atoms, and the
+/// summaries of its added nodes.
 #[derive(Drop)]
 pub(crate) struct World<'a, S: Summaries> {
     pub(crate) page: &'a Tree,
@@ -29,8 +30,8 @@ pub(crate) struct World<'a, S: Summaries> {
     pub(crate) sums: &'a S,
 }
 
-/// A node of the page, or an added node of a kind below a parent with this visible label, with what is told of it where that was
-/// asked, and the entry of its pair.
+/// A node of the page, or an added node of a kind below a parent with this visible label. An added node comes with the entry
+/// of its pair, and with what summaries told of it where that was asked.
 #[derive(Clone, Copy)]
 pub(crate) enum Place<'a> {
     Node(&'a Path),

@@ -1,4 +1,4 @@
--- Terms added to a disjunction, in an arena.
+-- Terms that are added to a disjunction, in an arena.
 use Rattle.std.specs.Prelude.{ℕ, ◌==◌, if◌then◌else◌, List, [], ◌∷◌, map, Result}
 use Rattle.class_diagrams.specs.References.{Reference}
 use Rattle.class_diagrams.specs.declared.faults.DiagramFault.{DiagramFault}

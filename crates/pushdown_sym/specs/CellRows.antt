@@ -1,4 +1,4 @@
--- The cells of each atom, in a row by their kinds.
+-- The cells of each atom, as a row sorted by kind.
 --     kinds_of row         the kinds of a row, in its order
 --     diagram_in row j     the diagram of a kind, false where there is none
 --     entries_of rows      the cells of all rows, each with its kind and atom

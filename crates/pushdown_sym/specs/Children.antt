@@ -1,4 +1,4 @@
--- The children that links look at, each different one once.
+-- The distinct children that links look at.
 --     child_by cells l c           the child of a spawn, by a link
 --     children_of s cells a        all that the links that give an atom look at, in order
 --     standing_of s cells a        those of them whose diagram isn't false

@@ -1,4 +1,4 @@
--- Ends of links, by atoms.
+-- The index from atoms to the right sides of links.
 --     IsEndNoted m a f g      a was noted for m, and nothing else
 --     AreEndsNoted pairs f g  the second of each pair was noted for the first, and nothing else
 use Rattle.std.specs.Prelude.{◌≡◌, ℕ, List, Contains, ◌⊎◌}

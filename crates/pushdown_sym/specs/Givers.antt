@@ -1,4 +1,4 @@
--- What comes of the rules at places in a list of rules, and which places count.
+-- What the rules at given places of a list come to, and which places count.
 use Rattle.std.specs.Prelude.{◌≡◌, ℕ, ◌≤◌, true, List, [], length, Contains, Some, slice_get, unwrap_or, option_map}
 use Rattle.std.specs.List.Sorted.{IsStrictlyIncreasing}
 use Rattle.simple_core.specs.declared.rules.Spawn.{Spawn}

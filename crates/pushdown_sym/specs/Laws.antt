@@ -1,4 +1,4 @@
--- What cells are.
+-- Laws of cells: what they tell, and that they are ordered.
 --     TellGrown s              a cell holds under a label exactly where a node of its kind, below a parent with that visible label, has the atom
 --     AreOrdered s             every cell is ordered
 --     Tells s branches now k   these diagrams are the cells of round k

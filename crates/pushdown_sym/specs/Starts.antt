@@ -1,4 +1,4 @@
--- Where the numbers of a list that doesn't fall begin.
+-- Where numbers begin in a sorted list.
 use Rattle.std.specs.Prelude.{◌≡◌, ℕ, true, false, nat_lt, List}
 use Rattle.std.specs.List.Sorted.{IsPartitionPoint}
 

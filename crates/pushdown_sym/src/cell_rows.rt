@@ -1,4 +1,4 @@
-//! The cells of one atom.
+//! The cells of one atom, by kind.
 ghost use Rattle.std.specs.Prelude.{◌≡◌, ◌≢◌, ℕ, true, false, ◌==◌, length, if◌then◌else◌, [], Contains, IfOk, IfErr, OnOk, OnErr};
 ghost use Rattle.std.specs.List.Sorted.{IsStrictlyIncreasing};
 ghost use Rattle.class_diagrams.specs.References.{leaf_reference};

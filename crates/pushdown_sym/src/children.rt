@@ -1,4 +1,4 @@
-//! What a node gets from its children.
+//! The terms of a cell from children: each is a composition of a child's cell with those of its parent.
 ghost use Rattle.std.specs.Prelude.{◌≡◌, ◌<◌, ◌≤◌, true, false, [], ◌∷◌, All, map, IfOk};
 ghost use Rattle.std.specs.List.{flat_map};
 ghost use Rattle.std.specs.List.Sorted.{IsStrictlyIncreasing};
@@ -178,7 +178,8 @@ fn add_one(
     }
 }
 
-/// The disjunction so far and the terms of these children, of which those count whose atom a node of the kind may have.
+/// The disjunction so far, joined with the terms of these children. Only children count whose atom a node of the kind may
+/// have.
 pub(crate) fn add_children(
     alloc: Global,
     d: &mut Diagrams,

@@ -1,4 +1,4 @@
-//! For each kind the spawn rules that its nodes may use.
+//! An index of the spawn rules that the nodes of each kind may use.
 ghost use Rattle.std.specs.Prelude.{◌≡◌, ◌==◌, ◌≤◌, ◌<◌, [], ◌∷◌, true, false, length, Contains, IfOk, OnOk};
 ghost use Rattle.std.specs.List.{list_any};
 ghost use Rattle.row_index.specs.Rows.{row_of};
@@ -14,8 +14,8 @@ use tp_base::NoMemory;
 // Where a kind has so many places at most, all of them are noted; the same number as in the contracts.
 const A_FEW: usize = 8;
 
-/// For each kind the places, in a list of spawn rules, of those that a node of the kind may use, in order. Where they are
-/// more than a few, the first ones alone.
+/// An index: for each kind the places of the spawn rules that its nodes may use, in order. Where they are more than a few,
+/// it has the first ones alone.
 #[derive(Drop)]
 pub(crate) struct Doors {
     rows: Index,

@@ -1,4 +1,4 @@
-//! What links may give to a node that makes children.
+//! An index from each atom that spawns a child to the atoms that links give for it.
 ghost use Rattle.std.specs.Prelude.{◌≡◌, ◌<◌, ℕ, [], length, IfSome, IfNone, OnOk};
 ghost use Rattle.row_index.specs.Rows.{row_of};
 ghost use Rattle.pushdown_sym.specs.Ends.{IsEndNoted, AreEndsNoted};
@@ -7,8 +7,8 @@ use std::alloc::Global;
 use std::marker::Model;
 use tp_base::{Atom, ClassSet, NoMemory};
 
-/// For each atom that makes children the ends of the links that look at what a child may have, for each atom up to the
-/// largest that has some. A contract sees the rows, by the atoms.
+/// An index: for each atom that spawns children, the right sides of the links that look at what a child may have. A contract
+/// sees the rows, by the atoms.
 #[derive(Drop)]
 pub struct Ends {
     alloc: Global,
@@ -24,7 +24,7 @@ impl Model for Ends {
 }
 
 impl Ends {
-    /// No end.
+    /// An empty index.
     pub fn new(alloc: Global) -> Self
         ensures { result ≡ [] }
     {

@@ -1,4 +1,4 @@
-//! The cells of the next round.
+//! The equation of a cell: its value in the next round.
 ghost use Rattle.std.specs.Prelude.{◌≡◌, ◌≢◌, ◌<◌, ◌==◌, ℕ, suc, true, false, [], length, IsErrOf, IfOk};
 ghost use Rattle.class_diagrams.specs.References.{Reference};
 ghost use Rattle.class_diagrams.specs.Trees.{leaf};
@@ -26,7 +26,7 @@ use std::alloc::Global;
 use std::marker::Model;
 use tp_base::{Atom, NoMemory};
 
-/// The rules of a system, and where to find those that give an atom. A contract sees the system.
+/// The equations of a system: its rules, with an index of those that give each atom. A contract sees the system.
 #[derive(Drop)]
 pub struct Equations {
     system: System,
@@ -58,10 +58,10 @@ impl Equations {
         })
     }
 
-    /// The cell of a kind and an atom in the round behind `now`. Of the rules that give the atom: a conjunction for each
-    /// atom that a local one needs, for each link from a child a look at each kind of child that may have its left side, and
-    /// a composition for each different pair of a child's diagram and the atom that makes the child. `Round` looks at
-    /// fewer. A cell that holds for every label stays, and costs nothing.
+    /// The next value of a cell, in the round after `now`. It costs a conjunction for each atom that a local rule needs.
+    /// Each link from a child costs a look at each kind of child that may have its left side. Each distinct pair of a
+    /// child's diagram and of the atom that spawns it costs a composition. `Round` looks at fewer. A cell that is true of
+    /// every label stays, and costs nothing.
     pub fn next_cell(
         &self,
         d: &mut Diagrams,
@@ -165,9 +165,9 @@ impl Equations {
         )
     }
 
-    /// The cell behind one that is given with its diagram, where a node of the kind may use the spawn rules at these places
-    /// alone. Besides the compositions, a look at each of these rules for each link from a child that gives the atom. A cell
-    /// that holds for every label costs nothing.
+    /// The next value of a cell whose kind may use the spawn rules at these places alone. Besides the compositions it costs
+    /// a look at each of these rules for each link from a child that gives the atom. A cell that is true of every label
+    /// costs nothing.
     pub(crate) fn next_through(
         &self,
         alloc: Global,
@@ -193,7 +193,7 @@ impl Equations {
         }
     }
 
-    /// The cell behind one that is given with its diagram, where these children serve for it.
+    /// The next value of a cell, where these children serve for it.
     pub(crate) fn next_by(
         &self,
         alloc: Global,
@@ -214,7 +214,7 @@ impl Equations {
     }
 }
 
-/// Whether a diagram is the one that holds for every label. Constant.
+/// Whether a diagram is the one that is true of every label. Constant.
 pub(crate) fn is_whole(d: &Diagrams, f: Ref) -> bool
     requires { IsIn d.now.branches f }
     ensures whole { result ≡ true → tree_at d.now.branches f ≡ leaf true }

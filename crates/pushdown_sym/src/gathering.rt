@@ -1,4 +1,4 @@
-//! The children that links look at and that may be there, each different one once.
+//! The distinct children that a cell's links look at, without those that can't exist.
 ghost use Rattle.std.specs.Prelude.{◌≡◌, fold, [], IfOk, OnOk};
 ghost use Rattle.std.specs.List.{flat_map, list_any};
 ghost use Rattle.pushdown_sym.specs.Children.{standing_by, standing_each, standing_at, same_child, with_child};

@@ -1,4 +1,4 @@
-//! The cells of a system of rules, as diagrams over the visible label of the parent, round by round.
+//! The symbolic pushdown system: for each kind and atom a diagram over the parent's visible label, computed round by round.
 #![tactic(auto)]
 
 mod cell_rows;

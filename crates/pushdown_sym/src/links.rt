@@ -1,4 +1,4 @@
-//! What a node gets from its parent.
+//! The terms of a cell from the parent.
 ghost use Rattle.std.specs.List.{flat_map};
 ghost use Rattle.class_diagrams.specs.Arena.{IsIn, IsArena};
 ghost use Rattle.pushdown_sym.specs.Adding.{Adds, of_up};
@@ -41,7 +41,7 @@ fn add_up_at(
     }
 }
 
-/// The disjunction so far and the terms of the links at these places.
+/// The disjunction so far, joined with the terms of the links at these places.
 pub(crate) fn add_ups(
     d: &mut Diagrams,
     atom: Atom,

@@ -1,4 +1,4 @@
-//! What a node gets from its own atoms.
+//! The terms of a cell from rules that look at one node.
 ghost use Rattle.std.specs.Prelude.{ℕ, true};
 ghost use Rattle.std.specs.List.{flat_map};
 ghost use Rattle.class_diagrams.specs.Trees.{leaf};
@@ -79,7 +79,7 @@ fn add_local_at(
     }
 }
 
-/// The disjunction so far and the terms of the rules at these places.
+/// The disjunction so far, joined with the terms of the rules at these places.
 pub(crate) fn add_locals(
     d: &mut Diagrams,
     now: &Cells,

@@ -1,4 +1,4 @@
-//! The spawn rules by the kinds that they make.
+//! An index from each kind to the spawn rules that make it.
 ghost use Rattle.std.specs.Prelude.{◌≡◌, ℕ, Contains, IfOk};
 ghost use Rattle.std.specs.List.Sorted.{IsStrictlyIncreasing};
 ghost use Rattle.row_index.specs.Rows.{row_of};
@@ -10,7 +10,7 @@ use std::alloc::Global;
 use std::marker::Model;
 use tp_base::NoMemory;
 
-/// For each kind the places, in a list of spawn rules, of those that make it.
+/// An index: for each kind the places of the spawn rules that make it.
 #[derive(Drop)]
 pub(crate) struct Makers {
     places: Index,

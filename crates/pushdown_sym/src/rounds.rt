@@ -1,4 +1,4 @@
-//! The cells of a round, and those behind it.
+//! One iteration of all equations: the cells of a round, and those of the next one.
 ghost use Rattle.std.specs.Prelude.{◌≡◌, ◌<◌, ◌==◌, if◌then◌else◌, length, ℕ, suc, IsErrOf, IfOk, OnOk, OnErr, [], Some, is_some, unwrap_or};
 ghost use Rattle.class_diagrams.specs.References.{Reference};
 ghost use Rattle.class_diagrams.specs.Arena.{tree_at, IsIn, IsArena, StartsWith};
@@ -88,7 +88,7 @@ impl Kept {
     }
 }
 
-/// The equations of a system and the cells of one round. For each kind it is known which spawn rules its nodes may use; where
+/// The equations of a system and the cells of one round. It knows for each kind which spawn rules its nodes may use. Where
 /// they are many, what the links that give an atom look at is found once for all these kinds. A contract sees the system and
 /// the cells.
 #[derive(Drop)]
@@ -137,12 +137,11 @@ impl<'e, 'c> Round<'e, 'c> {
         self.cells.get(kind, atom)
     }
 
-    /// The cell of a kind and an atom in the round behind this one, as `Equations::next_cell` gives it. Where a node of the
-    /// kind may use a few spawn rules alone, each link that gives the atom costs a look at each of them. For all other kinds
-    /// together, each link that gives an atom costs a look at each kind of child that may have its left side, and each cell a
-    /// look at each different pair of a child's diagram and the atom that makes the child. In both ways a cell costs a
-    /// composition for each of these pairs whose atom a node of the kind may have. A cell that holds for every label stays,
-    /// and costs nothing.
+    /// The value of a cell in the next round, as `Equations::next_cell` gives it. Where a node of the kind may use a few
+    /// spawn rules alone, each link that gives the atom costs a look at each of them. For all other kinds together, each
+    /// link costs a look at each kind of child that may have its left side. Then each cell costs a look at each distinct
+    /// pair of a child's diagram and the atom that spawns the child. In both ways a cell costs a composition for each of
+    /// these pairs whose atom a node of the kind may have. A cell that is true of every label stays, and costs nothing.
     pub fn next_cell(
         &mut self,
         d: &mut Diagrams,

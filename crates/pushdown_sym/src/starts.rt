@@ -1,4 +1,4 @@
-//! Where atoms begin in a list that doesn't fall.
+//! Where atoms begin in a sorted list.
 ghost use Rattle.std.specs.Prelude.{◌≡◌, ◌<◌, ◌≤◌, ℕ, suc, true, false, length, get_or};
 ghost use Rattle.std.specs.List.Sorted.{IsNonDecreasing};
 ghost use Rattle.pushdown_sym.specs.Starts.{StartsAt};

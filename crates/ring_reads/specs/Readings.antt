@@ -1,4 +1,4 @@
--- Texts that are always read.
+-- Texts that every reader accepts.
 --     IsRead n e           something is read, and the table then has at most n names
 --     ReadsShortSheets     a short sheet, whatever stands in it
 --     ReadsRingPages       the page of a ring

@@ -1,4 +1,4 @@
-//! Texts that are always read.
+//! Laws on texts that are always read.
 ghost use Rattle.ring_reads.specs.Readings.{ReadsRingPages, ReadsRingSheets, ReadsShortSheets};
 ghost use Rattle.ring_reads.specs.RingScripts.{ReadsClasses, ReadsRingMarkup, ReadsRingRoots};
 ghost use Rattle.ring_reads.specs.RingWords.{ScansRings};

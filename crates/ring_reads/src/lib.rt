@@ -1,5 +1,5 @@
-//! What is known of readings before any reader runs: each short sheet is read, and so are the page and the sheet of each ring,
-//! the words of its script, and what these have in their brackets.
+//! Laws: readers accept each short sheet, the page and the sheet of each ring, the words of its script, and what these have
+//! in brackets.
 #![tactic(auto)]
 
 mod laws;

@@ -1,4 +1,4 @@
-//! Steps of a script's statements, and events, taken one after another.
+//! The replay of steps, and of events, one after another.
 ghost use Rattle.std.specs.Prelude.{◌≡◌, ◌⊎◌, ◌↔◌, ℕ, ◌<◌, ◌≤◌, [], length, take, IsTrue, OnOk, IfErr, IsErrOf};
 ghost use Rattle.tree_sem.specs.Replays.{step_of, IsReplay, IsStep};
 ghost use Rattle.tree_sem.specs.Series.{CanTake, IsIllegalAt, IsFullAt};
@@ -13,9 +13,8 @@ use std::alloc::Global;
 use tp_base::{Atom, NoMemory, Path};
 use tree_sem::{Event, MOST_NODES, ReplayFault, Step, Tree, TreeFault};
 
-/// Takes the steps one after another. It stops at the first one that is not legal in the tree before it, or
-/// that would make too many nodes, and leaves the tree as it was before that step. Each step costs what
-/// `selects` and `act` cost.
+/// Replays the steps one after another. It stops at the first one that isn't legal in the tree before it, or that would make
+/// too many nodes. Then it leaves the tree as it was before that step. Each step costs what `selects` and `act` cost.
 pub fn replay(
     alloc: Global,
     stmts: &[Stmt],
@@ -42,9 +41,9 @@ pub fn replay(
     take_steps(alloc, stmts, tree, steps)
 }
 
-/// Takes the events one after another. It stops at the first one that is not legal in the tree before it, or at a step that
-/// would make too many nodes, and leaves the tree as it was before that event. A step costs what it costs in `replay`; a loss
-/// costs what `take_class` and `cut` of the tree cost, and no memory.
+/// Replays the events one after another. It stops at the first one that isn't legal in the tree before it, or at a step that
+/// would make too many nodes. Then it leaves the tree as it was before that event. A step costs what it costs in `replay`. A
+/// loss costs what `take_class` and `cut` of the tree cost, and no memory.
 pub fn replay_events(
     alloc: Global,
     stmts: &[Stmt],

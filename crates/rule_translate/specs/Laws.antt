@@ -1,4 +1,4 @@
--- What rules and the statements that they come from have in common.
+-- Laws: a rule and its statement select the same nodes and make the same steps.
 --     HoldsWhereSelected t s     the guard of s holds exactly where s selects
 --     AsRules t stmts u          legal steps of the rules make u of t
 --     AsStatements t stmts u     legal steps of the statements do

@@ -1,4 +1,4 @@
-//! The guard of a chain, under the handler that it stands in.
+//! The guard of a chain below the guard of its handler.
 ghost use Rattle.std.specs.Prelude.{◌≡◌, ◌||◌, true, [], IfOk, option_copied, map};
 ghost use Rattle.jq_stmts.specs.Statements.{Root, this};
 ghost use Rattle.jq_sem.specs.Standing.{after, last_first};

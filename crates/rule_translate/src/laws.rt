@@ -1,4 +1,4 @@
-//! What a rule has in common with its statement.
+//! Laws: a rule and its statement select the same nodes and make the same steps.
 ghost use Rattle.jq_stmts.specs.Views.{statement_of, statements_of};
 ghost use Rattle.rule_translate.specs.Laws.{HoldsWhereSelected, AreAlike};
 

@@ -1,4 +1,4 @@
-//! Rules of statements: where a statement selects a node, its guard holds there, and the rule does what the statement does.
+//! The translation of statements to rewrite rules: a rule's guard holds exactly where its statement selects.
 #![tactic(auto)]
 
 mod chains;

@@ -1,4 +1,4 @@
-//! From the fault of a reader to why the run stops.
+//! From the fault of a reader to the reason why a run stops.
 ghost use Rattle.std.specs.Prelude.{◌≡◌, ◌≤◌, length};
 ghost use Rattle.tp_base.specs.declared.places.TheConstants.{MOST_BYTES};
 ghost use Rattle.run_ends.specs.Refusals as refusal;

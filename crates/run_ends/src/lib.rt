@@ -1,4 +1,4 @@
-//! How a run ends: its status, why there is no report, and what is said then.
+//! How a run ends: the exit status, why there is no report, and the line that says so.
 #![tactic(auto)]
 
 mod faults;

@@ -1,4 +1,4 @@
-//! The line that a run says where it ends without its report.
+//! The line of a run that ends without its report.
 ghost use Rattle.std.specs.Prelude.{◌≡◌, ◌++◌, codes, IfOk, OnOk};
 ghost use Rattle.run_ends.specs.Stops as spec;
 

@@ -1,4 +1,4 @@
-//! How a run ends.
+//! Exit statuses.
 ghost use Rattle.std.specs.Prelude.{◌≡◌};
 ghost use Rattle.run_ends.specs.Stops as spec;
 
@@ -18,7 +18,7 @@ pub enum Status {
     ReadFault,
     /// Standard output or standard error took no more.
     WriteFault,
-    /// No memory was to be had.
+    /// There was no memory.
     NoMemory,
     /// The text is written; a selector or a statement is `maybe`, `used-unshown`, `live-unshown` or `spent`.
     Budget,

@@ -1,4 +1,4 @@
-//! Why a run ends, said on standard error.
+//! The line of a stop, written to standard error.
 ghost use Rattle.std.specs.Prelude.{◌≡◌, ◌≤◌};
 ghost use Rattle.tp_io.specs.Sinks.{AddsPrefix};
 ghost use Rattle.run_ends.specs.Stops as spec;

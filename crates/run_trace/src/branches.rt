@@ -1,4 +1,4 @@
-//! Trees after runs with which several lists begin.
+//! A memo of trees after common prefixes of runs.
 ghost use Rattle.std.specs.Prelude.{◌≡◌, ◌<◌, [], length, All, IfOk};
 ghost use Rattle.jq_sem.specs.WholeRuns.{runs_of};
 ghost use Rattle.run_trace.specs.Known.{IsBranch, IsLedBranch};
@@ -34,7 +34,7 @@ impl Branch {
         })
     }
 
-    /// The same branch once more. Linear in the runs and in the tree.
+    /// A copy of the branch. Linear in the runs and in the tree.
     pub fn copy(&self) -> Result<Branch, NoMemory>
         ensures lists { IfOk result (λ b. (b.from ≡ self.now.from) × (b.to ≡ self.now.to)) }
         ensures runs { IfOk result (λ b. b.runs.items ≡ self.now.runs.items) }

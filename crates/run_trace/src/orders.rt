@@ -1,4 +1,4 @@
-//! The answers that show steps, so that those whose runs begin alike stand together.
+//! The order of answers in which common prefixes of their runs stand together.
 use crate::shown::{Task, shown_at};
 use crate::traces::numbers_of;
 use std::alloc::Global;

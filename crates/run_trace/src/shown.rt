@@ -1,4 +1,4 @@
-//! The steps that answers show.
+//! The steps that answers list.
 ghost use Rattle.std.specs.Prelude.{◌≡◌, ℕ, List, ◌++◌, IsTrue, IfSome};
 ghost use Rattle.css_read.specs.Views.{outcome_of};
 ghost use Rattle.jq_sem.specs.WholeRuns.{runs_of};

@@ -1,4 +1,4 @@
-//! Traces that are found together: each run is done once for all lists that begin with the same runs up to it.
+//! Traces that share the runs of their common prefixes.
 ghost use Rattle.std.specs.Prelude.{◌≡◌, ◌⊎◌, ◌≤◌, ℕ, length, get_or, All, None, Some, MatchBool, IsTrue, IfOk, IfSome, OnOk};
 ghost use Rattle.jq_stmts.specs.Views.{statements_of};
 ghost use Rattle.jq_sem.specs.WholeRuns.{runs_of};

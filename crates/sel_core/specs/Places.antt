@@ -1,4 +1,4 @@
--- Where the groups of a selector are placed, from right to left.
+-- The places of a selector's groups, from right to left.
 --     IsUpTo u v                    u is v, or the path of a node above
 --     MatchesNode n s               the selector matches the node
 --     IsLeft n parts joins          what is left of a selector matches some node above; without parts it does

@@ -1,4 +1,4 @@
-//! Selectors: what they ask of a node, and whether they match.
+//! Whether a selector matches a node, and the atoms that a compound asks for.
 #![tactic(auto)]
 
 mod matching;

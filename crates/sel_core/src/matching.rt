@@ -1,5 +1,5 @@
-//! Whether a selector matches a node. It is walked from right to left: compounds that are joined by `>` stand one
-//! above the other, so they are placed as one group, and each group takes the nearest place that fits.
+//! Matching a selector from right to left. Compounds that `>` joins stand one above the other, so they form one group. Each
+//! group takes the nearest place that fits.
 ghost use Rattle.std.specs.Prelude.{◌≡◌, ◌<◌, ◌+◌, ◌↔◌, length, IsTrue, IfNone, IfSome};
 ghost use Rattle.tp_base.specs.Classes.{all_among};
 ghost use Rattle.tree_sem.specs.Nodes.{HasAtoms};
@@ -12,9 +12,9 @@ use sel_text::{Compound, Join, Selector};
 use tp_base::{Atom, ClassSet, Path};
 use tree_sem::{Node, Tree};
 
-/// Whether the selector matches the node at the path; false where no node is there. Each node above is tried for one
-/// group at most, so at most as many compounds are tested as the path's nodes times the longest group, each in the time
-/// of its atoms times the logarithm of a label's.
+/// Whether the selector matches the node at the path; false where no node is there. Each node above is tried for one group
+/// at most. So at most as many compounds are tested as the path's nodes times the longest group. Each test takes the time of
+/// its atoms times the logarithm of a label's.
 pub fn matches(tree: &Tree, at: &Path, s: &Selector) -> bool
     ensures { IsTrue result ↔ Matches tree.now at.now (selector_of s.now) }
 {

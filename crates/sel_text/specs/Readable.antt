@@ -1,4 +1,4 @@
--- Selectors whose text reads as themselves: their atoms are names, each of a kind that has a place in a selector.
+-- Selectors that the grammar reads back from their text: their atoms are names of kinds that selectors ask for.
 use Rattle.std.specs.Prelude.{◌≡◌, ◌⊎◌, ℕ, ◌<◌, List, [], ◌∷◌, length, map, true, false, Option, None, Some, IfSome, Ok, slice_get}
 use Rattle.std.specs.List.{list_all}
 use Rattle.std.specs.Char.{to_ascii_lowercase}

@@ -1,4 +1,4 @@
--- What the calls of the reader return, as the definitions see it.
+-- The results of the parser's calls, as the definitions see them.
 use Rattle.std.specs.Prelude.{◌≡◌, ◌≢◌, ◌<◌, ◌≤◌, List, length, ℕ, Option, None, Some, option_map, Result, Ok, Err}
 use denote.Bor.{Bor}
 use Rattle.tp_base.specs.declared.atoms.AtomKind.TheVariants as kind

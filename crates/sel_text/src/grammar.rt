@@ -1,4 +1,4 @@
-//! What stands where in a selector's text. `to` is the offset of the text's end.
+//! The grammar of a selector's text. `to` is the offset of the text's end.
 ghost use Rattle.std.specs.Prelude.{◌≡◌, ◌≤◌, ◌<◌, length, map, option_map, IfSome, IfOk, IsSome};
 ghost use Rattle.std.specs.List.{prefix_len};
 ghost use Rattle.std.specs.Char.{to_ascii_lowercase};

@@ -1,4 +1,4 @@
-//! Selectors: how they are read and written.
+//! The grammar of selectors: how their text is read and written.
 #![tactic(auto)]
 
 mod bytes;

@@ -1,4 +1,4 @@
-//! Lists of selectors, as a script has them.
+//! Lists of selectors in a script.
 ghost use Rattle.std.specs.Prelude.{◌≡◌, ◌<◌, ◌≤◌, length, map, All, IfOk};
 ghost use Rattle.text_bytes.specs.Rests.{IsRest};
 ghost use Rattle.sel_text.specs.Lists as spec;

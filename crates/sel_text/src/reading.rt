@@ -1,4 +1,4 @@
-//! Reading a selector, from left to right.
+//! The parser of selectors, from left to right.
 ghost use Rattle.std.specs.Prelude.{◌≡◌, ◌≤◌, ◌<◌, length, IfOk, OnOk, IfErr, IfSome, option_map};
 ghost use Rattle.text_bytes.specs.Rests.{IsRest};
 ghost use Rattle.sel_text.specs.Grammar as grammar;

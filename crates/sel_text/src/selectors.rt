@@ -1,4 +1,4 @@
-//! Selectors as they are written: compounds from left to right, and the joins between them.
+//! The syntax tree of a selector: compounds from left to right, with a combinator between each two.
 ghost use Rattle.std.specs.Prelude.{◌≡◌, ◌+◌, [], ◌∷◌, length, IfOk};
 ghost use Rattle.sel_text.specs.Selectors.{simple};
 ghost use Rattle.sel_text.specs.Parts.{selector_from};
@@ -22,7 +22,7 @@ impl Model for Atoms {
 }
 
 impl Atoms {
-    /// These atoms. Constant.
+    /// A list of these atoms. Constant.
     pub fn new(items: Vec<Atom>) -> Self
         ensures { result ≡ items.items }
     {
@@ -36,7 +36,7 @@ impl Atoms {
         &self.items
     }
 
-    /// The same atoms once more, with no room to spare. Linear in their number.
+    /// A copy of the atoms, with no room to spare. Linear in their number.
     pub fn copy(&self) -> Result<Atoms, NoMemory>
         ensures { IfOk result (λ x. x ≡ self.now) }
     {
@@ -54,7 +54,7 @@ pub struct Compound {
 }
 
 impl Compound {
-    /// The same compound once more. Linear in its atoms.
+    /// A copy of the compound. Linear in its atoms.
     pub fn copy(&self) -> Result<Compound, NoMemory>
         ensures { IfOk result (λ x. x ≡ self.now) }
     {
@@ -89,7 +89,7 @@ impl Model for Compounds {
 }
 
 impl Compounds {
-    /// These compounds. Constant.
+    /// A list of these compounds. Constant.
     pub fn new(items: Vec<Compound>) -> Self
         ensures { result ≡ items.items }
     {
@@ -103,7 +103,7 @@ impl Compounds {
         &self.items
     }
 
-    /// The same compounds once more, with no room to spare. Linear in their atoms.
+    /// A copy of the compounds, with no room to spare. Linear in their atoms.
     pub fn copy(&self) -> Result<Compounds, NoMemory>
         ensures { IfOk result (λ x. x ≡ self.now) }
     {
@@ -131,7 +131,7 @@ impl Model for Joins {
 }
 
 impl Joins {
-    /// These joins. Constant.
+    /// A list of these joins. Constant.
     pub fn new(items: Vec<Join>) -> Self
         ensures { result ≡ items.items }
     {
@@ -145,7 +145,7 @@ impl Joins {
         &self.items
     }
 
-    /// The same joins once more. Linear in their number.
+    /// A copy of the joins. Linear in their number.
     pub fn copy(&self) -> Result<Joins, NoMemory>
         ensures { IfOk result (λ x. x ≡ self.now) }
     {
@@ -176,7 +176,7 @@ impl Selector {
         })
     }
 
-    /// The same selector once more, with no room to spare. Linear in its atoms.
+    /// A copy of the selector, with no room to spare. Linear in its atoms.
     pub fn copy(&self) -> Result<Selector, NoMemory>
         ensures { IfOk result (λ s. selector_from s.parts s.joins ≡ selector_from self.now.parts self.now.joins) }
     {

@@ -1,4 +1,4 @@
-//! The text of a selector.
+//! The printer of selectors.
 ghost use Rattle.std.specs.Prelude.{◌≡◌, ◌≤◌, ◌+◌, ◌==◌, ◌++◌, not, length, IfOk, OnOk, slice_get};
 ghost use Rattle.std.specs.List.{flat_map, list_any, prefix_len};
 ghost use Rattle.tp_base.specs.Names.{IsDistinct};

@@ -1,4 +1,4 @@
--- What is left of a text, or of another list, behind a part of it.
+-- Suffixes: what is left of a text or of another list behind a part of it.
 use Rattle.std.specs.Prelude.{◌≡◌, ◌≤◌, ◌-◌, List, length, drop}
 
 -- the rest is the last of the list

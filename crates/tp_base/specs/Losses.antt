@@ -1,4 +1,4 @@
--- What is taken out of a set.
+-- A set without one of its atoms.
 use Rattle.std.specs.Prelude.{ℕ, List, ◌==◌, not, filter}
 
 -- the numbers but x

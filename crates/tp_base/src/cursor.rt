@@ -1,4 +1,4 @@
-//! Places in a text, asked for from its front to its end.
+//! A cursor that walks a text from front to end and gives the places of bytes.
 ghost use Rattle.std.specs.Prelude.{◌≡◌, ◌≤◌, length};
 ghost use Rattle.tp_base.specs.declared.places.TheConstants.{MOST_BYTES};
 ghost use Rattle.tp_base.specs.Cursor.{IsAt};

@@ -1,4 +1,4 @@
-//! Lists within types that a contract looks into.
+//! Lists inside types, which contracts see as lists.
 ghost use Rattle.std.specs.Prelude.{◌≡◌, ◌∷◌, ◌++◌, [], IfOk, OnOk, OnErr};
 
 use crate::no_memory::NoMemory;
@@ -88,7 +88,7 @@ impl<T: Drop> Shared<T> {
         &self.items
     }
 
-    /// The same items once more. Constant: both share them.
+    /// A copy of the items. Constant: both share them.
     pub fn copy(&self) -> Result<Self, NoMemory>
         ensures { IfOk result (λ l. l ≡ self.now) }
     {

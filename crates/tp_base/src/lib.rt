@@ -1,5 +1,5 @@
-//! The words in which trees are described: atoms and the table of their names, class sets, paths, places in a text; and the
-//! lists within types that a contract looks into.
+//! The vocabulary of trees: atoms and the table of their names, class sets, paths and places in a text. Also lists inside
+//! types, which contracts see as lists.
 #![tactic(auto)]
 
 mod atom_table;

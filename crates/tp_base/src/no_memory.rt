@@ -1,8 +1,8 @@
-//! The fault of a call that only lack of memory can refuse.
+//! The fault of a call that can fail for want of memory alone.
 use std::alloc::{AllocError, AllocFailed};
 use thiserror::Error;
 
-/// No memory was to be had.
+/// There was no memory.
 #[derive(Clone, Copy, Debug, PartialEq, Eq, Error)]
 #[error("no memory")]
 pub struct NoMemory;

@@ -1,4 +1,4 @@
-//! Where a node is in a tree: which child to take, level by level, from the root.
+//! The path of a node: which child to take, level by level, from the root.
 ghost use Rattle.std.specs.Prelude.{◌≡◌, ◌<◌, ◌-◌, [], ◌∷◌, ◌++◌, length, take, slice_get, IsNone, IfSome, IfOk, OnOk, OnErr, ◌↔◌};
 
 use crate::no_memory::NoMemory;
@@ -62,7 +62,7 @@ impl Path {
         self.steps.pop()
     }
 
-    /// The same path once more. Linear in its length.
+    /// A copy of the path. Linear in its length.
     pub fn copy(&self) -> Result<Path, NoMemory>
         ensures { IfOk result (λ p. p ≡ self.now) }
     {

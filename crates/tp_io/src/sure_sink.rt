@@ -20,7 +20,7 @@ impl Model for SureSink {
 }
 
 impl SureSink {
-    /// Nothing is written yet. Constant.
+    /// An empty sink. Constant.
     pub fn new(alloc: Global) -> Self
         ensures { result ≡ [] }
     {

@@ -1,4 +1,4 @@
--- What an action makes of a tree, at a node.
+-- The effect of an action on a tree, at a node.
 use Rattle.std.specs.Prelude.{ℕ, List, fold, option_map, unwrap_or}
 use Rattle.tp_base.specs.Classes.{union_of}
 use Rattle.tree_sem.specs.declared.actions.Action.{Action}

@@ -1,4 +1,4 @@
--- A tree that is kept as a table: each node has a number, and its place in the table has its label, its children's numbers and its parent's.
+-- A tree as an arena: each node has a number. At its place stand its label, its children's numbers and its parent's.
 use Rattle.std.specs.Prelude.{◌≡◌, ℕ, zero, suc, ◌<◌, ◌==◌, List, [], ◌∷◌, ◌++◌, if◌then◌else◌, Option, Some, None, option_map, option_and_then, unwrap_or, slice_get}
 use Rattle.tree_sem.specs.Trees.{Row, no_nodes, node, LabelTree, leaf}
 

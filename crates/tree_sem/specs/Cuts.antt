@@ -1,4 +1,4 @@
--- What is cut off a tree.
+-- Losses of a tree: of an atom, or of a node with all below it.
 --     take_class      a node without one of its classes
 --     cut_at          the tree without the node at a path, and without all below it
 use Rattle.std.specs.Prelude.{ℕ, zero, suc, ◌-◌, List, option_map, unwrap_or}

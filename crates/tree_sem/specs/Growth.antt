@@ -1,4 +1,4 @@
--- Trees that grow where they stand.
+-- Growth in place: trees whose nodes keep their paths.
 --     Grows t u       each node of t is a node of u at the same path, with at least its atoms
 use Rattle.std.specs.Prelude.{◌≡◌, ℕ, List, Some, Contains}
 use Rattle.tree_sem.specs.Trees.{LabelTree, node_at}

@@ -1,4 +1,4 @@
--- The table that a `Tree` keeps: a slot for each node, and slots of no node, which are used again.
+-- The table behind a `Tree`: a slot for each node, and free slots.
 use Rattle.std.specs.Prelude.{◌≡◌, ◌≢◌, ◌⊎◌, ℕ, ◌+◌, ◌≤◌, List, [], ◌∷◌, ◌++◌, length, Option, Some, None, option_map, option_and_then, unwrap_or, slice_get}
 use Rattle.std.specs.List.{sum_by}
 use Rattle.std.specs.List.Sorted.{IsStrictlyIncreasing}

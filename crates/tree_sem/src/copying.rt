@@ -1,5 +1,5 @@
-//! Copies of whole trees, node by node in the order of the document: down to the next child that is missing, and up where
-//! none is. The places in both tables are all that is kept of the way.
+//! A copy of a whole tree, node by node in document order. The walk goes down to the next child that is missing, and up
+//! where none is. It keeps one place in each table and no stack.
 ghost use Rattle.std.specs.Prelude.{◌≡◌, ◌+◌, ◌≤◌, ℕ, List, [], Some, IfOk, OnOk, OnErr};
 ghost use Rattle.slab.specs.Slab.{ContainsKey, slab_len};
 ghost use Rattle.tree_sem.specs.Arena.{place_from};

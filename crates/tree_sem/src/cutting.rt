@@ -1,4 +1,4 @@
-//! Nodes that are taken out of the table with all below them. Their slots are used again.
+//! Subtrees that are cut off: their slots in the table become free.
 ghost use Rattle.std.specs.Prelude.{◌≡◌, ◌+◌, ◌<◌, ℕ, List, Some, length, slice_get};
 ghost use Rattle.slab.specs.Slab.{ContainsKey, slab_len};
 ghost use Rattle.tree_sem.specs.Arena.{place_from};

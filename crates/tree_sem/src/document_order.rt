@@ -1,4 +1,4 @@
-//! The nodes of a tree, in the order of the document.
+//! The next node in document order.
 ghost use Rattle.std.specs.Prelude.{◌≡◌, ℕ, [], ◌∷◌, take, IsSome, IfOk, OnOk, OnErr, MatchBool};
 ghost use Rattle.tree_sem.specs.Trees.{node_at};
 ghost use Rattle.tree_sem.specs.Order.{rest_of};

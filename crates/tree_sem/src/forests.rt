@@ -1,4 +1,4 @@
-//! Trees in a row, as an action adds them.
+//! Forests: the trees that an action adds, in their order.
 ghost use Rattle.std.specs.Prelude.{◌≡◌, IfOk};
 
 use crate::label_tree::Tree;
@@ -25,7 +25,7 @@ impl Model for Trees {
 }
 
 impl Trees {
-    /// These trees. Constant.
+    /// A list of these trees. Constant.
     pub fn new(items: Vec<Tree>) -> Self
         ensures { result ≡ items.items }
     {
@@ -39,7 +39,7 @@ impl Trees {
         &self.items
     }
 
-    /// The same trees once more. Linear in their labels and nodes.
+    /// A copy of the trees. Linear in their labels and nodes.
     pub fn copy(&self) -> Result<Trees, NoMemory>
         ensures { IfOk result (λ t. t ≡ self.now) }
     {
@@ -58,7 +58,7 @@ pub struct Forest {
 }
 
 impl Forest {
-    /// The same forest once more. Linear in its labels and nodes.
+    /// A copy of the forest. Linear in its labels and nodes.
     pub fn copy(&self) -> Result<Forest, NoMemory>
         ensures { IfOk result (λ f. f ≡ self.now) }
     {

@@ -1,4 +1,4 @@
-//! One node more in the table of a tree.
+//! One more node in the table of a tree.
 ghost use Rattle.std.specs.Prelude.{◌≡◌, ◌↔◌, ℕ, List, Some, length, IfOk, OnOk, OnErr, IsErrOf};
 ghost use Rattle.slab.specs.Slab.{slab_len};
 ghost use Rattle.tree_sem.specs.Arena.{place_from};

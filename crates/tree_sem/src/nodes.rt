@@ -1,4 +1,4 @@
-//! A node of a tree, from which one goes upward.
+//! A reference to a node of a tree, from which a caller climbs to the root.
 ghost use Rattle.std.specs.Prelude.{◌≡◌, Some};
 ghost use Rattle.tree_sem.specs.Table.{tree_in, IsTable};
 ghost use Rattle.tree_sem.specs.TreeNodes.{node_of, parent_node};
@@ -40,7 +40,7 @@ impl<'a> Node<'a> {
         Some(Node { slots, place })
     }
 
-    /// Its label. Constant.
+    /// The node's label. Constant.
     pub fn label(&self) -> &'a ClassSet
         ensures { Some result.now ≡ label_at self.now.path self.now.tree }
     {
@@ -54,7 +54,7 @@ impl<'a> Node<'a> {
         self.slots[self.place].children.len() as u32
     }
 
-    /// Its parent, which the root alone has not. Constant.
+    /// The node's parent, which the root alone has not. Constant.
     pub fn parent(&self) -> Option<Node<'a>>
         ensures { result ≡ parent_node self.now }
     {

@@ -1,4 +1,4 @@
-//! Why changes that are made one after another come to a stop.
+//! Why the replay of a list of changes stops.
 use thiserror::Error;
 
 /// Why a change of a list was not made. The number is that of the change, counted from 0.

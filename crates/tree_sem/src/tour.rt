@@ -1,4 +1,4 @@
-//! A walk over the nodes of a tree in the order of the document, which keeps its place.
+//! A walk over a tree in document order that keeps its place between calls.
 ghost use Rattle.std.specs.Prelude.{◌≡◌, ℕ, [], ◌∷◌, ◌++◌, take, Some, IfOk, IfSome, IfNone, OnOk, OnErr, MatchBool};
 ghost use Rattle.tree_sem.specs.Nodes.{IsNode};
 ghost use Rattle.tree_sem.specs.Trees.{label_at, children_at};
@@ -55,7 +55,7 @@ impl<'a> Tour<'a> {
         &self.at
     }
 
-    /// That node's label. Constant.
+    /// The label of the node at which the tour stands. Constant.
     pub fn label(&self) -> &'a ClassSet
         ensures { Some result.now ≡ label_at self.now.at self.now.tree }
     {

@@ -1,4 +1,4 @@
-//! A tree that grows at its current node, without a walk from the root.
+//! A tree that grows at its current node, without a descent from the root.
 ghost use Rattle.std.specs.Prelude.{◌≡◌, ◌-◌, ◌↔◌, [], ◌∷◌, ◌++◌, length, take, IsNone, IsSome, IfOk, IfSome, OnOk, OnErr, IsErrOf};
 ghost use Rattle.tree_sem.specs.Actions.{add_classes};
 ghost use Rattle.tree_sem.specs.Nodes.{IsNode};

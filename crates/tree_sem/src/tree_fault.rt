@@ -1,4 +1,4 @@
-//! How many nodes a tree can hold, and why a call on a tree was refused.
+//! The limit on the nodes of a tree, and why a call on a tree fails.
 ghost use Rattle.std.specs.Prelude.{◌≡◌};
 
 use thiserror::Error;

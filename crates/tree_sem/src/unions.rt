@@ -1,4 +1,4 @@
-//! Classes that are added to the labels of many nodes, to all or none.
+//! Atoms that are added to the labels of many nodes: to all of them or to none.
 ghost use Rattle.std.specs.Prelude.{◌≡◌, ℕ, Some, map, All, IfOk, OnOk, OnErr};
 ghost use Rattle.tp_base.specs.Classes.{union_of};
 ghost use Rattle.tree_sem.specs.Actions.{add_classes};

@@ -1,4 +1,4 @@
-//! A triple of files in any size, to measure with: boxes in a ring, each of which gets the next one as a child, again and again.
+//! The generator of rings, to measure with: boxes in a ring, each of which gets the next one as a child.
 #![tactic(auto)]
 
 mod texts;

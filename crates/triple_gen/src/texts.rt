@@ -1,4 +1,4 @@
-//! Text, and the lines of the three files for one box.
+//! The lines of the three files for one box.
 ghost use Rattle.std.specs.Prelude.{◌≡◌, [], ◌++◌, OnOk};
 ghost use Rattle.std.specs.Fmt.{decimal};
 ghost use Rattle.triple_gen.specs.Ring as spec;
@@ -22,7 +22,7 @@ impl Model for Text {
 }
 
 impl Text {
-    /// No bytes.
+    /// An empty text.
     pub fn new(alloc: Global) -> Self
         ensures { result ≡ [] }
     {

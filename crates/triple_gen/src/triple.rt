@@ -1,4 +1,4 @@
-//! The triple of a ring of boxes.
+//! The three files of a ring.
 ghost use Rattle.std.specs.Prelude.{◌≡◌, ◌≤◌, ◌<◌, length, IfOk};
 ghost use Rattle.tp_base.specs.declared.places.TheConstants.{MOST_BYTES};
 ghost use Rattle.triple_gen.specs.Ring as spec;

@@ -1,4 +1,4 @@
--- What is said of a selector.
+-- Answers for selectors.
 use Rattle.std.specs.Prelude.{ℕ, Option}
 use Rattle.sel_text.specs.declared.faults.Skip.{Skip}
 use Rattle.proof_check.specs.declared.proofs.Proof.{Proof}

@@ -1,4 +1,4 @@
-//! What is said of a selector.
+//! The answer for a selector.
 use proof_check::{Proof, Unfolded};
 use sel_text::Skip;
 
@@ -22,7 +22,7 @@ pub enum Answer {
     },
     /// It matches a node after some steps, whose proof is larger than a budget.
     UsedUnshown,
-    /// It matches no node, whatever the steps.
+    /// No steps lead to a node that the selector matches.
     Unused,
     /// It is not judged, for a cause that stands at this offset of the sheet.
     Skipped(Skip, usize),

@@ -1,4 +1,4 @@
-//! Why a report is not written whole.
+//! Why a report isn't written whole.
 use thiserror::Error;
 use tp_base::NoMemory;
 use tp_io::SinkFault;

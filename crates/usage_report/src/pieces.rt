@@ -1,4 +1,4 @@
-//! Pieces of the report: numbers, places and paths.
+//! Pieces of a report: numbers, places and paths as bytes.
 ghost use Rattle.std.specs.Prelude.{◌≡◌, ◌<◌, ◌++◌, [], ◌∷◌, codes, OnOk};
 ghost use Rattle.std.specs.List.{flat_map};
 ghost use Rattle.std.specs.Fmt.{decimal};
@@ -18,7 +18,7 @@ pub struct Piece {
 }
 
 impl Piece {
-    /// No bytes yet.
+    /// An empty piece.
     pub fn new(alloc: Global) -> Self
         ensures { result.bytes.items ≡ [] }
     {
@@ -27,7 +27,7 @@ impl Piece {
         }
     }
 
-    /// These bytes more. Linear in them.
+    /// Appends these bytes. Linear in them.
     pub fn put(&mut self, bytes: &[u8]) -> Result<(), NoMemory>
         ensures { OnOk result (self.new.bytes.items ≡ self.old.bytes.items ++ bytes.now) }
     {

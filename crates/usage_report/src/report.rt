@@ -1,4 +1,4 @@
-//! A report, written to a sink item by item.
+//! The writer of a report, item by item.
 ghost use Rattle.std.specs.Prelude.{◌≡◌, ◌≤◌, [], length, map, None, option_map, IfOk, OnOk, OnErr};
 ghost use Rattle.tp_base.specs.Cursor.{IsAt};
 ghost use Rattle.tp_base.specs.declared.places.TheConstants.{MOST_BYTES};

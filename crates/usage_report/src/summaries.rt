@@ -1,4 +1,4 @@
-//! The line on a ring of boxes, in the place of a report.
+//! The line that counts the answers of a ring.
 ghost use Rattle.std.specs.Prelude.{◌≡◌, ◌++◌, map, IfOk, OnOk, OnErr};
 ghost use Rattle.std.specs.Fmt.{decimal};
 ghost use Rattle.tp_io.specs.Sinks.{Adds, AddsPrefix, Rose};
