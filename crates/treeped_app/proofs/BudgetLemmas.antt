@@ -1,6 +1,6 @@
 -- A status past a budget comes of an answer that is left open, and that of a budget that doesn't suffice, or of steps that may be illegal.
 use Rattle.std.proofs.Common.{if◌then◌else◌, ◌≡◌, ◌⊎◌, ℕ, zero, suc, ◌+◌, ◌<◌, ◌||◌, nat_lt, Bool, true, false, List, [], ◌∷◌, ◌++◌, length, map, take, drop, get_or, Contains, Some, slice_get, refl, sym, ap, ◌∙◌, inl, inr, subst, arith, length-append}
-use Rattle.std.specs.List.{list_any, range_with_len}
+use Rattle.std.specs.List.{list_any}
 use Rattle.std.proofs.lemmas.Bool.{true≢false, cases_Bool, or_cases}
 use Rattle.std.proofs.lemmas.List.{map-append, length-map}
 use Rattle.std.proofs.lemmas.List.Elements.{Contains-append_left, Contains-append_right}
@@ -21,9 +21,9 @@ use Rattle.judge.specs.Goals.{Goal, matching, selecting}
 use Rattle.command_words.specs.declared.words.Mode.{Mode}
 use Rattle.command_words.specs.declared.words.Mode.TheVariants.{Report, Prune, Dead, Runs, Site, SitePrune}
 use Rattle.command_words.specs.Orders.{takes_pages}
-use Rattle.dead_script.specs.Probes.{probe, probes, last_probe, all_probes}
+use Rattle.dead_script.specs.Probes.{probes, last_probe, all_probes}
 use Rattle.dead_script.specs.Verdicts as dead
-use Rattle.dead_script.proofs.ProbeLemmas.{probes_counted}
+use Rattle.dead_script.proofs.ProbeLemmas.{probes_counted, last_probe_at}
 use Rattle.site_judge.specs.Sites as sites
 use Rattle.run_ends.specs.declared.status.Status.TheVariants as status
 use Rattle.treeped_app.specs.Answers.{IsRightFor, AreRightFor, IsRightExactly, AreRightExactly, IsPastBudget}
@@ -36,19 +36,6 @@ budget_open : (a b : Bool) → status_by a b ≡ status.Budget → a ≡ true
 budget_open true b is = refl
 budget_open false true is = cc
 budget_open false false is = cc
-
--- ---- the last probe of a statement stands behind those of its handlers
-
-goal_at : (s : Statement) (k n : ℕ) (others : List Goal) → slice_get (map selecting (map (probe s) (range_with_len k (suc n))) ++ others) n ≡ Some (selecting (probe s (k + n)))
-goal_at s k zero others = ap (λ m. Some (selecting (probe s m))) (omega arith)
-goal_at s k (suc n) others = goal_at s (k + 1) n others ∙ ap (λ m. Some (selecting (probe s m))) (omega arith)
-
-last_at : (s : Statement) (others : List Goal) → slice_get (map selecting (probes s) ++ others) (length s.handlers) ≡ Some (selecting (last_probe s))
-last_at s others =
-    let one_more : length s.handlers + 1 ≡ suc (length s.handlers) = omega arith in
-    ap (λ m. slice_get (map selecting (map (probe s) (range_with_len 0 m)) ++ others) (length s.handlers)) one_more
-    ∙ goal_at s 0 (length s.handlers) others
-    ∙ ap (λ m. Some (selecting (probe s m))) (omega arith)
 
 -- ---- what is left open of a goal is past a budget
 
@@ -108,7 +95,7 @@ module _ (t : LabelTree) (ss : List Statement) (guards : List Guard) (n : ℕ) (
       let right' = subst (λ (z : List Goal). AreRightFor t ss guards n limits z answers) parts right in
       elim (or_cases (dead.is_open (dead.verdict_of (length s.handlers) answers)) (list_any dead.is_open (dead.verdicts stmts (drop (length s.handlers + 1) answers))) is) [
         | inl here ↦
-            let own_right = right_at (own ++ others) answers (length s.handlers) (selecting (last_probe s)) right' (last_at s others) in
+            let own_right = right_at (own ++ others) answers (length s.handlers) (selecting (last_probe s)) right' (last_probe_at selecting s others) in
             elim (own_open (get_or answers (length s.handlers) spent) (dead.dead_behind 0 (take (length s.handlers) answers)) (never_open 0 (take (length s.handlers) answers)) here) [
               | inl open' ↦ goal_open (selecting (last_probe s)) (get_or answers (length s.handlers) spent) (among s (Contains-here s s stmts refl)) own_right open'
               | inr (c, p, same) ↦ absurd (subst (λ (z : Answer). IsRightFor t ss guards n limits (selecting (last_probe s)) z) same own_right)

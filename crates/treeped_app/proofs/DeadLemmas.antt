@@ -1,9 +1,8 @@
 -- What `judge_more` answers for the probes of a script's statements tells whether they are live.
-use Rattle.std.proofs.Common.{ℕ, zero, suc, ◌+◌, ◌<◌, false, List, [], ◌∷◌, length, map, take, Option, Some, None, IfSome, All, Contains, ◌≡◌, slice_get, unwrap_or, refl, sym, subst}
+use Rattle.std.proofs.Common.{ℕ, zero, suc, ◌+◌, ◌<◌, List, [], ◌∷◌, length, map, take, Option, Some, None, IfSome, All, Contains, ◌≡◌, slice_get, unwrap_or, refl, sym, subst}
 use Rattle.std.specs.List.{range_with_len}
 use Rattle.std.proofs.lemmas.List.{map-append}
 use Rattle.std.proofs.lemmas.List.Elements.{All-nil, All-cons, All-append}
-use Rattle.tp_base.proofs.Lists.{at_Contains}
 use Rattle.tp_base.proofs.Rising.{Contains-here, Contains-behind}
 use Rattle.tree_sem.specs.Trees.{LabelTree}
 use Rattle.tree_sem.specs.declared.actions.Step.{Step}
@@ -23,12 +22,9 @@ use Rattle.judge.specs.Goals.{selecting, holding}
 use Rattle.judge.specs.Witnesses.{trace}
 use Rattle.judge.proofs.MeaningLemmas.{same_guard_right}
 use Rattle.judge.proofs.TableLemmas.{rule_over}
-use Rattle.dead_script.specs.DeadStatements.{HasTheLive}
-use Rattle.dead_script.specs.Laws.{LeadsTo, TellsOf, TellOfEach, IsRightVerdict, AreRightVerdicts}
-use Rattle.dead_script.specs.Probes.{probe, probes, all_probes, probe_guards, Live}
-use Rattle.dead_script.specs.Verdicts.{Verdict, live, live_unshown, dead_at_handler, dead_at_target, unknown, is_dead}
+use Rattle.dead_script.specs.Laws.{LeadsTo, TellsOf, TellOfEach}
+use Rattle.dead_script.specs.Probes.{probe, probes, all_probes, probe_guards}
 use Rattle.treeped_app.specs.Answers.{IsRightFor, AreRightFor}
-use Rattle.treeped_app.specs.Laws.{AreWithoutDead}
 
 -- ---- from guards to probes, and from answers to what they tell
 
@@ -92,28 +88,3 @@ module _ (n : ℕ) where
   guards_over (s ∷ stmts) are =
       subst (All (IsOver n)) (sym (map-append guard_of (probes s) (all_probes stmts)))
       (All-append (IsOver n) (map guard_of (probes s)) (map guard_of (all_probes stmts)) (probes_over s (range_with_len 0 (length s.handlers + 1)) are.0) (guards_over stmts are.1))
-
--- ---- what isn't said to be dead has the live ones among it
-
-module _ (t : LabelTree) (stmts : List Statement) where
-  not_dead : (s : Statement) (v : Verdict) → Live t stmts s → IsRightVerdict t stmts s v → is_dead v ≡ false
-  not_dead s (live steps shown) lives right = refl
-  not_dead s live_unshown lives right = refl
-  not_dead s (dead_at_handler k) lives right = absurd (right.0 lives)
-  not_dead s dead_at_target lives right = absurd (right.0 lives)
-  not_dead s unknown lives right = refl
-
-  verdict_at : (ss : List Statement) (vs : List Verdict) (k : ℕ) (s : Statement) → AreRightVerdicts t stmts ss vs → slice_get ss k ≡ Some s → (v : Verdict) × (slice_get vs k ≡ Some v) × IsRightVerdict t stmts s v
-  verdict_at [] vs k s right at = cc
-  verdict_at (x ∷ ss) [] k s right at = absurd right
-  verdict_at (x ∷ ss) (v ∷ vs) zero s right at = let same : x ≡ s = cc in (v, refl, subst (λ (z : Statement). IsRightVerdict t stmts z v) same right.0)
-  verdict_at (x ∷ ss) (v ∷ vs) (suc k) s right at = verdict_at ss vs k s right.1 at
-
-  pub live_left : (said : List Verdict) (left : List Statement) → AreRightVerdicts t stmts stmts said → AreWithoutDead stmts said left → HasTheLive t stmts left
-  live_left said left right without = record {
-    some = without.some;
-    live = λ s there lives.
-        let at = at_Contains stmts s there in
-        let v = verdict_at stmts said at.0 s right at.1 in
-        without.others_dead at.0 s v.0 at.1 v.1 (not_dead s v.0 lives v.2);
-  }

@@ -21,9 +21,9 @@ use Rattle.limits.specs.declared.budgets.Limits.{Limits}
 use Rattle.command_words.specs.declared.words.Mode.{Mode}
 use Rattle.command_words.specs.declared.words.Mode.TheVariants.{Prune, Dead, SitePrune}
 use Rattle.usage_report.specs.Answers.{Answer, unused, spent}
-use Rattle.dead_script.specs.DeadStatements.{DoTheSame}
+use Rattle.dead_script.specs.DeadStatements.{AreWithoutDead, DoTheSame}
 use Rattle.dead_script.specs.Laws.{AreRightVerdicts}
-use Rattle.dead_script.specs.Verdicts.{Verdict, verdicts, is_dead}
+use Rattle.dead_script.specs.Verdicts.{verdicts}
 use Rattle.site_judge.specs.Sites.{Best}
 use Rattle.treeped_app.specs.Modes.{Inputs, Said, AreJudgedOf, AreAnswersOf, site_on, text_on, text_by, text_of, status_of}
 use Rattle.treeped_app.specs.Runs.{Run, IsWhole}
@@ -60,12 +60,8 @@ PlainIsRight = (m : Mode) (limits : Limits) (i : Inputs) (items others : List An
 abbrev pub DeadIsRight : Type 0
 DeadIsRight = (limits : Limits) (i : Inputs) (items others : List Answer) → AreAnswersOf Dead limits i items others → ¬ Contains others spent → AreRightVerdicts i.tree i.stmts i.stmts (verdicts i.stmts others)
 
--- some of the statements are left, with each one that isn't said to be dead among them
-pub record AreWithoutDead (stmts : List Statement) (said : List Verdict) (left : List Statement) : Type 0 where
-  pub some : (s : Statement) → Contains left s → Contains stmts s
-  pub others_dead : (k : ℕ) (s : Statement) (v : Verdict) → slice_get stmts k ≡ Some s → slice_get said k ≡ Some v → is_dead v ≡ false → Contains left s
-
--- Then the same selectors are reached from the page, whatever is lost, and so the same ones are unused.
+-- Without some of the statements that are said to be dead the same selectors are reached from the page, whatever is lost, and so the
+-- same ones are unused.
 abbrev pub DeadDoesNothing : Type 0
 DeadDoesNothing = (limits : Limits) (i : Inputs) (items others : List Answer) → AreAnswersOf Dead limits i items others → ¬ Contains others spent
     → (left : List Statement) → AreWithoutDead i.stmts (verdicts i.stmts others) left → DoTheSame i.tree i.stmts left

@@ -2,10 +2,10 @@ use Rattle.std.proofs.Common.{length}
 use Rattle.command_words.specs.declared.words.Mode.TheVariants.{Dead}
 use Rattle.dead_script.specs.Probes.{all_probes}
 use Rattle.dead_script.specs.Verdicts.{verdicts}
-use Rattle.dead_script.proofs.DeadStatementLemmas.{dead_do_nothing}
+use Rattle.dead_script.proofs.DeadStatementLemmas.{live_left, dead_do_nothing}
 use Rattle.dead_script.proofs.VerdictLemmas.{verdicts_right}
 use Rattle.treeped_app.specs.Modes.{guards_in}
-use Rattle.treeped_app.proofs.DeadLemmas.{all_told, live_left}
+use Rattle.treeped_app.proofs.DeadLemmas.{all_told}
 use Rattle.treeped_app.proofs.laws.dead_does_nothing.Goals as goal
 
 pub returns : goal.returns
