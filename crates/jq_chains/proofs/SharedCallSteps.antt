@@ -1,11 +1,12 @@
 -- Shared calls: one more, how many stand, whether one is of `parents`, and their copies.
-use Rattle.std.proofs.Common.{◌≡◌, ℕ, not, Bool, true, false, ◌||◌, List, [], ◌∷◌, ◌++◌, length, map, reverse, refl, sym, ap, ◌∙◌, nat_lt, arith, append_assoc}
+use Rattle.std.proofs.Common.{◌≡◌, ℕ, zero, suc, ◌-◌, not, Bool, true, false, ◌||◌, List, [], ◌∷◌, ◌++◌, length, map, reverse, refl, sym, ap, ◌∙◌, nat_lt, arith, append_assoc}
 use Rattle.std.proofs.lemmas.Bool.Decides.{nat_tests}
 use Rattle.std.proofs.lemmas.List.{map-append, reverse-append}
 use Rattle.tp_base.proofs.Truths.{or_false}
-use Rattle.jq_stmts.specs.Statements.{Root, Call, matched, back, standing}
+use Rattle.jq_stmts.specs.Statements.{Root, Call, matched, back, set_before, stands}
 use Rattle.jq_stmts.specs.Sharp.{ExactCall, ExactChain, wide_call}
 use Rattle.jq_stmts.specs.Views.{call_of}
+use Rattle.jq_stmts.proofs.BackLemmas.{without_last, back_more, call_more}
 use Rattle.jq_stmts.proofs.SharpLemmas.{wide-with_kind}
 use Rattle.jq_words.specs.Brackets.{is_empty}
 use Rattle.jq_chains.specs.declared.marked_calls.MarkedCall.{MarkedCall}
@@ -29,42 +30,43 @@ judged (c ∷ cs) =
 
 -- ---- how many stand
 
-stand_more : (root : Root) (stack cs : List Call) (c : Call) → length (standing root stack (cs ++ c ∷ [])).1 ≡ and_standing (length (standing root stack cs).1) c
-stand_more root [] [] back = refl
-stand_more root (x ∷ stack) [] back = omega arith
-stand_more root stack [] c = omega arith
-stand_more root [] (back ∷ cs) c = stand_more (matched []) [] cs c
-stand_more root (x ∷ stack) (back ∷ cs) c = stand_more root stack cs c
-stand_more root stack (d ∷ cs) c = stand_more root (d ∷ stack) cs c
+one_less : (root : Root) (calls : List Call) → length (without_last root calls).1 ≡ length calls - 1
+one_less root [] = refl
+one_less root (c ∷ calls) = omega arith
+
+stand_more : (root : Root) (cs : List Call) (c : Call) → length (stands root (cs ++ c ∷ [])).1 ≡ and_standing (length (stands root cs).1) c
+stand_more root cs back = ap (λ (s : Root × List Call). length s.1) (back_more root cs) ∙ one_less (stands root cs).0 (stands root cs).1
+stand_more root cs c = ap (λ (s : Root × List Call). length s.1) (call_more root cs c (λ is. cc)) ∙ omega arith
 
 -- the calls that stand don't depend on the root
-any_root : (root other : Root) (stack cs : List Call) → (standing root stack cs).1 ≡ (standing other stack cs).1
-any_root root other stack [] = refl
-any_root root other [] (back ∷ cs) = refl
-any_root root other (x ∷ stack) (back ∷ cs) = any_root root other stack cs
-any_root root other stack (d ∷ cs) = any_root root other (d ∷ stack) cs
+any_root : (root other : Root) (n : ℕ) (cs : List Call) → (set_before n root cs).1 ≡ (set_before n other cs).1
+any_root root other n (back ∷ cs) = any_root root other (suc n) cs
+any_root root other (suc n) (c ∷ cs) = any_root root other n cs
+any_root root other (suc n) [] = refl
+any_root root other zero (c ∷ cs) = ap (λ calls. c ∷ calls) (any_root root other zero cs)
+any_root root other zero [] = refl
 
 abbrev count : List MarkedCall → ℕ
-count cs = length (standing (matched []) [] (map judged_of cs)).1
+count cs = length (stands (matched []) (map judged_of cs)).1
 
-pub one_standing : (n m : ℕ) (cs : List MarkedCall) (c : MarkedCall) → n ≡ length (standing (matched []) [] (map judged_of cs)).1 → m ≡ and_standing n (call_of c.call)
-    → m ≡ length (standing (matched []) [] (map judged_of (cs ++ c ∷ []))).1
+pub one_standing : (n m : ℕ) (cs : List MarkedCall) (c : MarkedCall) → n ≡ length (stands (matched []) (map judged_of cs)).1 → m ≡ and_standing n (call_of c.call)
+    → m ≡ length (stands (matched []) (map judged_of (cs ++ c ∷ []))).1
 one_standing n m cs c is more =
-    more ∙ ap (λ k. and_standing k (judged_of c)) is ∙ sym (stand_more (matched []) [] (map judged_of cs) (judged_of c))
-    ∙ ap (λ xs. length (standing (matched []) [] xs).1) (sym (map-append judged_of cs (c ∷ [])))
+    more ∙ ap (λ k. and_standing k (judged_of c)) is ∙ sym (stand_more (matched []) (map judged_of cs) (judged_of c))
+    ∙ ap (λ xs. length (stands (matched []) xs).1) (sym (map-append judged_of cs (c ∷ [])))
 
 any_left : (cs : List Call) → not (is_empty cs) ≡ nat_lt 0 (length cs)
 any_left [] = refl
 any_left (c ∷ cs) = grind (arith, nat_tests)
 
 -- those that stand, by what is judged
-counted : (n : ℕ) (root : Root) (cs : List MarkedCall) → n ≡ count cs → n ≡ length (standing root [] (map wide_call (map marked_of cs))).1
+counted : (n : ℕ) (root : Root) (cs : List MarkedCall) → n ≡ count cs → n ≡ length (stands root (map wide_call (map marked_of cs))).1
 counted n root cs is =
-    is ∙ ap length (any_root (matched []) root [] (map judged_of cs)) ∙ ap (λ xs. length (standing root [] xs).1) (sym (judged cs))
+    is ∙ ap length (any_root (matched []) root zero (reverse (map judged_of cs))) ∙ ap (λ xs. length (stands root xs).1) (sym (judged cs))
 
-pub any_standing : (b : Bool) (n : ℕ) (root : Root) (cs : List MarkedCall) → n ≡ length (standing (matched []) [] (map judged_of cs)).1 → b ≡ nat_lt 0 n
-    → not (is_empty (standing root [] (map wide_call (map marked_of cs))).1) ≡ b
-any_standing b n root cs is some = any_left (standing root [] (map wide_call (map marked_of cs))).1 ∙ ap (nat_lt 0) (sym (counted n root cs is)) ∙ sym some
+pub any_standing : (b : Bool) (n : ℕ) (root : Root) (cs : List MarkedCall) → n ≡ length (stands (matched []) (map judged_of cs)).1 → b ≡ nat_lt 0 n
+    → not (is_empty (stands root (map wide_call (map marked_of cs))).1) ≡ b
+any_standing b n root cs is some = any_left (stands root (map wide_call (map marked_of cs))).1 ∙ ap (nat_lt 0) (sym (counted n root cs is)) ∙ sym some
 
 -- ---- whether one is of `parents`
 

@@ -1,7 +1,7 @@
 //! A persistent list of calls, which several chains share.
 ghost use Rattle.std.specs.Prelude.{◌≡◌, ◌||◌, not, nat_lt, [], ◌∷◌, ◌++◌, map, IfOk};
 ghost use Rattle.jq_stmts.specs.Sharp.{wide_call};
-ghost use Rattle.jq_stmts.specs.Statements.{standing};
+ghost use Rattle.jq_stmts.specs.Statements.{stands};
 ghost use Rattle.jq_stmts.specs.Views.{call_of};
 ghost use Rattle.jq_words.specs.Brackets.{is_empty};
 ghost use Rattle.jq_chains.specs.MarkedCalls.{marked_of};
@@ -98,7 +98,7 @@ pub struct SharedCalls {
 
 impl Model for SharedCalls {
     ghost use Rattle.std.specs.Prelude.{◌≡◌, List, [], length, map};
-    ghost use Rattle.jq_stmts.specs.Statements.{matched, standing};
+    ghost use Rattle.jq_stmts.specs.Statements.{matched, stands};
     ghost use Rattle.jq_chains.specs.declared.marked_calls.MarkedCall.{MarkedCall};
     ghost use Rattle.jq_chains.specs.Links.{calls_to, how_many};
     ghost use Rattle.jq_chains.specs.MarkedCalls.{judged_of};
@@ -108,7 +108,7 @@ impl Model for SharedCalls {
 
     ghost view = { λ c. calls_to c.last.value };
 
-    ghost invariant = { λ c. (how_many c.left.value ≡ length (standing (matched []) [] (map judged_of (calls_to c.last.value))).1) × (c.parents ≡ has_parents (map judged_of (calls_to c.last.value))) };
+    ghost invariant = { λ c. (how_many c.left.value ≡ length (stands (matched []) (map judged_of (calls_to c.last.value))).1) × (c.parents ≡ has_parents (map judged_of (calls_to c.last.value))) };
 }
 
 impl SharedCalls {
@@ -148,10 +148,10 @@ impl SharedCalls {
         })
     }
 
-    /// Whether one of them stands. Constant.
+    /// Whether one of them stands, so that the set of a chain with them has one before it. Constant.
     #[tactic(auto, using(crate::proofs::SharedCallSteps::any_standing))]
     pub fn any_stands(&self) -> bool
-        ensures { (root : _) → not (is_empty (standing root [] (map wide_call (map marked_of self.now))).1) ≡ result }
+        ensures { (root : _) → not (is_empty (stands root (map wide_call (map marked_of self.now))).1) ≡ result }
     {
         is_some(&self.left)
     }

@@ -8,7 +8,7 @@
 use Rattle.std.specs.Prelude.{ℕ, ◌&&◌, not, Bool, true, false, if◌then◌else◌, List, [], ◌∷◌, ◌++◌, map, drop, codes, Option, Some, None, Ok, Err}
 use Rattle.sel_text.specs.Selectors.{simple}
 use Rattle.jq_stmts.specs.Sharp.{ExactCall, ExactChain, plain, closest, siblings, wide_call}
-use Rattle.jq_stmts.specs.Statements.{find, children, parent, parents, filter, has, back, standing}
+use Rattle.jq_stmts.specs.Statements.{find, children, parent, parents, filter, has, back, stands}
 use Rattle.jq_words.specs.declared.faults.ScriptFault.TheVariants.{UnknownCall, UnknownForm}
 use Rattle.jq_words.specs.Words.{Word, is_any_name, begins, Outcome, unexpected}
 use Rattle.jq_words.specs.Brackets.{is_empty}
@@ -58,9 +58,9 @@ abbrev pub is_placing : Form → Bool
 is_placing places = true
 is_placing f = false
 
--- whether a call may take the chain's last set back
+-- whether a call may take the chain's set back: where a call makes that set there is one before it, and before what the chain begins with there is none
 abbrev pub has_set_before : Form → ExactChain → Bool
-has_set_before goes_back chain = not (is_empty (standing chain.root [] (map wide_call chain.calls)).1)
+has_set_before goes_back chain = not (is_empty (stands chain.root (map wide_call chain.calls)).1)
 has_set_before f chain = true
 
 -- Whether a call may stand here: on document and window alone `on`, on markup alone what places it.

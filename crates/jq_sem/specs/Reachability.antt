@@ -2,9 +2,10 @@
 --     IsLegal t stmts step       the step's statement selects the step's node
 --     end_of t stmts steps       the tree after the steps
 --     Reaches t stmts s          after some legal steps a node matches the selector
-use Rattle.std.specs.Prelude.{ℕ, List, [], ◌∷◌, Option, Some, None, IsSomeAnd, slice_get}
+use Rattle.std.specs.Prelude.{ℕ, List, Option, Some, None, IsSomeAnd, slice_get}
 use Rattle.tree_sem.specs.Trees.{LabelTree}
 use Rattle.tree_sem.specs.Actions.{act}
+use Rattle.tree_sem.specs.Series.{AreLegalBy, end_by}
 use Rattle.tree_sem.specs.declared.actions.Step.{Step}
 use Rattle.sel_core.specs.Selectors.{Matches}
 use Rattle.sel_text.specs.Selectors.{Selector}
@@ -22,13 +23,11 @@ abbrev pub after_step : LabelTree → List Statement → Step → LabelTree
 after_step t stmts step = after_statement (slice_get stmts step.stmt) step.at t
 
 abbrev pub end_of : LabelTree → List Statement → List Step → LabelTree
-end_of t stmts [] = t
-end_of t stmts (step ∷ steps) = end_of (after_step t stmts step) stmts steps
+end_of t stmts steps = end_by after_step t stmts steps
 
 -- each step is legal in the tree before it
 abbrev pub AreLegal : LabelTree → List Statement → List Step → Type 0
-AreLegal t stmts [] = Unit {0}
-AreLegal t stmts (step ∷ steps) = IsLegal t stmts step × AreLegal (after_step t stmts step) stmts steps
+AreLegal t stmts steps = AreLegalBy IsLegal after_step t stmts steps
 
 abbrev pub Reaches : LabelTree → List Statement → Selector → Type 0
 Reaches t stmts s = (steps : List Step) × AreLegal t stmts steps × (v : List ℕ) × Matches (end_of t stmts steps) v s

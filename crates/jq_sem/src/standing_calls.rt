@@ -15,8 +15,7 @@ pub fn standing<'a>(alloc: Global, calls: &'a [Call]) -> Result<(bool, Vec<&'a C
 {
     let mut emptied = false;
     let mut stack = Vec::new(alloc);
-    let mut rest = calls;
-    'calls: while let Some((c, later)) = rest.split_first() {
+    'calls: for c in calls {
         if let Call::End = c {
             if stack.pop().is_none() {
                 emptied = true;
@@ -24,7 +23,6 @@ pub fn standing<'a>(alloc: Global, calls: &'a [Call]) -> Result<(bool, Vec<&'a C
         } else {
             stack.push(c)?;
         }
-        rest = later;
     }
     Ok((emptied, stack))
 }

@@ -1,5 +1,5 @@
 -- What a statement of a script says.
-use Rattle.std.specs.Prelude.{ℕ, List, [], ◌∷◌}
+use Rattle.std.specs.Prelude.{ℕ, zero, suc, List, [], ◌∷◌, reverse}
 use Rattle.tp_base.specs.declared.places.Place.{Place}
 use Rattle.tree_sem.specs.declared.actions.Action.{Action}
 use Rattle.sel_text.specs.Selectors.{Selector}
@@ -33,10 +33,15 @@ pub record Statement : Type 0 where
   pub action : Action
   pub place : Place
 
--- What stands of a chain: the set to begin with, and the calls, the last one first, after those that stand already. A `back` takes
--- the last call that stands, and where none does, nothing is left of the root.
-abbrev pub standing : Root → List Call → List Call → Root × List Call
-standing root calls [] = (root, calls)
-standing root [] (back ∷ others) = standing (matched []) [] others
-standing root (c ∷ calls) (back ∷ others) = standing root calls others
-standing root calls (c ∷ others) = standing root (c ∷ calls) others
+-- What makes the set n sets before that of the calls, which stand last first: a root, and calls that are no `back`. A `back` goes back
+-- to the set before the calls that it follows, and where no set is before, nothing is in it.
+abbrev pub set_before : ℕ → Root → List Call → Root × List Call
+set_before n root (back ∷ earlier) = set_before (suc n) root earlier
+set_before (suc n) root (c ∷ earlier) = set_before n root earlier
+set_before (suc n) root [] = (matched [], [])
+set_before zero root (c ∷ earlier) = let s = set_before zero root earlier in (s.0, c ∷ s.1)
+set_before zero root [] = (root, [])
+
+-- what makes the set of a chain with this root and these calls, the first one first
+abbrev pub stands : Root → List Call → Root × List Call
+stands root calls = set_before zero root (reverse calls)

@@ -5,6 +5,7 @@
 use Rattle.std.specs.Prelude.{◌≡◌, ℕ, true, false, if◌then◌else◌, List, [], ◌∷◌, ◌++◌, length, Contains, Some, None, IsSome, slice_get}
 use Rattle.tree_sem.specs.declared.actions.Step.{Step}
 use Rattle.tree_sem.specs.Nodes.{HasAtom}
+use Rattle.tree_sem.specs.Series as series
 use Rattle.tree_sem.specs.Trees.{LabelTree, tree_of, length_of, node_at, edit_at}
 use Rattle.tree_sem.specs.Growth.{Grows}
 use Rattle.tree_sem.specs.Actions.{add_classes, add_trees}
@@ -17,13 +18,12 @@ use Rattle.simple_core.specs.Systems.{kind_label}
 use Rattle.proof_check.specs.declared.proofs.Proof.{Proof}
 use Rattle.proof_check.specs.Unfolding.{forest_children, unfolded}
 
+-- as of `Series`, where changes speak of nothing else
 abbrev pub end_by : (LabelTree → Step → LabelTree) → LabelTree → List Step → LabelTree
-end_by after t [] = t
-end_by after t (s ∷ steps) = end_by after (after t s) steps
+end_by after t steps = series.end_by (λ t (none : Unit {0}) step. after t step) t tt steps
 
 abbrev pub AreLegalBy : (LabelTree → Step → Type 0) → (LabelTree → Step → LabelTree) → LabelTree → List Step → Type 0
-AreLegalBy Legal after t [] = Unit {0}
-AreLegalBy Legal after t (s ∷ steps) = Legal t s × AreLegalBy Legal after (after t s) steps
+AreLegalBy Legal after t steps = series.AreLegalBy (λ t (none : Unit {0}) step. Legal t step) (λ t (none : Unit {0}) step. after t step) t tt steps
 
 abbrev pub step_at : ℕ → List ℕ → Step
 step_at s v = record { stmt = s; at = v }

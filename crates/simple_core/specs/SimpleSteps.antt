@@ -5,6 +5,7 @@
 use Rattle.std.specs.Prelude.{◌≡◌, ℕ, List, [], ◌∷◌, ◌++◌, Contains}
 use Rattle.tree_sem.specs.Trees.{LabelTree, edit_at, add_class, add_child}
 use Rattle.tree_sem.specs.Nodes.{IsNode, HasAtom, HasAtoms}
+use Rattle.tree_sem.specs.Series.{AreLegalBy, end_by}
 use Rattle.simple_core.specs.declared.rules.Local.{Local}
 use Rattle.simple_core.specs.declared.rules.Link.{Link}
 use Rattle.simple_core.specs.declared.rules.Spawn.{Spawn}
@@ -32,9 +33,7 @@ after_step s t (by_down l v) = edit_at v (add_class l.to) t
 after_step s t (by_spawn c v) = edit_at v (add_child (kind_label s c.kind)) t
 
 abbrev pub end_of : System → LabelTree → List SimpleStep → LabelTree
-end_of s t [] = t
-end_of s t (step ∷ steps) = end_of s (after_step s t step) steps
+end_of s t steps = end_by (λ t s step. after_step s t step) t s steps
 
 abbrev pub AreLegal : System → LabelTree → List SimpleStep → Type 0
-AreLegal s t [] = Unit {0}
-AreLegal s t (step ∷ steps) = IsLegal s t step × AreLegal s (after_step s t step) steps
+AreLegal s t steps = AreLegalBy (λ t s step. IsLegal s t step) (λ t s step. after_step s t step) t s steps

@@ -5,15 +5,17 @@ ghost use Rattle.std.specs.Prelude.{◌≡◌, ◌≢◌, [], drop, map, string_
 ghost use Rattle.std.specs.Vec.Iter.{into_iter_items};
 ghost use Rattle.std.specs.Process.{exit_status};
 ghost use Rattle.std.specs.IoError.{error_kind};
-ghost use Rattle.treeped.specs.Runs.{IsSystemRun, stream_put};
-ghost use Rattle.treeped_app.specs.Stops.{code_of};
+ghost use Rattle.run_ends.specs.Stops.{code_of};
+ghost use Rattle.run_ends.specs.Tells.{SaysWhy, put_of};
+ghost use Rattle.treeped_app.specs.Commands.{Causes, Headline, IsEnded};
+ghost use Rattle.treeped_app.specs.Runs.{run_of};
 
 use std::alloc::{AllocError, Global};
 use std::io::ErrorKind;
 use std::process::ExitCode;
-use std::rt::{Env, Files, Stderr, Stdout};
+use std::rt::{Env, Stderr};
 use std::{env, io};
-use tp_io::{HostFiles, HostSink, put_all};
+use tp_io::{Files, HostFiles, HostSink, Sink, put_all};
 use treeped_app::{Status, treeped};
 
 fn main(rt: HostRuntime) -> ExitCode {
@@ -21,24 +23,36 @@ fn main(rt: HostRuntime) -> ExitCode {
     let mut out = HostSink::output(rt.stdout());
     let mut err = HostSink::error(rt.stderr());
     let status = match words(alloc, env::args(&rt)) {
-        Ok(words) => run(alloc, &words, rt, &mut out, &mut err),
+        Ok(words) => run(alloc, &words, &mut HostFiles::new(alloc, rt), &mut out, &mut err),
         Err(_) => no_words(&mut err),
     };
     exit_code(status)
 }
 
-// The report goes to standard output, and what else is said to standard error.
-fn run<R: Files + Drop>(
+// The report goes to `out`, and what else is said to `err`.
+fn run<F: Files, O: Sink, E: Sink>(
     alloc: Global,
     words: &[String],
-    system: R,
-    out: &mut HostSink<Stdout>,
-    err: &mut HostSink<Stderr>,
+    files: &mut F,
+    out: &mut O,
+    err: &mut E,
 ) -> Status
-    ensures { IsSystemRun (map string_bytes words.now) (stream_put out.old.faults out.new.faults) (stream_put err.old.faults err.new.faults) result }
+    ensures headline { let run = run_of (F.told files.old) (map string_bytes words.now) (F.loads files.old) (F.loads files.new)
+        (put_of (O.written out.old) (O.written out.new) (O.faults out.old) (O.faults out.new))
+        in Headline run result }
+    ensures ended { let run = run_of (F.told files.old) (map string_bytes words.now) (F.loads files.old) (F.loads files.new)
+        (put_of (O.written out.old) (O.written out.new) (O.faults out.old) (O.faults out.new))
+        in
+        let said = put_of (E.written err.old) (E.written err.new) (E.faults err.old) (E.faults err.new)
+        in IsEnded run said result }
+    ensures says_why { SaysWhy E.wants_memory (put_of (E.written err.old) (E.written err.new) (E.faults err.old) (E.faults err.new)) result }
+    ensures causes { let run = run_of (F.told files.old) (map string_bytes words.now) (F.loads files.old) (F.loads files.new)
+        (put_of (O.written out.old) (O.written out.new) (O.faults out.old) (O.faults out.new))
+        in
+        let said = put_of (E.written err.old) (E.written err.new) (E.faults err.old) (E.faults err.new)
+        in Causes run said result }
 {
-    let mut files = HostFiles::new(alloc, system);
-    treeped(alloc, words, &mut files, out, err)
+    treeped(alloc, words, files, out, err)
 }
 
 fn no_words(err: &mut HostSink<Stderr>) -> Status

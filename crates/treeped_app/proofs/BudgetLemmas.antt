@@ -1,5 +1,5 @@
 -- A status past a budget comes of an answer that is left open, and that of a budget that doesn't suffice, or of steps that may be illegal.
-use Rattle.std.proofs.Common.{if◌then◌else◌, ◌≡◌, ◌⊎◌, ℕ, zero, suc, ◌+◌, ◌<◌, ◌||◌, nat_lt, Bool, true, false, List, [], ◌∷◌, ◌++◌, length, map, take, drop, get_or, Contains, refl, sym, ap, ◌∙◌, inl, inr, subst, arith, length-append}
+use Rattle.std.proofs.Common.{if◌then◌else◌, ◌≡◌, ◌⊎◌, ℕ, zero, suc, ◌+◌, ◌<◌, ◌||◌, nat_lt, Bool, true, false, List, [], ◌∷◌, ◌++◌, length, map, take, drop, get_or, Contains, Some, slice_get, refl, sym, ap, ◌∙◌, inl, inr, subst, arith, length-append}
 use Rattle.std.specs.List.{list_any}
 use Rattle.std.proofs.lemmas.Bool.{true≢false, cases_Bool, or_cases}
 use Rattle.std.proofs.lemmas.List.{map-append, length-map}
@@ -21,13 +21,13 @@ use Rattle.judge.specs.Goals.{Goal, matching, selecting}
 use Rattle.command_words.specs.declared.words.Mode.{Mode}
 use Rattle.command_words.specs.declared.words.Mode.TheVariants.{Report, Prune, Dead, Runs, Site, SitePrune}
 use Rattle.command_words.specs.Orders.{takes_pages}
-use Rattle.dead_script.specs.Probes.{probes, all_probes}
+use Rattle.dead_script.specs.Probes.{probes, last_probe, all_probes}
 use Rattle.dead_script.specs.Verdicts as dead
-use Rattle.dead_script.proofs.ProbeLemmas.{probes_counted}
+use Rattle.dead_script.proofs.ProbeLemmas.{probes_counted, last_probe_at}
 use Rattle.site_judge.specs.Sites as sites
 use Rattle.run_ends.specs.declared.status.Status.TheVariants as status
 use Rattle.treeped_app.specs.Answers.{IsRightFor, AreRightFor, IsRightExactly, AreRightExactly, IsPastBudget}
-use Rattle.treeped_app.specs.Modes.{Said, goals_in, guards_in, AreAnswersOf, IsOverBudget, is_open, is_maybe, is_undecided, site_on, best_in, lines_in, lines_on, verdicts_in, status_by, status_of}
+use Rattle.treeped_app.specs.Modes.{Said, goals_in, last_goals_in, guards_in, AreAnswersOf, IsOverBudget, is_open, is_maybe, is_undecided, site_on, best_in, lines_in, lines_on, verdicts_in, status_by, status_of}
 use Rattle.treeped_app.specs.Commands.{HasMaybe}
 use Rattle.treeped_app.specs.Tasks.{Task}
 use Rattle.treeped_app.proofs.ExactLemmas.{any_sharp, one_maybe}
@@ -52,11 +52,11 @@ module _ (t : LabelTree) (ss : List Statement) (guards : List Guard) (n : ℕ) (
   goal_open g spent there right is = inl right
 
   -- the answer at a place is right for the goal there
-  right_at : (gs : List Goal) (answers : List Answer) (i : ℕ) → AreRightFor t ss guards n limits gs answers → i < length gs → (g : Goal) × Contains gs g × IsRightFor t ss guards n limits g (get_or answers i spent)
-  right_at [] answers i right less = absurd (omega (arith, less))
-  right_at (g ∷ gs) [] i right less = absurd right
-  right_at (g ∷ gs) (a ∷ answers) zero right less = (g, Contains-here g g gs refl, right.0)
-  right_at (g ∷ gs) (a ∷ answers) (suc i) right less = let rest = right_at gs answers i right.1 (omega (arith, less)) in (rest.0, Contains-behind rest.0 g gs rest.1, rest.2)
+  right_at : (gs : List Goal) (answers : List Answer) (i : ℕ) (g : Goal) → AreRightFor t ss guards n limits gs answers → slice_get gs i ≡ Some g → IsRightFor t ss guards n limits g (get_or answers i spent)
+  right_at [] answers i g right at = cc
+  right_at (h ∷ gs) [] i g right at = absurd right
+  right_at (h ∷ gs) (a ∷ answers) zero g right at = let same : h ≡ g = cc in subst (λ (z : Goal). IsRightFor t ss guards n limits z a) same right.0
+  right_at (h ∷ gs) (a ∷ answers) (suc i) g right at = right_at gs answers i g right.1 at
 
   right_behind : (front gs : List Goal) (answers : List Answer) → AreRightFor t ss guards n limits (front ++ gs) answers → AreRightFor t ss guards n limits gs (drop (length front) answers)
   right_behind [] gs answers right = right
@@ -84,7 +84,7 @@ module _ (t : LabelTree) (ss : List Statement) (guards : List Guard) (n : ℕ) (
   own_open (skipped cause at) v none is = inr (cause, at, refl)
   own_open spent v none is = inl refl
 
-  verdicts_open : (stmts : List Statement) (answers : List Answer) → ((g : Goal) → Contains (map selecting (all_probes stmts)) g → Contains goals g) → AreRightFor t ss guards n limits (map selecting (all_probes stmts)) answers
+  verdicts_open : (stmts : List Statement) (answers : List Answer) → ((s : Statement) → Contains stmts s → Contains goals (selecting (last_probe s))) → AreRightFor t ss guards n limits (map selecting (all_probes stmts)) answers
       → list_any dead.is_open (dead.verdicts stmts answers) ≡ true → IsPast
   verdicts_open [] answers among right is = absurd (true≢false (sym is))
   verdicts_open (s ∷ stmts) answers among right is =
@@ -93,17 +93,16 @@ module _ (t : LabelTree) (ss : List Statement) (guards : List Guard) (n : ℕ) (
       let parts : map selecting (all_probes (s ∷ stmts)) ≡ own ++ others = map-append selecting (probes s) (all_probes stmts) in
       let many : length own ≡ length s.handlers + 1 = length-map {B = Goal} (probes s) selecting ∙ probes_counted s in
       let right' = subst (λ (z : List Goal). AreRightFor t ss guards n limits z answers) parts right in
-      let among' : (g : Goal) → Contains (own ++ others) g → Contains goals g = λ g there. among g (subst (λ (z : List Goal). Contains z g) (sym parts) there) in
       elim (or_cases (dead.is_open (dead.verdict_of (length s.handlers) answers)) (list_any dead.is_open (dead.verdicts stmts (drop (length s.handlers + 1) answers))) is) [
         | inl here ↦
-            let at = right_at (own ++ others) answers (length s.handlers) right' (omega (arith, many, length-append own others)) in
+            let own_right = right_at (own ++ others) answers (length s.handlers) (selecting (last_probe s)) right' (last_probe_at selecting s others) in
             elim (own_open (get_or answers (length s.handlers) spent) (dead.dead_behind 0 (take (length s.handlers) answers)) (never_open 0 (take (length s.handlers) answers)) here) [
-              | inl open' ↦ goal_open at.0 (get_or answers (length s.handlers) spent) (among' at.0 at.1) at.2 open'
-              | inr (c, p, same) ↦ absurd (subst (λ (z : Answer). IsRightFor t ss guards n limits at.0 z) same at.2)
+              | inl open' ↦ goal_open (selecting (last_probe s)) (get_or answers (length s.handlers) spent) (among s (Contains-here s s stmts refl)) own_right open'
+              | inr (c, p, same) ↦ absurd (subst (λ (z : Answer). IsRightFor t ss guards n limits (selecting (last_probe s)) z) same own_right)
             ]
         | inr behind ↦
             let left = right_behind own others answers right' in
-            verdicts_open stmts (drop (length s.handlers + 1) answers) (λ g there. among' g (Contains-append_right own others g there))
+            verdicts_open stmts (drop (length s.handlers + 1) answers) (λ x there. among x (Contains-behind x s stmts there))
             (subst (λ k. AreRightFor t ss guards n limits others (drop k answers)) many left) behind
       ]
 
@@ -215,8 +214,8 @@ module _ (t : Task) (said : List Said) (all : (x : Said) → Contains said x →
       let i = x.inputs in (
         x,
         there,
-        items_undecided i.tree i.exact i.stmts (guards_in t.mode i) (length i.names) t.limits (map matching (judged_in i.sheet.items) ++ goals_in t.mode i) i.sheet.items x.items
-            (λ s listed. Contains-append_left (map matching (judged_in i.sheet.items)) (goals_in t.mode i) (matching s) (Contains-map matching (judged_in i.sheet.items) s listed)) (all x there).right a mine is,
+        items_undecided i.tree i.exact i.stmts (guards_in t.mode i) (length i.names) t.limits (map matching (judged_in i.sheet.items) ++ last_goals_in t.mode i) i.sheet.items x.items
+            (λ s listed. Contains-append_left (map matching (judged_in i.sheet.items)) (last_goals_in t.mode i) (matching s) (Contains-map matching (judged_in i.sheet.items) s listed)) (all x there).right a mine is,
       )
 
   over_by_verdict : (m : Mode) → t.mode ≡ m → (ps : List Said) → ((x : Said) → Contains ps x → Contains said x) → list_any dead.is_open (verdicts_in m ps) ≡ true → OverOn t said
@@ -225,8 +224,10 @@ module _ (t : Task) (said : List Said) (all : (x : Said) → Contains said x →
       let i = x.inputs in
       let there = among x (Contains-here x x ps refl) in
       let right = subst (λ m. AreRightFor i.tree i.stmts (guards_in t.mode i) (length i.names) t.limits (goals_in m i) x.others) same (all x there).are.others_right in
-      let past = verdicts_open i.tree i.stmts (guards_in t.mode i) (length i.names) t.limits (map matching (judged_in i.sheet.items) ++ goals_in t.mode i) i.stmts x.others
-      (λ g listed. Contains-append_right (map matching (judged_in i.sheet.items)) (goals_in t.mode i) g (subst (λ m. Contains (goals_in m i) g) (sym same) listed)) right is in
+      let asked : (s : Statement) → Contains i.stmts s → Contains (last_goals_in t.mode i) (selecting (last_probe s)) =
+      λ s listed. subst (λ m. Contains (last_goals_in m i) (selecting (last_probe s))) (sym same) (Contains-map selecting (map last_probe i.stmts) (last_probe s) (Contains-map last_probe i.stmts s listed)) in
+      let past = verdicts_open i.tree i.stmts (guards_in t.mode i) (length i.names) t.limits (map matching (judged_in i.sheet.items) ++ last_goals_in t.mode i) i.stmts x.others
+      (λ s listed. Contains-append_right (map matching (judged_in i.sheet.items)) (last_goals_in t.mode i) (selecting (last_probe s)) (asked s listed)) right is in
       (x, there, past)
   over_by_verdict Report same ps among is = absurd (true≢false (sym is))
   over_by_verdict Prune same ps among is = absurd (true≢false (sym is))

@@ -22,8 +22,8 @@ use Rattle.judge.specs.Goals.{selecting, holding}
 use Rattle.judge.specs.Witnesses.{trace}
 use Rattle.judge.proofs.MeaningLemmas.{same_guard_right}
 use Rattle.judge.proofs.TableLemmas.{rule_over}
+use Rattle.dead_script.specs.Laws.{LeadsTo, TellsOf, TellOfEach}
 use Rattle.dead_script.specs.Probes.{probe, probes, all_probes, probe_guards}
-use Rattle.dead_script.specs.Laws.{IsWitness, IsTold, AreTold}
 use Rattle.treeped_app.specs.Answers.{IsRightFor, AreRightFor}
 
 -- ---- from guards to probes, and from answers to what they tell
@@ -39,7 +39,7 @@ module _ (stmts : List Statement) (guards : List Guard) (n : ℕ) (page : LabelT
 -- ---- from right answers to what they tell
 
 module _ (page : LabelTree) (stmts : List Statement) (guards : List Guard) (n : ℕ) (limits : Limits) where
-  shown_witness : (p : Statement) (proof : Proof) (steps : ℕ) (shown : Option Unfolded) → IsUsed stmts guards n page limits (selecting p) proof steps shown → IfSome shown (IsWitness page stmts p)
+  shown_witness : (p : Statement) (proof : Proof) (steps : ℕ) (shown : Option Unfolded) → IsUsed stmts guards n page limits (selecting p) proof steps shown → IfSome shown (LeadsTo page stmts p)
   shown_witness p proof steps None is = tt
   shown_witness p proof steps (Some u) is = record {
     legal = subst (λ (z : List Step). AreLegal page stmts z) (sym is.shows.1) is.witness.legal;
@@ -48,7 +48,7 @@ module _ (page : LabelTree) (stmts : List Statement) (guards : List Guard) (n : 
         (subst (λ z. Selected (end_of page stmts (trace stmts guards n page (selecting p) proof).0) p z) (sym is.shows.2) is.witness.match);
   }
 
-  one_told : (p : Statement) (a : Answer) → IsRightFor page stmts guards n limits (selecting p) a → ¬ (spent ≡ a) → IsTold page stmts p a
+  one_told : (p : Statement) (a : Answer) → IsRightFor page stmts guards n limits (selecting p) a → ¬ (spent ≡ a) → TellsOf page stmts p a
   one_told p (used proof steps shown) is found = (is.reached, shown_witness p proof steps shown is)
   one_told p (maybe proof steps shown broken) is found = absurd is
   one_told p used_unshown is found = is.0
@@ -56,7 +56,7 @@ module _ (page : LabelTree) (stmts : List Statement) (guards : List Guard) (n : 
   one_told p (skipped cause at) is found = absurd is
   one_told p spent is found = absurd (found refl)
 
-  pub all_told : (ps : List Statement) (answers : List Answer) → AreRightFor page stmts guards n limits (map selecting ps) answers → ¬ Contains answers spent → AreTold page stmts ps answers
+  pub all_told : (ps : List Statement) (answers : List Answer) → AreRightFor page stmts guards n limits (map selecting ps) answers → ¬ Contains answers spent → TellOfEach page stmts ps answers
   all_told [] [] are none = tt
   all_told [] (a ∷ answers) are none = absurd are
   all_told (p ∷ ps) [] are none = absurd are

@@ -36,7 +36,7 @@ use Rattle.judge.specs.Answers.{IsUsed}
 use Rattle.judge.specs.Goals.{matching}
 use Rattle.judge.specs.TheSystem.{the_system, seen_atom}
 use Rattle.judge.specs.Witnesses.{trace}
-use Rattle.treeped_app.specs.Answers.{IsRight, AreRight, IsInDoubt, IsRightExactlyFor, IsRightExactly, AreRightExactly}
+use Rattle.treeped_app.specs.Answers.{IsRight, AreRight, NamesIllegal, IsRightExactlyFor, IsRightExactly, AreRightExactly}
 use Rattle.treeped_app.specs.Modes.{is_maybe}
 use Rattle.treeped_app.proofs.RightLemmas.{legal_placed}
 
@@ -168,7 +168,7 @@ module _ (t : LabelTree) (exact : List ExactStatement) (ss : List Statement) (gu
       let steps' = (trace ss guards n t (matching s) proof).0 in
       All-same (λ (x : Step). x.stmt < length places) u.steps steps' is.shows.1 (legal_placed t ss guards n limits t steps' is.witness.legal)
 
-  doubt_reportable : (o : Outcome) (proof : Proof) (steps : ℕ) (shown : Option Unfolded) (broken : Option ℕ) → IsReportable places o (used proof steps shown) → IsInDoubt t exact ss guards n limits shown broken
+  doubt_reportable : (o : Outcome) (proof : Proof) (steps : ℕ) (shown : Option Unfolded) (broken : Option ℕ) → IsReportable places o (used proof steps shown) → NamesIllegal t exact ss guards n limits shown broken
       → IsReportable places o (maybe proof steps shown broken)
   doubt_reportable o proof steps None broken is doubt = (is.0, tt, tt)
   doubt_reportable o proof steps (Some u) None is doubt = absurd doubt

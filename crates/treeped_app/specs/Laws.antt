@@ -2,6 +2,7 @@
 --     EnginesAgree       two runs that ask the same of the same texts write the same, by diagrams or by a table, where each has room
 --     PlainIsRight       of a script without sharp calls each answer is that for the statements that are judged
 --     DeadIsRight        what `--dead` writes of each statement is so, where nothing is spent
+--     DeadDoesNothing    without statements that are said to be dead a script does the same
 --     SiteIsRight        an item is unused on a site exactly where it is on every page
 --     PruneIsRight       what is left of a sheet does at each node of a page what the sheet does, and so on each page of a site
 use Rattle.std.specs.Prelude.{◌≡◌, ◌↔◌, ℕ, Bool, false, List, [], ◌∷◌, map, Contains, Some, slice_get, Ok}
@@ -15,10 +16,12 @@ use Rattle.css_read.specs.Sheets.{Item, Sheet, judged}
 use Rattle.css_prune.specs.NodeEffects.{Tells}
 use Rattle.jq_sem.specs.Events.{AreLegalEvents, end_of_events, ReachesWithLosses}
 use Rattle.jq_stmts.specs.Sharp.{is_sharp_statement}
+use Rattle.jq_stmts.specs.Statements.{Statement}
 use Rattle.limits.specs.declared.budgets.Limits.{Limits}
 use Rattle.command_words.specs.declared.words.Mode.{Mode}
 use Rattle.command_words.specs.declared.words.Mode.TheVariants.{Prune, Dead, SitePrune}
 use Rattle.usage_report.specs.Answers.{Answer, unused, spent}
+use Rattle.dead_script.specs.DeadStatements.{AreWithoutDead, DoTheSame}
 use Rattle.dead_script.specs.Laws.{AreRightVerdicts}
 use Rattle.dead_script.specs.Verdicts.{verdicts}
 use Rattle.site_judge.specs.Sites.{Best}
@@ -56,6 +59,12 @@ PlainIsRight = (m : Mode) (limits : Limits) (i : Inputs) (items others : List An
 -- selects a node, and the handler that is named is the first that never has an element.
 abbrev pub DeadIsRight : Type 0
 DeadIsRight = (limits : Limits) (i : Inputs) (items others : List Answer) → AreAnswersOf Dead limits i items others → ¬ Contains others spent → AreRightVerdicts i.tree i.stmts i.stmts (verdicts i.stmts others)
+
+-- Without some of the statements that are said to be dead the same selectors are reached from the page, whatever is lost, and so the
+-- same ones are unused.
+abbrev pub DeadDoesNothing : Type 0
+DeadDoesNothing = (limits : Limits) (i : Inputs) (items others : List Answer) → AreAnswersOf Dead limits i items others → ¬ Contains others spent
+    → (left : List Statement) → AreWithoutDead i.stmts (verdicts i.stmts others) left → DoTheSame i.tree i.stmts left
 
 -- the k-th item is a selector, which no legal steps and losses from the page reach
 abbrev pub IsNeverReached : Said → ℕ → Type 0

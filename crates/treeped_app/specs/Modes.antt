@@ -2,6 +2,7 @@
 --     Said                 what was read of a page, and what is said of it
 --     reads_exactly m      whether calls may stand in a script that are sharper than what is judged in their place
 --     goals_in m i         the goals that are asked besides the sheet's selectors
+--     IsOverBudget m l i   a budget doesn't suffice for each line
 --     AreJudgedOf          right answers for the sheet's items and for those goals, of the statements that are judged
 --     AreAnswersOf         those answers, settled by the statements as they stand in the script
 --     HasTraces m s        where the mode asks for whole runs, each answer that shows steps has the trace of their runs
@@ -29,7 +30,7 @@ use Rattle.limits.specs.declared.budgets.Limits.{Limits}
 use Rattle.command_words.specs.declared.words.Mode.{Mode}
 use Rattle.command_words.specs.declared.words.Mode.TheVariants.{Prune, Dead, Runs, SitePrune}
 use Rattle.command_words.specs.Orders.{takes_pages}
-use Rattle.dead_script.specs.Probes.{all_probes, probe_guards}
+use Rattle.dead_script.specs.Probes.{last_probe, all_probes, probe_guards}
 use Rattle.dead_script.specs.Verdicts as dead
 use Rattle.site_judge.specs.Sites as sites
 use Rattle.site_judge.specs.SiteReport.{site_report}
@@ -78,7 +79,12 @@ abbrev pub goals_in : Mode → Inputs → List Goal
 goals_in Dead i = map selecting (all_probes i.stmts)
 goals_in _ i = []
 
--- the guards of these goals
+-- those of them on which a line hangs: whether the statement itself ever selects a node
+abbrev pub last_goals_in : Mode → Inputs → List Goal
+last_goals_in Dead i = map selecting (map last_probe i.stmts)
+last_goals_in _ i = []
+
+-- the guards of all these goals
 abbrev pub extra_in : Mode → Inputs → List Guard
 extra_in Dead i = probe_guards i.stmts
 extra_in _ i = []
@@ -107,9 +113,9 @@ AreTracesIn _ i items traces = traces ≡ []
 abbrev pub HasTraces : Mode → Said → Type 0
 HasTraces m s = AreTracesIn m s.inputs s.items s.traces
 
--- a budget doesn't suffice for each answer
+-- a budget doesn't suffice for each line; whether a handler's proof is too long is no matter
 abbrev pub IsOverBudget : Mode → Limits → Inputs → Type 0
-IsOverBudget m limits i = IsPastBudget i.tree i.stmts (guards_in m i) (length i.names) limits (map matching (judged_in i.sheet.items) ++ goals_in m i)
+IsOverBudget m limits i = IsPastBudget i.tree i.stmts (guards_in m i) (length i.names) limits (map matching (judged_in i.sheet.items) ++ last_goals_in m i)
 
 -- ---- what is written
 

@@ -1,0 +1,39 @@
+-- What losses, and a script without its dead statements, come to.
+--     LiveWithLosses t stmts p     after some legal steps and losses the statement p selects a node
+--     HasTheLive t stmts left      those that are left are some of the statements, with each live one among them
+--     AreWithoutDead stmts vs left they are some of the statements, with each one among them whose verdict isn't that it is dead
+--     DoTheSame t stmts left       they lead to the same trees, reach the same selectors and have the same live statements
+use Rattle.std.specs.Prelude.{◌≡◌, ◌↔◌, ℕ, false, List, Contains, Some, slice_get}
+use Rattle.tree_sem.specs.declared.actions.Event.{Event}
+use Rattle.tree_sem.specs.declared.actions.Step.{Step}
+use Rattle.tree_sem.specs.Trees.{LabelTree}
+use Rattle.sel_text.specs.Selectors.{Selector}
+use Rattle.jq_stmts.specs.Statements.{Statement}
+use Rattle.jq_sem.specs.Events.{AreLegalEvents, end_of_events, ReachesWithLosses}
+use Rattle.jq_sem.specs.Reachability.{AreLegal, end_of}
+use Rattle.jq_sem.specs.Statements.{Selected}
+use Rattle.dead_script.specs.Probes.{Live}
+use Rattle.dead_script.specs.Verdicts.{Verdict, is_dead}
+
+abbrev pub LiveWithLosses : LabelTree → List Statement → Statement → Type 0
+LiveWithLosses t stmts p = (events : List Event) × AreLegalEvents t stmts events × (v : List ℕ) × Selected (end_of_events t stmts events) p v
+
+-- whatever is dead may be left out
+pub record HasTheLive (t : LabelTree) (stmts left : List Statement) : Type 0 where
+  pub some : (s : Statement) → Contains left s → Contains stmts s
+  pub live : (s : Statement) → Contains stmts s → Live t stmts s → Contains left s
+
+-- each one that isn't said to be dead is left
+pub record AreWithoutDead (stmts : List Statement) (said : List Verdict) (left : List Statement) : Type 0 where
+  pub some : (s : Statement) → Contains left s → Contains stmts s
+  pub others : (k : ℕ) (s : Statement) (v : Verdict) → slice_get stmts k ≡ Some s → slice_get said k ≡ Some v → is_dead v ≡ false → Contains left s
+
+-- each legal list of steps of the one script has one of the other with the same end
+abbrev pub LeadsWhere : LabelTree → List Statement → List Statement → Type 0
+LeadsWhere t stmts others = (steps : List Step) → AreLegal t others steps → (same : List Step) × AreLegal t stmts same × (end_of t stmts same ≡ end_of t others steps)
+
+pub record DoTheSame (t : LabelTree) (stmts left : List Statement) : Type 0 where
+  pub ends : LeadsWhere t left stmts
+  pub ends' : LeadsWhere t stmts left
+  pub reached : (s : Selector) → ReachesWithLosses t stmts s ↔ ReachesWithLosses t left s
+  pub live : (p : Statement) → Live t stmts p ↔ Live t left p
