@@ -11,6 +11,12 @@ use Rattle.tp_base.proofs.Rising.{Contains-none, All-from_Contains}
 pub one_more : (atoms : List ℕ) (atom : ℕ) → union_of [] (atoms ++ atom ∷ []) ≡ with_class atom (union_of [] atoms)
 one_more atoms atom = fold-append (λ s y. with_class y s) [] atoms (atom ∷ [])
 
+-- one atom of a set more
+pub set_more : (old now new set : List ℕ) (i a : ℕ) → slice_get set i ≡ Some a → now ≡ union_of old (take i set) → new ≡ with_class a now → new ≡ union_of old (take (i + 1) set)
+set_more old now new set i a at before more =
+    more ∙ ap (with_class a) before
+    ∙ sym (ap (union_of old) (take_next set i a at) ∙ fold-append (λ s y. with_class y s) old (take i set) (a ∷ []))
+
 -- one atom of a set more behind a list
 pub next_pushed : (start now new set : List ℕ) (i a : ℕ) → slice_get set i ≡ Some a → now ≡ start ++ take i set → new ≡ now ++ a ∷ [] → new ≡ start ++ take (i + 1) set
 next_pushed start now new set i a at before more =
