@@ -6,6 +6,7 @@
 --     Gain                   a node's path, and what the node gains
 --     gains_at nodes gs        what the nodes with these numbers gain, by their paths
 --     with_gains u gs          the tree with the gains gs, one after another
+--     IsGrown u w              w is the tree u with some gains
 --     news u gs round          the firsts that they bring
 --     starts t nodes           the firsts of these nodes before any round
 --     paths_at nodes ns        the paths of the nodes with these numbers
@@ -46,6 +47,9 @@ with_gain u g = edit_at g.at (add_classes g.label) u
 abbrev pub with_gains : LabelTree → List Gain → LabelTree
 with_gains u [] = u
 with_gains u (g ∷ gains) = with_gains (with_gain u g) gains
+
+abbrev pub IsGrown : LabelTree → LabelTree → Type 0
+IsGrown u w = (gains : List Gain) × (w ≡ with_gains u gains)
 
 abbrev pub news : LabelTree → List Gain → ℕ → List PageFirst
 news u [] round = []

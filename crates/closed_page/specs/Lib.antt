@@ -5,9 +5,10 @@ pub mod Firsts
 pub mod Gains
 pub mod Labelled
 pub mod Notes
-pub mod Numbered
 pub mod Relabelled
-pub mod Runs
 pub mod Spread
-pub mod Spreading
 pub mod Views
+-- The states of the code.
+pub mod Numbered
+pub mod Runs
+pub mod Spreading

@@ -1,13 +1,14 @@
 //! The labels of a page and their first rounds, by the numbers of its nodes in the order of the document.
-ghost use Rattle.std.specs.Prelude.{◌≡◌, ◌<◌, ◌⊎◌, ◌↔◌, ◌++◌, ◌+◌, ◌^◌, ℕ, [], Some, None, map, length, get_or, IfOk, OnOk, IfSome, IsSome, IsNone, List, Contains};
+ghost use Rattle.std.specs.Prelude.{◌≡◌, ◌<◌, ◌⊎◌, ◌↔◌, ◌++◌, ◌+◌, ◌^◌, ℕ, [], Some, None, map, length, get_or, IfOk, OnOk, OnErr, IfSome, IsSome, IsNone, List, Contains};
 ghost use Rattle.tree_sem.specs.Trees.{LabelTree, node_at, label_at, edit_at, count_of};
 ghost use Rattle.tree_sem.specs.Order.{paths_of};
 ghost use Rattle.tree_sem.specs.Actions.{add_classes};
 ghost use Rattle.std.specs.List.Sorted.{IsStrictlyIncreasing};
 ghost use Rattle.node_marks.specs.Numbering.{IsNumbering};
+ghost use Rattle.row_index.specs.Rows.{row_of};
 ghost use Rattle.closed_page.specs.ClosedPages.{round_of};
 ghost use Rattle.closed_page.specs.Firsts.{AreOfNodes, IsSpotOf, placed};
-ghost use Rattle.closed_page.specs.Gains.{label_in, firsts_at, AreStarts};
+ghost use Rattle.closed_page.specs.Gains.{label_in, firsts_at, IsGrown, AreStarts};
 ghost use Rattle.closed_page.specs.Notes.{IsSpot, AreAtSpots, expanded};
 ghost use Rattle.closed_page.specs.Relabelled.{label_by, relabelled, shape_of};
 ghost use Rattle.closed_page.specs.Spreading.{IsNumberAt, AreLabelled};
@@ -219,6 +220,7 @@ impl PageLabels {
         ensures kept { OnOk result ((i : ℕ) → Contains row.old.items i → Contains row.new.items i) }
         ensures within { OnOk result ((i : ℕ) → Contains row.new.items i → Contains row.old.items i ⊎ (i < length self.now.nodes)) }
         ensures there { OnOk result (IsParentIn self.now.nodes number row.new.items) }
+        ensures err { OnErr result (row.new.items ≡ row.old.items) }
     {
         match self.parent(number) {
             Some(parent) => {
@@ -229,10 +231,12 @@ impl PageLabels {
         }
     }
 
-    /// Notes a node at its parent, if there is one. Linear in the parent's number, where it is the largest so far.
+    /// Notes a node at its parent, if there is one. A refusal changes nothing that stands at any number. Linear in the parent's
+    /// number, where it is the largest so far.
     pub fn call(&self, alloc: Global, number: usize, callers: &mut Index) -> Result<(), NoMemory>
         requires { number < length self.now.nodes }
-        ensures { OnOk result (IsCalled self.now.nodes callers.old callers.new number) }
+        ensures ok { OnOk result (IsCalled self.now.nodes callers.old callers.new number) }
+        ensures err { OnErr result ((i : ℕ) → row_of callers.new i ≡ row_of callers.old i) }
     {
         match self.parent(number) {
             Some(parent) => {
@@ -293,9 +297,10 @@ impl PageLabels {
     pub(crate) fn add(&mut self, number: usize, label: &ClassSet) -> Result<(), NoMemory>
         requires { number < length self.old.nodes }
         ensures labels { OnOk result (self.new.labels ≡ edit_at (node_of self.old number) (add_classes label.now) self.old.labels) }
-        ensures nodes { OnOk result (self.new.nodes ≡ self.old.nodes) }
+        ensures nodes { self.new.nodes ≡ self.old.nodes }
         ensures firsts { OnOk result (self.new.firsts ≡ self.old.firsts) }
         ensures notes { OnOk result (self.new.notes ≡ self.old.notes) }
+        ensures grown { OnErr result (IsGrown self.old.labels self.new.labels) }
     {
         if let Some(grown) = joined_before(&self.own, number, label)? {
             self.own[number] = grown;

@@ -1,5 +1,5 @@
 -- Atoms that move into a set, and those of them that it didn't have.
-use Rattle.std.proofs.Common.{◌≡◌, ◌↔◌, ◌⊎◌, ℕ, ◌+◌, ◌≤◌, Bool, true, false, not, List, [], ◌∷◌, ◌++◌, Contains, length, take, Some, slice_get, refl, sym, ap, ◌∙◌, subst, inl, inr, arith, eqb, append-nil}
+use Rattle.std.proofs.Common.{◌≡◌, ◌↔◌, ◌⊎◌, ℕ, ◌+◌, ◌≤◌, Bool, true, false, not, List, [], ◌∷◌, ◌++◌, Contains, length, take, Some, slice_get, refl, sym, ap, ◌∙◌, subst, inl, inr, arith, eqb, append-nil, Result, Ok, Err, OnErr}
 use Rattle.std.specs.List.{filter, dedup}
 use Rattle.std.specs.List.Sorted.{IsStrictlyIncreasing, IsPermutation}
 use Rattle.std.proofs.lemmas.Bool.{cases_Bool, both_ways}
@@ -11,6 +11,7 @@ use Rattle.tp_base.specs.Classes.{has_class, with_class, union_of}
 use Rattle.tp_base.proofs.ClassLemmas.{has_class-Contains, Contains-has_class, Contains-with_class, Contains-union_of}
 use Rattle.tp_base.proofs.Rising.{Contains-none, Contains-here, Contains-behind, Contains-cons, All-from_Contains, same_members}
 use Rattle.tp_base.proofs.Lists.{take_next}
+use Rattle.gathered.specs.Between.{IsBetween}
 use Rattle.gathered.proofs.GatheredLemmas.{set_rises, in_set, of_set}
 
 -- a list of at most one number rises
@@ -140,3 +141,25 @@ in_order_of one other = (λ a. other.0 (one.0 a), λ c. one.1 (other.1 c))
 
 pub next_union : (set set' rest others : List ℕ) (x : ℕ) → rest ≡ x ∷ others → set' ≡ with_class x set → union_of set' others ≡ union_of set rest
 next_union set set' rest others x first is = ap (λ s. union_of s others) is ∙ sym (ap (union_of set) first)
+
+-- ---- after a refusal
+
+pub between_same : (own atoms set : List ℕ) → set ≡ own → IsBetween own (union_of own atoms) set
+between_same own atoms set same = record {
+  kept = λ a there. subst (λ (zs : List ℕ). Contains zs a) (sym same) there;
+  within = λ a there. (Contains-union_of own atoms a).1 (inl (subst (λ (zs : List ℕ). Contains zs a) same there));
+}
+
+-- some are in it, and the others are left
+pub between_left : (own atoms set rest : List ℕ) → union_of set rest ≡ union_of own atoms → ((a : ℕ) → Contains own a → Contains set a) → IsBetween own (union_of own atoms) set
+between_left own atoms set rest whole kept = record {
+  kept = kept;
+  within = λ a there. subst (λ (zs : List ℕ). Contains zs a) whole ((Contains-union_of set rest a).1 (inl there));
+}
+
+pub kept_more : (own set set' : List ℕ) (x : ℕ) → set' ≡ with_class x set → ((a : ℕ) → Contains own a → Contains set a) → (a : ℕ) → Contains own a → Contains set' a
+kept_more own set set' x is kept a there = subst (λ (zs : List ℕ). Contains zs a) (sym is) ((Contains-with_class x set a).1 (inr (kept a there)))
+
+pub on_err : {T E : Type 0} (P : Type 0) (r : Result T E) → P → OnErr r P
+on_err P (Ok x) p = tt
+on_err P (Err e) p = p

@@ -1,8 +1,9 @@
 //! Atoms that move into a set.
-ghost use Rattle.std.specs.Prelude.{◌≡◌, ◌↔◌, ◌++◌, ℕ, [], not, Contains, OnOk};
+ghost use Rattle.std.specs.Prelude.{◌≡◌, ◌↔◌, ◌++◌, ℕ, [], not, Contains, OnOk, OnErr};
 ghost use Rattle.std.specs.List.{filter};
 ghost use Rattle.std.specs.List.Sorted.{IsStrictlyIncreasing};
 ghost use Rattle.tp_base.specs.Classes.{has_class, union_of};
+ghost use Rattle.gathered.specs.Between.{IsBetween};
 
 use tp_base::{Atom, ClassSet, NoMemory};
 
@@ -22,6 +23,7 @@ fn add_each(atoms: &[Atom], set: &mut ClassSet, news: &mut Vec<Atom>) -> Result<
     requires { news.old.items ≡ [] }
     ensures set { OnOk result (set.new ≡ union_of set.old atoms.now) }
     ensures news { OnOk result ((a : ℕ) → Contains news.new.items a ↔ (Contains set.new a × ¬ Contains set.old a)) }
+    ensures between { OnErr result (IsBetween set.old (union_of set.old atoms.now) set.new) }
 {
     let mut rest = atoms;
     'atoms: while let Some((atom, others)) = rest.split_first() {
@@ -43,6 +45,7 @@ pub(crate) fn move_few(
     requires rises { IsStrictlyIncreasing set.old }
     ensures set { OnOk result (set.new ≡ union_of set.old (union_of [] atoms.now)) }
     ensures news { OnOk result (news.new.items ≡ filter (λ a. not (has_class a set.old)) (union_of [] atoms.now)) }
+    ensures between { OnErr result (IsBetween set.old (union_of set.old (union_of [] atoms.now)) set.new) }
 {
     add_each(atoms, set, news)?;
     order(news);
@@ -71,6 +74,7 @@ pub(crate) fn move_many(
     requires { news.old.items ≡ [] }
     ensures set { OnOk result (set.new ≡ union_of set.old (union_of [] atoms.now)) }
     ensures news { OnOk result (news.new.items ≡ filter (λ a. not (has_class a set.old)) (union_of [] atoms.now)) }
+    ensures between { OnErr result (IsBetween set.old (union_of set.old (union_of [] atoms.now)) set.new) }
 {
     let given = ClassSet::of(Vec::from_slice(set.allocator(), atoms)?)?;
     add_news(set, &given, news)?;

@@ -1,6 +1,7 @@
 //! The budgets of a run.
 ghost use Rattle.std.specs.Prelude.{◌≡◌};
 ghost use Rattle.limits.specs.Budgets as spec;
+ghost use Rattle.limits.specs.declared.budgets.TheConstants.{MOST_PAIRS, MOST_BRANCHES, MOST_ENTRIES, MOST_LIST};
 
 /// The most pairs that can be asked for.
 pub const MOST_PAIRS: u32 = 10_000_000;
@@ -30,6 +31,10 @@ pub struct Limits {
 pub fn standard() -> Limits
     ensures standard { result ≡ spec.standard }
     ensures in_range { spec.IsInRange result }
+    ensures most_pairs { MOST_PAIRS ≡ 10000000 }
+    ensures most_branches { MOST_BRANCHES ≡ 67108864 }
+    ensures most_entries { MOST_ENTRIES ≡ 10000000 }
+    ensures most_list { MOST_LIST ≡ 4000 }
 {
     Limits {
         plain: false,

@@ -1,5 +1,5 @@
 -- What is noted of the ends of links.
-use Rattle.std.proofs.Common.{◌≡◌, ◌≢◌, ℕ, ◌<◌, List, [], ◌∷◌, ◌++◌, set, length, get_or, slice_get, Some, Contains, sym, ap, subst, ◌∙◌, arith, inl, inr, ◌⊎◌}
+use Rattle.std.proofs.Common.{◌≡◌, ◌≢◌, ℕ, ◌<◌, List, [], ◌∷◌, ◌++◌, set, length, get_or, slice_get, Some, Contains, sym, ap, subst, ◌∙◌, arith, inl, inr, ◌⊎◌, take, Result, Ok, Err, OnErr}
 use Rattle.std.proofs.lemmas.Bool.{cases_order}
 use Rattle.std.proofs.lemmas.List.{get_or-set_same, get_or-set_other}
 use Rattle.std.proofs.lemmas.List.Elements.{Contains-append_left, Contains-append_right, Contains-append_cases}
@@ -9,7 +9,7 @@ use Rattle.tp_base.proofs.ClassLemmas.{with_class-keeps, with_class-there, Conta
 use Rattle.tp_base.proofs.Lists.{Contains-only}
 use Rattle.tp_base.proofs.Rising.{Contains-here, Contains-none}
 use Rattle.row_index.specs.Rows.{row_of}
-use Rattle.pushdown_sym.specs.Ends.{IsEndNoted, AreEndsNoted}
+use Rattle.pushdown_sym.specs.Ends.{IsEndNoted, AreEndsNoted, AreSomeNoted}
 
 pub same_or_other : (m n : ℕ) → (m ≡ n) ⊎ (m ≢ n)
 same_or_other m n = elim (cases_order m n) [
@@ -68,5 +68,27 @@ ends_more old mid new done pair before noted = record {
   only = λ m a there. elim (noted.only m a there) [
     | inl earlier ↦ elim (before.only m a earlier) [ inl first ↦ inl first | inr listed ↦ inr (Contains-append_left done (pair ∷ []) (m, a) listed) ]
     | inr last ↦ inr (Contains-append_right done (pair ∷ []) (m, a) (Contains-here {X = ℕ × ℕ} (m, a) pair [] (λ n. (last.0 n, last.1 n))))
+  ];
+}
+
+-- ---- after a refusal
+
+pub on_err : {T E : Type 0} (P : Type 0) (r : Result T E) → P → OnErr r P
+on_err P (Ok x) p = tt
+on_err P (Err e) p = p
+
+-- a row that is written back as it was
+pub end_left : (old mid : List (List ℕ)) (atom : ℕ) (row row' : List ℕ) → ((m : ℕ) → row_of mid m ≡ row_of old m) → atom < length mid → row_of mid atom ≡ row → row' ≡ row → (m : ℕ) → row_of (set mid atom row') m ≡ row_of old m
+end_left old mid atom row row' same less here is m = elim (same_or_other m atom) [
+  | inl at ↦ subst (λ z. row_of (set mid atom row') z ≡ row_of old z) (sym at) (get_or-set_same mid atom row' [] less ∙ is ∙ sym here ∙ same atom)
+  | inr other ↦ get_or-set_other mid atom m row' [] other ∙ same m
+]
+
+pub some_left : (pairs : List (ℕ × ℕ)) (i : ℕ) (old mid new : ℕ → List ℕ) → AreEndsNoted (take i pairs) old mid → ((m : ℕ) → new m ≡ mid m) → AreSomeNoted pairs old new
+some_left pairs i old mid new before same = record {
+  kept = λ m a there. subst (λ (z : List ℕ). Contains z a) (sym (same m)) (before.kept m a there);
+  only = λ m a there. elim (before.only m a (subst (λ (z : List ℕ). Contains z a) (same m) there)) [
+    | inl first ↦ inl first
+    | inr listed ↦ inr (Contains-take pairs i (m, a) listed)
   ];
 }

@@ -1,7 +1,7 @@
 //! An index from each atom that spawns a child to the atoms that links give for it.
-ghost use Rattle.std.specs.Prelude.{◌≡◌, ◌<◌, ℕ, [], length, IfSome, IfNone, OnOk};
+ghost use Rattle.std.specs.Prelude.{◌≡◌, ◌<◌, ℕ, [], length, IfSome, IfNone, OnOk, OnErr};
 ghost use Rattle.row_index.specs.Rows.{row_of};
-ghost use Rattle.pushdown_sym.specs.Ends.{IsEndNoted, AreEndsNoted};
+ghost use Rattle.pushdown_sym.specs.Ends.{IsEndNoted, AreEndsNoted, AreSomeNoted};
 
 use std::alloc::Global;
 use std::marker::Model;
@@ -55,7 +55,8 @@ impl Ends {
 
     // One end of an atom.
     fn note(&mut self, atom: u32, end: Atom) -> Result<(), NoMemory>
-        ensures { OnOk result (IsEndNoted atom end (row_of self.old) (row_of self.new)) }
+        ensures ok { OnOk result (IsEndNoted atom end (row_of self.old) (row_of self.new)) }
+        ensures err { OnErr result ((m : ℕ) → row_of self.new m ≡ row_of self.old m) }
     {
         self.reach(atom as usize)?;
         let row = &mut self.rows[atom as usize];
@@ -66,7 +67,8 @@ impl Ends {
     /// The end of each of these pairs, for its atom. A binary search for each, and a step for each greater end of the atom
     /// where it is new.
     pub fn note_each(&mut self, pairs: &[(u32, Atom)]) -> Result<(), NoMemory>
-        ensures { OnOk result (AreEndsNoted pairs.now (row_of self.old) (row_of self.new)) }
+        ensures ok { OnOk result (AreEndsNoted pairs.now (row_of self.old) (row_of self.new)) }
+        ensures err { OnErr result (AreSomeNoted pairs.now (row_of self.old) (row_of self.new)) }
     {
         for pair in pairs {
             self.note(pair.0, pair.1)?;

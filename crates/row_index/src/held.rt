@@ -1,5 +1,5 @@
 //! Places in their order, as they lie in memory.
-ghost use Rattle.std.specs.Prelude.{◌≡◌, ◌∷◌, [], ◌++◌, IfOk, OnOk};
+ghost use Rattle.std.specs.Prelude.{◌≡◌, ◌∷◌, [], ◌++◌, IfOk, OnOk, OnErr};
 ghost use Rattle.row_index.specs.Held.{places_of};
 
 use std::alloc::Global;
@@ -37,7 +37,8 @@ impl Held {
 
     /// Puts one place behind these. Constant on average.
     pub(crate) fn push(&mut self, alloc: Global, place: usize) -> Result<(), NoMemory>
-        ensures { OnOk result (places_of self.new ≡ places_of self.old ++ place ∷ []) }
+        ensures ok { OnOk result (places_of self.new ≡ places_of self.old ++ place ∷ []) }
+        ensures err { OnErr result (places_of self.new ≡ places_of self.old) }
     {
         match self {
             Held::Empty => *self = Held::One(place),

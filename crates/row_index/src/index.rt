@@ -1,5 +1,5 @@
 //! For each key the places that stand there.
-ghost use Rattle.std.specs.Prelude.{◌≡◌, ◌≢◌, ◌<◌, ℕ, [], ◌∷◌, ◌++◌, None, length, get_or, IfOk, OnOk};
+ghost use Rattle.std.specs.Prelude.{◌≡◌, ◌≢◌, ◌<◌, ℕ, [], ◌∷◌, ◌++◌, None, length, get_or, IfOk, OnOk, OnErr};
 ghost use Rattle.row_index.specs.Rows.{row_of, IsNoted, IsNotedIf, AreByNumber};
 
 use crate::held::Held;
@@ -32,7 +32,8 @@ impl Row {
 
     // One place behind these. Constant on average.
     fn push(&mut self, alloc: Global, place: usize) -> Result<(), NoMemory>
-        ensures { OnOk result (self.new ≡ self.old ++ place ∷ []) }
+        ensures ok { OnOk result (self.new ≡ self.old ++ place ∷ []) }
+        ensures err { OnErr result (self.new ≡ self.old) }
     {
         self.held.push(alloc, place)
     }
@@ -76,7 +77,7 @@ impl Index {
     // Makes a row for the key.
     fn reach(&mut self, key: usize) -> Result<(), NoMemory>
         ensures there { OnOk result (key < length self.new) }
-        ensures same { OnOk result ((k : ℕ) → row_of self.new k ≡ row_of self.old k) }
+        ensures same { (k : ℕ) → row_of self.new k ≡ row_of self.old k }
     {
         'rows: while self.rows.len() <= key {
             self.rows.push(Row::new())?;
@@ -84,9 +85,11 @@ impl Index {
         Ok(())
     }
 
-    /// Notes a place at a key, behind those that stand there. Linear in the key, where it is the largest so far.
+    /// Notes a place at a key, behind those that stand there. A refusal changes nothing that `of` gives. Linear in the key, where
+    /// it is the largest so far.
     pub fn note(&mut self, alloc: Global, key: usize, place: usize) -> Result<(), NoMemory>
-        ensures { OnOk result (IsNoted self.old self.new key place) }
+        ensures ok { OnOk result (IsNoted self.old self.new key place) }
+        ensures err { OnErr result ((k : ℕ) → row_of self.new k ≡ row_of self.old k) }
     {
         self.reach(key)?;
         let row = &mut self.rows[key];

@@ -1,5 +1,5 @@
 //! For each key a row of values.
-ghost use Rattle.std.specs.Prelude.{◌≡◌, ◌<◌, ℕ, [], length, OnOk};
+ghost use Rattle.std.specs.Prelude.{◌≡◌, ◌<◌, ℕ, [], length, OnOk, OnErr};
 ghost use Rattle.row_index.specs.Rows.{row_of, IsNoted};
 
 use std::alloc::Global;
@@ -57,7 +57,7 @@ impl<V: Drop> Rows<V> {
     // Makes a row for the key.
     fn reach(&mut self, alloc: Global, key: usize) -> Result<(), NoMemory>
         ensures there { OnOk result (key < length self.new) }
-        ensures same { OnOk result ((k : ℕ) → row_of self.new k ≡ row_of self.old k) }
+        ensures same { (k : ℕ) → row_of self.new k ≡ row_of self.old k }
     {
         'rows: while self.rows.len() <= key {
             self.rows.push(Row {
@@ -67,9 +67,11 @@ impl<V: Drop> Rows<V> {
         Ok(())
     }
 
-    /// Notes a value at a key, behind those that stand there. Linear in the key, where it is the largest so far.
+    /// Notes a value at a key, behind those that stand there. A refusal changes nothing that `of` gives. Linear in the key, where
+    /// it is the largest so far.
     pub fn note(&mut self, alloc: Global, key: usize, value: V) -> Result<(), NoMemory>
-        ensures { OnOk result (IsNoted self.old self.new key value) }
+        ensures ok { OnOk result (IsNoted self.old self.new key value) }
+        ensures err { OnErr result ((k : ℕ) → row_of self.new k ≡ row_of self.old k) }
     {
         self.reach(alloc, key)?;
         let row = &mut self.rows[key];

@@ -2,7 +2,7 @@ use Rattle.std.proofs.Common.{◌≡◌, ◌<◌, ℕ, List, ◌∷◌, All, len
 use Rattle.std.proofs.lemmas.List.Elements.{All-head, All-rest}
 use Rattle.closed_page.specs.declared.gains.NodeGain.{NodeGain}
 use Rattle.closed_page.specs.Gains.{Gain, gain_at, gains_at, with_gain, with_gains}
-use Rattle.closed_page.proofs.GainLemmas.{news_next, news_at}
+use Rattle.closed_page.proofs.GainLemmas.{news_next, news_at, grown_one, grown_then, on_err}
 use Rattle.closed_page.proofs.gains.apply_gains.Goals as goal
 
 pub apply-requires : goal.apply-requires
@@ -29,4 +29,9 @@ gains-preserved c =
       nodes = c.in_ok-apply.ensures.nodes ∙ same;
       firsts = news_next c.gains.labels.labels c.apply.new.labels.labels (gain_at nodes gain) others (gains_at nodes c.gains.rest.now) c.args.round c.gains.labels.firsts c.apply.new.labels.firsts placed grown
           (news_at c.gains.labels.nodes nodes c.gains.labels.labels gain c.args.round c.gains.labels.firsts c.apply.new.labels.firsts same c.in_ok-apply.ensures.firsts) ∙ c.gains.invariant.firsts;
+      grown = grown_then c.args.labels.now.labels c.gains.labels.labels c.apply.new.labels.labels c.gains.invariant.grown (grown_one c.gains.labels.labels c.apply.new.labels.labels (gain_at nodes gain) grown);
     }
+
+pub returns-in_err-apply-clause-grown : goal.returns-in_err-apply-clause-grown
+returns-in_err-apply-clause-grown c =
+    on_err _ c.from_residual.result (grown_then c.args.labels.now.labels c.gains.labels.labels c.apply.new.labels.labels c.gains.invariant.grown c.in_err-apply.ensures.grown)

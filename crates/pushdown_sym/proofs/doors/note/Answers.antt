@@ -9,7 +9,7 @@ pub returns-in_ok-note : goal.returns-in_ok-note
 returns-in_ok-note c =
     noted_new c.args.kind c.args.place (row_of c.args.rows.now) (row_of c.note.new.self)
     (subst (λ (row : List ℕ). list_any (λ n. n == c.args.place) row ≡ false) c.of.ensures (c.has_room.ensures.new c.if-has_room.true))
-    (noted_put c.args.rows.now c.note.new.self c.args.kind c.args.place c.in_ok-note.ensures)
+    (noted_put c.args.rows.now c.note.new.self c.args.kind c.args.place c.in_ok-note.ensures.ok)
 
 pub returns-else-has_room : goal.returns-else-has_room
 returns-else-has_room c =

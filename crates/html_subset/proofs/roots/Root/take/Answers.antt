@@ -9,4 +9,4 @@ returns-in_err-names-clause-does c =
     rw (p.1, p.2) (λ off. gives_none _ _ _ _ (c.in_err-names.ensures.does off))
 
 pub returns-clause-does : goal.returns-clause-does
-returns-clause-does c = gives _ _ _ _ _ _ _ c.in_ok-names.ensures.does c.in_ok-names.ensures.given (rw c.in_ok-append.ensures refl)
+returns-clause-does c = gives _ _ _ _ _ _ _ c.in_ok-names.ensures.does c.in_ok-names.ensures.given (rw c.in_ok-append.ensures.ok refl)
