@@ -4,7 +4,6 @@ pub mod Arena
 pub mod Gates
 pub mod Numbers
 pub mod References
-pub mod Table
 pub mod TreeCode
 pub mod Trees
 -- Invariants, and the states of the code.
@@ -12,4 +11,5 @@ pub mod Marks
 pub mod Memo
 pub mod Pairs
 pub mod Starts
+pub mod Table
 pub mod Tasks

@@ -3,6 +3,7 @@ ghost use Rattle.std.specs.Prelude.{◌≡◌, ◌↔◌, ◌≤◌, ◌+◌, �
 ghost use Rattle.triple_gen.specs.declared.triple.TheConstants.{MOST_BOXES};
 ghost use Rattle.limits.specs.Budgets.{IsInRange};
 ghost use Rattle.limits.specs.declared.pages.TheConstants.{MOST_PAGES};
+ghost use Rattle.command_words.specs.declared.numbers.TheConstants.{MOST_DIGITS};
 ghost use Rattle.command_words.specs.Parts.{Part};
 ghost use Rattle.command_words.specs.Orders as spec;
 ghost use Rattle.command_words.specs.Says.{Says};
@@ -178,6 +179,8 @@ pub fn read_words(alloc: Global, words: &[String]) -> Result<Order, WordsFault>
     ensures few { IfOk result (λ o. IfSome o.size (λ n. n ≤ MOST_BOXES)) }
     ensures short { IfOk result (λ o. length o.names ≤ 2 * MOST_PAGES + 1) }
     ensures in_range { IfOk result (λ o. IsInRange o.limits) }
+    ensures most_digits { MOST_DIGITS ≡ 10 }
+    ensures most_pages { MOST_PAGES ≡ 64 }
 {
     let command = command(alloc)?;
     match command.try_get_matches_from(words) {

@@ -13,7 +13,7 @@ use tp_base::NoMemory;
 use tree_sem::Tree;
 
 /// The page folded, from its columns, where that leaves at most half of its nodes; else nothing, as where hashes of subtrees
-/// that differ are the same. Linear in the page's nodes and their atoms.
+/// that differ are the same. Nothing costs time alone. Linear in the page's nodes and their atoms.
 pub fn folded(alloc: Global, page: &Tree, columns: &Columns<'_>) -> Result<Option<Folded>, NoMemory>
     requires { IsNumbering page.now columns.now.parents.items columns.now.steps.items (map (λ b. b.now) columns.now.labels.items) }
     ensures folded { IfOk result (λ o. IfSome o (λ f. IsFolded page.now f.tree f.numbers.items)) }

@@ -1,5 +1,6 @@
 -- What public contracts cite.
 pub mod Marks
 pub mod Numbering
-pub mod Passes
 pub mod Ranks
+-- The states of the code.
+pub mod Passes

@@ -1,5 +1,5 @@
 -- The worklist as the code has it, from one look to the next.
-use Rattle.std.proofs.Common.{◌≡◌, ℕ, ◌<◌, ◌≤◌, List, [], ◌∷◌, ◌++◌, length, get_or, Option, Some, None, IfSome, Result, Ok, Err, IfOk, Vec, slice_get, inl, inr, sym, ap, ◌∙◌, subst, arith}
+use Rattle.std.proofs.Common.{◌≡◌, ℕ, ◌<◌, ◌≤◌, List, [], ◌∷◌, ◌++◌, length, get_or, Option, Some, None, Result, Ok, Err, IfOk, Vec, slice_get, inl, inr, sym, ap, ◌∙◌, subst, arith}
 use Rattle.std.specs.Global.{Global}
 use Rattle.std.proofs.lemmas.Option.{slice_get-get_or, slice_get_within}
 use Rattle.tp_base.proofs.Lists.{length-push}
@@ -12,7 +12,7 @@ use Rattle.proof_needs.specs.declared.spots.Spot.{Spot}
 use Rattle.proof_needs.specs.declared.spots.Spot.TheVariants.{Page, Added}
 use Rattle.proof_needs.specs.declared.needs.Tie.{Tie}
 use Rattle.proof_needs.specs.Choices.{from_down, spawn_kind}
-use Rattle.proof_needs.specs.Ties.{TieAt, IsTieIndex}
+use Rattle.proof_needs.specs.Ties.{TieAt, IsNumbered, IsTieIndex}
 use Rattle.proof_maker.specs.declared.glances.Glance.{Glance}
 use Rattle.proof_needs.specs.declared.spots.Want.{Want}
 use Rattle.proof_needs.specs.declared.needs.Draft.{Draft}
@@ -35,7 +35,7 @@ next_is keys wants n drafts w same at more is = slice_get-get_or wants drafts w 
 
 -- ties that are looked up are there
 pub tie_index : (s : System) (below : List ℕ) (nodes : List (List ℕ)) (triples triples' : List Triple) (ties ties' : List Tie) → length ties ≡ length triples → (u : Spot) → IsSpot nodes triples u → (c : Choice) (named : Option ℕ) → Enters s below triples triples' ties ties' c named
-    → IsTieIndex (length ties') u named
+    → IsTieIndex (length ties') u c named
 tie_index s below nodes triples triples' ties ties' count u spot c named enters = (still u spot, known c named enters)
   where
     same_long : (l : List Tie) → l ≡ ties → length l ≡ length ties
@@ -56,14 +56,11 @@ tie_index s below nodes triples triples' ties ties' count u spot c named enters 
     still (Page n) lt = tt
     still (Added n) lt = omega (arith, longer c named enters)
 
-    none : (o : Option ℕ) → o ≡ None → IfSome o (λ n. n < length ties')
-    none o is = subst (λ z. IfSome z (λ n. n < length ties')) (sym is) tt
-
-    known : (c : Choice) (named : Option ℕ) → Enters s below triples triples' ties ties' c named → IfSome named (λ n. n < length ties')
-    known Start named e = none named e.0
-    known (Local l) named e = none named e.0
-    known (Up l) named e = none named e.0
-    known (Real l n) named e = none named e.0
+    known : (c : Choice) (named : Option ℕ) → Enters s below triples triples' ties ties' c named → IsNumbered (length ties') c named
+    known Start named e = tt
+    known (Local l) named e = tt
+    known (Up l) named e = tt
+    known (Real l n) named e = tt
     known (Spawn l c) None e = absurd e
     known (Spawn l c) (Some n) e =
         let lt = slice_get_within triples' n (record { kind = spawn_kind s c; parent = below; atom = from_down s l }) e.at in

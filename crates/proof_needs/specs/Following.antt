@@ -1,6 +1,17 @@
--- What is wanted, and noted, for the premises of a reason.
+-- What becomes wanted for a reason, which is what its premises are: an atom at a spot each. What is needed by a proof is what comes
+-- of these, from the target on.
+--     Start        has none
+--     Local l      each atom that the rule needs, at the spot itself
+--     Up l         the left side of the link, at the parent. An added node is the child of each spot that uses it: at each of these
+--     Real l k     the left side of the link, at the child with the number k
+--     Spawn l c    the atom that the spawn rule needs, at the spot itself; the left side of the link, at the added node; and of what
+--                  the added node's own reasons need of a parent, each atom, at the spot
+-- A tie of an added node has both: the spots that use it, and what it needs of a parent. Each new one of either is met with all of the
+-- others that came before.
 --     IsAtNode               the node has a number, and the atom is wanted there
---     Follows                the premises of a reason at a spot are wanted
+--     IsAbove                an added node needs one atom more of its parent, which is wanted at each spot that uses it
+--     IsUsed                 one spot more uses an added node
+--     Follows                the premises of a reason at a spot are wanted, and nothing else
 use Rattle.std.specs.Prelude.{◌≡◌, ◌⊎◌, ℕ, List, [], ◌∷◌, ◌++◌, suc, length, Option, Some, None, IsSomeAnd, slice_get, slice_set}
 use Rattle.tree_sem.specs.Paths.{parent_of}
 use Rattle.tp_base.specs.Classes.{with_class}
@@ -56,7 +67,6 @@ module _ (nodes nodes' : List (List ℕ)) (ties ties' : List Tie) (wants wants' 
   Follows s spot (Up l) named = FollowsUp spot (from_up s l)
   Follows s spot (Real l n) named = FollowsDown spot n (from_down s l)
   Follows s spot (Spawn l c) named = (nodes' ≡ nodes) × ((n : ℕ) (tie : Tie) → named ≡ Some n → slice_get ties n ≡ Some tie → IsUsed n (from_down s l) (spawn_needs s c) spot tie ties ties' wants wants')
-      × (named ≡ None → (ties' ≡ ties) × (wants' ≡ wants))
 
 -- the triple has a number, with a tie of its own
 pub record IsEntered (t : Triple) (triples triples' : List Triple) (ties ties' : List Tie) (number : ℕ) : Type 0 where

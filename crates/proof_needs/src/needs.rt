@@ -1,5 +1,5 @@
 //! What the proof of an atom needs, and how the premises of a reason are followed.
-ghost use Rattle.std.specs.Prelude.{◌≡◌, ◌<◌, ◌++◌, ◌∷◌, [], ℕ, List, Option, Some, length, slice_get, unwrap_or, option_map, IfSome, OnOk};
+ghost use Rattle.std.specs.Prelude.{◌≡◌, ◌<◌, ◌++◌, ◌∷◌, [], ℕ, List, Option, Some, length, slice_get, unwrap_or, option_map, IsSomeAnd, OnOk};
 ghost use Rattle.tree_sem.specs.Paths.{parent_of};
 ghost use Rattle.proof_needs.specs.Choices.{needs_of};
 ghost use Rattle.proof_needs.specs.Sets.{IsWith};
@@ -54,7 +54,7 @@ pub struct Needs {
     pub drafts: Vec<Draft>,
 }
 
-/// Wants the premises of a reason at the spot. It costs a step for each atom that is wanted, on average, the path of a page's node,
+/// Wants the premises of a reason at the spot, where a spawn has its number. After a refusal some of them may be wanted. It costs a step for each atom that is wanted, on average, the path of a page's node,
 /// and where an added node needs one atom more of its parent, a look at those that it needs already.
 pub fn follow(
     alloc: Global,
@@ -63,7 +63,7 @@ pub fn follow(
     spot: Spot,
     draft: &Draft,
 ) -> Result<(), NoMemory>
-    requires ties { IsTieIndex (length needs.old.ties.items) spot draft.now.triple }
+    requires ties { IsTieIndex (length needs.old.ties.items) spot draft.now.choice draft.now.triple }
     ensures follows { OnOk result (Follows (paths_in needs.old.nodes.keys) (paths_in needs.new.nodes.keys) needs.old.ties.items needs.new.ties.items needs.old.wants.keys needs.new.wants.keys
         system.now spot draft.now.choice draft.now.triple) }
     ensures triples { needs.new.triples ≡ needs.old.triples }
@@ -231,25 +231,20 @@ fn follow_spawn(
     from: Atom,
     spawner: Atom,
 ) -> Result<(), NoMemory>
-    requires tie { IfSome triple (λ n. n < length needs.old.ties.items) }
+    requires tie { IsSomeAnd triple (λ n. n < length needs.old.ties.items) }
     ensures nodes { needs.new.nodes ≡ needs.old.nodes }
     ensures follows { OnOk result ((n : ℕ) (tie : Tie) → triple ≡ Some n → slice_get needs.old.ties.items n ≡ Some tie
         → IsUsed n from spawner spot tie needs.old.ties.items needs.new.ties.items needs.old.wants.keys needs.new.wants.keys) }
-    ensures nothing { OnOk result (triple ≡ None → (needs.new.ties ≡ needs.old.ties) × (needs.new.wants ≡ needs.old.wants)) }
     ensures triples { needs.new.triples ≡ needs.old.triples }
     ensures drafts { needs.new.drafts ≡ needs.old.drafts }
     ensures target { needs.new.target ≡ needs.old.target }
 {
-    match triple {
-        Some(n) => {
-            let spawner = Want {
-                spot,
-                atom: spawner,
-            };
-            want_added(&mut needs.ties, &mut needs.wants, n, from, spawner)
-        }
-        None => Ok(()),
-    }
+    let Some(n) = triple else { unreachable!() };
+    let spawner = Want {
+        spot,
+        atom: spawner,
+    };
+    want_added(&mut needs.ties, &mut needs.wants, n, from, spawner)
 }
 
 // The atom is needed at the added node, which comes below a spot by the atom that spawns it there.

@@ -1,5 +1,5 @@
 //! Where atoms are needed: at nodes of the page and at added nodes, by their numbers.
-ghost use Rattle.std.specs.Prelude.{◌≡◌, ◌++◌, if◌then◌else◌, suc, length, Some, slice_get, IfOk, OnOk, nat_eq};
+ghost use Rattle.std.specs.Prelude.{◌≡◌, ◌++◌, if◌then◌else◌, suc, length, Some, slice_get, IfOk, OnOk, OnErr, nat_eq};
 ghost use Rattle.std.specs.Cmp.Lexicographic.{pointwise};
 ghost use Rattle.std.specs.Cmp.Rules.{comparing};
 ghost use Rattle.std.specs.Hash as fed;
@@ -86,6 +86,7 @@ pub fn node_number(
 ) -> Result<usize, NoMemory>
     ensures number { IfOk result (λ n. slice_get (paths_in nodes.new.keys) n ≡ Some at.now) }
     ensures nodes { OnOk result (IsWith (paths_in nodes.old.keys) (λ v. v ≡ at.now) (paths_in nodes.new.keys)) }
+    ensures err { OnErr result (nodes.new.keys ≡ nodes.old.keys) }
 {
     let steps = steps_of(alloc, at)?;
     let (number, _) = nodes.insert_full(steps)?;
@@ -131,6 +132,7 @@ pub fn triple_number(
 ) -> Result<(usize, bool), NoMemory>
     ensures number { IfOk result (λ r. slice_get (triples_in triples.new.keys) r.0 ≡ Some (record { kind = kind; parent = parent; atom = atom })) }
     ensures triples { OnOk result (IsWith (triples_in triples.old.keys) (λ t. t ≡ record { kind = kind; parent = parent; atom = atom }) (triples_in triples.new.keys)) }
+    ensures err { OnErr result (triples.new.keys ≡ triples.old.keys) }
     ensures count { IfOk result (λ r. length triples.new.keys ≡ (if r.1 then suc (length triples.old.keys) else length triples.old.keys)) }
 {
     let key = TripleKey { kind, parent, atom };

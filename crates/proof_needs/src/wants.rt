@@ -1,5 +1,5 @@
 //! What is needed, each atom at each spot once.
-ghost use Rattle.std.specs.Prelude.{◌≡◌, OnOk};
+ghost use Rattle.std.specs.Prelude.{◌≡◌, OnOk, OnErr};
 ghost use Rattle.proof_needs.specs.Sets.{IsWith};
 ghost use Rattle.proof_needs.specs.Wants.{IsOfEach, IsAtEach};
 
@@ -9,7 +9,8 @@ use tp_base::{Atom, ClassSet, NoMemory};
 
 /// The atom at the spot. Constant, on average.
 pub fn want(wants: &mut IndexSet<Want>, spot: Spot, atom: Atom) -> Result<(), NoMemory>
-    ensures { OnOk result (IsWith wants.old.keys (λ w. w ≡ record { spot = spot; atom = atom }) wants.new.keys) }
+    ensures ok { OnOk result (IsWith wants.old.keys (λ w. w ≡ record { spot = spot; atom = atom }) wants.new.keys) }
+    ensures err { OnErr result (wants.new.keys ≡ wants.old.keys) }
 {
     wants.insert(Want { spot, atom })?;
     Ok(())

@@ -9,6 +9,7 @@ use Rattle.tp_base.proofs.ClassLemmas.{with_class-keeps, with_class-there, Conta
 use Rattle.tp_base.proofs.Lists.{Contains-only}
 use Rattle.tp_base.proofs.Rising.{Contains-here, Contains-none}
 use Rattle.row_index.specs.Rows.{row_of}
+use Rattle.row_index.proofs.RowLemmas.{Contains-take}
 use Rattle.pushdown_sym.specs.Ends.{IsEndNoted, AreEndsNoted, AreSomeNoted}
 
 pub same_or_other : (m n : ℕ) → (m ≡ n) ⊎ (m ≢ n)

@@ -1,8 +1,9 @@
 -- A value noted at a key.
-use Rattle.std.proofs.Common.{◌≡◌, ◌⊎◌, ℕ, ◌==◌, if◌then◌else◌, List, [], ◌∷◌, ◌++◌, Contains, sym, ap, ◌∙◌, inl, inr, arith, subst}
+use Rattle.std.proofs.Common.{◌≡◌, ◌⊎◌, ℕ, zero, suc, ◌==◌, if◌then◌else◌, List, [], ◌∷◌, ◌++◌, take, Contains, sym, ap, ◌∙◌, inl, inr, arith, subst}
 use Rattle.std.proofs.lemmas.Bool.{cases_Bool, cases_order, eqb-true, eq-eqb}
 use Rattle.std.proofs.lemmas.List.Elements.{Contains-append_left, Contains-append_cases}
 use Rattle.tp_base.proofs.Lists.{Contains-only}
+use Rattle.tp_base.proofs.Rising.{Contains-none, Contains-cons, Contains-here, Contains-behind}
 use Rattle.row_index.specs.Rows.{row_of, IsNoted}
 
 module _ {V : Type 0} (old new : List (List V)) (key : ℕ) (x : V) (noted : IsNoted old new key x) where
@@ -29,3 +30,12 @@ module _ {V : Type 0} (old new : List (List V)) (key : ℕ) (x : V) (noted : IsN
     | inl here ↦ rw here (ap (row_of new) (sym (eqb-true key k here)) ∙ noted.here)
     | inr other ↦ rw other (noted.others k (λ same. let yes = eq-eqb key k (sym same) in cc))
   ]
+
+-- what is among the first is among all
+pub Contains-take : {X : Type 0} (xs : List X) (i : ℕ) (x : X) → Contains (take i xs) x → Contains xs x
+Contains-take {X} xs zero x there = absurd (Contains-none x there)
+Contains-take {X} [] (suc i) x there = there
+Contains-take {X} (y ∷ xs) (suc i) x there = elim ((Contains-cons x y (take i xs)).0 there) [
+  | inl here ↦ Contains-here x y xs here
+  | inr behind ↦ Contains-behind x y xs (Contains-take xs i x behind)
+]

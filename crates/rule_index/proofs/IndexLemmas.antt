@@ -1,5 +1,5 @@
 -- Rules found by the atoms that they look at.
-use Rattle.std.proofs.Common.{◌≡◌, ◌≢◌, ◌⊎◌, ◌==◌, not, Bool, true, false, ℕ, ◌+◌, ◌<◌, ◌≤◌, List, [], ◌∷◌, ◌++◌, map, take, length, get_or, slice_get, Option, Some, None, option_map, unwrap_or, All, Contains, refl, sym, ap, ◌∙◌, inl, inr, arith, subst}
+use Rattle.std.proofs.Common.{◌≡◌, ◌≢◌, ◌⊎◌, ◌==◌, not, Bool, true, false, ℕ, ◌+◌, ◌<◌, ◌≤◌, List, [], ◌∷◌, ◌++◌, map, take, length, get_or, slice_get, Option, Some, None, option_map, unwrap_or, All, Contains, refl, sym, ap, ◌∙◌, inl, inr, arith, subst, Result, Ok, Err, OnErr}
 use Rattle.std.specs.List.{IsFirstAndRest, filter}
 use Rattle.std.specs.List.Sorted.{IsStrictlyIncreasing}
 use Rattle.std.proofs.lemmas.Bool.{and_from, cases_Bool, eqb-true, eqb-false}
@@ -13,8 +13,9 @@ use Rattle.tp_base.specs.Classes.{has_class, all_among, with_class, union_of, cu
 use Rattle.tp_base.proofs.ClassLemmas.{has_class-Contains, Contains-has_class, same_members, Contains-union_of, IsStrictlyIncreasing-union_of, IsStrictlyIncreasing-cut_to}
 use Rattle.tp_base.proofs.Rising.{Contains-here, Contains-cons, Contains-none, All-from_Contains}
 use Rattle.tp_base.proofs.Lists.{map_at, slice_get-append_left, slice_get-push, push_cases, take_next, Contains-at, at_Contains, at_map, Contains-only}
+use Rattle.gathered.specs.Between.{IsBetween}
 use Rattle.row_index.specs.Rows.{row_of, IsNoted}
-use Rattle.row_index.proofs.RowLemmas.{noted_kept, noted_cases}
+use Rattle.row_index.proofs.RowLemmas.{noted_kept, noted_cases, Contains-take}
 use Rattle.simple_core.specs.declared.system.System.{System}
 use Rattle.simple_core.specs.declared.summaries.First.{First}
 use Rattle.simple_core.specs.Systems.{IsSound}
@@ -279,6 +280,92 @@ ruled_by rules rows label fresh start next index met is_next =
       whole = λ y there. elim (whole y there) [ inl known ↦ inl known | inr new ↦ inr ((Contains-union_of start ys y).1 (inr new)) ];
       rises = IsStrictlyIncreasing-union_of start ys;
     })
+
+-- ---- what is there after a refusal
+
+pub on_err : {T E : Type 0} (P : Type 0) (r : Result T E) → P → OnErr r P
+on_err P (Ok x) p = tt
+on_err P (Err e) p = p
+
+kept_union : (start next given : List ℕ) → next ≡ union_of start given → (y : ℕ) → Contains start y → Contains next y
+kept_union start next given is y there = subst (λ (z : List ℕ). Contains z y) (sym is) ((Contains-union_of start given y).1 (inl there))
+
+pub kept_then : (start next next' given : List ℕ) → ((y : ℕ) → Contains start y → Contains next y) → next' ≡ union_of next given → (y : ℕ) → Contains start y → Contains next' y
+kept_then start next next' given kept is y there = kept_union next next' given is y (kept y there)
+
+-- a part of what is left was added
+between_part : (start most next left part new : List ℕ) → union_of next left ≡ most → ((y : ℕ) → Contains start y → Contains next y) → ((y : ℕ) → Contains part y → Contains left y)
+    → IsBetween next (union_of next part) new → IsBetween start most new
+between_part start most next left part new whole kept among left_by = record {
+  kept = λ y there. left_by.kept y (kept y there);
+  within = λ y there. subst (λ (z : List ℕ). Contains z y) whole ((Contains-union_of next left y).1 (elim ((Contains-union_of next part y).0 (left_by.within y there)) [
+    | inl before ↦ inl before
+    | inr added ↦ inr (among y added)
+  ]));
+}
+
+pub between_row : {X : Type 0} (f : X → List ℕ) (rules : List X) (start next new rest : List ℕ) (p : ℕ) (others row : List ℕ) → rest ≡ p ∷ others → union_of next (at_row f rules rest) ≡ union_of start (at_row f rules row)
+    → ((y : ℕ) → Contains start y → Contains next y) → IsBetween next (union_of next (at_place f rules p)) new → IsBetween start (union_of start (at_row f rules row)) new
+between_row f rules start next new rest p others row split whole kept left_by =
+    between_part start (union_of start (at_row f rules row)) next (at_row f rules rest) (at_place f rules p) new whole kept
+    (λ y there. subst (λ (z : List ℕ). Contains (at_row f rules z) y) (sym split) (Contains-append_left (at_place f rules p) (at_row f rules others) y there)) left_by
+
+pub between_firsts : {X : Type 0} (f : X → List ℕ) (rules : List X) (rows : List (List ℕ)) (at : ℕ → ℕ) (start next new row : List ℕ) (rest : List First) (first : First) (others all : List First) → rest ≡ first ∷ others → row ≡ row_of rows (at first.atom)
+    → union_of next (by_label f rules rows at (map (λ f. f.atom) rest)) ≡ union_of start (by_label f rules rows at (map (λ f. f.atom) all))
+    → ((y : ℕ) → Contains start y → Contains next y) → IsBetween next (union_of next (at_row f rules row)) new → IsBetween start (union_of start (by_label f rules rows at (map (λ f. f.atom) all))) new
+between_firsts f rules rows at start next new row rest first others all split here whole kept left_by =
+    between_part start (union_of start (by_label f rules rows at (map (λ (g : First). g.atom) all))) next (by_label f rules rows at (map (λ (g : First). g.atom) rest)) (at_row f rules row) new whole kept
+    (λ y there. subst (λ (z : List First). Contains (by_label f rules rows at (map (λ (g : First). g.atom) z)) y) (sym split)
+    (Contains-append_left (at_row f rules (row_of rows (at first.atom))) (by_label f rules rows at (map (λ (g : First). g.atom) others)) y (subst (λ (z : List ℕ). Contains (at_row f rules z) y) here there))) left_by
+
+pub between_label : {X : Type 0} (f : X → List ℕ) (rules : List X) (rows : List (List ℕ)) (at : ℕ → ℕ) (label start next new row : List ℕ) (i a : ℕ) → slice_get label i ≡ Some a
+    → next ≡ union_of start (by_label f rules rows at (take i label)) → row ≡ row_of rows (at a) → IsBetween next (union_of next (at_row f rules row)) new → IsBetween start (union_of start (by_label f rules rows at label)) new
+between_label f rules rows at label start next new row i a is so_far here left_by =
+    let given = at_row f rules row in
+    let g : ℕ → List ℕ = λ b. at_row f rules (row_of rows (at b)) in
+    record {
+      kept = λ y there. left_by.kept y (kept_union start next (by_label f rules rows at (take i label)) so_far y there);
+      within = λ y there. (Contains-union_of start (by_label f rules rows at label) y).1 (elim ((Contains-union_of next given y).0 (left_by.within y there)) [
+        | inl before ↦ elim ((Contains-union_of start (by_label f rules rows at (take i label)) y).0 (subst (λ (z : List ℕ). Contains z y) so_far before)) [
+          | inl old ↦ inl old
+          | inr earlier ↦ let of = flat_map-Contains g (take i label) y earlier in inr (Contains-flat_map g label of.0 y (Contains-take label i of.0 of.1) of.2)
+        ]
+        | inr now ↦ inr (Contains-flat_map g label a y (Contains-at label i a is) (subst (λ (z : List ℕ). Contains (at_row f rules z) y) here now))
+      ]);
+    }
+
+-- what all rules of a label give
+module _ (rules : List Local) (label start new : List ℕ) where
+  pub between_ruled : (row : List ℕ) → IsBetween start (union_of start (at_row (given_in label) rules row)) new → IsBetween start (union_of start (given_by_rules rules label)) new
+  between_ruled row left_by = record {
+    kept = left_by.kept;
+    within = λ y there. (Contains-union_of start (given_by_rules rules label) y).1 (elim ((Contains-union_of start (at_row (given_in label) rules row) y).0 (left_by.within y there)) [
+      | inl old ↦ inl old
+      | inr new ↦ inr (at_row-is rules label row y new)
+    ]);
+  }
+
+  pub between_labelled : (rows : List (List ℕ)) (fresh : List ℕ) → IsBetween start (union_of start (by_label (given_in label) rules rows (λ a. a + 1) fresh)) new → IsBetween start (union_of start (given_by_rules rules label)) new
+  between_labelled rows fresh left_by = record {
+    kept = left_by.kept;
+    within = λ y there. (Contains-union_of start (given_by_rules rules label) y).1 (elim ((Contains-union_of start (by_label (given_in label) rules rows (λ a. a + 1) fresh) y).0 (left_by.within y there)) [
+      | inl old ↦ inl old
+      | inr found ↦ let of = flat_map-Contains (λ a. at_row (given_in label) rules (row_of rows (a + 1))) fresh y found in inr (at_row-is rules label (row_of rows (of.0 + 1)) y of.2)
+    ]);
+  }
+
+  pub between_found : (rows : List (List ℕ)) (fresh next row : List ℕ) → next ≡ union_of start (at_row (given_in label) rules row)
+      → IsBetween next (union_of next (by_label (given_in label) rules rows (λ a. a + 1) fresh)) new → IsBetween start (union_of start (given_by_rules rules label)) new
+  between_found rows fresh next row is left_by = record {
+    kept = λ y there. left_by.kept y (kept_union start next (at_row (given_in label) rules row) is y there);
+    within = λ y there. (Contains-union_of start (given_by_rules rules label) y).1 (elim ((Contains-union_of next (by_label (given_in label) rules rows (λ a. a + 1) fresh) y).0 (left_by.within y there)) [
+      | inl before ↦ elim ((Contains-union_of start (at_row (given_in label) rules row) y).0 (subst (λ (z : List ℕ). Contains z y) is before)) [
+        | inl old ↦ inl old
+        | inr free ↦ inr (at_row-is rules label row y free)
+      ]
+      | inr found ↦ let of = flat_map-Contains (λ a. at_row (given_in label) rules (row_of rows (a + 1))) fresh y found in inr (at_row-is rules label (row_of rows (of.0 + 1)) y of.2)
+    ]);
+  }
 
 -- ---- making the index of rules
 

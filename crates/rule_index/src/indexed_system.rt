@@ -1,7 +1,8 @@
 //! The rules of a system, found by the atoms that they look at.
-ghost use Rattle.std.specs.Prelude.{◌≡◌, ◌≢◌, ◌++◌, ◌+◌, ◌∷◌, [], ℕ, map, Contains, All, IfOk, OnOk, IsTrue, IsFalse};
+ghost use Rattle.std.specs.Prelude.{◌≡◌, ◌≢◌, ◌++◌, ◌+◌, ◌∷◌, [], ℕ, map, Contains, All, IfOk, OnOk, OnErr, IsTrue, IsFalse};
 ghost use Rattle.std.specs.List.Sorted.{IsStrictlyIncreasing};
 ghost use Rattle.tp_base.specs.Classes.{has_class, all_among, union_of};
+ghost use Rattle.gathered.specs.Between.{IsBetween};
 ghost use Rattle.simple_core.specs.Labels.{given_by_rules, given_by_links, visible_in};
 ghost use Rattle.simple_core.specs.Systems.{IsSound};
 ghost use Rattle.simple_core.specs.declared.summaries.First.{First};
@@ -86,7 +87,8 @@ impl<'a> IndexedSystem<'a> {
         next: &mut Gathered,
     ) -> Result<(), NoMemory>
         requires { AreMet self.now.local label.now fresh.now }
-        ensures { OnOk result (IsMore label.now (given_by_rules self.now.local label.now) next.old next.new) }
+        ensures ok { OnOk result (IsMore label.now (given_by_rules self.now.local label.now) next.old next.new) }
+        ensures err { OnErr result (IsBetween next.old (union_of next.old (given_by_rules self.now.local label.now)) next.new) }
     {
         let rules = self.system.local.items();
         if are_all_fresh(label, fresh) {
@@ -105,7 +107,8 @@ impl<'a> IndexedSystem<'a> {
     ) -> Result<(), NoMemory>
         requires met { AreMetBy self.now.local label.now (map (λ f. f.atom) fresh.now) }
         requires within { (f : First) → Contains fresh.now f → Contains label.now f.atom }
-        ensures { OnOk result (IsMore label.now (given_by_rules self.now.local label.now) next.old next.new) }
+        ensures ok { OnOk result (IsMore label.now (given_by_rules self.now.local label.now) next.old next.new) }
+        ensures err { OnErr result (IsBetween next.old (union_of next.old (given_by_rules self.now.local label.now)) next.new) }
     {
         let rules = self.system.local.items();
         add_by_firsts(rules, &self.local, label, fresh, next)?;
@@ -115,7 +118,8 @@ impl<'a> IndexedSystem<'a> {
     /// Adds what the label of the parent gives.
     pub fn add_up(&self, label: &ClassSet, next: &mut Gathered) -> Result<(), NoMemory>
         requires { IsStrictlyIncreasing next.old }
-        ensures { OnOk result (next.new ≡ union_of next.old (given_by_links self.now.up label.now)) }
+        ensures ok { OnOk result (next.new ≡ union_of next.old (given_by_links self.now.up label.now)) }
+        ensures err { OnErr result (IsBetween next.old (union_of next.old (given_by_links self.now.up label.now)) next.new) }
     {
         add_linked(self.system.up.items(), &self.up, label, next)
     }
@@ -123,7 +127,8 @@ impl<'a> IndexedSystem<'a> {
     /// Adds what the label of a child gives.
     pub fn add_down(&self, label: &ClassSet, next: &mut Gathered) -> Result<(), NoMemory>
         requires { IsStrictlyIncreasing next.old }
-        ensures { OnOk result (next.new ≡ union_of next.old (given_by_links self.now.down label.now)) }
+        ensures ok { OnOk result (next.new ≡ union_of next.old (given_by_links self.now.down label.now)) }
+        ensures err { OnErr result (IsBetween next.old (union_of next.old (given_by_links self.now.down label.now)) next.new) }
     {
         add_linked(self.system.down.items(), &self.down, label, next)
     }
@@ -131,7 +136,8 @@ impl<'a> IndexedSystem<'a> {
     /// Adds what one atom of a child gives.
     pub fn add_down_of(&self, atom: Atom, next: &mut Gathered) -> Result<(), NoMemory>
         requires { IsStrictlyIncreasing next.old }
-        ensures { OnOk result (next.new ≡ union_of next.old (given_by_links self.now.down (atom ∷ []))) }
+        ensures ok { OnOk result (next.new ≡ union_of next.old (given_by_links self.now.down (atom ∷ []))) }
+        ensures err { OnErr result (IsBetween next.old (union_of next.old (given_by_links self.now.down (atom ∷ []))) next.new) }
     {
         add_linked_by(self.system.down.items(), &self.down, atom, next)
     }
@@ -305,7 +311,8 @@ fn add_rule(
     label: &ClassSet,
     next: &mut Gathered,
 ) -> Result<(), NoMemory>
-    ensures { OnOk result (next.new ≡ union_of next.old (at_place (given_in label.now) rules.now place)) }
+    ensures ok { OnOk result (next.new ≡ union_of next.old (at_place (given_in label.now) rules.now place)) }
+    ensures err { OnErr result (IsBetween next.old (union_of next.old (at_place (given_in label.now) rules.now place)) next.new) }
 {
     if let Some(rule) = rules.get(place) {
         if has_each(label, &rule.needs) {
@@ -321,7 +328,8 @@ fn add_rules(
     label: &ClassSet,
     next: &mut Gathered,
 ) -> Result<(), NoMemory>
-    ensures { OnOk result (next.new ≡ union_of next.old (at_row (given_in label.now) rules.now row.now)) }
+    ensures ok { OnOk result (next.new ≡ union_of next.old (at_row (given_in label.now) rules.now row.now)) }
+    ensures err { OnErr result (IsBetween next.old (union_of next.old (at_row (given_in label.now) rules.now row.now)) next.new) }
 {
     let mut rest = row;
     'places: while let Some((place, others)) = rest.split_first() {
@@ -339,7 +347,8 @@ fn add_rule_by(
     next: &mut Gathered,
 ) -> Result<(), NoMemory>
     requires { Contains label.now known }
-    ensures { OnOk result (next.new ≡ union_of next.old (at_place (given_in label.now) rules.now place)) }
+    ensures ok { OnOk result (next.new ≡ union_of next.old (at_place (given_in label.now) rules.now place)) }
+    ensures err { OnErr result (IsBetween next.old (union_of next.old (at_place (given_in label.now) rules.now place)) next.new) }
 {
     if let Some(rule) = rules.get(place) {
         if has_others(label, &rule.needs, known) {
@@ -358,7 +367,8 @@ fn add_rules_by(
     next: &mut Gathered,
 ) -> Result<(), NoMemory>
     requires { Contains label.now known }
-    ensures { OnOk result (next.new ≡ union_of next.old (at_row (given_in label.now) rules.now row.now)) }
+    ensures ok { OnOk result (next.new ≡ union_of next.old (at_row (given_in label.now) rules.now row.now)) }
+    ensures err { OnErr result (IsBetween next.old (union_of next.old (at_row (given_in label.now) rules.now row.now)) next.new) }
 {
     let mut rest = row;
     'places: while let Some((place, others)) = rest.split_first() {
@@ -383,7 +393,8 @@ fn add_by_each(
     fresh: &ClassSet,
     next: &mut Gathered,
 ) -> Result<(), NoMemory>
-    ensures { OnOk result (next.new ≡ union_of next.old (by_label (given_in label.now) rules.now index.now (λ a. a + 1) fresh.now)) }
+    ensures ok { OnOk result (next.new ≡ union_of next.old (by_label (given_in label.now) rules.now index.now (λ a. a + 1) fresh.now)) }
+    ensures err { OnErr result (IsBetween next.old (union_of next.old (by_label (given_in label.now) rules.now index.now (λ a. a + 1) fresh.now)) next.new) }
 {
     for i in 0..fresh.len() {
         let atom = fresh.at(i);
@@ -401,7 +412,8 @@ fn add_by_firsts(
     next: &mut Gathered,
 ) -> Result<(), NoMemory>
     requires { (f : First) → Contains fresh.now f → Contains label.now f.atom }
-    ensures { OnOk result (next.new ≡ union_of next.old (by_label (given_in label.now) rules.now index.now (λ a. a + 1) (map (λ f. f.atom) fresh.now))) }
+    ensures ok { OnOk result (next.new ≡ union_of next.old (by_label (given_in label.now) rules.now index.now (λ a. a + 1) (map (λ f. f.atom) fresh.now))) }
+    ensures err { OnErr result (IsBetween next.old (union_of next.old (by_label (given_in label.now) rules.now index.now (λ a. a + 1) (map (λ f. f.atom) fresh.now))) next.new) }
 {
     let mut rest = fresh;
     'firsts: while let Some((first, others)) = rest.split_first() {
@@ -420,7 +432,8 @@ fn add_by_needs(
     next: &mut Gathered,
 ) -> Result<(), NoMemory>
     requires { AreFound rules.now index.now label.now fresh.now }
-    ensures { OnOk result (IsMore label.now (given_by_rules rules.now label.now) next.old next.new) }
+    ensures ok { OnOk result (IsMore label.now (given_by_rules rules.now label.now) next.old next.new) }
+    ensures err { OnErr result (IsBetween next.old (union_of next.old (given_by_rules rules.now label.now)) next.new) }
 {
     add_rules(rules, index.of(0), label, next)?;
     add_by_each(rules, index, label, fresh, next)?;
@@ -428,7 +441,8 @@ fn add_by_needs(
 }
 
 fn add_link(links: &[Link], place: usize, next: &mut Gathered) -> Result<(), NoMemory>
-    ensures { OnOk result (next.new ≡ union_of next.old (at_place to_of links.now place)) }
+    ensures ok { OnOk result (next.new ≡ union_of next.old (at_place to_of links.now place)) }
+    ensures err { OnErr result (IsBetween next.old (union_of next.old (at_place to_of links.now place)) next.new) }
 {
     if let Some(link) = links.get(place) {
         next.add(link.to)?;
@@ -437,7 +451,8 @@ fn add_link(links: &[Link], place: usize, next: &mut Gathered) -> Result<(), NoM
 }
 
 fn add_links(links: &[Link], row: &[usize], next: &mut Gathered) -> Result<(), NoMemory>
-    ensures { OnOk result (next.new ≡ union_of next.old (at_row to_of links.now row.now)) }
+    ensures ok { OnOk result (next.new ≡ union_of next.old (at_row to_of links.now row.now)) }
+    ensures err { OnErr result (IsBetween next.old (union_of next.old (at_row to_of links.now row.now)) next.new) }
 {
     let mut rest = row;
     'places: while let Some((place, others)) = rest.split_first() {
@@ -455,7 +470,8 @@ fn add_linked_by(
 ) -> Result<(), NoMemory>
     requires index { AreLinksAt links.now index.now }
     requires rises { IsStrictlyIncreasing next.old }
-    ensures { OnOk result (next.new ≡ union_of next.old (given_by_links links.now (atom ∷ []))) }
+    ensures ok { OnOk result (next.new ≡ union_of next.old (given_by_links links.now (atom ∷ []))) }
+    ensures err { OnErr result (IsBetween next.old (union_of next.old (given_by_links links.now (atom ∷ []))) next.new) }
 {
     add_links(links, index.of(atom.0 as usize), next)?;
     Ok(())
@@ -469,7 +485,8 @@ fn add_linked(
 ) -> Result<(), NoMemory>
     requires index { AreLinksAt links.now index.now }
     requires rises { IsStrictlyIncreasing next.old }
-    ensures { OnOk result (next.new ≡ union_of next.old (given_by_links links.now label.now)) }
+    ensures ok { OnOk result (next.new ≡ union_of next.old (given_by_links links.now label.now)) }
+    ensures err { OnErr result (IsBetween next.old (union_of next.old (given_by_links links.now label.now)) next.new) }
 {
     for i in 0..label.len() {
         let atom = label.at(i);

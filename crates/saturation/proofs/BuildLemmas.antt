@@ -10,7 +10,7 @@ use Rattle.saturation.specs.HistoryMap.{Noted, history_in}
 use Rattle.saturation.specs.Saturation.{IsBuilt}
 use Rattle.saturation.specs.declared.courses.Course.{Course}
 use Rattle.saturation.specs.Courses.{AreRows, HasGate}
-use Rattle.saturation.specs.Shared.{AreSummaries}
+use Rattle.saturation.specs.Invariant.{AreSummaries}
 
 -- the summaries keep a copy of the system
 pub summaries_built : (s copy : System) (atoms : List ℕ) (d : Arena) (cells : Entries) (histories : List (List Noted)) (rows : List (List Course)) → copy ≡ s → IsSound s → atoms ≡ given_atoms s

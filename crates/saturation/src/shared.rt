@@ -94,7 +94,8 @@ pub struct SharedSummaries {
 }
 
 impl Model for SharedSummaries {
-    ghost use Rattle.saturation.specs.Shared.{Shared, AreSummaries};
+    ghost use Rattle.saturation.specs.Shared.{Shared};
+    ghost use Rattle.saturation.specs.Invariant.{AreSummaries};
     ghost use Rattle.std.specs.Coded.{codes};
     ghost use Rattle.class_diagrams.specs.TreeCode.{tree_code};
 

@@ -22,13 +22,13 @@ add_local-requires c =
     (subst (λ (z : List ℕ). AreMet c.args.system.now.local (label_in c.args.filling.now.labels.labels (node_of c.args.filling.now.labels number)) z) (sym here) c.requires.settled.here)
 
 pub add_above-requires : goal.add_above-requires
-add_above-requires c = c.in_ok-add_local.ensures.rises (subst IsStrictlyIncreasing (sym c.new-given.ensures) (λ k within. absurd (omega arith)))
+add_above-requires c = c.in_ok-add_local.ensures.ok.rises (subst IsStrictlyIncreasing (sym c.new-given.ensures) (λ k within. absurd (omega arith)))
 
 pub add_each-requires : goal.add_each-requires
 add_each-requires c =
     subst IsStrictlyIncreasing (sym c.in_ok-add_above.ensures)
     (IsStrictlyIncreasing-union_of c.add_local.new.next (given_by_links c.args.system.now.up (set_at c.as_slice-fresh.result.now c.parent.result))
-    (c.in_ok-add_local.ensures.rises (subst IsStrictlyIncreasing (sym c.new-given.ensures) (λ k within. absurd (omega arith)))))
+    (c.in_ok-add_local.ensures.ok.rises (subst IsStrictlyIncreasing (sym c.new-given.ensures) (λ k within. absurd (omega arith)))))
 
 pub returns : goal.returns
 returns c =
@@ -36,5 +36,5 @@ returns c =
     let fresh = c.args.filling.now.work.fresh.items in
     let number = c.args.number in
     given_more c.args.system.now c.args.filling.now.labels.labels nodes fresh number c.requires.number c.requires.settled c.parent.ensures.whole c.args.own.now (ap (λ o. unwrap_or o []) c.requires.own)
-    c.parent.result c.callers_of-callers.result.now c.new-given.result c.add_local.new.next c.add_above.new.next c.add_each.new.next c.new-given.ensures c.parent.ensures.above c.callers_of-callers.ensures c.in_ok-add_local.ensures
+    c.parent.result c.callers_of-callers.result.now c.new-given.result c.add_local.new.next c.add_above.new.next c.add_each.new.next c.new-given.ensures c.parent.ensures.above c.callers_of-callers.ensures c.in_ok-add_local.ensures.ok
     (rw c.as_slice-fresh.ensures.value at c.in_ok-add_above.ensures) (rw c.as_slice-fresh.ensures.value at c.in_ok-add_each.ensures)

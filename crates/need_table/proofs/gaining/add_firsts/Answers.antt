@@ -11,8 +11,8 @@ pub firsts-preserved : goal.firsts-preserved
 firsts-preserved c =
     let give : First → List ℕ = λ f. given_by_links c.args.system.now.down (f.atom ∷ []) in
     record {
-      rises = subst IsStrictlyIncreasing (sym c.in_ok-add_down_of.ensures) (IsStrictlyIncreasing-union_of c.firsts.next (give c.in-Some.first.now) c.firsts.invariant.rises);
-      given = union_next give c.firsts.next c.add_down_of.new.next c.firsts.rest.now c.in-Some.first.now c.in-Some.others.now (first_rest c.firsts.rest.now c.in-Some.first.now c.in-Some.others.now c.in-Some.ensures.cases) c.in_ok-add_down_of.ensures
+      rises = subst IsStrictlyIncreasing (sym c.in_ok-add_down_of.ensures.ok) (IsStrictlyIncreasing-union_of c.firsts.next (give c.in-Some.first.now) c.firsts.invariant.rises);
+      given = union_next give c.firsts.next c.add_down_of.new.next c.firsts.rest.now c.in-Some.first.now c.in-Some.others.now (first_rest c.firsts.rest.now c.in-Some.first.now c.in-Some.others.now c.in-Some.ensures.cases) c.in_ok-add_down_of.ensures.ok
           ∙ c.firsts.invariant.given;
     }
 

@@ -3,8 +3,8 @@ use Rattle.proof_needs.specs.Following.{IsUsed}
 use Rattle.proof_needs.proofs.TieLemmas.{on_ok}
 use Rattle.proof_needs.proofs.needs.follow_spawn.Goals as goal
 
-pub returns-in-Some-clause-follows : goal.returns-in-Some-clause-follows
-returns-in-Some-clause-follows c =
+pub returns-clause-follows : goal.returns-clause-follows
+returns-clause-follows c =
     let old = c.args.needs.now in
     let new = c.want_added.new in
     on_ok c.want_added.result (λ used n tie is at.

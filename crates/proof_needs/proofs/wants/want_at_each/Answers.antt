@@ -9,7 +9,7 @@ loop-spot-init c = each_start (λ (p : Spot). record { spot = p; atom = c.args.a
 pub loop-spot-preserved : goal.loop-spot-preserved
 loop-spot-preserved c =
     each_more (λ (p : Spot). record { spot = p; atom = c.args.atom }) c.args.spots.now c.args.wants.now.keys c.loop-spot.spot-index _ c.loop-spot.wants.keys c.want.new.wants.keys
-    (omega (arith, c.loop-spot-test.true)) c.loop-spot.invariant c.in_ok-want.ensures
+    (omega (arith, c.loop-spot-test.true)) c.loop-spot.invariant c.in_ok-want.ensures.ok
 
 pub returns : goal.returns
 returns c =

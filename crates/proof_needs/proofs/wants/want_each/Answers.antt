@@ -8,7 +8,7 @@ loop-i-init c = each_start (λ (a : ℕ). record { spot = c.args.spot; atom = a 
 pub loop-i-preserved : goal.loop-i-preserved
 loop-i-preserved c =
     each_next (λ (a : ℕ). record { spot = c.args.spot; atom = a }) c.args.atoms.now c.args.wants.now.keys c.loop-i.i c.at.result c.loop-i.wants.keys c.want.new.wants.keys
-    c.at.ensures c.loop-i.invariant c.in_ok-want.ensures
+    c.at.ensures c.loop-i.invariant c.in_ok-want.ensures.ok
 
 pub returns : goal.returns
 returns c =

@@ -24,7 +24,7 @@ returns c s before branches sound count reads below are_ends changed =
     let wakes : List CellName = of_each (by_makers (noted_in r.makers) (noted_in r.by_child)) c.args.changes.now in
     let kept : (x : CellName) → Contains wakes x → Contains pairs x = λ x there. c.in_ok-pairs.ensures.kept x (subst (λ (cs : List CellName). Contains cs x) (sym w.above) there) in
     let only : (x : CellName) → Contains pairs x → Contains wakes x = λ x there. subst (λ (cs : List CellName). Contains cs x) w.above (c.in_ok-pairs.ensures.only x there) in
-    let noted = subst (λ (cs : List CellName). AreEndsNoted cs old new) c.deref.ensures.value c.in_ok-note_each.ensures in
+    let noted = subst (λ (cs : List CellName). AreEndsNoted cs old new) c.deref.ensures.value c.in_ok-note_each.ensures.ok in
     let above = subst (λ (n : ℕ). AreAbove now n pairs cells c.add_above.new.todo.items) count
     (subst (λ (cs : List CellName). AreAbove now c.args.count cs cells c.add_above.new.todo.items) c.deref-2.ensures.value (c.in_ok-add_above.ensures branches)) in
     let seen = subst (λ (ms : List Bool). AreSeen now ms r.needs new c.add_above.new.todo.items c.add_seen.new.todo.items) c.deref-3.ensures.value (c.in_ok-add_seen.ensures branches) in (
