@@ -1,0 +1,115 @@
+//! A text with what stood in the place of each mark.
+ghost use Rattle.std.specs.Prelude.{◌≡◌, ◌≢◌, ◌≤◌, ◌<◌, ◌-◌, Ok, Err, length, option_map, IfOk, IfErr, IfSome};
+ghost use Rattle.text_bytes.specs.Rests.{IsRest};
+ghost use Rattle.widen_sheet.specs.Views.{unmarked_of};
+ghost use Rattle.widen_sheet.specs.Wide as spec;
+
+use crate::grammar::before;
+use crate::marks::Mark;
+use crate::widening::put;
+use sel_text::behind_close;
+use std::alloc::Global;
+use tp_base::NoMemory;
+
+/// Why a text isn't put back: a `/*~` at an offset is in no mark, or no memory was to be had.
+#[derive(Clone, Copy, Debug, PartialEq, Eq)]
+pub(crate) enum BackFault {
+    NoMark(usize),
+    Memory,
+}
+
+impl From<NoMemory> for BackFault {
+    ghost use Rattle.std.specs.Prelude.{◌≡◌};
+    ghost use Rattle.widen_sheet.specs.declared.back.BackFault.TheVariants.{Memory};
+
+    ghost from_gives = { λ _ e. e ≡ Memory };
+
+    fn from(_error: NoMemory) -> BackFault {
+        BackFault::Memory
+    }
+}
+
+fn mark_by(letter: u8) -> Option<Mark>
+    ensures { result ≡ spec.mark_by letter }
+{
+    match letter {
+        b'p' => Some(Mark::Part),
+        b'd' => Some(Mark::Inside),
+        b'c' => Some(Mark::Child),
+        _ => None,
+    }
+}
+
+// The other end of a mark, behind its comment.
+fn end_of(mark: Mark) -> &'static [u8]
+    ensures { result.now ≡ spec.end_of mark }
+{
+    match mark {
+        Mark::Part => b":hover",
+        Mark::Inside => b":hover ",
+        Mark::Child => b":hover>",
+    }
+}
+
+// What stands in a comment up to its `~*/`, and what is behind the mark's other end.
+#[tactic(auto, unfolding(crate::specs::Wide::ended_mark), using(text_bytes::proofs::Rests::dropped))]
+fn ended_mark<'a>(
+    comment: &'a [u8],
+    behind: &'a [u8],
+    end: &[u8],
+) -> Option<(&'a [u8], &'a [u8])>
+    ensures gives { spec.ended_mark comment.now behind.now end.now ≡ option_map unmarked_of result }
+    ensures rest { IfSome result (λ m. IsRest behind.now m.1.now) }
+{
+    let (own, closing) = comment.split_at(comment.len().saturating_sub(3));
+    if closing == b"~*/" && behind.starts_with(end) {
+        Some((own, behind.split_at(end.len()).1))
+    } else {
+        None
+    }
+}
+
+// A mark, from behind its letter on.
+#[tactic(auto, using(text_bytes::proofs::Rests::of_rest))]
+fn with_end(text: &[u8], mark: Option<Mark>) -> Option<(&[u8], &[u8])>
+    ensures gives { spec.with_end text.now mark ≡ option_map unmarked_of result }
+    ensures rest { IfSome result (λ m. IsRest text.now m.1.now) }
+{
+    match mark {
+        None => None,
+        Some(mark) => {
+            let behind = behind_close(text);
+            ended_mark(before(text, behind), behind, end_of(mark))
+        }
+    }
+}
+
+// A mark, from behind its `:hover/*~` on.
+#[tactic(auto, using(text_bytes::proofs::Rests::of_rest, text_bytes::proofs::Rests::behind_first))]
+fn mark_from(text: &[u8]) -> Option<(&[u8], &[u8])>
+    ensures gives { spec.mark_from text.now ≡ option_map unmarked_of result }
+    ensures rest { IfSome result (λ m. IsRest text.now m.1.now) }
+{
+    let (letter, behind) = text.split_first()?;
+    with_end(behind, mark_by(*letter))
+}
+
+// What stood in the place of the mark that a text begins with, and the text behind the mark.
+#[tactic(auto, unfolding(crate::specs::Wide::mark_at), using(text_bytes::proofs::Rests::of_rest, text_bytes::proofs::Rests::dropped))]
+fn mark_at(text: &[u8]) -> Option<(&[u8], &[u8])>
+    ensures gives { spec.mark_at text.now ≡ option_map unmarked_of result }
+    ensures rest { IfSome result (λ m. IsRest text.now m.1.now) }
+    ensures shorter { IfSome result (λ m. length m.1.now < length text.now) }
+{
+    if text.starts_with(b":hover/*~") {
+        mark_from(text.split_at(9).1)
+    } else {
+        None
+    }
+}
+
+fn opens_mark(text: &[u8]) -> bool
+    ensures { result ≡ spec.opens_mark text.now }
+{
+    text.starts_with(b"/*~")
+}
