@@ -22,6 +22,14 @@ use Rattle.sel_text.specs.Selectors.{Selector, Outer, simple, child, inside}
 use Rattle.sel_text.specs.Selectors as sel
 use Rattle.css_read.specs.Sheets.{Outcome, judged, skipped, Item, Sheet}
 use Rattle.css_read.specs.Units.{is_quote, behind_string}
+use Rattle.css_read.specs.declared.faults.SheetFault.{SheetFault}
+use Rattle.css_read.specs.Reading.{read_sheet}
+use Rattle.std.specs.Str.Lossy.{utf8_valid_len}
+use Rattle.tp_base.specs.declared.places.TheConstants.{MOST_BYTES}
+use Rattle.widen_sheet.specs.declared.faults.BackFault.{BackFault}
+use Rattle.widen_sheet.specs.declared.faults.BackFault.TheVariants.{NotUtf8, NoMark}
+use Rattle.widen_sheet.specs.declared.faults.WidenFault.{WidenFault}
+use Rattle.widen_sheet.specs.declared.faults.WidenFault.TheVariants.{OfSheet, HasMark, TooLarge}
 use Rattle.widen_sheet.specs.declared.tokens.Kind.{Kind}
 use Rattle.widen_sheet.specs.declared.tokens.Kind.TheVariants.{Judged, Other, Inside, Child, Next, Later}
 use Rattle.widen_sheet.specs.declared.marks.Mark.{Mark}
@@ -284,6 +292,26 @@ widened_from text at (i ∷ items) = slice_range text at i.from ++ (widened_item
 unfoldable pub widened : List ℕ → Sheet → List ℕ
 widened text sheet = widened_from text 0 sheet.items
 
+-- a sheet with them, or why there is none
+abbrev pub within_limit : List ℕ → Result (List ℕ) WidenFault
+within_limit text = if nat_le (length text) MOST_BYTES then Ok text else Err TooLarge
+
+abbrev pub opens_mark : List ℕ → Bool
+opens_mark bs = starts_with nat_eq bs (codes "/*~")
+
+-- a sheet without a `/*~`
+unfoldable pub widen_sheet : List ℕ → Sheet → Result (List ℕ) WidenFault
+widen_sheet text sheet =
+    let marked = from_bytes (codes "/*~") text in
+    if length marked == 0 then within_limit (widened text sheet) else Err (HasMark (length text - length marked))
+
+abbrev pub widen_read : List ℕ → Result Sheet SheetFault → Result (List ℕ) WidenFault
+widen_read text (Ok sheet) = widen_sheet text sheet
+widen_read text (Err e) = Err (OfSheet e)
+
+unfoldable pub widen : List ℕ → Result (List ℕ) WidenFault
+widen text = widen_read text (read_sheet text []).1
+
 -- ---- back
 
 abbrev pub mark_by : ℕ → Option Mark
@@ -316,20 +344,17 @@ mark_from (b ∷ bs) = with_end bs (mark_by b)
 unfoldable pub mark_at : List ℕ → Option Unmarked
 mark_at bs = if starts_with nat_eq bs (codes ":hover/*~") then mark_from (drop 9 bs) else None
 
--- a text, or the offset of a `/*~` that is in no mark
+-- a text, or the fault of a `/*~` that is in no mark
 abbrev pub Back : Type 0
-Back = Result (List ℕ) ℕ
+Back = Result (List ℕ) BackFault
 
 abbrev pub behind_text : List ℕ → Back → Back
 behind_text bs (Ok text) = Ok (bs ++ text)
-behind_text bs (Err at) = Err at
-
-abbrev pub opens_mark : List ℕ → Bool
-opens_mark bs = starts_with nat_eq bs (codes "/*~")
+behind_text bs (Err e) = Err e
 
 -- in a text of `size` bytes
 abbrev pub with_mark : ℕ → ℕ → List ℕ → Option Unmarked → (ℕ → Back) → Back
-with_mark size b bs None f = if opens_mark (b ∷ bs) then Err (size - length (b ∷ bs)) else behind_text (b ∷ []) (f 0)
+with_mark size b bs None f = if opens_mark (b ∷ bs) then Err (NoMark (size - length (b ∷ bs))) else behind_text (b ∷ []) (f 0)
 with_mark size b bs (Some m) f = behind_text m.0 (f (length bs - length m.1))
 
 -- `skip` bytes are left of a mark
@@ -339,7 +364,7 @@ back_from size (suc skip) (b ∷ bs) = back_from size skip bs
 back_from size zero (b ∷ bs) = with_mark size b bs (mark_at (b ∷ bs)) (λ n. back_from size n bs)
 
 unfoldable pub back : List ℕ → Back
-back text = back_from (length text) 0 text
+back text = if utf8_valid_len text == length text then back_from (length text) 0 text else Err (NotUtf8 (utf8_valid_len text))
 
 -- ---- meaning: paths of nodes, by any meaning of the parts
 

@@ -1,33 +1,17 @@
 //! A text with what stood in the place of each mark.
-ghost use Rattle.std.specs.Prelude.{◌≡◌, ◌≢◌, ◌≤◌, ◌<◌, ◌-◌, Ok, Err, length, option_map, IfOk, IfErr, IfSome};
+ghost use Rattle.std.specs.Prelude.{◌≡◌, ◌≢◌, ◌≤◌, ◌<◌, Err, length, option_map, IfOk, IfErr, IfSome};
 ghost use Rattle.text_bytes.specs.Rests.{IsRest};
+ghost use Rattle.tp_base.specs.Outcomes.{GivesUnless};
 ghost use Rattle.widen_sheet.specs.Views.{unmarked_of};
 ghost use Rattle.widen_sheet.specs.Wide as spec;
 
+use crate::faults::BackFault;
 use crate::grammar::before;
 use crate::marks::Mark;
 use crate::widening::put;
+use bstr::ByteSlice;
 use sel_text::behind_close;
 use std::alloc::Global;
-use tp_base::NoMemory;
-
-/// Why a text isn't put back: a `/*~` at an offset is in no mark, or no memory was to be had.
-#[derive(Clone, Copy, Debug, PartialEq, Eq)]
-pub(crate) enum BackFault {
-    NoMark(usize),
-    Memory,
-}
-
-impl From<NoMemory> for BackFault {
-    ghost use Rattle.std.specs.Prelude.{◌≡◌};
-    ghost use Rattle.widen_sheet.specs.declared.back.BackFault.TheVariants.{Memory};
-
-    ghost from_gives = { λ _ e. e ≡ Memory };
-
-    fn from(_error: NoMemory) -> BackFault {
-        BackFault::Memory
-    }
-}
 
 fn mark_by(letter: u8) -> Option<Mark>
     ensures { result ≡ spec.mark_by letter }
@@ -62,7 +46,7 @@ fn ended_mark<'a>(
     ensures rest { IfSome result (λ m. IsRest behind.now m.1.now) }
 {
     let (own, closing) = comment.split_at(comment.len().saturating_sub(3));
-    if closing == b"~*/" && behind.starts_with(end) {
+    if closing == b"~*/".as_slice() && behind.starts_with(end) {
         Some((own, behind.split_at(end.len()).1))
     } else {
         None
@@ -112,4 +96,43 @@ fn opens_mark(text: &[u8]) -> bool
     ensures { result ≡ spec.opens_mark text.now }
 {
     text.starts_with(b"/*~")
+}
+
+// Puts what the text begins with behind another text: what stood in the place of a mark, or a byte.
+#[tactic(auto, using(text_bytes::proofs::Rests::behind_first))]
+fn step<'a>(out: &mut Vec<u8>, size: usize, text: &'a [u8]) -> Result<&'a [u8], BackFault>
+    requires some { 0 < length text.now }
+    requires within { length text.now ≤ size }
+    ensures gives { IfOk result (λ r. spec.behind_text out.new.items (spec.back_from size 0 r.now) ≡ spec.behind_text out.old.items (spec.back_from size 0 text.now)) }
+    ensures fault { IfErr result (λ e. e ≢ BackFault.Memory → spec.back_from size 0 text.now ≡ Err e) }
+    ensures rest { IfOk result (λ r. IsRest text.now r.now) }
+    ensures shorter { IfOk result (λ r. length r.now < length text.now) }
+{
+    if let Some((own, behind)) = mark_at(text) {
+        put(out, own)?;
+        return Ok(behind);
+    }
+    if opens_mark(text) {
+        return Err(BackFault::NoMark(size - text.len()));
+    }
+    let (first, behind) = text.split_at(1);
+    put(out, first)?;
+    Ok(behind)
+}
+
+/// A text with what stood in the place of each mark. Linear in it, in time and in memory.
+#[tactic(auto, unfolding(crate::specs::Wide::back), using(crate::proofs::BackSteps::begins, crate::proofs::BackSteps::ends, crate::proofs::BackSteps::failed, text_bytes::proofs::Utf8::valid_len, text_bytes::proofs::Rests::of_rest))]
+pub fn put_back(alloc: Global, text: &[u8]) -> Result<Vec<u8>, BackFault>
+    ensures { GivesUnless BackFault.Memory (λ v. v.items) result (spec.back text.now) }
+{
+    if let Err(e) = text.to_str() {
+        return Err(BackFault::NotUtf8(e.valid_up_to()));
+    }
+    let mut out = Vec::with_capacity(alloc, text.len())?;
+    let mut rest = text;
+    'bytes: while !rest.is_empty() {
+        let behind = step(&mut out, text.len(), rest)?;
+        rest = behind;
+    }
+    Ok(out)
 }

@@ -3,8 +3,13 @@
 
 mod back;
 mod brackets;
+mod faults;
 mod grammar;
 mod marks;
 mod parts;
 mod tokens;
 mod widening;
+
+pub use back::put_back;
+pub use faults::{BackFault, WidenFault};
+pub use widening::widen;

@@ -3,16 +3,18 @@ ghost use Rattle.std.specs.Prelude.{◌≡◌, ◌≤◌, ◌+◌, ◌++◌, ◌
 ghost use Rattle.std.specs.List.{list_any};
 ghost use Rattle.sel_text.specs.declared.faults.TheConstants.{MOST_PARTS as most_parts};
 ghost use Rattle.css_read.specs.Views.{item_of, outcome_of, sheet_of};
+ghost use Rattle.tp_base.specs.Outcomes.{GivesUnless};
 ghost use Rattle.widen_sheet.specs.Views.{kinds_of, wide_view};
 ghost use Rattle.widen_sheet.specs.Wide as spec;
 
+use crate::faults::WidenFault;
 use crate::marks::{goes, is_sibling, put_tokens};
 use crate::parts::{between, from_offset};
 use crate::tokens::{Token, is_combinator, tokens_of};
-use css_read::{Outcome, Sheet, SheetItem};
+use css_read::{Outcome, Sheet, SheetFault, SheetItem, read_sheet};
 use sel_text::{MOST_PARTS, Skip};
 use std::alloc::Global;
-use tp_base::NoMemory;
+use tp_base::{AtomTable, MOST_BYTES, NoMemory};
 
 /// Whether some bytes stand anywhere in a text. Linear in the text, for each of the bytes.
 #[tactic(auto, unfolding(crate::specs::Wide::has))]
@@ -141,12 +143,57 @@ fn put_items(out: &mut Vec<u8>, text: &[u8], items: &[SheetItem]) -> Result<(), 
     put(out, from_offset(text, at))
 }
 
-/// A sheet's text with its selectors widened that aren't judged, where they can be. Linear in it, in time and in memory.
+// A sheet's text with its selectors widened that aren't judged, where they can be. Linear in it, in time and in memory.
 #[tactic(auto, unfolding(crate::specs::Wide::widened))]
-pub(crate) fn widened_of(alloc: Global, text: &[u8], sheet: &Sheet) -> Result<Vec<u8>, NoMemory>
+fn widened_of(alloc: Global, text: &[u8], sheet: &Sheet) -> Result<Vec<u8>, NoMemory>
     ensures { IfOk result (λ v. v.items ≡ spec.widened text.now (sheet_of sheet.now)) }
 {
     let mut out = Vec::with_capacity(alloc, text.len())?;
     put_items(&mut out, text, sheet.items.items())?;
     Ok(out)
+}
+
+// The text from the first place on where some bytes stand. Linear in the text, for each of the bytes.
+#[tactic(auto, unfolding(crate::specs::Wide::from_bytes), using(text_bytes::proofs::Rests::itself))]
+fn from_bytes<'a>(bytes: &[u8], text: &'a [u8]) -> &'a [u8]
+    ensures gives { result.now ≡ spec.from_bytes bytes.now text.now }
+    ensures within { length result.now ≤ length text.now }
+{
+    let mut rest = text;
+    'bytes: while let Some((_, behind)) = rest.split_first() {
+        if rest.starts_with(bytes) {
+            return rest;
+        }
+        rest = behind;
+    }
+    rest
+}
+
+// A sheet that is read, with its selectors widened.
+#[tactic(auto, unfolding(crate::specs::Wide::widen_sheet))]
+fn widen_sheet(alloc: Global, text: &[u8], sheet: &Sheet) -> Result<Vec<u8>, WidenFault>
+    ensures { GivesUnless WidenFault.Memory (λ v. v.items) result (spec.widen_sheet text.now (sheet_of sheet.now)) }
+{
+    let marked = from_bytes(b"/*~", text);
+    if !marked.is_empty() {
+        return Err(WidenFault::HasMark(text.len() - marked.len()));
+    }
+    let out = widened_of(alloc, text, sheet)?;
+    if out.len() > MOST_BYTES as usize {
+        return Err(WidenFault::TooLarge);
+    }
+    Ok(out)
+}
+
+/// A sheet with its selectors widened that aren't judged, where they can be. Linear in it, in time and in memory.
+#[tactic(auto, unfolding(crate::specs::Wide::widen))]
+pub fn widen(alloc: Global, text: &[u8]) -> Result<Vec<u8>, WidenFault>
+    ensures { GivesUnless WidenFault.Memory (λ v. v.items) result (spec.widen text.now) }
+{
+    let mut names = AtomTable::new(alloc);
+    match read_sheet(alloc, text, &mut names) {
+        Ok(sheet) => widen_sheet(alloc, text, &sheet),
+        Err(SheetFault::Memory) => Err(WidenFault::Memory),
+        Err(fault) => Err(WidenFault::OfSheet(fault)),
+    }
 }
