@@ -19,7 +19,7 @@ pub begins : (r : Back) → behind_text [] r ≡ r
 begins (Ok zs) = refl
 begins (Err e) = refl
 
-one_mark : (size : ℕ) (bs own behind : List ℕ) → mark_at bs ≡ Some (own, behind) → IsRest bs behind → length behind < length bs → back_from size 0 bs ≡ behind_text own (back_from size 0 behind)
+pub one_mark : (size : ℕ) (bs own behind : List ℕ) → mark_at bs ≡ Some (own, behind) → IsRest bs behind → length behind < length bs → back_from size 0 bs ≡ behind_text own (back_from size 0 behind)
 unfolding back_from
 one_mark size [] own behind at last less = absurd (omega arith)
 one_mark size (b ∷ bs) own behind at last less =

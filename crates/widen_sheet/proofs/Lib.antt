@@ -1,4 +1,5 @@
 pub mod BracketSteps
+pub mod PieceLemmas
 pub mod BackSteps
 pub mod ItemSteps
 pub mod MarkSteps

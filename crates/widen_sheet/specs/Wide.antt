@@ -24,10 +24,9 @@ use Rattle.css_read.specs.Sheets.{Outcome, judged, skipped, Item, Sheet}
 use Rattle.css_read.specs.Units.{is_quote, behind_string}
 use Rattle.css_read.specs.declared.faults.SheetFault.{SheetFault}
 use Rattle.css_read.specs.Reading.{read_sheet}
-use Rattle.std.specs.Str.Lossy.{utf8_valid_len}
 use Rattle.tp_base.specs.declared.places.TheConstants.{MOST_BYTES}
 use Rattle.widen_sheet.specs.declared.faults.BackFault.{BackFault}
-use Rattle.widen_sheet.specs.declared.faults.BackFault.TheVariants.{NotUtf8, NoMark}
+use Rattle.widen_sheet.specs.declared.faults.BackFault.TheVariants.{NoMark}
 use Rattle.widen_sheet.specs.declared.faults.WidenFault.{WidenFault}
 use Rattle.widen_sheet.specs.declared.faults.WidenFault.TheVariants.{OfSheet, HasMark, TooLarge}
 use Rattle.widen_sheet.specs.declared.tokens.Kind.{Kind}
@@ -364,7 +363,7 @@ back_from size (suc skip) (b ∷ bs) = back_from size skip bs
 back_from size zero (b ∷ bs) = with_mark size b bs (mark_at (b ∷ bs)) (λ n. back_from size n bs)
 
 unfoldable pub back : List ℕ → Back
-back text = if utf8_valid_len text == length text then back_from (length text) 0 text else Err (NotUtf8 (utf8_valid_len text))
+back text = back_from (length text) 0 text
 
 -- ---- meaning: paths of nodes, by any meaning of the parts
 

@@ -9,7 +9,6 @@ use crate::faults::BackFault;
 use crate::grammar::before;
 use crate::marks::Mark;
 use crate::widening::put;
-use bstr::ByteSlice;
 use sel_text::behind_close;
 use std::alloc::Global;
 
@@ -120,14 +119,11 @@ fn step<'a>(out: &mut Vec<u8>, size: usize, text: &'a [u8]) -> Result<&'a [u8], 
     Ok(behind)
 }
 
-/// A text with what stood in the place of each mark. Linear in it, in time and in memory.
-#[tactic(auto, unfolding(crate::specs::Wide::back), using(crate::proofs::BackSteps::begins, crate::proofs::BackSteps::ends, crate::proofs::BackSteps::failed, text_bytes::proofs::Utf8::valid_len, text_bytes::proofs::Rests::of_rest))]
+/// A text with what stood in the place of each mark. The other bytes are any bytes. Linear in it, in time and in memory.
+#[tactic(auto, unfolding(crate::specs::Wide::back), using(crate::proofs::BackSteps::begins, crate::proofs::BackSteps::ends, crate::proofs::BackSteps::failed, text_bytes::proofs::Rests::of_rest))]
 pub fn put_back(alloc: Global, text: &[u8]) -> Result<Vec<u8>, BackFault>
     ensures { GivesUnless BackFault.Memory (λ v. v.items) result (spec.back text.now) }
 {
-    if let Err(e) = text.to_str() {
-        return Err(BackFault::NotUtf8(e.valid_up_to()));
-    }
     let mut out = Vec::with_capacity(alloc, text.len())?;
     let mut rest = text;
     'bytes: while !rest.is_empty() {

@@ -30,13 +30,10 @@ impl<E: OutOfMemory> From<E> for WidenFault {
     }
 }
 
-/// Why a text isn't put back. Each number is the index of a byte of the file.
+/// Why a text isn't put back.
 #[derive(Clone, Copy, Debug, PartialEq, Eq, Error)]
 pub enum BackFault {
-    /// How many bytes at the file's front are UTF-8.
-    #[error("not utf-8")]
-    NotUtf8(usize),
-    /// The place of the first `/*~` that is in no mark.
+    /// The index of the byte at which the first `/*~` begins that is in no mark.
     #[error("mark")]
     NoMark(usize),
     #[error("no memory")]

@@ -7,6 +7,7 @@ mod faults;
 mod grammar;
 mod marks;
 mod parts;
+mod probe_file;
 mod tokens;
 mod widening;
 
