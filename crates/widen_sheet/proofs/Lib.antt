@@ -1,4 +1,7 @@
 pub mod BracketSteps
+pub mod SheetPieces
+pub mod WholeLemmas
+pub mod SlotPieces
 pub mod PieceLemmas
 pub mod BackSteps
 pub mod ItemSteps
