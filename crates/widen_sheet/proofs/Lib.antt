@@ -1,4 +1,5 @@
 pub mod BracketSteps
+pub mod WiderLemmas
 pub mod SheetPieces
 pub mod WholeLemmas
 pub mod SlotPieces

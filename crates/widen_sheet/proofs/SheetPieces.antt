@@ -17,7 +17,7 @@ use Rattle.css_read.specs.Rules.{rules_of}
 use Rattle.css_read.specs.Sheets.{Outcome, judged, skipped, Item, Sheet}
 use Rattle.css_read.proofs.SheetOrder.{sheet_in_order}
 use Rattle.widen_sheet.specs.declared.marks.Mark.TheVariants as mark
-use Rattle.widen_sheet.specs.Wide.{Wide, spelled, opening, closing, slots_from, has, from_bytes, compounds_left, kinds, widened_text, can_widen, is_plain, widens, bytes_at, wide_of, widened_item, widened_from, widened, within_limit, widen_sheet, widen_read, widen, back_from, back}
+use Rattle.widen_sheet.specs.Wide.{Wide, spelled, opening, closing, slots_from, has, from_bytes, compounds_left, kinds, widened_text, can_widen, is_plain, widens, bytes_at, wide_of, widened_item, widened_from, widened, within_limit, widen_sheet, widen_read, widen, back_from, back, GoesBack}
 use Rattle.widen_sheet.proofs.PieceLemmas.{Piece, out_of, text_of, AreWhole, byte, marked, goes_back}
 use Rattle.widen_sheet.proofs.SlotPieces.{bytes_of, out_bytes, text_bytes, whole_bytes, pieces, texts, out_is, text_is, whole_is, words, slot_texts}
 use Rattle.widen_sheet.proofs.WholeLemmas.{whole_text}
@@ -131,10 +131,6 @@ from_none p (b ∷ bs) is = elim (cases_Bool (starts_with nat_eq (b ∷ bs) p)) 
 back_whole : (text out : List ℕ) → IsPieces out text → has (codes "/*~") text ≡ false → back out ≡ Ok text
 unfolding back
 back_whole text out is none = ap (back_from (length out) 0) (sym is.spelt) ∙ goes_back (length out) is.parts is.whole (rw is.stands none) ∙ ap Ok is.stands
-
--- a sheet that is widened goes back to what it was
-abbrev pub GoesBack : List ℕ → Type 0
-GoesBack text = (wide : List ℕ) → widen text ≡ Ok wide → back wide ≡ Ok text
 
 limited : (out wide : List ℕ) → within_limit out ≡ Ok wide → out ≡ wide
 limited out wide is = elim (cases_Bool (nat_le (length out) MOST_BYTES)) [

@@ -12,6 +12,8 @@ use Rattle.std.specs.Str.{bytes_eq}
 use Rattle.text_bytes.specs.Blanks.{is_blank}
 use Rattle.tree_sem.specs.Trees.{LabelTree}
 use Rattle.tree_sem.specs.Nodes.{IsNode, HasAtoms}
+use Rattle.tree_sem.specs.Paths.{parent_of, IsAncestor}
+use Rattle.sel_core.specs.Selectors.{Matches}
 use Rattle.sel_text.specs.declared.faults.Skip.{Skip}
 use Rattle.sel_text.specs.declared.faults.Skip.TheVariants.{Sibling, Pseudo, Attribute}
 use Rattle.sel_text.specs.declared.faults.TheConstants.{MOST_PARTS}
@@ -367,19 +369,19 @@ back text = back_from (length text) 0 text
 
 -- ---- meaning: paths of nodes, by any meaning of the parts
 
--- the node that a combinator leads to from the one at u
+-- what stands at u, on the left of a combinator, where v is on its right: siblings differ in the last number
 abbrev pub IsJoined : Kind → List ℕ → List ℕ → Type 0
-IsJoined Child u v = (k : ℕ) × (v ≡ u ++ k ∷ [])
-IsJoined Inside u v = (k : ℕ) × (p : List ℕ) × (v ≡ u ++ k ∷ p)
+IsJoined Child u v = parent_of v ≡ Some u
+IsJoined Inside u v = IsAncestor u v
 IsJoined Next u v = (p : List ℕ) × (k : ℕ) × (u ≡ p ++ k ∷ []) × (v ≡ p ++ suc k ∷ [])
 IsJoined Later u v = (p : List ℕ) × (j : ℕ) × (k : ℕ) × (j < k) × (u ≡ p ++ j ∷ []) × (v ≡ p ++ k ∷ [])
 IsJoined k u v = ⊥
 
 -- the atoms that a part asks for that is judged, and the nodes that another part is true of
-module _ (atoms : List ℕ → List ℕ) (means : List ℕ → LabelTree → List ℕ → Type 0) where
+module _ (atoms : List ℕ → List ℕ) (means : List ℕ → LabelTree → List ℕ → Bool) where
   abbrev pub MatchesToken : Kind → List ℕ → LabelTree → List ℕ → (List ℕ → Type 0) → Type 0
   MatchesToken Judged text t v Others = HasAtoms t v (atoms text) × Others v
-  MatchesToken Other text t v Others = means text t v × Others v
+  MatchesToken Other text t v Others = (means text t v ≡ true) × Others v
   MatchesToken k text t v Others = IsNode t v × ((u : List ℕ) × IsJoined k u v × Others u)
 
   -- the tokens from right to left: those of the compound that the node at v has to match, and then others
@@ -390,14 +392,15 @@ module _ (atoms : List ℕ → List ℕ) (means : List ℕ → LabelTree → Lis
   abbrev pub MatchesWide : LabelTree → List ℕ → Wide → Type 0
   MatchesWide t v w = MatchesBack t v (reverse w)
 
--- the judged selector that is left
+-- ---- the judged selector that is left
+
+abbrev pub with_atoms : Selector → List ℕ → Selector
+with_atoms s more = record { subject = s.subject ++ more; outer = s.outer }
+
+abbrev pub behind_join : sel.Join → Selector → Selector
+behind_join j s = record { subject = []; outer = (record { join = j; atoms = s.subject }) ∷ s.outer }
+
 module _ (atoms : List ℕ → List ℕ) where
-  abbrev pub with_atoms : Selector → List ℕ → Selector
-  with_atoms s more = record { subject = s.subject ++ more; outer = s.outer }
-
-  abbrev pub behind_join : sel.Join → Selector → Selector
-  behind_join j s = record { subject = []; outer = (record { join = j; atoms = s.subject }) ∷ s.outer }
-
   abbrev pub dropped_at : Kind → List ℕ → Bool → (Bool → Selector) → Selector
   dropped_at Judged text gone others = if gone then others gone else with_atoms (others gone) (atoms text)
   dropped_at Other text gone others = others gone
@@ -412,3 +415,13 @@ module _ (atoms : List ℕ → List ℕ) where
 
   abbrev pub dropped : Wide → Selector
   dropped w = dropped_back false (reverse w)
+
+-- ---- laws
+
+-- a sheet that is widened goes back to what it was
+abbrev pub GoesBack : List ℕ → Type 0
+GoesBack text = (wide : List ℕ) → widen text ≡ Ok wide → back wide ≡ Ok text
+
+-- a node that a selector matches, whatever its parts mean that aren't judged, is matched by what is left of it
+abbrev pub IsWider : LabelTree → Type 0
+IsWider t = (atoms : List ℕ → List ℕ) (means : List ℕ → LabelTree → List ℕ → Bool) (v : List ℕ) (w : Wide) → MatchesWide atoms means t v w → Matches t v (dropped atoms w)

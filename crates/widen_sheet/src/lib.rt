@@ -5,12 +5,13 @@ mod back;
 mod brackets;
 mod faults;
 mod grammar;
+mod laws;
 mod marks;
 mod parts;
-mod probe_file;
 mod tokens;
 mod widening;
 
 pub use back::put_back;
 pub use faults::{BackFault, WidenFault};
+pub use laws::{goes_back, what_is_left_is_wider};
 pub use widening::widen;
