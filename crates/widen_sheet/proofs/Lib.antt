@@ -1,4 +1,5 @@
 pub mod BracketSteps
+pub mod StopLemmas
 pub mod WiderLemmas
 pub mod SheetPieces
 pub mod WholeLemmas

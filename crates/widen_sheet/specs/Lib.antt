@@ -1,4 +1,6 @@
 -- What public contracts cite.
+pub mod Command
+pub mod Tells
 pub mod Wide
 -- What the code has is to the definitions.
 pub mod Views
