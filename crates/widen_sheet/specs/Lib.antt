@@ -1,5 +1,6 @@
 -- What public contracts cite.
 pub mod Command
+pub mod Runs
 pub mod Tells
 pub mod Wide
 -- What the code has is to the definitions.

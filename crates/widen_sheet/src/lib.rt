@@ -3,6 +3,7 @@
 
 mod back;
 mod brackets;
+mod command;
 mod faults;
 mod grammar;
 mod laws;
@@ -15,6 +16,7 @@ mod widening;
 mod words;
 
 pub use back::put_back;
+pub use command::widen_command;
 pub use faults::{BackFault, WidenFault};
 pub use laws::{goes_back, what_is_left_is_wider};
 pub use stops::{Status, Stop, Wrong};
