@@ -38,19 +38,19 @@ no_blank b bs other = rw other refl
 
 at_sign : (b : ℕ) (bs : List ℕ) → (false || b == 62 || b == 43 || b == 126) ≡ true → length (behind_combinator (combinator (b ∷ bs)) (b ∷ bs)) ≤ length bs
 at_sign b bs begins = elim (cases_Bool (b == 62)) [
-    inl e ↦ rw e (blanks_less bs)
+  | inl e ↦ rw e (blanks_less bs)
   | inr e ↦ elim (cases_Bool (b == 43)) [
-      inl f ↦ rw (e, f) (blanks_less bs)
+    | inl f ↦ rw (e, f) (blanks_less bs)
     | inr f ↦ elim (cases_Bool (b == 126)) [
-        inl g ↦ rw (e, f, g) (blanks_less bs)
+      | inl g ↦ rw (e, f, g) (blanks_less bs)
       | inr g ↦ absurd (true_not_false (sym begins ∙ rw (e, f, g) refl))
-      ]
     ]
   ]
+]
 
 pub is_shorter : (bs : List ℕ) → begins_combinator bs ≡ true → length (behind_combinator (combinator (behind_blanks bs)) (behind_blanks bs)) < length bs
 is_shorter [] begins = absurd (true_not_false (sym begins))
 is_shorter (b ∷ bs) begins = elim (cases_Bool (is_blank b)) [
-    inl blank ↦ omega (arith, combinator_less (combinator (behind_blanks (b ∷ bs))) (behind_blanks (b ∷ bs)), behind_blank b bs blank)
+  | inl blank ↦ omega (arith, combinator_less (combinator (behind_blanks (b ∷ bs))) (behind_blanks (b ∷ bs)), behind_blank b bs blank)
   | inr other ↦ rw (no_blank b bs other) (omega (arith, at_sign b bs (rw other at begins)))
-  ]
+]

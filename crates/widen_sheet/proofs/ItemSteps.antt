@@ -11,5 +11,6 @@ goes_on text out betw later all at i items rest is put item invariant =
     let last = widened_from text i.to (map item_of items) in
     rw (item, put) (append_assoc (out ++ slice_range text at i.from) mine last ∙ append_assoc out (slice_range text at i.from) (mine ++ last))
     ∙ ap (λ (r : List SheetItem). out ++ widened_from text at (map item_of r)) (sym is) ∙ invariant
+
 pub ends : ℕ → ℕ
 ends n = n

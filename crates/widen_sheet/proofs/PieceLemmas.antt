@@ -115,22 +115,22 @@ same_front (c ∷ p) (marked m own ∷ ps) apart is =
 
 no_opening : (b : ℕ) (ps : List Piece) → has (codes "/*~") (b ∷ text_of ps) ≡ false → opens_mark (b ∷ out_of ps) ≡ false
 no_opening b ps none = elim (cases_Bool (opens_mark (b ∷ out_of ps))) [
-    inl yes' ↦
+  | inl yes' ↦
       let both = and_parts (nat_eq 47 b) (starts_with nat_eq (out_of ps) (codes "*~")) yes' in
       let there : opens_mark (b ∷ text_of ps) ≡ true = rw both.0 (same_front (codes "*~") ps (refl, (refl, tt)) both.1) in
       absurd (true_not_false (sym there ∙ has_here (codes "/*~") b (text_of ps) none))
   | inr other ↦ other
-  ]
+]
 
 no_mark_at : (b : ℕ) (ps : List Piece) → has (codes "/*~") (b ∷ text_of ps) ≡ false → mark_at (b ∷ out_of ps) ≡ None
 unfolding mark_at
 no_mark_at b ps none = elim (cases_Bool (starts_with nat_eq (b ∷ out_of ps) (codes ":hover/*~"))) [
-    inl yes' ↦
+  | inl yes' ↦
       let both = and_parts (nat_eq 58 b) (starts_with nat_eq (out_of ps) (codes "hover/*~")) yes' in
       let there = same_front (codes "hover/*~") ps (refl, (refl, (refl, (refl, (refl, (refl, (refl, (refl, tt)))))))) both.1 in
       absurd (true_not_false (sym (has_behind (codes "hover") (codes "/*~") (text_of ps) (omega arith) there) ∙ has_later (codes "/*~") b (text_of ps) none))
   | inr other ↦ rw other refl
-  ]
+]
 
 -- ---- marks
 

@@ -84,16 +84,16 @@ spelled_pieces bs w is none =
 text_pieces : (bs : List ℕ) (o : Option Wide) → wide_of bs ≡ o → has (codes "*/") bs ≡ false → IsPieces (widened_text bs o) bs
 text_pieces bs None is none = plain bs
 text_pieces bs (Some w) is none = elim (cases_Bool (nat_le (compounds_left (kinds w)) MOST_PARTS)) [
-    inl yes' ↦ rw yes' (spelled_pieces bs w is none)
+  | inl yes' ↦ rw yes' (spelled_pieces bs w is none)
   | inr other ↦ rw other (plain bs)
-  ]
+]
 
 pub item_pieces : (text : List ℕ) (i : Item) → IsPieces (widened_item text i) (bytes_at text i)
 unfolding widened_item
 item_pieces text i = elim (cases_Bool (widens i.outcome (bytes_at text i))) [
-    inl yes' ↦ rw yes' (text_pieces (bytes_at text i) (wide_of (bytes_at text i)) refl (widens_plain i.outcome (bytes_at text i) yes'))
+  | inl yes' ↦ rw yes' (text_pieces (bytes_at text i) (wide_of (bytes_at text i)) refl (widens_plain i.outcome (bytes_at text i) yes'))
   | inr other ↦ rw other (plain (bytes_at text i))
-  ]
+]
 
 -- ---- a sheet
 
@@ -101,7 +101,7 @@ pub sheet_pieces : (text : List ℕ) (at : ℕ) (items : List Item) → AreApart
 sheet_pieces text at [] apart = plain (drop at text)
 sheet_pieces text at (i ∷ items) apart =
     let whole : slice_range text at i.from ++ (bytes_at text i ++ drop i.to text) ≡ drop at text =
-        ap (λ (r : List ℕ). slice_range text at i.from ++ r) (sym (drop_split text i.from i.to apart.1)) ∙ sym (drop_split text at i.from apart.0) in
+    ap (λ (r : List ℕ). slice_range text at i.from ++ r) (sym (drop_split text i.from i.to apart.1)) ∙ sym (drop_split text at i.from apart.0) in
     subst (λ (r : List ℕ). IsPieces (widened_from text at (i ∷ items)) r) whole
     (both (slice_range text at i.from) (slice_range text at i.from) _ _ (plain (slice_range text at i.from)) (both (widened_item text i) (bytes_at text i) _ _ (item_pieces text i) (sheet_pieces text i.to items apart.2)))
 
@@ -111,9 +111,9 @@ not_read names later e s is = let same : Err e ≡ Ok s = ap (λ (p : List Named
 in_order : (text : List ℕ) (names later : List Named) (s : Sheet) → read_sheet text names ≡ (later, Ok s) → AreApart 0 (length text) (map range_of s.items)
 unfolding read_sheet
 in_order text names later s is = elim (cases_Bool (utf8_valid_len text == length text)) [
-    inl yes' ↦ (sheet_in_order text names later s (rw yes' at is)).items.apart
+  | inl yes' ↦ (sheet_in_order text names later s (rw yes' at is)).items.apart
   | inr other ↦ absurd (not_read names later (NotUtf8 (utf8_valid_len text)) s (rw other at is))
-  ]
+]
 
 -- ---- back
 
@@ -121,9 +121,9 @@ from_none : (p bs : List ℕ) → length (from_bytes p bs) ≡ 0 → has p bs �
 unfolding from_bytes has
 from_none p [] is = refl
 from_none p (b ∷ bs) is = elim (cases_Bool (starts_with nat_eq (b ∷ bs) p)) [
-    inl yes' ↦ absurd (some (rw yes' at is))
+  | inl yes' ↦ absurd (some (rw yes' at is))
   | inr other ↦ rw other (from_none p bs (rw other at is))
-  ]
+]
   where
     some : suc (length bs) ≡ 0 → ⊥
     some e = omega (arith, e)
@@ -134,18 +134,18 @@ back_whole text out is none = ap (back_from (length out) 0) (sym is.spelt) ∙ g
 
 limited : (out wide : List ℕ) → within_limit out ≡ Ok wide → out ≡ wide
 limited out wide is = elim (cases_Bool (nat_le (length out) MOST_BYTES)) [
-    inl yes' ↦ let e = rw yes' at is in let same : out ≡ wide = cc in same
+  | inl yes' ↦ let e = rw yes' at is in let same : out ≡ wide = cc in same
   | inr other ↦ let e = rw other at is in cc
-  ]
+]
 
 from_sheet : (text wide : List ℕ) (s : Sheet) → AreApart 0 (length text) (map range_of s.items) → widen_sheet text s ≡ Ok wide → back wide ≡ Ok text
 unfolding widen_sheet widened
 from_sheet text wide s apart is = elim (cases_Bool (length (from_bytes (codes "/*~") text) == 0)) [
-    inl yes' ↦
+  | inl yes' ↦
       let none : length (from_bytes (codes "/*~") text) ≡ 0 = grind (arith, nat_tests) in
       subst (λ (out : List ℕ). back out ≡ Ok text) (limited (widened text s) wide (rw yes' at is)) (back_whole text (widened text s) (sheet_pieces text 0 s.items apart) (from_none (codes "/*~") text none))
   | inr other ↦ let e = rw other at is in cc
-  ]
+]
 
 from_read : (text wide : List ℕ) (r : List Named × Result Sheet SheetFault) → read_sheet text [] ≡ r → widen_read text r.1 ≡ Ok wide → back wide ≡ Ok text
 from_read text wide (later, Ok s) read is = from_sheet text wide s (in_order text [] later s read) is

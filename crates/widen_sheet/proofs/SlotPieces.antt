@@ -36,9 +36,9 @@ pub has_left : (p xs ys : List ℕ) → has p (xs ++ ys) ≡ false → has p xs 
 unfolding has
 has_left p [] ys none = refl
 has_left p (x ∷ xs) ys none = elim (cases_Bool (starts_with nat_eq (x ∷ xs) p)) [
-    inl yes' ↦ let e : true ≡ false = sym (starts_more p (x ∷ xs) ys yes') ∙ has_here p x (xs ++ ys) none in cc
+  | inl yes' ↦ let e : true ≡ false = sym (starts_more p (x ∷ xs) ys yes') ∙ has_here p x (xs ++ ys) none in cc
   | inr other ↦ rw other (has_left p xs ys (has_later p x (xs ++ ys) none))
-  ]
+]
 
 -- ---- slots
 
@@ -96,11 +96,11 @@ out_step (Some p) None text sp f more =
     append_assoc (opening p.0) p.1 (closing p.0 ++ (text ++ sp))
     ∙ ap (λ (r : List ℕ). opening p.0 ++ (p.1 ++ (closing p.0 ++ r))) (ap (λ (r : List ℕ). text ++ r) (more None refl) ∙ sym (out_bytes text (f None)))
 out_step (Some p) (Some n) text sp f more = elim (cases_Bool (letter p.0 == letter n)) [
-    inl e ↦ rw e (append_assoc (opening p.0) p.1 (text ++ sp) ∙ ap (λ (r : List ℕ). opening p.0 ++ r) (sym (append_assoc p.1 text sp)) ∙ sym (append_assoc (opening p.0) (p.1 ++ text) sp)
+  | inl e ↦ rw e (append_assoc (opening p.0) p.1 (text ++ sp) ∙ ap (λ (r : List ℕ). opening p.0 ++ r) (sym (append_assoc p.1 text sp)) ∙ sym (append_assoc (opening p.0) (p.1 ++ text) sp)
       ∙ more (Some (p.0, p.1 ++ text)) (ap Some (same_letter p.0 n e)))
   | inr e ↦ rw e (append_assoc (opening p.0) p.1 ((closing p.0 ++ opening n) ++ (text ++ sp))
       ∙ ap (λ (r : List ℕ). opening p.0 ++ (p.1 ++ r)) (append_assoc (closing p.0) (opening n) (text ++ sp) ∙ ap (λ (r : List ℕ). closing p.0 ++ r) (sym (append_assoc (opening n) text sp) ∙ more (Some (n, text)) refl)))
-  ]
+]
 
 pub out_is : (ss : List Slot) (prior : Prior) → begun prior ++ spelled_from (mark_in prior) ss ≡ out_of (pieces prior ss)
 out_is [] None = refl
@@ -114,9 +114,9 @@ text_step None None text rest f more = ap (λ (r : List ℕ). text ++ r) (more N
 text_step None (Some n) text rest f more = more (Some (n, text))
 text_step (Some p) None text rest f more = ap (λ (r : List ℕ). p.1 ++ r) (ap (λ (r : List ℕ). text ++ r) (more None) ∙ sym (text_bytes text (f None)))
 text_step (Some p) (Some n) text rest f more = elim (cases_Bool (letter p.0 == letter n)) [
-    inl e ↦ rw e (sym (append_assoc p.1 text rest) ∙ more (Some (p.0, p.1 ++ text)))
+  | inl e ↦ rw e (sym (append_assoc p.1 text rest) ∙ more (Some (p.0, p.1 ++ text)))
   | inr e ↦ rw e (ap (λ (r : List ℕ). p.1 ++ r) (more (Some (n, text))))
-  ]
+]
 
 pub text_is : (ss : List Slot) (prior : Prior) → owned prior ++ texts ss ≡ text_of (pieces prior ss)
 text_is [] None = refl
@@ -135,9 +135,9 @@ whole_step None (Some n) text rest f none more = more (Some (n, text)) none
 whole_step (Some p) None text rest f none more =
     (has_left (codes "*/") p.1 (text ++ rest) none, whole_bytes text (f None) (more None (has_right (codes "*/") text rest (has_right (codes "*/") p.1 (text ++ rest) none))))
 whole_step (Some p) (Some n) text rest f none more = elim (cases_Bool (letter p.0 == letter n)) [
-    inl e ↦ rw e (more (Some (p.0, p.1 ++ text)) (ap (has (codes "*/")) (append_assoc p.1 text rest) ∙ none))
+  | inl e ↦ rw e (more (Some (p.0, p.1 ++ text)) (ap (has (codes "*/")) (append_assoc p.1 text rest) ∙ none))
   | inr e ↦ rw e (has_left (codes "*/") p.1 (text ++ rest) none, more (Some (n, text)) (has_right (codes "*/") p.1 (text ++ rest) none))
-  ]
+]
 
 pub whole_is : (ss : List Slot) (prior : Prior) → has (codes "*/") (owned prior ++ texts ss) ≡ false → AreWhole (pieces prior ss)
 whole_is [] None none = tt

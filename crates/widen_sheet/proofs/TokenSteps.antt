@@ -47,7 +47,7 @@ goes_on text rest behind wanted joins found later k last at inner less pushed en
     let t : code.Token = record { kind = k; from = length text - length rest; to = length text - length behind } in
     let s : Token = record { kind = k; text = before rest behind } in
     let same : wide_view text later ≡ wide_view text found ++ s ∷ [] =
-        ap (λ (ts : List code.Token). wide_view text ts) pushed ∙ one_more text found t ∙ ap (λ (bs : List ℕ). wide_view text found ++ (record { kind = k; text = bs }) ∷ []) (range_before text rest behind last less) in
+    ap (λ (ts : List code.Token). wide_view text ts) pushed ∙ one_more text found t ∙ ap (λ (bs : List ℕ). wide_view text found ++ (record { kind = k; text = bs }) ∷ []) (range_before text rest behind last less) in
     ap (λ (w : Wide). option_map (λ (ts : Wide). w ++ ts) (wide_from joins 0 behind)) same
     ∙ ap (λ (b : Bool). option_map (λ (ts : Wide). (wide_view text found ++ s ∷ []) ++ ts) (wide_from b 0 behind)) ends
     ∙ moved (wide_view text found) s (wide_from (is_combinator k) 0 behind)

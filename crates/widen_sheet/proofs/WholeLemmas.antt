@@ -83,7 +83,7 @@ part_gets_on [] = tt
 part_gets_on (b ∷ bs) =
     one_of (GetsOn (b ∷ bs)) (b == 46 || b == 35) (behind_name bs) _ (deeper b bs _ (name_rests bs))
     (one_of (GetsOn (b ∷ bs)) (b == 58) (behind_pseudo bs) _ (deeper b bs _ (pseudo_rests bs))
-      (one_of (GetsOn (b ∷ bs)) (b == 91) (behind_brackets (93 ∷ []) 0 bs) None (deeper b bs _ (brackets_rests bs (93 ∷ []) 0)) tt))
+    (one_of (GetsOn (b ∷ bs)) (b == 91) (behind_brackets (93 ∷ []) 0 bs) None (deeper b bs _ (brackets_rests bs (93 ∷ []) 0)) tt))
 
 first_gets_on : (bs : List ℕ) → GetsOn bs (spec.behind_first bs)
 unfolding spec.behind_first
@@ -127,9 +127,9 @@ pub whole_token : (wanted : Bool) (bs : List ℕ) (f : Front) → token_at wante
 unfolding token_at
 whole_token true bs f is = whole_part bs (spec.behind_first bs) f (first_gets_on bs) is
 whole_token false bs f is = elim (cases_Bool (begins_combinator bs)) [
-    inl yes' ↦ whole_combinator bs f yes' (let e = rw yes' at is in let same : combinator_at bs ≡ f = cc in same)
+  | inl yes' ↦ whole_combinator bs f yes' (let e = rw yes' at is in let same : combinator_at bs ≡ f = cc in same)
   | inr other ↦ whole_part bs (behind_part bs) f (part_gets_on bs) (rw other at is)
-  ]
+]
 
 -- ---- the whole text
 

@@ -36,11 +36,7 @@ fn end_of(mark: Mark) -> &'static [u8]
 
 // What stands in a comment up to its `~*/`, and what is behind the mark's other end.
 #[tactic(auto, unfolding(crate::specs::Wide::ended_mark), using(text_bytes::proofs::Rests::dropped))]
-fn ended_mark<'a>(
-    comment: &'a [u8],
-    behind: &'a [u8],
-    end: &[u8],
-) -> Option<(&'a [u8], &'a [u8])>
+fn ended_mark<'a>(comment: &'a [u8], behind: &'a [u8], end: &[u8]) -> Option<(&'a [u8], &'a [u8])>
     ensures gives { spec.ended_mark comment.now behind.now end.now ≡ option_map unmarked_of result }
     ensures rest { IfSome result (λ m. IsRest behind.now m.1.now) }
 {

@@ -71,7 +71,11 @@ fn joints(tokens: &[Token]) -> usize
 fn is_short(tokens: &[Token]) -> bool
     ensures { result ≡ nat_le (spec.compounds_left (kinds_of tokens.now)) most_parts }
 {
-    let most = if goes(tokens) { MOST_PARTS - 2 } else { MOST_PARTS - 1 };
+    let most = if goes(tokens) {
+        MOST_PARTS - 2
+    } else {
+        MOST_PARTS - 1
+    };
     joints(tokens) <= most
 }
 

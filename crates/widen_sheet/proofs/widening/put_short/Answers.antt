@@ -8,11 +8,11 @@ use Rattle.widen_sheet.proofs.widening.put_short.Goals as goal
 pub returns-then-is_short : goal.returns-then-is_short
 returns-then-is_short c =
     let test : nat_le (compounds_left (kinds (wide_view c.args.text.now c.args.tokens.now))) most_parts ≡ true =
-        ap (λ ks. nat_le (compounds_left ks) most_parts) (same_kinds c.args.text.now c.args.tokens.now) ∙ sym c.is_short.ensures ∙ c.if-is_short.true in
+    ap (λ ks. nat_le (compounds_left ks) most_parts) (same_kinds c.args.text.now c.args.tokens.now) ∙ sym c.is_short.ensures ∙ c.if-is_short.true in
     rw test c.put_tokens.ensures
 
 pub returns-else-is_short : goal.returns-else-is_short
 returns-else-is_short c =
     let test : nat_le (compounds_left (kinds (wide_view c.args.text.now c.args.tokens.now))) most_parts ≡ false =
-        ap (λ ks. nat_le (compounds_left ks) most_parts) (same_kinds c.args.text.now c.args.tokens.now) ∙ sym c.is_short.ensures ∙ c.if-is_short.false in
+    ap (λ ks. nat_le (compounds_left ks) most_parts) (same_kinds c.args.text.now c.args.tokens.now) ∙ sym c.is_short.ensures ∙ c.if-is_short.false in
     rw test c.put.ensures
