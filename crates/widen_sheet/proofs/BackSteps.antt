@@ -1,7 +1,7 @@
 -- Marks and bytes, one after the other.
-use Rattle.std.proofs.Common.{◌≡◌, ℕ, zero, suc, ◌-◌, ◌<◌, ◌≢◌, true, false, List, [], ◌∷◌, ◌++◌, length, take, drop, Option, Some, None, Ok, Err, refl, sym, ap, ◌∙◌, arith, append_assoc, append-nil}
+use Rattle.std.proofs.Common.{◌≡◌, ℕ, zero, suc, ◌-◌, ◌<◌, true, false, List, [], ◌∷◌, ◌++◌, length, take, drop, Some, None, Ok, Err, refl, sym, ap, ◌∙◌, arith, append_assoc, append-nil}
 use Rattle.text_bytes.specs.Rests.{IsRest}
-use Rattle.widen_sheet.specs.Wide.{Unmarked, Back, behind_text, opens_mark, mark_at, back_from}
+use Rattle.widen_sheet.specs.Wide.{Back, behind_text, opens_mark, mark_at, back_from}
 use Rattle.widen_sheet.specs.declared.faults.BackFault.{BackFault}
 use Rattle.widen_sheet.specs.declared.faults.BackFault.TheVariants.{NoMark}
 

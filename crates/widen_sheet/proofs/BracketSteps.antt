@@ -1,5 +1,5 @@
 -- Passing over bytes and strings in brackets.
-use Rattle.std.proofs.Common.{◌≡◌, ℕ, zero, suc, ◌-◌, ◌==◌, true, false, List, [], ◌∷◌, length, drop, Option, Some, None, reverse, refl, sym, ap, subst, ◌∙◌, arith}
+use Rattle.std.proofs.Common.{◌≡◌, ℕ, zero, suc, ◌-◌, ◌==◌, true, false, List, [], ◌∷◌, length, drop, Some, None, refl, sym, subst, arith}
 use Rattle.text_bytes.specs.Rests.{IsRest}
 use Rattle.widen_sheet.specs.Wide.{after_byte, behind_quoted, behind_brackets}
 

@@ -1,5 +1,5 @@
 -- The selectors of a sheet, one after the other.
-use Rattle.std.proofs.Common.{◌≡◌, ℕ, List, [], ◌∷◌, ◌++◌, map, drop, slice_range, refl, sym, ap, ◌∙◌, append_assoc}
+use Rattle.std.proofs.Common.{◌≡◌, ℕ, List, ◌∷◌, ◌++◌, map, slice_range, sym, ap, ◌∙◌, append_assoc}
 use Rattle.css_read.specs.declared.sheets.SheetItem.{SheetItem}
 use Rattle.css_read.specs.Views.{item_of}
 use Rattle.widen_sheet.specs.Wide.{widened_item, widened_from}

@@ -1,9 +1,9 @@
 -- Tokens with their marks, one after the other.
-use Rattle.std.proofs.Common.{◌≡◌, ℕ, Bool, List, [], ◌∷◌, ◌++◌, map, Option, Some, None, slice_range, refl, sym, ap, ◌∙◌, append_assoc}
+use Rattle.std.proofs.Common.{◌≡◌, ℕ, Bool, List, [], ◌∷◌, ◌++◌, Option, slice_range, refl, sym, ap, ◌∙◌, append_assoc}
 use Rattle.widen_sheet.specs.declared.marks.Mark.{Mark}
 use Rattle.widen_sheet.specs.declared.tokens.Token as code
-use Rattle.widen_sheet.specs.Views.{token_of, wide_view, kinds_of}
-use Rattle.widen_sheet.specs.Wide.{Token, Slot, Wide, goes, kinds, run_behind, mark_of, slots_from, between, spelled_from}
+use Rattle.widen_sheet.specs.Views.{wide_view, kinds_of}
+use Rattle.widen_sheet.specs.Wide.{goes, kinds, run_behind, mark_of, slots_from, between, spelled_from}
 
 pub same_kinds : (text : List ℕ) (ts : List code.Token) → kinds (wide_view text ts) ≡ kinds_of ts
 same_kinds text [] = refl

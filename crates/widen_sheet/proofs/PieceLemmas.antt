@@ -1,5 +1,5 @@
 -- A text in pieces: bytes, and marks. Such a text goes back to what its pieces stand for.
-use Rattle.std.proofs.Common.{◌≡◌, ◌≢◌, ℕ, zero, suc, ◌+◌, ◌-◌, ◌<◌, ◌≤◌, ◌==◌, ◌&&◌, ◌||◌, Bool, true, false, nat_eq, if◌then◌else◌, List, [], ◌∷◌, ◌++◌, length, take, drop, codes, Option, Some, None, Ok, Err, refl, sym, ap, ◌∙◌, subst, arith, append_assoc, append-nil, length-append, inl, inr, IsTrue}
+use Rattle.std.proofs.Common.{◌≡◌, ℕ, suc, ◌-◌, ◌<◌, ◌&&◌, ◌||◌, Bool, true, false, nat_eq, List, [], ◌∷◌, ◌++◌, length, take, drop, codes, Some, None, Ok, refl, sym, ap, ◌∙◌, arith, append_assoc, length-append, inl, inr}
 use Rattle.std.specs.List.{starts_with}
 use Rattle.std.proofs.lemmas.Bool.{cases_Bool, and_parts}
 use Rattle.text_bytes.specs.Marks.{behind_mark}
@@ -8,8 +8,8 @@ use Rattle.text_bytes.proofs.Rests.{of_rest, behind_first}
 use Rattle.sel_text.specs.Bytes.{behind_close}
 use Rattle.widen_sheet.specs.declared.marks.Mark.{Mark}
 use Rattle.widen_sheet.specs.declared.marks.Mark.TheVariants as mark
-use Rattle.widen_sheet.specs.Wide.{Unmarked, Back, before, joint, letter, opening, closing, has, opens_mark, ended_mark, with_end, mark_at, end_of, behind_text, back_from, back}
-use Rattle.widen_sheet.proofs.BackSteps.{skips, one_mark, joined}
+use Rattle.widen_sheet.specs.Wide.{before, letter, opening, closing, has, opens_mark, ended_mark, mark_at, behind_text, back_from}
+use Rattle.widen_sheet.proofs.BackSteps.{one_mark}
 
 pub data Piece : Type 0 where
   byte : ℕ → Piece

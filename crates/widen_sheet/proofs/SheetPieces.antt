@@ -1,5 +1,5 @@
 -- A widened sheet in pieces, and the way back.
-use Rattle.std.proofs.Common.{◌≡◌, ℕ, zero, suc, ◌-◌, ◌<◌, ◌≤◌, ◌==◌, ◌&&◌, not, nat_le, Bool, true, false, nat_eq, if◌then◌else◌, List, [], ◌∷◌, ◌++◌, length, map, take, drop, slice_range, codes, Option, Some, None, Result, Ok, Err, refl, sym, ap, ◌∙◌, subst, arith, inl, inr, append-nil, append_assoc}
+use Rattle.std.proofs.Common.{◌≡◌, ℕ, suc, ◌==◌, not, nat_le, Bool, true, false, nat_eq, List, [], ◌∷◌, ◌++◌, length, map, drop, slice_range, codes, Option, Some, None, Result, Ok, Err, refl, sym, ap, ◌∙◌, subst, arith, inl, inr, append-nil, append_assoc}
 use Rattle.std.specs.List.{starts_with, list_any}
 use Rattle.std.specs.Str.Lossy.{utf8_valid_len}
 use Rattle.std.proofs.lemmas.Bool.{cases_Bool, and_parts}
@@ -7,19 +7,17 @@ use Rattle.std.proofs.lemmas.List.Folds.{drop_split}
 use Rattle.std.proofs.lemmas.Bool.Decides.{nat_tests}
 use Rattle.tp_base.specs.Names.{Named}
 use Rattle.tp_base.specs.declared.places.TheConstants.{MOST_BYTES}
-use Rattle.sel_text.specs.declared.faults.Skip.{Skip}
 use Rattle.sel_text.specs.declared.faults.TheConstants.{MOST_PARTS}
 use Rattle.css_read.specs.declared.faults.SheetFault.{SheetFault}
 use Rattle.css_read.specs.declared.faults.SheetFault.TheVariants.{NotUtf8}
 use Rattle.css_read.specs.Order.{AreApart, range_of}
-use Rattle.css_read.specs.Reading.{read_sheet, add_rules, empty_sheet}
-use Rattle.css_read.specs.Rules.{rules_of}
+use Rattle.css_read.specs.Reading.{read_sheet}
 use Rattle.css_read.specs.Sheets.{Outcome, judged, skipped, Item, Sheet}
 use Rattle.css_read.proofs.SheetOrder.{sheet_in_order}
 use Rattle.widen_sheet.specs.declared.marks.Mark.TheVariants as mark
 use Rattle.widen_sheet.specs.Wide.{Wide, spelled, opening, closing, slots_from, has, from_bytes, compounds_left, kinds, widened_text, can_widen, is_plain, widens, bytes_at, wide_of, widened_item, widened_from, widened, within_limit, widen_sheet, widen_read, widen, back_from, back, GoesBack}
 use Rattle.widen_sheet.proofs.PieceLemmas.{Piece, out_of, text_of, AreWhole, byte, marked, goes_back}
-use Rattle.widen_sheet.proofs.SlotPieces.{bytes_of, out_bytes, text_bytes, whole_bytes, pieces, texts, out_is, text_is, whole_is, words, slot_texts}
+use Rattle.widen_sheet.proofs.SlotPieces.{bytes_of, out_bytes, text_bytes, whole_bytes, pieces, texts, out_is, text_is, whole_is, slot_texts}
 use Rattle.widen_sheet.proofs.WholeLemmas.{whole_text}
 
 -- a text with marks, and the one that it stands for

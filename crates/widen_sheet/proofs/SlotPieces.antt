@@ -1,10 +1,10 @@
 -- The tokens of a selector with their marks, in pieces.
-use Rattle.std.proofs.Common.{◌≡◌, ℕ, ◌==◌, ◌||◌, Bool, true, false, nat_eq, if◌then◌else◌, List, [], ◌∷◌, ◌++◌, take, length, codes, Option, Some, None, option_map, refl, sym, ap, ◌∙◌, subst, arith, append_assoc, append-nil, inl, inr}
+use Rattle.std.proofs.Common.{◌≡◌, ℕ, ◌==◌, true, false, nat_eq, if◌then◌else◌, List, [], ◌∷◌, ◌++◌, codes, Option, Some, None, refl, sym, ap, ◌∙◌, append_assoc, append-nil, inl, inr}
 use Rattle.std.specs.List.{starts_with}
 use Rattle.std.proofs.lemmas.Bool.{cases_Bool, and_parts}
 use Rattle.widen_sheet.specs.declared.marks.Mark.{Mark}
 use Rattle.widen_sheet.specs.declared.marks.Mark.TheVariants as mark
-use Rattle.widen_sheet.specs.Wide.{Slot, Wide, Token, letter, opening, closing, has, between, slots_from, spelled_from}
+use Rattle.widen_sheet.specs.Wide.{Slot, Wide, letter, opening, closing, has, between, slots_from, spelled_from}
 use Rattle.widen_sheet.proofs.PieceLemmas.{Piece, byte, marked, out_of, text_of, AreWhole, has_here, has_later, has_right}
 
 -- ---- bytes

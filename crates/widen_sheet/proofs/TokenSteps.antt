@@ -1,10 +1,10 @@
 -- Tokens, one after the other.
-use Rattle.std.proofs.Common.{◌≡◌, ℕ, zero, suc, ◌-◌, ◌<◌, Bool, true, false, List, [], ◌∷◌, ◌++◌, length, take, drop, slice_range, map, Option, Some, None, option_map, refl, sym, ap, ◌∙◌, arith, append_assoc, append-nil}
+use Rattle.std.proofs.Common.{◌≡◌, ℕ, zero, suc, ◌-◌, ◌<◌, Bool, true, false, List, [], ◌∷◌, ◌++◌, length, drop, slice_range, Option, Some, None, option_map, refl, sym, ap, ◌∙◌, arith, append_assoc, append-nil}
 use Rattle.text_bytes.specs.Rests.{IsRest}
 use Rattle.widen_sheet.specs.declared.tokens.Kind.{Kind}
 use Rattle.widen_sheet.specs.declared.tokens.Token as code
 use Rattle.widen_sheet.specs.Views.{token_of, wide_view}
-use Rattle.widen_sheet.specs.Wide.{Token, Wide, Front, before, is_combinator, token_at, wide_from, wide_of}
+use Rattle.widen_sheet.specs.Wide.{Token, Wide, before, is_combinator, token_at, wide_from}
 
 pub skips : (wanted : Bool) (n : ℕ) (bs : List ℕ) → wide_from wanted n bs ≡ wide_from wanted 0 (drop n bs)
 unfolding wide_from

@@ -1,18 +1,18 @@
 -- What is left of a selector matches what the selector matches.
-use Rattle.std.proofs.Common.{◌≡◌, ℕ, zero, suc, ◌<◌, ◌≤◌, Bool, true, false, if◌then◌else◌, List, [], ◌∷◌, ◌++◌, length, take, reverse, Option, Some, None, IsSomeAnd, All, Contains, refl, sym, ap, ◌∙◌, subst, arith, length-append}
+use Rattle.std.proofs.Common.{◌≡◌, ℕ, suc, ◌≤◌, Bool, true, false, List, [], ◌∷◌, ◌++◌, length, take, reverse, Option, Some, None, IsSomeAnd, All, Contains, refl, sym, ap, ◌∙◌, subst, arith, length-append}
 use Rattle.std.proofs.lemmas.List.{take-append-le}
 use Rattle.std.proofs.lemmas.List.Elements.{All-append}
 use Rattle.tree_sem.specs.Trees.{LabelTree, label_at}
 use Rattle.tree_sem.specs.Nodes.{IsNode, HasAtoms}
 use Rattle.tree_sem.specs.Paths.{parent_of, IsAncestor}
-use Rattle.tree_sem.proofs.NodeLemmas.{HasAtoms-none, HasAtoms-node, IsNode-front}
+use Rattle.tree_sem.proofs.NodeLemmas.{HasAtoms-none, IsNode-front}
 use Rattle.tree_sem.proofs.PathLemmas.{parent_of-child, same_parent}
 use Rattle.sel_text.specs.Selectors.{Selector, simple, child, inside}
 use Rattle.sel_core.specs.Selectors.{Matches}
 use Rattle.sel_core.proofs.UpwardLemmas.{child_matches, inside_matches}
 use Rattle.widen_sheet.specs.declared.tokens.Kind.{Kind}
 use Rattle.widen_sheet.specs.declared.tokens.Kind.TheVariants.{Judged, Other, Inside, Child, Next, Later}
-use Rattle.widen_sheet.specs.Wide.{Token, Wide, IsJoined, MatchesToken, MatchesBack, MatchesWide, with_atoms, behind_join, dropped_at, dropped_back, dropped, IsWider}
+use Rattle.widen_sheet.specs.Wide.{Wide, MatchesToken, MatchesBack, behind_join, dropped_at, dropped_back, IsWider}
 
 -- ---- paths
 

@@ -2,7 +2,7 @@
 --     order_of       what the words ask for
 --     answer_of      what is written of a text, or why nothing is
 --     line_of        what is said on standard error where nothing is written, or not the whole
-use Rattle.std.specs.Prelude.{ℕ, ◌==◌, if◌then◌else◌, Bool, List, [], ◌∷◌, ◌++◌, codes, Option, Some, None, Result, Ok, Err}
+use Rattle.std.specs.Prelude.{ℕ, if◌then◌else◌, Bool, List, [], ◌∷◌, ◌++◌, codes, Option, Some, None, Result, Ok, Err}
 use Rattle.std.specs.Fmt.{decimal}
 use Rattle.std.specs.Str.{bytes_eq}
 use Rattle.sel_text.specs.Bytes.{begins_with}

@@ -10,7 +10,7 @@ use Rattle.tp_io.specs.Files.{Load}
 use Rattle.tp_io.specs.Sinks.{Adds, AddsPrefix, Rose}
 use Rattle.widen_sheet.specs.declared.stops.Status.{Status}
 use Rattle.widen_sheet.specs.declared.stops.Stop.{Stop}
-use Rattle.widen_sheet.specs.declared.stops.Stop.TheVariants.{Words, TooLarge, ReadFault, Unread, WriteFault, NoMemory}
+use Rattle.widen_sheet.specs.declared.stops.Stop.TheVariants.{Words, TooLarge, ReadFault, WriteFault, NoMemory}
 use Rattle.widen_sheet.specs.declared.words.Way.{Way}
 use Rattle.widen_sheet.specs.Command.{order_of, answer_of, status_by}
 use Rattle.widen_sheet.specs.Tells.{Put, Tells}

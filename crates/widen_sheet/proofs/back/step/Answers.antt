@@ -1,5 +1,4 @@
-use Rattle.std.proofs.Common.{◌≡◌, true, false, None, ap, sym, ◌∙◌}
-use Rattle.widen_sheet.specs.Wide as spec
+use Rattle.std.proofs.Common.{sym, ◌∙◌}
 use Rattle.widen_sheet.proofs.BackSteps.{behind_one, one_byte, no_mark}
 use Rattle.widen_sheet.proofs.back.step.Goals as goal
 

@@ -1,4 +1,4 @@
-use Rattle.std.proofs.Common.{◌≡◌, ◌<◌, ℕ, List, length, sym, ap, ◌∙◌, arith, rules}
+use Rattle.std.proofs.Common.{◌≡◌, ◌<◌, length, ◌∙◌, rules}
 use Rattle.text_bytes.proofs.Rests.{of_rest}
 use Rattle.widen_sheet.specs.Views.{wide_view}
 use Rattle.widen_sheet.proofs.TokenSteps.{goes_on, fails, ends, ends_wanted}
