@@ -1,5 +1,5 @@
 -- A text in pieces: bytes, and marks. Such a text goes back to what its pieces stand for.
-use Rattle.std.proofs.Common.{◌≡◌, ℕ, suc, ◌-◌, ◌<◌, ◌&&◌, ◌||◌, Bool, true, false, nat_eq, List, [], ◌∷◌, ◌++◌, length, take, drop, codes, Some, None, Ok, refl, sym, ap, ◌∙◌, arith, append_assoc, length-append, inl, inr}
+use Rattle.std.proofs.Common.{◌==◌, ◌≡◌, ℕ, suc, ◌-◌, ◌<◌, ◌&&◌, ◌||◌, Bool, true, false, nat_eq, List, [], ◌∷◌, ◌++◌, length, take, drop, codes, Some, None, Ok, refl, sym, ap, ◌∙◌, arith, append_assoc, length-append, inl, inr}
 use Rattle.std.specs.List.{starts_with}
 use Rattle.std.proofs.lemmas.Bool.{cases_Bool, and_parts}
 use Rattle.text_bytes.specs.Marks.{behind_mark}
@@ -166,15 +166,15 @@ mark_found mark.Child own out none = mark_ends own (codes ":hover>" ++ out) (cod
 
 -- ---- the whole
 
-pub goes_back : (size : ℕ) (ps : List Piece) → AreWhole ps → has (codes "/*~") (text_of ps) ≡ false → back_from size 0 (out_of ps) ≡ Ok (text_of ps)
+pub goes_back : (size : ℕ) (star : Bool) (ps : List Piece) → AreWhole ps → has (codes "/*~") (text_of ps) ≡ false → back_from size star 0 (out_of ps) ≡ Ok (text_of ps)
 unfolding back_from
-goes_back size [] are none = refl
-goes_back size (byte b ∷ ps) are none =
-    let later = goes_back size ps are (has_later (codes "/*~") b (text_of ps) none) in
+goes_back size star [] are none = refl
+goes_back size star (byte b ∷ ps) are none =
+    let later = goes_back size (b == 42) ps are (has_later (codes "/*~") b (text_of ps) none) in
     rw (no_mark_at b ps none, no_opening b ps none, later) refl
-goes_back size (marked m own ∷ ps) are none =
+goes_back size star (marked m own ∷ ps) are none =
     let out = out_of ps in
     let rest = of_rest _ (own ++ (closing m ++ out)) out (is_rest (codes "hover/*~" ++ letter m ∷ []) (own ++ (closing m ++ out))) (of_rest _ (closing m ++ out) out (is_rest own (closing m ++ out)) (is_rest (closing m) out)) in
     let all : List ℕ = (codes "hover/*~" ++ letter m ∷ []) ++ (own ++ (closing m ++ out)) in
-    one_mark size (58 ∷ all) own out (mark_found m own out are.0) (of_rest (58 ∷ all) all out (behind_first 58 all) rest) (omega (arith, rest.shorter))
-    ∙ ap (behind_text own) (goes_back size ps are.1 (has_right (codes "/*~") own (text_of ps) none))
+    one_mark size star (58 ∷ all) own out (mark_found m own out are.0) (of_rest (58 ∷ all) all out (behind_first 58 all) rest) (omega (arith, rest.shorter))
+    ∙ ap (behind_text own) (goes_back size false ps are.1 (has_right (codes "/*~") own (text_of ps) none))

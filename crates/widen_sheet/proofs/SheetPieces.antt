@@ -128,7 +128,7 @@ from_none p (b ∷ bs) is = elim (cases_Bool (starts_with nat_eq (b ∷ bs) p)) 
 
 back_whole : (text out : List ℕ) → IsPieces out text → has (codes "/*~") text ≡ false → back out ≡ Ok text
 unfolding back
-back_whole text out is none = ap (back_from (length out) 0) (sym is.spelt) ∙ goes_back (length out) is.parts is.whole (rw is.stands none) ∙ ap Ok is.stands
+back_whole text out is none = ap (back_from (length out) false 0) (sym is.spelt) ∙ goes_back (length out) false is.parts is.whole (rw is.stands none) ∙ ap Ok is.stands
 
 limited : (out wide : List ℕ) → within_limit out ≡ Ok wide → out ≡ wide
 limited out wide is = elim (cases_Bool (nat_le (length out) MOST_BYTES)) [

@@ -345,7 +345,7 @@ mark_from (b ∷ bs) = with_end bs (mark_by b)
 unfoldable pub mark_at : List ℕ → Option Unmarked
 mark_at bs = if starts_with nat_eq bs (codes ":hover/*~") then mark_from (drop 9 bs) else None
 
--- a text, or the fault of a `/*~` that is in no mark
+-- a text, or the fault of a `/*~` that is in no mark, and has no `*` before it
 abbrev pub Back : Type 0
 Back = Result (List ℕ) BackFault
 
@@ -353,19 +353,19 @@ abbrev pub behind_text : List ℕ → Back → Back
 behind_text bs (Ok text) = Ok (bs ++ text)
 behind_text bs (Err e) = Err e
 
--- in a text of `size` bytes
-abbrev pub with_mark : ℕ → ℕ → List ℕ → Option Unmarked → (ℕ → Back) → Back
-with_mark size b bs None f = if opens_mark (b ∷ bs) then Err (NoMark (size - length (b ∷ bs))) else behind_text (b ∷ []) (f 0)
-with_mark size b bs (Some m) f = behind_text m.0 (f (length bs - length m.1))
+-- In a text of `size` bytes. Behind a `*` a `/` may end a comment, and begins no mark.
+abbrev pub with_mark : ℕ → Bool → ℕ → List ℕ → Option Unmarked → (ℕ → Back) → Back
+with_mark size star b bs None f = if opens_mark (b ∷ bs) && not star then Err (NoMark (size - length (b ∷ bs))) else behind_text (b ∷ []) (f 0)
+with_mark size star b bs (Some m) f = behind_text m.0 (f (length bs - length m.1))
 
 -- `skip` bytes are left of a mark
-unfoldable pub back_from : ℕ → ℕ → List ℕ → Back
-back_from size skip [] = Ok []
-back_from size (suc skip) (b ∷ bs) = back_from size skip bs
-back_from size zero (b ∷ bs) = with_mark size b bs (mark_at (b ∷ bs)) (λ n. back_from size n bs)
+unfoldable pub back_from : ℕ → Bool → ℕ → List ℕ → Back
+back_from size star skip [] = Ok []
+back_from size star (suc skip) (b ∷ bs) = back_from size star skip bs
+back_from size star zero (b ∷ bs) = with_mark size star b bs (mark_at (b ∷ bs)) (λ n. back_from size (begins_with 42 (b ∷ bs)) n bs)
 
 unfoldable pub back : List ℕ → Back
-back text = back_from (length text) 0 text
+back text = back_from (length text) false 0 text
 
 -- ---- meaning: paths of nodes, by any meaning of the parts
 

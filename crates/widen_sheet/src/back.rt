@@ -1,5 +1,6 @@
 //! A text with what stood in the place of each mark.
-ghost use Rattle.std.specs.Prelude.{◌≡◌, ◌≢◌, ◌≤◌, ◌<◌, Err, length, option_map, IfOk, IfErr, IfSome};
+ghost use Rattle.std.specs.Prelude.{◌≡◌, ◌≢◌, ◌≤◌, ◌<◌, ◌&&◌, not, Err, length, option_map, IfOk, IfErr, IfSome};
+ghost use Rattle.sel_text.specs.Bytes as bytes;
 ghost use Rattle.text_bytes.specs.Rests.{IsRest};
 ghost use Rattle.tp_base.specs.Outcomes.{GivesUnless};
 ghost use Rattle.widen_sheet.specs.Views.{unmarked_of};
@@ -93,13 +94,35 @@ fn opens_mark(text: &[u8]) -> bool
     text.starts_with(b"/*~")
 }
 
-// Puts what the text begins with behind another text: what stood in the place of a mark, or a byte.
+// Whether a `/*~` is next that ends no comment.
+fn is_alone(star: bool, text: &[u8]) -> bool
+    ensures { result ≡ (spec.opens_mark text.now && not star) }
+{
+    opens_mark(text) && !star
+}
+
+fn begins_star(text: &[u8]) -> bool
+    ensures { result ≡ bytes.begins_with 42 text.now }
+{
+    match text {
+        [] => false,
+        [first, ..] => *first == b'*',
+    }
+}
+
+// Puts what the text begins with behind another text: what stood in the place of a mark, or a byte. A `*` stands before the
+// text, or not.
 #[tactic(auto, using(text_bytes::proofs::Rests::behind_first))]
-fn step<'a>(out: &mut Vec<u8>, size: usize, text: &'a [u8]) -> Result<&'a [u8], BackFault>
+fn step<'a>(
+    out: &mut Vec<u8>,
+    size: usize,
+    star: bool,
+    text: &'a [u8],
+) -> Result<&'a [u8], BackFault>
     requires some { 0 < length text.now }
     requires within { length text.now ≤ size }
-    ensures gives { IfOk result (λ r. spec.behind_text out.new.items (spec.back_from size 0 r.now) ≡ spec.behind_text out.old.items (spec.back_from size 0 text.now)) }
-    ensures fault { IfErr result (λ e. e ≢ BackFault.Memory → spec.back_from size 0 text.now ≡ Err e) }
+    ensures gives { IfOk result (λ r. spec.behind_text out.new.items (spec.back_from size (bytes.begins_with 42 text.now) 0 r.now) ≡ spec.behind_text out.old.items (spec.back_from size star 0 text.now)) }
+    ensures fault { IfErr result (λ e. e ≢ BackFault.Memory → spec.back_from size star 0 text.now ≡ Err e) }
     ensures rest { IfOk result (λ r. IsRest text.now r.now) }
     ensures shorter { IfOk result (λ r. length r.now < length text.now) }
 {
@@ -107,7 +130,7 @@ fn step<'a>(out: &mut Vec<u8>, size: usize, text: &'a [u8]) -> Result<&'a [u8], 
         put(out, own)?;
         return Ok(behind);
     }
-    if opens_mark(text) {
+    if is_alone(star, text) {
         return Err(BackFault::NoMark(size - text.len()));
     }
     let (first, behind) = text.split_at(1);
@@ -121,9 +144,12 @@ pub fn put_back(alloc: Global, text: &[u8]) -> Result<Vec<u8>, BackFault>
     ensures { GivesUnless BackFault.Memory (λ v. v.items) result (spec.back text.now) }
 {
     let mut out = Vec::with_capacity(alloc, text.len())?;
+    let mut star = false;
     let mut rest = text;
     'bytes: while !rest.is_empty() {
-        let behind = step(&mut out, text.len(), rest)?;
+        let starred = begins_star(rest);
+        let behind = step(&mut out, text.len(), star, rest)?;
+        star = starred;
         rest = behind;
     }
     Ok(out)

@@ -33,7 +33,7 @@ impl<E: OutOfMemory> From<E> for WidenFault {
 /// Why a text isn't put back.
 #[derive(Clone, Copy, Debug, PartialEq, Eq, Error)]
 pub enum BackFault {
-    /// The index of the byte at which the first `/*~` begins that is in no mark.
+    /// The index of the byte at which the first `/*~` begins that is in no mark and has no `*` before it.
     #[error("mark")]
     NoMark(usize),
     #[error("no memory")]
