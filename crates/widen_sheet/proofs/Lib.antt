@@ -1,0 +1,12 @@
+pub mod BracketSteps
+pub mod StopLemmas
+pub mod WiderLemmas
+pub mod SheetPieces
+pub mod WholeLemmas
+pub mod SlotPieces
+pub mod PieceLemmas
+pub mod BackSteps
+pub mod ItemSteps
+pub mod MarkSteps
+pub mod TokenSteps
+pub mod CombinatorLemmas

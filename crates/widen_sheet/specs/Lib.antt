@@ -1,0 +1,7 @@
+-- What public contracts cite.
+pub mod Command
+pub mod Runs
+pub mod Tells
+pub mod Wide
+-- What the code has is to the definitions.
+pub mod Views

@@ -1,0 +1,24 @@
+//! Selectors that aren't judged, widened to what of them is, and back.
+#![tactic(auto)]
+
+mod back;
+mod brackets;
+mod command;
+mod faults;
+mod grammar;
+mod laws;
+mod marks;
+mod parts;
+mod stops;
+mod telling;
+mod tokens;
+mod widening;
+mod words;
+
+pub use back::put_back;
+pub use command::widen_command;
+pub use faults::{BackFault, WidenFault};
+pub use laws::{goes_back, what_is_left_is_wider};
+pub use stops::{Status, Stop, Wrong};
+pub use widening::widen;
+pub use words::Way;
