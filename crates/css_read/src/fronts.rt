@@ -12,7 +12,7 @@ use std::alloc::{AllocError, Global};
 
 /// What a text begins with, where a rule may begin.
 #[derive(Clone, Copy, Debug, PartialEq, Eq)]
-pub(crate) enum Front {
+pub enum Front {
     /// White space, a comment, or what has no list that is read.
     Passed,
     /// The beginning of a block that holds rules.
@@ -122,7 +122,7 @@ fn style_rule(alloc: Global, inside: bool, text: &[u8]) -> Result<(Front, &[u8])
 /// What stands at the beginning of a text, inside a block that holds rules or outside all, and the text behind it.
 /// Linear in what is passed over.
 #[tactic(auto, unfolding(crate::specs::Rules::next_front), using(text_bytes::proofs::Rests::of_rest, text_bytes::proofs::Rests::behind_first, text_bytes::proofs::Rests::itself))]
-pub(crate) fn next_front(
+pub fn next_front(
     alloc: Global,
     inside: bool,
     text: &[u8],
@@ -149,7 +149,7 @@ pub(crate) fn next_front(
 }
 
 /// How many blocks that hold rules are open behind a front.
-pub(crate) fn depth_after(depth: usize, front: Front) -> usize
+pub fn depth_after(depth: usize, front: Front) -> usize
     requires { depth < usize.MAX }
     ensures { result ≡ spec.depth_after depth front }
 {

@@ -14,7 +14,9 @@ mod units;
 
 pub use faults::{MOST_SELECTORS, SheetFault};
 pub use finding::read_holders;
+pub use fronts::{Front, depth_after, next_front};
 pub use holders::{Holder, HolderList, Holders, Owners};
 pub use laws::{one_text_one_shape, pruning_keeps_the_sheet};
 pub use reading::read_sheet;
 pub use sheets::{Outcome, Range, Ranges, Sheet, SheetItem, SheetItems};
+pub use units::behind_unit;

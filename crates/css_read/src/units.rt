@@ -58,7 +58,7 @@ pub(crate) fn is_plain(byte: u8) -> bool
 
 /// The text behind the string, the comment or the byte that it begins with.
 #[tactic(auto, unfolding(crate::specs::Units::behind_unit), using(text_bytes::proofs::Rests::of_rest, text_bytes::proofs::Rests::behind_first, text_bytes::proofs::Rests::dropped))]
-pub(crate) fn behind_unit(text: &[u8]) -> &[u8]
+pub fn behind_unit(text: &[u8]) -> &[u8]
     ensures gives { result.now ≡ spec.behind_unit text.now }
     ensures rest { IsRest text.now result.now }
     ensures shorter { 0 < length text.now → length result.now < length text.now }

@@ -7,8 +7,8 @@ ghost use Rattle.html_tokens.specs.Words.{word_len};
 
 use text_bytes::is_blank;
 
-/// What stands between attributes.
-pub(crate) fn is_filler(b: u8) -> bool
+/// Whether a byte is one of those that stand between attributes: white space, or `/`.
+pub fn is_filler(b: u8) -> bool
     ensures { result ≡ spec.is_filler b }
 {
     is_blank(b) || b == b'/'
@@ -35,7 +35,8 @@ pub fn word_len(text: &[u8]) -> usize
     text.iter().take_while(|b| !is_blank(**b)).count()
 }
 
-pub(crate) fn tag_name_len(text: &[u8]) -> usize
+/// The length of the name of a tag, from its first byte on. Linear in it.
+pub fn tag_name_len(text: &[u8]) -> usize
     ensures gives { result ≡ prefix_len spec.in_tag_name text.now }
     ensures within { result ≤ length text.now }
 {

@@ -1,0 +1,2 @@
+pub mod SetNames
+pub mod SheetSteps
