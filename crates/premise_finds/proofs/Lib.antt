@@ -1,2 +1,6 @@
+pub mod ByteLemmas
+pub mod PageSteps
 pub mod SetNames
 pub mod SheetSteps
+pub mod TagLists
+pub mod TagSteps

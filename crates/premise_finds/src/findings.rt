@@ -1,6 +1,6 @@
 //! Findings, and the list of them.
 ghost use Rattle.std.specs.Prelude.{◌≡◌, ◌++◌, OnOk};
-ghost use Rattle.premise_finds.specs.Findings.{when};
+ghost use Rattle.premise_finds.specs.Findings.{when, finding};
 
 use crate::names::Name;
 use std::alloc::AllocError;
@@ -21,12 +21,14 @@ pub type Findings = Items<Finding>;
 pub(crate) fn add_when(
     found: &mut Vec<Finding>,
     holds: bool,
-    finding: Finding,
+    name: Name,
+    from: usize,
+    to: usize,
 ) -> Result<(), AllocError>
-    ensures { OnOk result (found.new.items ≡ found.old.items ++ when holds finding) }
+    ensures { OnOk result (found.new.items ≡ found.old.items ++ when holds (finding name from to)) }
 {
     if holds {
-        found.push(finding)?;
+        found.push(Finding { name, from, to })?;
     }
     Ok(())
 }

@@ -1,12 +1,16 @@
 //! Places of a page or a sheet at which a browser does more than the model of the report.
 #![tactic(auto)]
 
+mod bytes;
 mod findings;
 mod names;
+mod pages;
 mod sheet_names;
 mod sheets;
-mod words;
+mod tag_names;
+mod tags;
 
 pub use findings::{Finding, Findings};
 pub use names::Name;
+pub use pages::findings_in_page;
 pub use sheets::findings_in_sheet;

@@ -6,7 +6,7 @@ ghost use Rattle.premise_finds.specs.SheetNames as spec;
 
 use crate::names::Name;
 use crate::sheets::Region;
-use crate::words::is_among;
+use crate::bytes::is_among;
 use sel_text::{behind_gap, is_word, name_len};
 use text_bytes::blank_len;
 

@@ -1,8 +1,9 @@
 //! The findings of a sheet, in the order of their places.
-ghost use Rattle.std.specs.Prelude.{◌≡◌, ◌≤◌, ◌++◌, nat_lt, length, drop, IfOk, OnOk};
+ghost use Rattle.std.specs.Prelude.{◌≡◌, ◌≤◌, ◌++◌, nat_lt, length, IfOk, OnOk};
 ghost use Rattle.css_read.specs.Fronts.{list_len};
 ghost use Rattle.premise_finds.specs.Sheets as spec;
 
+use crate::bytes::behind_byte;
 use crate::findings::{Finding, Findings};
 use crate::names::Name;
 use crate::sheet_names::{is_at_rule, name_at};
@@ -99,16 +100,6 @@ impl Draft {
                 self.add_in(Region::Between, self.size - rest.len(), part)
             }
         }
-    }
-}
-
-// The text without its first byte.
-fn behind_byte(text: &[u8]) -> &[u8]
-    ensures { result.now ≡ drop 1 text.now }
-{
-    match text.split_first() {
-        None => text,
-        Some((_, behind)) => behind,
     }
 }
 

@@ -1,7 +1,7 @@
 use Rattle.std.proofs.Common.{◌≡◌, map, length}
 use Rattle.html_tokens.specs.Bytes.{lowered}
 use Rattle.html_tokens.specs.Names.{is_among}
-use Rattle.premise_finds.proofs.words.is_among.Given as goal
+use Rattle.premise_finds.proofs.bytes.is_among.Given as goal
 
 abbrev pub invariant-words : goal.invariant-words
 invariant-words l = is_among (map (λ n. lowered n.now) l.left) (lowered l.word) ≡ is_among (map (λ n. lowered n.now) l.words) (lowered l.word)
