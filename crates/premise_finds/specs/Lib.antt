@@ -1,5 +1,7 @@
 -- What public contracts cite.
 pub mod Findings
+pub mod NameTexts
+pub mod Details
 pub mod Pages
 pub mod SheetNames
 pub mod Sheets

@@ -2,6 +2,7 @@
 #![tactic(auto)]
 
 mod bytes;
+mod details;
 mod findings;
 mod names;
 mod pages;
@@ -10,6 +11,7 @@ mod sheets;
 mod tag_names;
 mod tags;
 
+pub use details::{MOST_SHOWN, shown_of};
 pub use findings::{Finding, Findings};
 pub use names::Name;
 pub use pages::findings_in_page;

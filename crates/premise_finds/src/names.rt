@@ -1,4 +1,6 @@
 //! The names of what is found.
+ghost use Rattle.std.specs.Prelude.{◌≡◌};
+ghost use Rattle.premise_finds.specs.NameTexts.{text_of};
 
 /// What a browser does more with than the model. The names of a page stand first, then those of a sheet.
 #[derive(Clone, Copy, Debug, PartialEq, Eq)]
@@ -23,5 +25,38 @@ pub enum Name {
     NestedRule,
     Import,
     Layer,
+    UnknownToSome,
     ValueAsked,
+}
+
+impl Name {
+    /// The name as it is written.
+    pub fn text(self) -> &'static [u8]
+        ensures { result.now ≡ text_of self }
+    {
+        match self {
+            Name::Quirks => b"quirks",
+            Name::Xhtml => b"xhtml",
+            Name::CodeInAnAttribute => b"code in an attribute",
+            Name::CodeInAnAddress => b"code in an address",
+            Name::ScriptHere => b"script here",
+            Name::SheetHere => b"sheet here",
+            Name::OtherDocument => b"other document",
+            Name::NoScript => b"no script",
+            Name::Template => b"template",
+            Name::OwnElement => b"own element",
+            Name::TypedInto => b"typed into",
+            Name::Reference => b"reference",
+            Name::SelectedContent => b"selected content",
+            Name::ScriptInAScript => b"script in a script",
+            Name::CommentMark => b"comment mark",
+            Name::Escape => b"escape",
+            Name::Address => b"address",
+            Name::NestedRule => b"nested rule",
+            Name::Import => b"import",
+            Name::Layer => b"layer",
+            Name::UnknownToSome => b"unknown to some",
+            Name::ValueAsked => b"value asked",
+        }
+    }
 }
