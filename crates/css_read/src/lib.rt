@@ -17,6 +17,7 @@ pub use finding::read_holders;
 pub use fronts::{Front, depth_after, next_front};
 pub use holders::{Holder, HolderList, Holders, Owners};
 pub use laws::{one_text_one_shape, pruning_keeps_the_sheet};
+pub use pieces::first_piece;
 pub use reading::read_sheet;
 pub use sheets::{Outcome, Range, Ranges, Sheet, SheetItem, SheetItems};
 pub use units::behind_unit;

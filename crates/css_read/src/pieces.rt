@@ -51,7 +51,7 @@ fn piece_of(to: usize, text: &[u8]) -> Range
 /// The selector before the next comma of a list that ends at an offset, and the text from the comma on. Linear in
 /// what is passed over.
 #[tactic(auto, unfolding(crate::specs::Pieces::first_piece))]
-pub(crate) fn first_piece(
+pub fn first_piece(
     alloc: Global,
     to: usize,
     text: &[u8],

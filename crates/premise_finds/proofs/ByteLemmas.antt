@@ -5,7 +5,7 @@ use Rattle.html_tokens.specs.Bytes.{lowered}
 use Rattle.html_tokens.specs.Names.{is_among}
 use Rattle.html_tokens.specs.Words.{word_len, words_from}
 use Rattle.html_tokens.proofs.WordLemmas.{next_word}
-use Rattle.premise_finds.specs.TagNames.{has_word}
+use Rattle.premise_finds.specs.Texts.{has_word}
 
 pub blank_first : (names : List (List ℕ)) (b : ℕ) (bs : List ℕ) → is_blank b ≡ true → has_word names (b ∷ bs) ≡ has_word names bs
 unfolding has_word words_from

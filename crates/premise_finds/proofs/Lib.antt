@@ -1,6 +1,7 @@
 pub mod ByteLemmas
 pub mod PageSteps
 pub mod SetNames
+pub mod SelectorSteps
 pub mod SheetSteps
 pub mod TagLists
 pub mod TagSteps

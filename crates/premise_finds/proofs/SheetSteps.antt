@@ -10,8 +10,8 @@ use Rattle.premise_finds.specs.declared.names.Name.{Name}
 use Rattle.premise_finds.specs.declared.findings.Finding.{Finding}
 use Rattle.premise_finds.specs.declared.sheets.Region.{Region}
 use Rattle.premise_finds.specs.Findings.{finding}
-use Rattle.premise_finds.specs.SheetNames.{is_at_rule, name_at}
-use Rattle.premise_finds.specs.Sheets.{one, found_from, found_in, found_in_front, findings_from, layers_from, sheet_findings}
+use Rattle.premise_finds.specs.SheetNames.{name_at}
+use Rattle.premise_finds.specs.Sheets.{one, found_from, found_in, found_in_front, findings_from, layer_at, layers_from, sheet_findings}
 
 -- what is left of bytes behind the first of them
 rest_of : (b : ℕ) (bs rest : List ℕ) → IsRest (b ∷ bs) rest → length rest < length (b ∷ bs) → drop (length bs - length rest) bs ≡ rest
@@ -54,15 +54,10 @@ layers_skip zero bs = refl
 layers_skip (suc n) [] = refl
 layers_skip (suc n) (b ∷ bs) = layers_skip n bs
 
-pub one_layer : (bs rest : List ℕ) → is_at_rule (codes "layer") bs ≡ true → rest ≡ behind_unit bs → IsRest bs rest → length rest < length bs → layers_from 0 bs ≡ 1 + layers_from 0 rest
+pub layers_step : (n : ℕ) (bs rest : List ℕ) → n ≡ layer_at bs → rest ≡ behind_unit bs → IsRest bs rest → length rest < length bs → layers_from 0 bs ≡ n + layers_from 0 rest
 unfolding layers_from
-one_layer [] rest is unit last less = absurd (omega arith)
-one_layer (b ∷ bs) rest is unit last less = rw (is, ← unit, layers_skip (length bs - length rest) bs, rest_of b bs rest last less) refl
-
-pub no_layer : (bs rest : List ℕ) → is_at_rule (codes "layer") bs ≡ false → rest ≡ behind_unit bs → IsRest bs rest → length rest < length bs → layers_from 0 bs ≡ layers_from 0 rest
-unfolding layers_from
-no_layer [] rest is unit last less = absurd (omega arith)
-no_layer (b ∷ bs) rest is unit last less = rw (is, ← unit, layers_skip (length bs - length rest) bs, rest_of b bs rest last less) (omega arith)
+layers_step n [] rest is unit last less = absurd (omega arith)
+layers_step n (b ∷ bs) rest is unit last less = rw (is, ← unit, layers_skip (length bs - length rest) bs, rest_of b bs rest last less) refl
 
 pub no_layers : (bs : List ℕ) → length bs ≡ 0 → layers_from 0 bs ≡ 0
 unfolding layers_from

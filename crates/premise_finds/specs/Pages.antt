@@ -13,13 +13,8 @@ use Rattle.premise_finds.specs.declared.findings.Finding.{Finding}
 use Rattle.premise_finds.specs.declared.names.Name.TheVariants as name
 use Rattle.premise_finds.specs.Findings.{when, finding}
 use Rattle.premise_finds.specs.Tags.{tags_at, tags_of}
-use Rattle.premise_finds.specs.TagNames.{begins_word, has_somewhere, found_at_tag}
-
-abbrev pub begins : List ℕ → List ℕ → Bool
-begins front bs = starts_with nat_eq bs front
-
-abbrev pub past_blanks : List ℕ → List ℕ
-past_blanks bs = drop (prefix_len is_blank bs) bs
+use Rattle.premise_finds.specs.TagNames.{found_at_tag}
+use Rattle.premise_finds.specs.Texts.{begins, past_blanks, begins_word, has_somewhere}
 
 -- ---- the document type
 

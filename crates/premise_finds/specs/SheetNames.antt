@@ -8,13 +8,11 @@ use Rattle.html_tokens.specs.Words.{words}
 use Rattle.sel_text.specs.Bytes.{name_len, behind_gap}
 use Rattle.sel_text.specs.Grammar.{is_word}
 use Rattle.css_read.specs.Units.{is_quote, begins_comment}
+use Rattle.premise_finds.specs.Texts.{begins, past_blanks}
 use Rattle.premise_finds.specs.declared.names.Name.{Name}
 use Rattle.premise_finds.specs.declared.names.Name.TheVariants as name
 use Rattle.premise_finds.specs.declared.sheets.Region.{Region}
 use Rattle.premise_finds.specs.declared.sheets.Region.TheVariants.{Between, List as InList, Block}
-
-abbrev pub begins : List ℕ → List ℕ → Bool
-begins front bs = starts_with nat_eq bs front
 
 -- a browser passes over these marks where a rule may begin
 unfoldable pub is_comment_mark : List ℕ → Bool
@@ -33,9 +31,6 @@ misleads (b ∷ bs) = is_quote b || b == 40 || b == 91 || b == 59 || b == 123 ||
 unfoldable pub is_misread : List ℕ → Bool
 is_misread [] = false
 is_misread (b ∷ bs) = if b == 41 then false else (if misleads (b ∷ bs) then true else is_misread bs)
-
-abbrev pub past_blanks : List ℕ → List ℕ
-past_blanks bs = drop (prefix_len is_blank bs) bs
 
 abbrev pub is_quoted : List ℕ → Bool
 is_quoted [] = false

@@ -48,11 +48,14 @@ findings_from several size depth zero (b ∷ bs) =
     let begun = next_front (nat_lt 0 depth) (b ∷ bs) in
     found_in_front several size (b ∷ bs) begun ++ findings_from several size (depth_after depth begun.0) (length bs - length begun.1) bs
 
+abbrev pub layer_at : List ℕ → ℕ
+layer_at bs = if is_at_rule (codes "layer") bs then 1 else 0
+
 -- how many `@layer` there are outside strings and comments
 unfoldable pub layers_from : ℕ → List ℕ → ℕ
 layers_from skip [] = 0
 layers_from (suc skip) (b ∷ bs) = layers_from skip bs
-layers_from zero (b ∷ bs) = (if is_at_rule (codes "layer") (b ∷ bs) then 1 else 0) + layers_from (length bs - length (behind_unit (b ∷ bs))) bs
+layers_from zero (b ∷ bs) = layer_at (b ∷ bs) + layers_from (length bs - length (behind_unit (b ∷ bs))) bs
 
 -- a byte order mark is passed over
 unfoldable pub sheet_findings : List ℕ → List Finding

@@ -13,20 +13,7 @@ use Rattle.premise_finds.specs.declared.findings.Finding.{Finding}
 use Rattle.premise_finds.specs.declared.names.Name.TheVariants as name
 use Rattle.premise_finds.specs.Findings.{when, finding}
 use Rattle.premise_finds.specs.Tags.{Placed, Tag}
-
--- ---- texts
-
--- whether a text has more than white space
-abbrev pub is_seen : List ℕ → Bool
-is_seen bs = not (prefix_len is_blank bs == length bs)
-
--- whether a text begins with a word, without regard to ASCII case
-abbrev pub begins_word : List ℕ → List ℕ → Bool
-begins_word word bs = str_eq_ignore_ascii_case (take (length word) bs) word
-
--- whether one of the words of a text is among these, without regard to ASCII case
-unfoldable pub has_word : List (List ℕ) → List ℕ → Bool
-has_word names text = list_any (λ w. is_among names (lowered w)) (words text)
+use Rattle.premise_finds.specs.Texts.{is_seen, has_word, has_somewhere}
 
 -- ---- tags
 
@@ -96,11 +83,6 @@ is_own_element t = has_hyphen t.name || has (codes "is") t
 
 unfoldable pub is_selected_content : Tag → Bool
 is_selected_content t = is_named (codes "selectedcontent") t
-
--- whether a word stands anywhere in a text, without regard to ASCII case
-unfoldable pub has_somewhere : List ℕ → List ℕ → Bool
-has_somewhere word [] = false
-has_somewhere word (b ∷ bs) = if begins_word word (b ∷ bs) then true else has_somewhere word bs
 
 -- the end of such a script is another one
 unfoldable pub is_script_in_a_script : Tag → Bool

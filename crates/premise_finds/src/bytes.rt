@@ -2,8 +2,7 @@
 ghost use Rattle.std.specs.Prelude.{◌≡◌, ◌≤◌, drop, length, map};
 ghost use Rattle.html_tokens.specs.Bytes.{lowered};
 ghost use Rattle.html_tokens.specs.Names as names;
-ghost use Rattle.premise_finds.specs.TagNames as spec;
-ghost use Rattle.premise_finds.specs.Pages as pages;
+ghost use Rattle.premise_finds.specs.Texts as spec;
 
 use html_tokens::{is_same_name, word_len};
 use text_bytes::{blank_len, is_blank};
@@ -21,7 +20,7 @@ pub(crate) fn behind_byte(text: &[u8]) -> &[u8]
 
 /// The text behind white space.
 pub(crate) fn past_blanks(text: &[u8]) -> &[u8]
-    ensures { result.now ≡ pages.past_blanks text.now }
+    ensures { result.now ≡ spec.past_blanks text.now }
 {
     text.split_at(blank_len(text)).1
 }
@@ -58,7 +57,7 @@ pub(crate) fn begins_word(word: &[u8], text: &[u8]) -> bool
 }
 
 /// Whether a word stands anywhere in a text, without regard to ASCII case. Linear in the text, for each byte of the word.
-#[tactic(auto, unfolding(crate::specs::TagNames::has_somewhere))]
+#[tactic(auto, unfolding(crate::specs::Texts::has_somewhere))]
 pub(crate) fn has_somewhere(word: &[u8], text: &[u8]) -> bool
     ensures { result ≡ spec.has_somewhere word.now text.now }
 {

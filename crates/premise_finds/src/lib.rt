@@ -6,6 +6,7 @@ mod details;
 mod findings;
 mod names;
 mod pages;
+mod selectors;
 mod sheet_names;
 mod sheets;
 mod tag_names;

@@ -103,17 +103,23 @@ impl Draft {
     }
 }
 
+// 1 where an `@layer` begins, and else 0.
+fn layer_at(text: &[u8]) -> usize
+    ensures gives { result ≡ spec.layer_at text.now }
+    ensures one { result ≤ 1 }
+{
+    if is_at_rule(b"layer", text) { 1 } else { 0 }
+}
+
 // Whether there are several `@layer`.
-#[tactic(auto, using(crate::proofs::SheetSteps::one_layer, crate::proofs::SheetSteps::no_layer, crate::proofs::SheetSteps::no_layers, text_bytes::proofs::Rests::of_rest))]
+#[tactic(auto, using(crate::proofs::SheetSteps::layers_step, crate::proofs::SheetSteps::no_layers, text_bytes::proofs::Rests::of_rest))]
 fn has_several_layers(text: &[u8]) -> bool
     ensures { result ≡ nat_lt 1 (spec.layers_from 0 text.now) }
 {
     let mut count: usize = 0;
     let mut rest = text;
     'units: while !rest.is_empty() {
-        if is_at_rule(b"layer", rest) {
-            count += 1;
-        }
+        count += layer_at(rest);
         rest = behind_unit(rest);
     }
     count > 1

@@ -1,5 +1,5 @@
 use Rattle.std.proofs.Common.{◌≡◌, length}
-use Rattle.premise_finds.specs.TagNames.{has_somewhere}
+use Rattle.premise_finds.specs.Texts.{has_somewhere}
 use Rattle.premise_finds.proofs.bytes.has_somewhere.Given as goal
 
 abbrev pub invariant-bytes : goal.invariant-bytes

@@ -1,6 +1,6 @@
 use Rattle.std.proofs.Common.{◌≡◌, map, length}
 use Rattle.html_tokens.specs.Bytes.{lowered}
-use Rattle.premise_finds.specs.TagNames.{has_word}
+use Rattle.premise_finds.specs.Texts.{has_word}
 use Rattle.premise_finds.proofs.bytes.has_word.Given as goal
 
 abbrev pub invariant-words : goal.invariant-words
