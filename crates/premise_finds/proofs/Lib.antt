@@ -1,4 +1,5 @@
 pub mod ByteLemmas
+pub mod MergeSteps
 pub mod PageSteps
 pub mod SetNames
 pub mod SelectorSteps

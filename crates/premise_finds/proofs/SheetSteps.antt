@@ -1,5 +1,5 @@
 -- A sheet's parts and the places in them, one after the other.
-use Rattle.std.proofs.Common.{◌≡◌, ℕ, zero, suc, ◌+◌, ◌-◌, ◌<◌, nat_lt, Bool, true, false, List, [], ◌∷◌, ◌++◌, length, drop, Option, Some, None, codes, refl, sym, ap, ◌∙◌, append_assoc, arith}
+use Rattle.std.proofs.Common.{◌≡◌, ℕ, zero, suc, ◌+◌, ◌-◌, ◌<◌, nat_lt, Bool, List, [], ◌∷◌, ◌++◌, length, drop, Option, refl, sym, ap, ◌∙◌, append_assoc, arith}
 use Rattle.std.proofs.lemmas.List.{append-nil}
 use Rattle.text_bytes.specs.OrderMark.{behind_order_mark}
 use Rattle.text_bytes.specs.Rests.{IsRest}
@@ -9,9 +9,8 @@ use Rattle.css_read.specs.Units.{behind_unit}
 use Rattle.premise_finds.specs.declared.names.Name.{Name}
 use Rattle.premise_finds.specs.declared.findings.Finding.{Finding}
 use Rattle.premise_finds.specs.declared.sheets.Region.{Region}
-use Rattle.premise_finds.specs.Findings.{finding}
 use Rattle.premise_finds.specs.SheetNames.{name_at}
-use Rattle.premise_finds.specs.Sheets.{one, found_from, found_in, found_in_front, findings_from, layer_at, layers_from, sheet_findings}
+use Rattle.premise_finds.specs.Sheets.{one, found_from, found_in, found_in_front, findings_from, layer_at, layers_from, text_findings}
 
 -- what is left of bytes behind the first of them
 rest_of : (b : ℕ) (bs rest : List ℕ) → IsRest (b ∷ bs) rest → length rest < length (b ∷ bs) → drop (length bs - length rest) bs ≡ rest
@@ -86,6 +85,6 @@ ends before all several size depth [] none found = sym (append-nil before) ∙ f
 ends before all several size depth (b ∷ bs) none found = absurd (omega arith)
 
 pub begins : (several : Bool) (text sheet : List ℕ) → several ≡ nat_lt 1 (layers_from 0 sheet) → sheet ≡ behind_order_mark text
-    → findings_from several (length text) 0 0 sheet ≡ sheet_findings text
-unfolding sheet_findings
+    → findings_from several (length text) 0 0 sheet ≡ text_findings text
+unfolding text_findings
 begins several text sheet layers at = rw (layers, at) refl

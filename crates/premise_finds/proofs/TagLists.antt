@@ -1,5 +1,5 @@
 -- Small facts on tags: the names that the code writes down, words that are spelled, and findings one after the other.
-use Rattle.std.proofs.Common.{◌≡◌, ℕ, ◌==◌, ◌≤◌, ◌<◌, nat_lt, nat_eq, true, false, List, [], ◌∷◌, ◌++◌, length, map, suc, drop, drop-cons, get_or, Option, Some, None, refl, sym, ap₂, arith, append_assoc, Bool, codes, ◌||◌}
+use Rattle.std.proofs.Common.{◌≡◌, ℕ, ◌==◌, ◌≤◌, ◌<◌, nat_lt, nat_eq, true, false, List, [], ◌∷◌, ◌++◌, length, map, suc, drop, drop-cons, get_or, Option, Some, None, refl, ap₂, arith, append_assoc, Bool, codes, ◌||◌}
 use Rattle.std.proofs.lemmas.Bool.{ne_eqb}
 use Rattle.std.proofs.lemmas.Bool.Decides.{nat_tests}
 use Rattle.std.specs.Char.{to_ascii_lowercase}

@@ -1,12 +1,12 @@
 -- The attributes of a tag, and the tags of a page, one after the other.
-use Rattle.std.proofs.Common.{◌≡◌, ℕ, zero, suc, ◌-◌, ◌<◌, true, false, List, [], ◌∷◌, ◌++◌, length, map, drop, flat_map, Some, None, refl, sym, ap, ap₂, ◌∙◌, append_assoc, arith, eq-eqb}
+use Rattle.std.proofs.Common.{◌≡◌, ℕ, zero, suc, ◌-◌, ◌<◌, true, false, List, [], ◌∷◌, ◌++◌, length, map, drop, flat_map, Some, None, refl, sym, ap, ◌∙◌, append_assoc, arith, eq-eqb}
 use Rattle.std.proofs.lemmas.Bool.{ne_eqb}
 use Rattle.std.proofs.lemmas.List.{append-nil, map-append}
 use Rattle.std.proofs.lemmas.Grind.{flat_map-append}
 use Rattle.text_bytes.specs.OrderMark.{behind_order_mark}
 use Rattle.text_bytes.specs.Rests.{IsRest}
 use Rattle.html_tokens.specs.Bytes.{is_filler}
-use Rattle.html_tokens.specs.Attributes.{Attribute, attribute}
+use Rattle.html_tokens.specs.Attributes.{attribute}
 use Rattle.html_tokens.specs.Tokens.{Front, front}
 use Rattle.html_tokens.specs.Views.{attribute_of}
 use Rattle.premise_finds.specs.declared.tags.Placed as code_placed

@@ -1,5 +1,5 @@
 -- What is said of a finding: the first bytes of its text.
-use Rattle.std.specs.Prelude.{ℕ, zero, suc, ◌==◌, ◌&&◌, ◌||◌, not, nat_lt, Bool, true, if◌then◌else◌, List, [], ◌∷◌, length, take, drop, slice_range}
+use Rattle.std.specs.Prelude.{ℕ, zero, suc, ◌==◌, ◌||◌, not, nat_lt, Bool, true, if◌then◌else◌, List, [], ◌∷◌, length, take, drop, slice_range}
 use Rattle.std.specs.List.{prefix_len}
 use Rattle.premise_finds.specs.declared.findings.Finding.{Finding}
 use Rattle.premise_finds.specs.declared.details.TheConstants.{MOST_SHOWN}

@@ -1,5 +1,6 @@
 -- What public contracts cite.
 pub mod Findings
+pub mod Merging
 pub mod NameTexts
 pub mod Details
 pub mod Pages

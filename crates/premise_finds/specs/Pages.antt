@@ -1,8 +1,8 @@
 -- The findings of a page.
 --     is_standard      whether a browser reads it by the standard, and not in quirks mode
 --     page_findings    all that are told by its tokens, in the order of their places
-use Rattle.std.specs.Prelude.{ℕ, zero, suc, ◌-◌, ◌&&◌, ◌||◌, not, nat_eq, Bool, true, false, if◌then◌else◌, List, [], ◌∷◌, ◌++◌, length, take, drop, flat_map, codes}
-use Rattle.std.specs.List.{starts_with, prefix_len}
+use Rattle.std.specs.Prelude.{ℕ, zero, suc, ◌-◌, ◌&&◌, ◌||◌, not, nat_eq, Bool, false, if◌then◌else◌, List, [], ◌∷◌, ◌++◌, length, take, drop, flat_map, codes}
+use Rattle.std.specs.List.{prefix_len}
 use Rattle.text_bytes.specs.Blanks.{is_blank}
 use Rattle.text_bytes.specs.OrderMark.{behind_order_mark}
 use Rattle.std.specs.Str.{str_eq_ignore_ascii_case}

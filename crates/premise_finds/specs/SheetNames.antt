@@ -1,7 +1,5 @@
 -- What is found in a sheet: a definition for each name. Each is asked of the bytes from a place on that is in no string and in no comment.
-use Rattle.std.specs.Prelude.{ℕ, ◌==◌, ◌&&◌, ◌||◌, nat_lt, nat_eq, Bool, true, false, if◌then◌else◌, List, [], ◌∷◌, length, take, drop, codes, Option, Some, None}
-use Rattle.std.specs.List.{starts_with, prefix_len}
-use Rattle.text_bytes.specs.Blanks.{is_blank}
+use Rattle.std.specs.Prelude.{ℕ, ◌==◌, ◌&&◌, ◌||◌, Bool, true, false, if◌then◌else◌, List, [], ◌∷◌, take, drop, codes, Option, Some, None}
 use Rattle.html_tokens.specs.Names.{is_among}
 use Rattle.html_tokens.specs.Bytes.{lowered}
 use Rattle.html_tokens.specs.Words.{words}
@@ -12,7 +10,7 @@ use Rattle.premise_finds.specs.Texts.{begins, past_blanks}
 use Rattle.premise_finds.specs.declared.names.Name.{Name}
 use Rattle.premise_finds.specs.declared.names.Name.TheVariants as name
 use Rattle.premise_finds.specs.declared.sheets.Region.{Region}
-use Rattle.premise_finds.specs.declared.sheets.Region.TheVariants.{Between, List as InList, Block}
+use Rattle.premise_finds.specs.declared.sheets.Region.TheVariants.{List as InList, Block}
 
 -- a browser passes over these marks where a rule may begin
 unfoldable pub is_comment_mark : List ℕ → Bool

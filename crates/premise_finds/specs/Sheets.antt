@@ -12,6 +12,8 @@ use Rattle.premise_finds.specs.declared.findings.Finding.{Finding}
 use Rattle.premise_finds.specs.declared.sheets.Region.{Region}
 use Rattle.premise_finds.specs.declared.sheets.Region.TheVariants.{Between, List as InList, Block}
 use Rattle.premise_finds.specs.Findings.{finding}
+use Rattle.premise_finds.specs.Merging.{merged}
+use Rattle.premise_finds.specs.Selectors.{selector_findings}
 use Rattle.premise_finds.specs.SheetNames.{is_at_rule, name_at}
 
 abbrev pub one : Option Name → ℕ → ℕ → List Finding
@@ -57,6 +59,10 @@ layers_from skip [] = 0
 layers_from (suc skip) (b ∷ bs) = layers_from skip bs
 layers_from zero (b ∷ bs) = layer_at (b ∷ bs) + layers_from (length bs - length (behind_unit (b ∷ bs))) bs
 
--- a byte order mark is passed over
+-- those that are told by the bytes of a place; a byte order mark is passed over
+unfoldable pub text_findings : List ℕ → List Finding
+text_findings text = let sheet = behind_order_mark text in findings_from (nat_lt 1 (layers_from 0 sheet)) (length text) 0 0 sheet
+
+-- with those of whole selectors
 unfoldable pub sheet_findings : List ℕ → List Finding
-sheet_findings text = let sheet = behind_order_mark text in findings_from (nat_lt 1 (layers_from 0 sheet)) (length text) 0 0 sheet
+sheet_findings text = merged (text_findings text) (selector_findings text)

@@ -1,12 +1,10 @@
 -- What is found at a start tag or at one of its attributes: a definition for each name.
-use Rattle.std.specs.Prelude.{ℕ, ◌==◌, ◌&&◌, ◌||◌, not, nat_lt, nat_eq, Bool, true, false, if◌then◌else◌, List, [], ◌∷◌, ◌++◌, length, take, drop, map, flat_map, codes, Option, Some, None}
+use Rattle.std.specs.Prelude.{ℕ, ◌==◌, ◌&&◌, ◌||◌, not, nat_lt, nat_eq, Bool, true, false, if◌then◌else◌, List, [], ◌∷◌, ◌++◌, map, flat_map, codes, Option, Some, None}
 use Rattle.std.specs.Char.{is_ascii_alphabetic, to_ascii_lowercase}
-use Rattle.std.specs.List.{starts_with, prefix_len, list_any}
+use Rattle.std.specs.List.{list_any}
 use Rattle.std.specs.Str.{byte, bytes_eq, str_eq_ignore_ascii_case}
-use Rattle.text_bytes.specs.Blanks.{is_blank}
 use Rattle.text_bytes.specs.Marks.{behind_mark}
 use Rattle.html_tokens.specs.Names.{is_among}
-use Rattle.html_tokens.specs.Bytes.{lowered}
 use Rattle.html_tokens.specs.Words.{words}
 use Rattle.html_tokens.specs.Attributes.{Attribute, value_of}
 use Rattle.premise_finds.specs.declared.findings.Finding.{Finding}

@@ -1,13 +1,13 @@
 -- The start tags of a page, with the places of their attributes.
 --     tags_of    those of a page
-use Rattle.std.specs.Prelude.{ℕ, zero, suc, ◌-◌, ◌==◌, if◌then◌else◌, List, [], ◌∷◌, ◌++◌, length, take, drop, map, Option, Some, None}
+use Rattle.std.specs.Prelude.{ℕ, zero, suc, ◌-◌, ◌==◌, if◌then◌else◌, List, [], ◌∷◌, ◌++◌, length, take, drop, Some, None}
 use Rattle.std.specs.List.{prefix_len}
 use Rattle.std.specs.Str.{byte}
 use Rattle.text_bytes.specs.OrderMark.{behind_order_mark}
 use Rattle.html_tokens.specs.Bytes.{is_filler, in_tag_name, lowered}
 use Rattle.html_tokens.specs.Attributes.{Read, Attribute, attribute}
-use Rattle.html_tokens.specs.Tokens.{Token, Front, front}
-use Rattle.html_tokens.specs.Tokens.Token.{text, start, stop}
+use Rattle.html_tokens.specs.Tokens.{Front, front}
+use Rattle.html_tokens.specs.Tokens.Token.{start}
 
 -- an attribute as it is written, from its name's first byte to behind its last one
 pub record Placed : Type 0 where

@@ -10,7 +10,9 @@ fn line_len(text: &[u8]) -> usize
     ensures gives { result ≡ prefix_len spec.in_line text.now }
     ensures within { result ≤ length text.now }
 {
-    text.iter().take_while(|b| !(**b == b'\n' || **b == b'\r')).count()
+    text.iter()
+        .take_while(|b| !(**b == b'\n' || **b == b'\r'))
+        .count()
 }
 
 fn begins_character(text: &[u8]) -> bool

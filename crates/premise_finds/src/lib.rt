@@ -4,6 +4,7 @@
 mod bytes;
 mod details;
 mod findings;
+mod merging;
 mod names;
 mod pages;
 mod selectors;

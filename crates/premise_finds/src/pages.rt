@@ -31,7 +31,9 @@ fn is_legacy(text: &[u8]) -> bool
         return false;
     }
     let system = past_blanks(text.split_at(6).1);
-    if !(system.starts_with(b"\"about:legacy-compat\"") || system.starts_with(b"'about:legacy-compat'")) {
+    if !(system.starts_with(b"\"about:legacy-compat\"")
+        || system.starts_with(b"'about:legacy-compat'"))
+    {
         return false;
     }
     system.len() >= 21 && is_closed(system.split_at(21).1)
@@ -42,7 +44,9 @@ fn type_name_len(text: &[u8]) -> usize
     ensures gives { result ≡ prefix_len in_bare_value text.now }
     ensures within { result ≤ length text.now }
 {
-    text.iter().take_while(|b| !(is_blank(**b) || **b == b'>')).count()
+    text.iter()
+        .take_while(|b| !(is_blank(**b) || **b == b'>'))
+        .count()
 }
 
 #[tactic(auto, unfolding(crate::specs::Pages::is_html))]

@@ -4,9 +4,9 @@ ghost use Rattle.std.specs.Char.{to_ascii_lowercase};
 ghost use Rattle.css_read.specs.Units as units;
 ghost use Rattle.premise_finds.specs.SheetNames as spec;
 
+use crate::bytes::is_among;
 use crate::names::Name;
 use crate::sheets::Region;
-use crate::bytes::is_among;
 use sel_text::{behind_gap, is_word, name_len};
 use text_bytes::blank_len;
 

@@ -5,7 +5,9 @@ ghost use Rattle.premise_finds.specs.Sheets as spec;
 
 use crate::bytes::behind_byte;
 use crate::findings::{Finding, Findings};
+use crate::merging::merged;
 use crate::names::Name;
+use crate::selectors::selector_findings;
 use crate::sheet_names::{is_at_rule, name_at};
 use css_read::{Front, behind_unit, depth_after, next_front};
 use std::alloc::{AllocError, Global};
@@ -125,11 +127,10 @@ fn has_several_layers(text: &[u8]) -> bool
     count > 1
 }
 
-/// The findings of a sheet, of which a byte order mark at the front is passed over. Linear in the sheet, in time and in
-/// memory.
+// The findings of a sheet but for those of whole selectors.
 #[tactic(auto, using(crate::proofs::SheetSteps::begins, crate::proofs::SheetSteps::goes_on, crate::proofs::SheetSteps::ends, text_bytes::proofs::Rests::of_rest))]
-pub fn findings_in_sheet(alloc: Global, text: &[u8]) -> Result<Findings, NoMemory>
-    ensures { IfOk result (λ f. f ≡ spec.sheet_findings text.now) }
+fn text_findings(alloc: Global, text: &[u8]) -> Result<Vec<Finding>, NoMemory>
+    ensures { IfOk result (λ f. f.items ≡ spec.text_findings text.now) }
 {
     let mut rest = behind_order_mark(text);
     let mut draft = Draft {
@@ -144,5 +145,16 @@ pub fn findings_in_sheet(alloc: Global, text: &[u8]) -> Result<Findings, NoMemor
         depth = depth_after(depth, front);
         rest = behind;
     }
-    Ok(Findings::new(draft.found))
+    Ok(draft.found)
+}
+
+/// The findings of a sheet, of which a byte order mark at the front is passed over. Linear in the sheet, in time and in
+/// memory.
+#[tactic(auto, unfolding(crate::specs::Sheets::sheet_findings))]
+pub fn findings_in_sheet(alloc: Global, text: &[u8]) -> Result<Findings, NoMemory>
+    ensures { IfOk result (λ f. f ≡ spec.sheet_findings text.now) }
+{
+    let found = text_findings(alloc, text)?;
+    let others = selector_findings(alloc, text)?;
+    Ok(Findings::new(merged(alloc, &found, &others)?))
 }

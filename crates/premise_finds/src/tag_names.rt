@@ -263,7 +263,13 @@ fn add_attribute(found: &mut Vec<Finding>, placed: &Placed<'_>) -> Result<(), Al
     let from = placed.from;
     let to = placed.to;
     add_when(found, is_code(attribute), Name::CodeInAnAttribute, from, to)?;
-    add_when(found, is_code_address(attribute), Name::CodeInAnAddress, from, to)?;
+    add_when(
+        found,
+        is_code_address(attribute),
+        Name::CodeInAnAddress,
+        from,
+        to,
+    )?;
     add_when(found, is_typed_into(attribute), Name::TypedInto, from, to)?;
     add_when(found, is_reference(attribute), Name::Reference, from, to)?;
     Ok(())
@@ -291,8 +297,20 @@ pub(crate) fn add_tag(found: &mut Vec<Finding>, tag: &Tag<'_>) -> Result<(), All
     add_when(found, is_no_script(tag), Name::NoScript, from, to)?;
     add_when(found, is_template(tag), Name::Template, from, to)?;
     add_when(found, is_own_element(tag), Name::OwnElement, from, to)?;
-    add_when(found, is_selected_content(tag), Name::SelectedContent, from, to)?;
-    add_when(found, is_script_in_a_script(tag), Name::ScriptInAScript, from, to)?;
+    add_when(
+        found,
+        is_selected_content(tag),
+        Name::SelectedContent,
+        from,
+        to,
+    )?;
+    add_when(
+        found,
+        is_script_in_a_script(tag),
+        Name::ScriptInAScript,
+        from,
+        to,
+    )?;
     add_attributes(found, &tag.attributes)?;
     Ok(())
 }

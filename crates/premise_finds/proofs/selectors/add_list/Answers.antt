@@ -1,4 +1,4 @@
-use Rattle.std.proofs.Common.{◌≡◌, ◌<◌, ◌≤◌, ◌∙◌, length, arith}
+use Rattle.std.proofs.Common.{◌≡◌, ◌<◌, ◌∙◌, length, arith}
 use Rattle.std.proofs.lemmas.Grind.{common_steps}
 use Rattle.premise_finds.proofs.SelectorSteps.{first_of_more, one_more, no_more}
 use Rattle.premise_finds.proofs.selectors.add_list.Goals as goal

@@ -1,4 +1,4 @@
-use Rattle.std.proofs.Common.{◌≡◌, ◌∙◌, refl, sym, arith}
+use Rattle.std.proofs.Common.{◌∙◌, refl, sym, arith}
 use Rattle.premise_finds.proofs.TagSteps.{adds_one}
 use Rattle.premise_finds.proofs.tags.read_attributes.Goals as goal
 
