@@ -6,3 +6,5 @@ pub mod SelectorSteps
 pub mod SheetSteps
 pub mod TagLists
 pub mod TagSteps
+pub mod TreeLists
+pub mod TreeSteps

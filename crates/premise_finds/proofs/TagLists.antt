@@ -22,6 +22,9 @@ two old a b = append_assoc old a b
 pub four : (old a b c d : List Finding) → (((old ++ a) ++ b) ++ c) ++ d ≡ old ++ (((a ++ b) ++ c) ++ d)
 four old a b c d = simp append_assoc
 
+pub six : (old a b c d e f : List Finding) → (((((old ++ a) ++ b) ++ c) ++ d) ++ e) ++ f ≡ old ++ (((((a ++ b) ++ c) ++ d) ++ e) ++ f)
+six old a b c d e f = simp append_assoc
+
 pub nine : (old a b c d e f g h i : List Finding) → ((((((((old ++ a) ++ b) ++ c) ++ d) ++ e) ++ f) ++ g) ++ h) ++ i ≡ old ++ ((((((((a ++ b) ++ c) ++ d) ++ e) ++ f) ++ g) ++ h) ++ i)
 nine old a b c d e f g h i = simp append_assoc
 

@@ -14,7 +14,7 @@ use Rattle.premise_finds.specs.Views.{placed_of}
 use Rattle.premise_finds.specs.declared.findings.Finding.{Finding}
 use Rattle.premise_finds.specs.Tags.{Placed, Tag, Attributes, placed_from, tags_at, tags_from, tags_of}
 use Rattle.premise_finds.specs.TagNames.{found_at_tag}
-use Rattle.premise_finds.specs.Pages.{found_at_token, found_at_front, page_findings}
+use Rattle.premise_finds.specs.Pages.{found_at_token, found_at_front, token_findings}
 
 -- with attributes that were read before
 unfoldable pub with_front : List Placed → Attributes → Attributes
@@ -99,6 +99,6 @@ all_found before all size [] none found = sym (append-nil before) ∙ found
 all_found before all size (b ∷ bs) none found = absurd (omega arith)
 
 pub all_begin : (before after : List Finding) (text rest : List ℕ) → before ≡ [] → after ≡ before ++ found_at_front text → rest ≡ behind_order_mark text
-    → after ++ flat_map found_at_tag (tags_from (length text) 0 rest) ≡ page_findings text
-unfolding page_findings tags_of
+    → after ++ flat_map found_at_tag (tags_from (length text) 0 rest) ≡ token_findings text
+unfolding token_findings tags_of
 all_begin before after text rest none first at = rw (first, none, at) refl

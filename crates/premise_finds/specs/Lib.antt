@@ -10,4 +10,5 @@ pub mod Sheets
 pub mod TagNames
 pub mod Tags
 pub mod Texts
+pub mod Trees
 pub mod Views

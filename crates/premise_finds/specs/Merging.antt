@@ -19,16 +19,23 @@ rank name.Template = 8
 rank name.OwnElement = 9
 rank name.TypedInto = 10
 rank name.Reference = 11
-rank name.SelectedContent = 12
-rank name.ScriptInAScript = 13
-rank name.CommentMark = 14
-rank name.Escape = 15
-rank name.Address = 16
-rank name.NestedRule = 17
-rank name.Import = 18
-rank name.Layer = 19
-rank name.UnknownToSome = 20
-rank name.ValueAsked = 21
+rank name.RawInSvg = 12
+rank name.HtmlInSvg = 13
+rank name.TagAcrossAnother = 14
+rank name.InItself = 15
+rank name.InATable = 16
+rank name.InASelect = 17
+rank name.ItemInABlock = 18
+rank name.SelectedContent = 19
+rank name.ScriptInAScript = 20
+rank name.CommentMark = 21
+rank name.Escape = 22
+rank name.Address = 23
+rank name.NestedRule = 24
+rank name.Import = 25
+rank name.Layer = 26
+rank name.UnknownToSome = 27
+rank name.ValueAsked = 28
 
 abbrev pub comes_first : Finding → Finding → Bool
 comes_first f g = nat_lt f.from g.from || f.from == g.from && nat_lt (rank f.name) (rank g.name)

@@ -1,6 +1,6 @@
 -- The findings of a page.
 --     is_standard      whether a browser reads it by the standard, and not in quirks mode
---     page_findings    all that are told by its tokens, in the order of their places
+--     page_findings    all that are found, in the order of their places
 use Rattle.std.specs.Prelude.{ℕ, zero, suc, ◌-◌, ◌&&◌, ◌||◌, not, nat_eq, Bool, false, if◌then◌else◌, List, [], ◌∷◌, ◌++◌, length, take, drop, flat_map, codes}
 use Rattle.std.specs.List.{prefix_len}
 use Rattle.text_bytes.specs.Blanks.{is_blank}
@@ -12,6 +12,8 @@ use Rattle.html_tokens.specs.Markup.{behind_angle, behind_arrow}
 use Rattle.premise_finds.specs.declared.findings.Finding.{Finding}
 use Rattle.premise_finds.specs.declared.names.Name.TheVariants as name
 use Rattle.premise_finds.specs.Findings.{when, finding}
+use Rattle.premise_finds.specs.Merging.{merged}
+use Rattle.premise_finds.specs.Trees.{tree_findings}
 use Rattle.premise_finds.specs.Tags.{tags_at, tags_of}
 use Rattle.premise_finds.specs.TagNames.{found_at_tag}
 use Rattle.premise_finds.specs.Texts.{begins, past_blanks, begins_word, has_somewhere}
@@ -70,5 +72,10 @@ found_at_front text =
 unfoldable pub found_at_token : ℕ → List ℕ → Front → List Finding
 found_at_token size bs f = flat_map found_at_tag (tags_at size bs f)
 
+-- those that are told by the tokens
+unfoldable pub token_findings : List ℕ → List Finding
+token_findings text = found_at_front text ++ flat_map found_at_tag (tags_of text)
+
+-- with those of the tree
 unfoldable pub page_findings : List ℕ → List Finding
-page_findings text = found_at_front text ++ flat_map found_at_tag (tags_of text)
+page_findings text = merged (token_findings text) (tree_findings text)

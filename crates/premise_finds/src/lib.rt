@@ -12,6 +12,8 @@ mod sheet_names;
 mod sheets;
 mod tag_names;
 mod tags;
+mod tree_names;
+mod trees;
 
 pub use details::{MOST_SHOWN, shown_of};
 pub use findings::{Finding, Findings};

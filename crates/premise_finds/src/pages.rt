@@ -1,4 +1,4 @@
-//! The findings of a page that are told by its tokens, in the order of their places.
+//! The findings of a page, in the order of their places.
 ghost use Rattle.std.specs.Prelude.{◌≡◌, ◌≤◌, ◌++◌, length, IfOk, OnOk};
 ghost use Rattle.std.specs.List.{prefix_len};
 ghost use Rattle.html_tokens.specs.Bytes.{in_bare_value};
@@ -9,9 +9,11 @@ ghost use Rattle.premise_finds.specs.Pages as spec;
 
 use crate::bytes::{begins_word, has_somewhere, past_blanks};
 use crate::findings::{Finding, Findings, add_when};
+use crate::merging::merged;
 use crate::names::Name;
 use crate::tag_names::add_tag;
 use crate::tags::read_tag;
+use crate::trees::tree_findings;
 use html_tokens::{Token, is_same_name, next};
 use std::alloc::{AllocError, Global};
 use text_bytes::{behind_mark, behind_order_mark, is_blank};
@@ -140,11 +142,10 @@ fn add_token(
     Ok(())
 }
 
-/// The findings of a page that are told by its tokens. A byte order mark at its front is passed over. Linear in the page, in
-/// time and in memory.
-#[tactic(auto, unfolding(crate::specs::Pages::page_findings), using(crate::proofs::TagSteps::goes_on, crate::proofs::TagSteps::all_found, text_bytes::proofs::Rests::of_rest))]
-pub fn findings_in_page(alloc: Global, text: &[u8]) -> Result<Findings, NoMemory>
-    ensures { IfOk result (λ f. f ≡ spec.page_findings text.now) }
+// The findings of a page that are told by its tokens.
+#[tactic(auto, unfolding(crate::specs::Pages::token_findings), using(crate::proofs::TagSteps::goes_on, crate::proofs::TagSteps::all_found, text_bytes::proofs::Rests::of_rest))]
+fn token_findings(alloc: Global, text: &[u8]) -> Result<Vec<Finding>, NoMemory>
+    ensures { IfOk result (λ f. f.items ≡ spec.token_findings text.now) }
 {
     let size = text.len();
     let mut found = Vec::new(alloc);
@@ -155,5 +156,15 @@ pub fn findings_in_page(alloc: Global, text: &[u8]) -> Result<Findings, NoMemory
         add_token(&mut found, token, size, rest, behind)?;
         rest = behind;
     }
-    Ok(Findings::new(found))
+    Ok(found)
+}
+
+/// The findings of a page, of which a byte order mark at the front is passed over. Linear in the page, in time and in memory.
+#[tactic(auto, unfolding(crate::specs::Pages::page_findings))]
+pub fn findings_in_page(alloc: Global, text: &[u8]) -> Result<Findings, NoMemory>
+    ensures { IfOk result (λ f. f ≡ spec.page_findings text.now) }
+{
+    let found = token_findings(alloc, text)?;
+    let others = tree_findings(alloc, text)?;
+    Ok(Findings::new(merged(alloc, &found, &others)?))
 }

@@ -41,7 +41,7 @@ const FRAMING_NAMES: [&[u8]; 4] = [b"iframe", b"frame", b"object", b"embed"];
 const SHEET_WORD: [&[u8]; 1] = [b"stylesheet"];
 
 impl<'a> Tag<'a> {
-    fn is_named(&self, name: &[u8]) -> bool
+    pub(crate) fn is_named(&self, name: &[u8]) -> bool
         ensures { result ≡ spec.is_named (lowered name.now) (tag_of self.now) }
     {
         is_same_name(self.name, name)
@@ -49,7 +49,7 @@ impl<'a> Tag<'a> {
 
     // The value of the first attribute of a name. Linear in the tag.
     #[tactic(auto, unfolding(html_tokens::specs::Attributes::value_of))]
-    fn value(&self, name: &[u8]) -> Option<&'a [u8]>
+    pub(crate) fn value(&self, name: &[u8]) -> Option<&'a [u8]>
         ensures { bytes_of result ≡ spec.value name.now (tag_of self.now) }
     {
         'attributes: for placed in &self.attributes {
@@ -60,7 +60,7 @@ impl<'a> Tag<'a> {
         None
     }
 
-    fn has(&self, name: &[u8]) -> bool
+    pub(crate) fn has(&self, name: &[u8]) -> bool
         ensures { result ≡ spec.has name.now (tag_of self.now) }
     {
         self.value(name).is_some()

@@ -1,7 +1,7 @@
 use Rattle.std.proofs.Common.{◌≡◌, ◌<◌, ◌∙◌, sym, length, arith}
 use Rattle.std.proofs.lemmas.Grind.{common_steps}
 use Rattle.premise_finds.proofs.TagSteps.{all_begin, goes_on, all_found}
-use Rattle.premise_finds.proofs.pages.findings_in_page.Goals as goal
+use Rattle.premise_finds.proofs.pages.token_findings.Goals as goal
 
 pub tokens-init : goal.tokens-init
 tokens-init c = record {
@@ -22,4 +22,4 @@ tokens-preserved c =
 pub returns : goal.returns
 returns c =
     let none : length c.tokens.rest.now ≡ 0 = grind (arith, common_steps) in
-    c.new.ensures ∙ all_found _ _ (length c.args.text.now) _ none c.tokens.invariant.found
+    all_found _ _ (length c.args.text.now) _ none c.tokens.invariant.found

@@ -1,13 +1,13 @@
 use Rattle.std.proofs.Common.{◌≡◌, ◌≤◌, ◌++◌, flat_map, length}
-use Rattle.premise_finds.specs.Pages.{page_findings}
+use Rattle.premise_finds.specs.Pages.{token_findings}
 use Rattle.premise_finds.specs.Tags.{tags_from}
 use Rattle.premise_finds.specs.TagNames.{found_at_tag}
-use Rattle.premise_finds.proofs.pages.findings_in_page.Given as goal
+use Rattle.premise_finds.proofs.pages.token_findings.Given as goal
 
 abbrev pub invariant-tokens : goal.invariant-tokens
 invariant-tokens l = record {
   within : length l.rest ≤ length l.text;
-  found : l.found.items ++ flat_map found_at_tag (tags_from (length l.text) 0 l.rest) ≡ page_findings l.text;
+  found : l.found.items ++ flat_map found_at_tag (tags_from (length l.text) 0 l.rest) ≡ token_findings l.text;
 }
 
 abbrev pub decreases-tokens : goal.decreases-tokens
