@@ -8,7 +8,7 @@ use html_tokens::{is_same_name, word_len};
 use text_bytes::{blank_len, is_blank};
 
 /// The text without its first byte.
-pub(crate) fn behind_byte(text: &[u8]) -> &[u8]
+pub fn behind_byte(text: &[u8]) -> &[u8]
     ensures gives { result.now ≡ drop 1 text.now }
     ensures within { length result.now ≤ length text.now }
 {
@@ -19,21 +19,21 @@ pub(crate) fn behind_byte(text: &[u8]) -> &[u8]
 }
 
 /// The text behind white space.
-pub(crate) fn past_blanks(text: &[u8]) -> &[u8]
+pub fn past_blanks(text: &[u8]) -> &[u8]
     ensures { result.now ≡ spec.past_blanks text.now }
 {
     text.split_at(blank_len(text)).1
 }
 
 /// Whether a text has more than white space.
-pub(crate) fn is_seen(text: &[u8]) -> bool
+pub fn is_seen(text: &[u8]) -> bool
     ensures { result ≡ spec.is_seen text.now }
 {
     blank_len(text) != text.len()
 }
 
 /// Whether a word is one of these, without regard to ASCII case. Linear in the word, for each of them.
-pub(crate) fn is_among(words: &[&[u8]], word: &[u8]) -> bool
+pub fn is_among(words: &[&[u8]], word: &[u8]) -> bool
     ensures { result ≡ names.is_among (map (λ w. lowered w.now) words.now) (lowered word.now) }
 {
     let mut left = words;
@@ -47,7 +47,7 @@ pub(crate) fn is_among(words: &[&[u8]], word: &[u8]) -> bool
 }
 
 /// Whether a text begins with a word, without regard to ASCII case. Linear in the word.
-pub(crate) fn begins_word(word: &[u8], text: &[u8]) -> bool
+pub fn begins_word(word: &[u8], text: &[u8]) -> bool
     ensures { result ≡ spec.begins_word word.now text.now }
 {
     if text.len() < word.len() {
@@ -58,7 +58,7 @@ pub(crate) fn begins_word(word: &[u8], text: &[u8]) -> bool
 
 /// Whether a word stands anywhere in a text, without regard to ASCII case. Linear in the text, for each byte of the word.
 #[tactic(auto, unfolding(crate::specs::Texts::has_somewhere))]
-pub(crate) fn has_somewhere(word: &[u8], text: &[u8]) -> bool
+pub fn has_somewhere(word: &[u8], text: &[u8]) -> bool
     ensures { result ≡ spec.has_somewhere word.now text.now }
 {
     let mut rest = text;
@@ -73,7 +73,7 @@ pub(crate) fn has_somewhere(word: &[u8], text: &[u8]) -> bool
 
 /// Whether one of the words of a text is among these, without regard to ASCII case. Linear in the text, for each of them.
 #[tactic(auto, using(crate::proofs::ByteLemmas::blank_first, crate::proofs::ByteLemmas::word_found, crate::proofs::ByteLemmas::other_word, crate::proofs::ByteLemmas::no_words, html_tokens::proofs::WordLemmas::some_word))]
-pub(crate) fn has_word(names: &[&[u8]], text: &[u8]) -> bool
+pub fn has_word(names: &[&[u8]], text: &[u8]) -> bool
     ensures { result ≡ spec.has_word (map (λ w. lowered w.now) names.now) text.now }
 {
     let mut rest = text;

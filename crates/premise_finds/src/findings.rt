@@ -18,7 +18,7 @@ pub struct Finding {
 pub type Findings = Items<Finding>;
 
 /// Adds a finding where it holds. Constant on average.
-pub(crate) fn add_when(
+pub fn add_when(
     found: &mut Vec<Finding>,
     holds: bool,
     name: Name,

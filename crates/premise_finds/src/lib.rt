@@ -1,4 +1,4 @@
-//! Places of a page or a sheet at which a browser does more than the model of the report.
+//! What is found at places at which a browser does more than the model of the report, and the findings of a sheet.
 #![tactic(auto)]
 
 mod bytes;
@@ -6,17 +6,15 @@ mod details;
 mod findings;
 mod merging;
 mod names;
-mod pages;
 mod selectors;
 mod sheet_names;
 mod sheets;
-mod tag_names;
-mod tags;
-mod tree_names;
-mod trees;
 
+pub use bytes::{
+    begins_word, behind_byte, has_somewhere, has_word, is_among, is_seen, past_blanks,
+};
 pub use details::{MOST_SHOWN, shown_of};
-pub use findings::{Finding, Findings};
+pub use findings::{Finding, Findings, add_when};
+pub use merging::merged;
 pub use names::Name;
-pub use pages::findings_in_page;
 pub use sheets::findings_in_sheet;

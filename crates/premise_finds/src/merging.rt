@@ -64,7 +64,7 @@ fn before_len(finding: Finding, others: &[Finding]) -> usize
 
 /// Two lists that are in order, as one. Linear in both.
 #[tactic(auto, unfolding(crate::specs::Merging::merged), using(crate::proofs::MergeSteps::one_more, crate::proofs::MergeSteps::none_left))]
-pub(crate) fn merged(
+pub fn merged(
     alloc: Global,
     first: &[Finding],
     second: &[Finding],

@@ -2,7 +2,8 @@
 //! below it what is found, a line each: its name and what is said of it. A line without a bar is a heading.
 #![tactic(auto)]
 
-use premise_finds::{Finding, Findings, findings_in_page, findings_in_sheet, shown_of};
+use page_finds::findings_in_page;
+use premise_finds::{Finding, Findings, findings_in_sheet, shown_of};
 use row_text::{bytes_of, push_pictured};
 use std::alloc::{AllocError, Global};
 use std::io;
