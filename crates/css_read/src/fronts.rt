@@ -122,11 +122,7 @@ fn style_rule(alloc: Global, inside: bool, text: &[u8]) -> Result<(Front, &[u8])
 /// What stands at the beginning of a text, inside a block that holds rules or outside all, and the text behind it.
 /// Linear in what is passed over.
 #[tactic(auto, unfolding(crate::specs::Rules::next_front), using(text_bytes::proofs::Rests::of_rest, text_bytes::proofs::Rests::behind_first, text_bytes::proofs::Rests::itself))]
-pub fn next_front(
-    alloc: Global,
-    inside: bool,
-    text: &[u8],
-) -> Result<(Front, &[u8]), AllocError>
+pub fn next_front(alloc: Global, inside: bool, text: &[u8]) -> Result<(Front, &[u8]), AllocError>
     requires { 0 < length text.now }
     ensures gives { IfOk result (λ f. front_view f ≡ spec.next_front inside text.now) }
     ensures rest { IfOk result (λ f. IsRest text.now f.1.now) }

@@ -51,11 +51,7 @@ fn piece_of(to: usize, text: &[u8]) -> Range
 /// The selector before the next comma of a list that ends at an offset, and the text from the comma on. Linear in
 /// what is passed over.
 #[tactic(auto, unfolding(crate::specs::Pieces::first_piece))]
-pub fn first_piece(
-    alloc: Global,
-    to: usize,
-    text: &[u8],
-) -> Result<(Range, &[u8]), AllocError>
+pub fn first_piece(alloc: Global, to: usize, text: &[u8]) -> Result<(Range, &[u8]), AllocError>
     requires { length text.now ≤ to }
     ensures gives { IfOk result (λ p. p.0 ≡ spec.first_piece to text.now) }
     ensures behind { IfOk result (λ p. p.1.now ≡ spec.from_comma text.now) }

@@ -1,6 +1,9 @@
 -- The open elements, each with what is remembered of it.
-use Rattle.std.proofs.Common.{◌≡◌, Bool, true, false, if◌then◌else◌, ℕ, zero, suc, ◌+◌, ◌-◌, ◌<◌, ◌≤◌, List, [], ◌∷◌, ◌++◌, length, map, take, reverse, get_or, Some, refl, sym, ap, ◌∙◌, arith}
+use Rattle.std.proofs.Common.{◌≡◌, Bool, true, false, if◌then◌else◌, ℕ, zero, suc, ◌+◌, ◌-◌, ◌<◌, ◌≤◌, List, [], ◌∷◌, ◌++◌, length, map, take, reverse, get_or, Option, Some, None, refl, sym, ap, ◌∙◌, arith}
 use Rattle.std.specs.Str.{bytes_eq}
+use Rattle.std.specs.List.{slice_get}
+use Rattle.std.specs.Option.{option_map}
+use Rattle.std.proofs.lemmas.Option.{slice_get-map, slice_get-get_or}
 use Rattle.std.proofs.lemmas.Slice.Eq.{bytes_eq-Decides}
 use Rattle.std.proofs.lemmas.List.{length-reverse, length-map, map-append, reverse-append, append_assoc, append-nil, take-map, take_more}
 use Rattle.html_table.specs.declared.stack.Open.{Open}
@@ -144,3 +147,11 @@ stack_less t v os o is put kept fits =
           ∙ ap (λ n. if bytes_eq name q then o.hides else n) (is.places q ∙ ap (up_to_name q) (inward os o))
           ∙ either name q o.hides (up_to_name q es) (length es + 1) (bytes_eq name q) (λ same. here ∙ ap (λ n. up_to_name n es) ((bytes_eq-Decides name q).0 same));
     }
+
+pub opened_at : (os : List Open) (i : ℕ) (d : Open) → i < length os → Some (opened_element (get_or os i d)) ≡ slice_get (map opened_element os) i
+opened_at os i d less = sym (slice_get-map opened_element os i ∙ ap (λ (o : Option Open). option_map opened_element o) (slice_get-get_or os i d less))
+
+pub none_at : (os : List Open) (i : ℕ) → length os ≤ i → None ≡ slice_get (map opened_element os) i
+none_at [] i past = refl
+none_at (o ∷ os) zero past = absurd (omega arith)
+none_at (o ∷ os) (suc i) past = none_at os i (omega arith)

@@ -12,6 +12,9 @@ mod stack;
 pub use elements::{Element, Kind};
 pub use name_notes::NameNotes;
 pub use name_places::lowered;
-pub use open_elements::{Ending, Implied, Place, behind_paragraph, end_tag, is_opened, place_for};
+pub use open_elements::{
+    Ending, Implied, Place, behind_item, behind_paragraph, behind_term, end_tag, is_opened,
+    place_for,
+};
 pub use scopes::Scope;
 pub use stack::OpenElements;

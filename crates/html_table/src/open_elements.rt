@@ -219,6 +219,20 @@ pub fn behind_paragraph(open: &OpenElements<'_>) -> Option<usize>
     open.nearest(open.len()).paragraph
 }
 
+/// How many elements stay open where an item of a list closes the one before it, if it closes one. Constant.
+pub fn behind_item(open: &OpenElements<'_>) -> Option<usize>
+    ensures { result ≡ option_map length (spec.behind (spec.has_kind k.Item) within.Items (reverse open.now)) }
+{
+    open.nearest(open.len()).item
+}
+
+/// How many elements stay open where a term or a description closes the one before it, if it closes one. Constant.
+pub fn behind_term(open: &OpenElements<'_>) -> Option<usize>
+    ensures { result ≡ option_map length (spec.behind (spec.has_kind k.Term) within.Terms (reverse open.now)) }
+{
+    open.nearest(open.len()).term
+}
+
 fn is_in_foreign(open: &OpenElements<'_>) -> bool
     ensures { result ≡ list_any (spec.has_kind k.Foreign) (reverse open.now) }
 {

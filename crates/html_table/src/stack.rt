@@ -1,5 +1,5 @@
 //! The stack of open elements, each with what is cached of those outside.
-ghost use Rattle.std.specs.Prelude.{◌≡◌, ℕ, List, ◌==◌, ◌-◌, ◌<◌, ◌≤◌, [], ◌∷◌, ◌++◌, length, take, map, reverse, option_map, IfOk, OnOk};
+ghost use Rattle.std.specs.Prelude.{◌≡◌, ℕ, List, ◌==◌, ◌-◌, ◌<◌, ◌≤◌, [], ◌∷◌, ◌++◌, length, take, map, reverse, option_map, slice_get, IfOk, OnOk};
 ghost use Rattle.html_tokens.specs.Bytes.{lowered};
 ghost use Rattle.html_tokens.specs.Names.{is_raw};
 ghost use Rattle.html_table.specs.Elements.{element, kind_of};
@@ -133,6 +133,16 @@ impl<'a> OpenElements<'a> {
         Some(self.items[left - 1].element.kind)
     }
 
+    /// One of them, counted from the outermost. Constant.
+    pub fn get(&self, index: usize) -> Option<Element<'a>>
+        ensures { option_map element_of result ≡ slice_get self.now index }
+    {
+        if index >= self.len() {
+            return None;
+        }
+        Some(self.items[index].element)
+    }
+
     /// The kind of the outermost.
     pub(crate) fn outermost(&self) -> Option<Kind>
         ensures { result ≡ first_kind self.now }
@@ -145,7 +155,7 @@ impl<'a> OpenElements<'a> {
 
     /// The kind of elements of a name, and how many are open up to the innermost of it; 0 where none is. Linear in the name, on
     /// average.
-    pub(crate) fn ended(&self, name: &[u8]) -> Result<(Kind, usize), NoMemory>
+    pub fn ended(&self, name: &[u8]) -> Result<(Kind, usize), NoMemory>
         ensures kind { IfOk result (λ r. r.0 ≡ kind_of (lowered name.now)) }
         ensures place { IfOk result (λ r. r.1 ≡ up_to_name (lowered name.now) (reverse self.now)) }
     {

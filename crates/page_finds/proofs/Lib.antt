@@ -1,0 +1,5 @@
+pub mod PageSteps
+pub mod TagLists
+pub mod TagSteps
+pub mod TreeLists
+pub mod TreeSteps

@@ -1,0 +1,10 @@
+//! Places of a page at which a browser does more than the model of the report.
+#![tactic(auto)]
+
+mod pages;
+mod tag_names;
+mod tags;
+mod tree_names;
+mod trees;
+
+pub use pages::findings_in_page;

@@ -1,0 +1,9 @@
+-- What public contracts cite.
+pub mod Findings
+pub mod Merging
+pub mod NameTexts
+pub mod Details
+pub mod Selectors
+pub mod SheetNames
+pub mod Sheets
+pub mod Texts

@@ -1,0 +1,20 @@
+//! What is found at places at which a browser does more than the model of the report, and the findings of a sheet.
+#![tactic(auto)]
+
+mod bytes;
+mod details;
+mod findings;
+mod merging;
+mod names;
+mod selectors;
+mod sheet_names;
+mod sheets;
+
+pub use bytes::{
+    begins_word, behind_byte, has_somewhere, has_word, is_among, is_seen, past_blanks,
+};
+pub use details::{MOST_SHOWN, shown_of};
+pub use findings::{Finding, Findings, add_when};
+pub use merging::merged;
+pub use names::Name;
+pub use sheets::findings_in_sheet;
