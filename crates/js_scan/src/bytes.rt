@@ -4,7 +4,8 @@ ghost use Rattle.std.specs.Char.{is_ascii_hexdigit};
 ghost use Rattle.std.specs.List.{prefix_len};
 ghost use Rattle.js_scan.specs.Bytes as spec;
 
-pub(crate) fn begins_name(b: u8) -> bool
+/// Whether a byte may begin a name: a letter, `_` or `$`. Constant.
+pub fn begins_name(b: u8) -> bool
     ensures { result ≡ spec.begins_name b }
 {
     b.is_ascii_alphabetic() || b == b'_' || b == b'$'
@@ -22,7 +23,8 @@ fn is_in_number(b: u8) -> bool
     matches!(b, b'0'..=b'9' | b'a'..=b'z' | b'A'..=b'Z' | b'.' | b'_')
 }
 
-pub(crate) fn is_quote(b: u8) -> bool
+/// Whether a byte is a quote. Constant.
+pub fn is_quote(b: u8) -> bool
     ensures { result ≡ spec.is_quote b }
 {
     matches!(b, b'"' | b'\'' | b'`')
@@ -34,7 +36,8 @@ fn is_plain(b: u8) -> bool
     !(is_quote(b) || b == b'\\' || b == b'\n' || b == b'$')
 }
 
-pub(crate) fn hex_value(b: u8) -> u8
+/// What a hex digit stands for. Constant.
+pub fn hex_value(b: u8) -> u8
     requires { IsTrue (is_ascii_hexdigit b) }
     ensures value { result ≡ spec.hex_value b }
     ensures small { result < 16 }
@@ -53,15 +56,16 @@ pub(crate) fn name_len(text: &[u8]) -> usize
     text.iter().take_while(|b| is_in_name(**b)).count()
 }
 
-pub(crate) fn number_len(text: &[u8]) -> usize
+/// How many bytes of a number a text begins with. Linear in them.
+pub fn number_len(text: &[u8]) -> usize
     ensures gives { result ≡ prefix_len spec.is_in_number text.now }
     ensures within { result ≤ length text.now }
 {
     text.iter().take_while(|b| is_in_number(**b)).count()
 }
 
-/// How many bytes stand before the first one that may mean something in a text.
-pub(crate) fn plain_len(text: &[u8]) -> usize
+/// How many bytes stand before the first one that may mean something in a text. Linear in them.
+pub fn plain_len(text: &[u8]) -> usize
     ensures gives { result ≡ prefix_len spec.is_plain text.now }
     ensures within { result ≤ length text.now }
 {

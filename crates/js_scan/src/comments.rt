@@ -12,9 +12,9 @@ pub(crate) fn line_len(text: &[u8]) -> usize
     text.iter().take_while(|b| **b != b'\n').count()
 }
 
-/// The bytes behind the first `*/`.
+/// The bytes behind the first `*/`. Linear in what is passed over.
 #[tactic(auto, unfolding(crate::specs::Comments::behind_close))]
-pub(crate) fn behind_close(text: &[u8]) -> Option<&[u8]>
+pub fn behind_close(text: &[u8]) -> Option<&[u8]>
     ensures gives { spec.behind_close text.now ≡ option_map (λ rest. rest.now) result }
     ensures within { IfSome result (λ rest. length rest.now < length text.now) }
 {

@@ -7,10 +7,11 @@ ghost use Rattle.js_scan.specs.Views.{piece_of};
 use crate::bytes::hex_value;
 
 /// What an escape stands for.
-#[derive(Clone, Copy)]
-pub(crate) enum Meaning {
+#[derive(Clone, Copy, Debug)]
+pub enum Meaning {
     Nothing,
     Byte(u8),
+    /// The bytes of its UTF-8.
     Char(char),
 }
 
@@ -72,9 +73,9 @@ fn unit_escape(text: &[u8]) -> Option<(Meaning, usize)>
     }
 }
 
-/// What a backslash and the bytes behind it stand for, and the length with the backslash.
+/// What a backslash and the bytes behind it stand for, and the length with the backslash. Constant.
 #[tactic(auto, unfolding(crate::specs::Escapes::escape))]
-pub(crate) fn escape(text: &[u8]) -> Option<(Meaning, usize)>
+pub fn escape(text: &[u8]) -> Option<(Meaning, usize)>
     ensures gives { spec.escape text.now ≡ option_map piece_of result }
     ensures within { IfSome result (λ p. (1 ≤ p.1) × (p.1 ≤ length text.now + 1)) }
 {
