@@ -1,3 +1,5 @@
+pub mod MemberSteps
 pub mod ScanSteps
+pub mod SpellingLemmas
 pub mod TextSteps
 pub mod Words

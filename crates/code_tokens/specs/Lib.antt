@@ -3,9 +3,11 @@ pub mod Blanks
 pub mod Escapes
 pub mod Fronts
 pub mod Lines
+pub mod Members
 pub mod Names
 pub mod Regexes
 pub mod Scans
+pub mod Spellings
 pub mod States
 pub mod Texts
 pub mod Tokens

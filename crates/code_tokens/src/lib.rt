@@ -8,12 +8,15 @@ mod escapes;
 mod fronts;
 mod lines;
 mod marks;
+mod members;
 mod names;
 mod regexes;
 mod scanner;
+mod spelling;
 mod state;
 mod texts;
 mod token;
 
 pub use scanner::{Scanned, scan};
+pub use spelling::words_of;
 pub use token::{Token, TokenKind};

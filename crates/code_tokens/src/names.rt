@@ -15,7 +15,8 @@ fn begins_letter(text: &[u8]) -> bool
     }
 }
 
-fn goes_on(text: &[u8]) -> bool
+/// Whether a byte that a name may go on with stands at the front. Constant.
+pub(crate) fn goes_on(text: &[u8]) -> bool
     ensures { spec.goes_on text.now ≡ result }
 {
     match text.split_first() {

@@ -6,6 +6,7 @@ ghost use Rattle.code_tokens.specs.States as spec;
 ghost use Rattle.code_tokens.specs.Views.{state_of};
 
 use crate::brackets::{Bracket, OpenBrackets};
+use crate::spelling::is_mark;
 use crate::token::{Piece, TokenKind};
 use std::alloc::Global;
 use tp_base::NoMemory;
@@ -92,7 +93,8 @@ fn is_keyword(spelling: &[u8]) -> bool
     is_among(&KEYWORDS, spelling)
 }
 
-fn behind_word(spelling: &[u8]) -> Before
+/// What stands before what is behind a name that is no member's. Constant.
+pub(crate) fn behind_word(spelling: &[u8]) -> Before
     ensures { result ≡ spec.behind_word spelling.now }
 {
     if is_opener(spelling) {
@@ -126,7 +128,7 @@ fn behind_round(is_heading: bool) -> Before
     }
 }
 
-fn is_dot(spelling: &[u8]) -> bool
+pub(crate) fn is_dot(spelling: &[u8]) -> bool
     ensures { result ≡ spec.is_dot spelling.now }
 {
     spelling == b".".as_slice() || spelling == b"?.".as_slice()
@@ -188,12 +190,6 @@ fn opened_by(before: Before, spelling: &[u8]) -> Option<Bracket>
     } else {
         None
     }
-}
-
-fn is_mark(kind: &TokenKind) -> bool
-    ensures { result ≡ spec.is_mark kind.now }
-{
-    matches!(kind, TokenKind::Mark)
 }
 
 // Opens or closes the bracket that a mark is.

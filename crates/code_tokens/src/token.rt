@@ -17,6 +17,10 @@ pub enum TokenKind {
     Open,
     /// The `)` that a hole of a template ends with.
     Close,
+    /// The dot before a member that a text asks for.
+    Dot,
+    /// The name of such a member.
+    Member(Items<u8>),
 }
 
 /// A token, and the bytes of the text that it is read of: those from `from` up to and without `to`. What is read of a part of a template has the
