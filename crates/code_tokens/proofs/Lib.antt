@@ -1,4 +1,5 @@
 pub mod MemberSteps
+pub mod PairSteps
 pub mod ScanSteps
 pub mod SpellingLemmas
 pub mod TextSteps

@@ -1,10 +1,12 @@
 -- What public contracts cite.
 pub mod Blanks
+pub mod Code
 pub mod Escapes
 pub mod Fronts
 pub mod Lines
 pub mod Members
 pub mod Names
+pub mod Pairs
 pub mod Regexes
 pub mod Scans
 pub mod Spellings

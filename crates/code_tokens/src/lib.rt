@@ -3,6 +3,7 @@
 
 mod blanks;
 mod brackets;
+mod code;
 mod comments;
 mod escapes;
 mod fronts;
@@ -10,6 +11,7 @@ mod lines;
 mod marks;
 mod members;
 mod names;
+mod pairs;
 mod regexes;
 mod scanner;
 mod spelling;
@@ -17,6 +19,7 @@ mod state;
 mod texts;
 mod token;
 
+pub use code::{Code, read_code};
 pub use scanner::{Scanned, scan};
 pub use spelling::words_of;
 pub use token::{Token, TokenKind};
