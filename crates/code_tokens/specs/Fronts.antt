@@ -56,7 +56,7 @@ line_comment bs sure = record { piece = Passed false; len = 1 + length bs - leng
 -- a comment behind its `/*`
 abbrev pub comment_front : List ℕ → Option (List ℕ) → Front
 comment_front bs None = record { piece = Passed true; len = 2 + length bs; sure = false }
-comment_front bs (Some rest) = let len = length bs - length rest in sure_front (Passed (has_break (take len bs))) (2 + len)
+comment_front bs (Some rest) = sure_front (Passed (has_break (take (length bs - length rest) bs))) (2 + length bs - length rest)
 
 unfoldable pub block_comment : List ℕ → Front
 block_comment bs = comment_front bs (behind_close bs)

@@ -8,6 +8,7 @@ pub mod Members
 pub mod Names
 pub mod Pairs
 pub mod Regexes
+pub mod SameTokens
 pub mod Scans
 pub mod Spellings
 pub mod States

@@ -7,6 +7,7 @@ mod code;
 mod comments;
 mod escapes;
 mod fronts;
+mod laws;
 mod lines;
 mod marks;
 mod members;
@@ -20,6 +21,7 @@ mod texts;
 mod token;
 
 pub use code::{Code, read_code};
+pub use laws::read_the_same;
 pub use scanner::{Scanned, scan};
 pub use spelling::words_of;
 pub use token::{Token, TokenKind};
