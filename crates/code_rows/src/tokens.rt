@@ -1,5 +1,6 @@
 //! The tokens of code.
-use code_tokens::{Code, TokenKind, read_code, words_of};
+use code_scan::{TokenKind, words_of};
+use code_tokens::{Code, read_code};
 use row_text::push_pictured;
 use std::alloc::{AllocError, Global};
 

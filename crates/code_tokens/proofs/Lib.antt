@@ -1,10 +1,2 @@
 pub mod MemberSteps
 pub mod PairSteps
-pub mod SameFronts
-pub mod SameLaw
-pub mod SameStates
-pub mod SameTexts
-pub mod ScanSteps
-pub mod SpellingLemmas
-pub mod TextSteps
-pub mod Words

@@ -1,9 +1,9 @@
 -- Members that are asked for by Texts, one token after the other, as loops do.
 use Rattle.std.proofs.Common.{◌≡◌, ℕ, true, false, List, [], ◌∷◌, ◌++◌, length, reverse, codes, Some, None, refl, sym, ap, ◌∙◌, append_assoc, arith}
 use Rattle.std.proofs.lemmas.List.{append-nil, reverse-append, length-reverse}
-use Rattle.code_tokens.specs.declared.token.Token.{Token}
+use Rattle.code_scan.specs.declared.token.Token.{Token}
 use Rattle.code_tokens.specs.Members.{is_text, start_at, letters_of, letters_in, start_of}
-use Rattle.code_tokens.specs.Spellings.{is_written}
+use Rattle.code_scan.specs.Spellings.{is_written}
 
 -- ---- letters
 

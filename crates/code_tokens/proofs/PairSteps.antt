@@ -3,7 +3,7 @@ use Rattle.std.proofs.Common.{◌≡◌, ◌≢◌, ℕ, zero, suc, ◌-◌, ◌
 use Rattle.std.proofs.lemmas.List.{append-nil}
 use Rattle.code_tokens.specs.declared.pairs.Opened.{Opened}
 use Rattle.code_tokens.specs.declared.pairs.Pair.{Pair}
-use Rattle.code_tokens.specs.declared.token.Token.{Token}
+use Rattle.code_scan.specs.declared.token.Token.{Token}
 use Rattle.code_tokens.specs.Pairs.{ended_pair, open_after, pairs_from, paired, other_among, other_in, AreOthers, alone_at, alone_from}
 
 pub goes_on : (text : List ℕ) (size at : ℕ) (os : List Opened) (t : Token) (ts rest : List Token) (before total : List Pair) → rest ≡ t ∷ ts → at ≡ size - length rest

@@ -1,9 +1,9 @@
 -- Code as its tokens.
 use Rattle.std.specs.Prelude.{ℕ, List, ◌++◌}
-use Rattle.code_tokens.specs.declared.token.Token.{Token}
+use Rattle.code_scan.specs.declared.token.Token.{Token}
 use Rattle.code_tokens.specs.Members.{with_members}
 use Rattle.code_tokens.specs.Pairs.{alone}
-use Rattle.code_tokens.specs.Tokens.{found_in}
+use Rattle.code_scan.specs.Tokens.{found_in}
 
 -- the tokens of code
 abbrev pub code_tokens : List ℕ → List Token

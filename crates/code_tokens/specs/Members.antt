@@ -2,15 +2,15 @@
 use Rattle.std.specs.Prelude.{ℕ, ◌-◌, ◌&&◌, ◌||◌, not, Bool, true, false, if◌then◌else◌, List, [], ◌∷◌, ◌++◌, length, take, drop, reverse, Option, Some, None, codes, bytes_eq}
 use Rattle.std.specs.Char.{is_ascii_digit}
 use Rattle.code_tokens.specs.declared.members.Start.{Start}
-use Rattle.code_tokens.specs.declared.state.Before.{Before}
-use Rattle.code_tokens.specs.declared.state.Before.TheVariants.{Value}
-use Rattle.code_tokens.specs.declared.token.Token.{Token}
-use Rattle.code_tokens.specs.declared.token.TokenKind.{TokenKind}
-use Rattle.code_tokens.specs.declared.token.TokenKind.TheVariants.{Name, Text, Mark, Dot, Member}
-use Rattle.code_tokens.specs.Names.{goes_on, behind_name}
-use Rattle.code_tokens.specs.Spellings.{spelling, is_written}
-use Rattle.code_tokens.specs.States.{is_mark, is_dot, behind_word}
-use Rattle.code_tokens.specs.Tokens.{token}
+use Rattle.code_scan.specs.declared.state.Before.{Before}
+use Rattle.code_scan.specs.declared.state.Before.TheVariants.{Value}
+use Rattle.code_scan.specs.declared.token.Token.{Token}
+use Rattle.code_scan.specs.declared.token.TokenKind.{TokenKind}
+use Rattle.code_scan.specs.declared.token.TokenKind.TheVariants.{Name, Text, Mark, Dot, Member}
+use Rattle.code_scan.specs.Names.{goes_on, behind_name}
+use Rattle.code_scan.specs.Spellings.{spelling, is_written}
+use Rattle.code_scan.specs.States.{is_mark, is_dot, behind_word}
+use Rattle.code_scan.specs.Tokens.{token}
 
 abbrev pub is_empty : {A : Type 0} → List A → Bool
 is_empty [] = true

@@ -2,12 +2,12 @@
 use Rattle.std.specs.Prelude.{◌≡◌, ◌<◌, ℕ, ◌-◌, ◌==◌, ◌&&◌, ◌||◌, Bool, true, false, if◌then◌else◌, List, [], ◌∷◌, ◌++◌, length, drop, get_or, Option, Some, None, is_some, is_none, codes}
 use Rattle.code_tokens.specs.declared.pairs.Pair.{Pair}
 use Rattle.code_tokens.specs.declared.pairs.Opened.{Opened}
-use Rattle.code_tokens.specs.declared.brackets.Bracket.{Bracket}
-use Rattle.code_tokens.specs.declared.brackets.Bracket.TheVariants.{Round, Heading, Square, Curly, Hole}
-use Rattle.code_tokens.specs.declared.token.Token.{Token}
-use Rattle.code_tokens.specs.declared.token.TokenKind.{TokenKind}
-use Rattle.code_tokens.specs.declared.token.TokenKind.TheVariants.{Open, Close}
-use Rattle.code_tokens.specs.Spellings.{is_written}
+use Rattle.code_tokens.specs.declared.pairs.Bracket.{Bracket}
+use Rattle.code_tokens.specs.declared.pairs.Bracket.TheVariants.{Round, Square, Curly, Hole}
+use Rattle.code_scan.specs.declared.token.Token.{Token}
+use Rattle.code_scan.specs.declared.token.TokenKind.{TokenKind}
+use Rattle.code_scan.specs.declared.token.TokenKind.TheVariants.{Open, Close}
+use Rattle.code_scan.specs.Spellings.{is_written}
 
 abbrev pub is_open : TokenKind → Bool
 is_open Open = true
@@ -29,7 +29,6 @@ opens text t =
 -- whether a token closes a bracket of a kind
 abbrev pub closes_bracket : List ℕ → Token → Bracket → Bool
 closes_bracket text t Round = is_written text (codes ")") t
-closes_bracket text t Heading = is_written text (codes ")") t
 closes_bracket text t Square = is_written text (codes "]") t
 closes_bracket text t Curly = is_written text (codes "}") t
 closes_bracket text t Hole = is_close t.kind

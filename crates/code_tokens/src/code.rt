@@ -5,8 +5,7 @@ ghost use Rattle.code_tokens.specs.Pairs.{AreOthers, pairs_of as bracket_pairs};
 
 use crate::members::with_members;
 use crate::pairs::{others_of, pairs_of, with_alone};
-use crate::scanner::scan;
-use crate::token::Token;
+use code_scan::{Token, scan};
 use std::alloc::Global;
 use tp_base::{Items, NoMemory};
 

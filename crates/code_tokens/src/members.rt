@@ -2,8 +2,7 @@
 ghost use Rattle.std.specs.Prelude.{◌≡◌, ◌≤◌, ◌+◌, ◌++◌, [], ◌∷◌, length, take, drop, reverse, Some, IfOk, IfSome, OnOk};
 ghost use Rattle.code_tokens.specs.Members as spec;
 
-use crate::names::behind_name;
-use crate::names::goes_on;
+use crate::names::{behind_name, goes_on};
 use crate::spelling::{is_mark, is_written, spelling};
 use crate::state::{Before, behind_word, is_dot};
 use crate::token::{Token, TokenKind};
@@ -166,7 +165,12 @@ fn asks_member(text: &[u8], done: &[Token], start: Start, name: &[u8]) -> bool
     is_name(name) && end_in_value(text, up_to_place(done, start.count))
 }
 
-fn push_member(done: &mut Vec<Token>, start: Start, to: usize, name: Items<u8>) -> Result<(), NoMemory>
+fn push_member(
+    done: &mut Vec<Token>,
+    start: Start,
+    to: usize,
+    name: Items<u8>,
+) -> Result<(), NoMemory>
     ensures { OnOk result (done.new.items ≡ take start.count done.old.items ++ spec.member start to name) }
 {
     done.truncate(start.count);
@@ -185,10 +189,18 @@ fn push_member(done: &mut Vec<Token>, start: Start, to: usize, name: Items<u8>) 
     Ok(())
 }
 
-fn close_from(text: &[u8], done: &mut Vec<Token>, token: Token, start: Start) -> Result<(), NoMemory>
+fn close_from(
+    text: &[u8],
+    done: &mut Vec<Token>,
+    token: Token,
+    start: Start,
+) -> Result<(), NoMemory>
     ensures { OnOk result (done.new.items ≡ spec.closed_at text.now done.old.items token (Some start)) }
 {
-    let name = letters_in(*done.allocator(), from_place(from_place(done, start.count), 1))?;
+    let name = letters_in(
+        *done.allocator(),
+        from_place(from_place(done, start.count), 1),
+    )?;
     if asks_member(text, done, start, &name) {
         push_member(done, start, token.to, Items::new(name))
     } else {

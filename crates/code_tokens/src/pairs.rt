@@ -2,12 +2,23 @@
 ghost use Rattle.std.specs.Prelude.{◌≡◌, ◌≢◌, ◌<◌, ℕ, [], ◌∷◌, ◌++◌, length, drop, get_or, None, OnOk, IfOk};
 ghost use Rattle.code_tokens.specs.Pairs as spec;
 
-use crate::brackets::Bracket;
-use crate::spelling::is_written;
-use crate::token::{Token, TokenKind};
+use code_scan::{Token, TokenKind, is_written};
 use std::alloc::Global;
 use std::marker::Model;
 use tp_base::NoMemory;
+
+/// A kind of bracket.
+#[derive(Clone, Copy, Debug, PartialEq, Eq)]
+pub(crate) enum Bracket {
+    /// `(` and `)`.
+    Round,
+    /// `[` and `]`.
+    Square,
+    /// `{` and `}`.
+    Curly,
+    /// Those of a hole of a template.
+    Hole,
+}
 
 /// Two brackets that belong together, by the numbers of their tokens.
 #[derive(Clone, Copy, Debug, PartialEq, Eq)]
@@ -73,7 +84,7 @@ fn closes_bracket(text: &[u8], token: &Token, bracket: Bracket) -> bool
     ensures { result ≡ spec.closes_bracket text.now token.now bracket }
 {
     match bracket {
-        Bracket::Round | Bracket::Heading => is_written(text, b")", token),
+        Bracket::Round => is_written(text, b")", token),
         Bracket::Square => is_written(text, b"]", token),
         Bracket::Curly => is_written(text, b"}", token),
         Bracket::Hole => is_close(&token.kind),
@@ -151,7 +162,13 @@ impl Opens {
 }
 
 #[tactic(auto, unfolding(crate::specs::Pairs::ended_pair))]
-fn push_pair(pairs: &mut Vec<Pair>, opens: &Opens, text: &[u8], closing: usize, token: &Token) -> Result<(), NoMemory>
+fn push_pair(
+    pairs: &mut Vec<Pair>,
+    opens: &Opens,
+    text: &[u8],
+    closing: usize,
+    token: &Token,
+) -> Result<(), NoMemory>
     ensures { OnOk result (pairs.new.items ≡ pairs.old.items ++ spec.ended_pair text.now closing token.now opens.now) }
 {
     if opens.is_closed_by(text, token) {
@@ -214,7 +231,11 @@ fn put_pair(others: &mut Vec<Option<usize>>, pair: Pair)
 }
 
 /// For each of so many tokens the number of the bracket that belongs to it. Linear in them.
-pub(crate) fn others_of(alloc: Global, size: usize, pairs: &[Pair]) -> Result<Vec<Option<usize>>, NoMemory>
+pub(crate) fn others_of(
+    alloc: Global,
+    size: usize,
+    pairs: &[Pair],
+) -> Result<Vec<Option<usize>>, NoMemory>
     ensures { IfOk result (λ v. spec.AreOthers pairs.now size v.items) }
 {
     let mut others = no_others(alloc, size)?;
@@ -244,7 +265,12 @@ fn other_at(others: &[Option<usize>], index: usize) -> Option<usize>
     }
 }
 
-fn push_alone(unread: &mut Vec<usize>, text: &[u8], token: &Token, other: Option<usize>) -> Result<(), NoMemory>
+fn push_alone(
+    unread: &mut Vec<usize>,
+    text: &[u8],
+    token: &Token,
+    other: Option<usize>,
+) -> Result<(), NoMemory>
     ensures { OnOk result (unread.new.items ≡ unread.old.items ++ spec.alone_at text.now token.now other) }
 {
     if is_bracket(text, token) && other.is_none() {
