@@ -2,10 +2,10 @@
 ghost use Rattle.std.specs.Prelude.{◌≡◌, ◌≤◌, ◌+◌, ◌++◌, [], ◌∷◌, length, take, drop, reverse, Some, IfOk, IfSome, OnOk};
 ghost use Rattle.code_tokens.specs.Members as spec;
 
-use crate::names::{behind_name, goes_on};
-use crate::spelling::{is_mark, is_written, spelling};
-use crate::state::{Before, behind_word, is_dot};
-use crate::token::{Token, TokenKind};
+use code_scan::{
+    Before, Token, TokenKind, behind_name, behind_word, goes_on, is_dot, is_mark, is_written,
+    spelling,
+};
 use std::alloc::Global;
 use tp_base::{Items, NoMemory};
 
