@@ -6,3 +6,4 @@ pub mod ScanSteps
 pub mod SpellingLemmas
 pub mod TextSteps
 pub mod Words
+mod Rows
