@@ -120,7 +120,7 @@ template_end quote b (c ∷ v) q r = refl
 -- ---- a Text
 
 -- how a Text goes on where it is read whole
-data Turn (same template : Bool) (o : Option Piece) (others : ℕ → Read) (bs letters rest : List ℕ) : Type 0 where
+pub data Turn (same template : Bool) (o : Option Piece) (others : ℕ → Read) (bs letters rest : List ℕ) : Type 0 where
   closes : same ≡ true → letters ≡ [] → bs ≡ rest → Turn same template o others bs letters rest
   reads : (p : Piece) (more : List ℕ) → same ≡ false → template ≡ false → o ≡ Some p → others (p.1 - 1) ≡ Ok (more, rest) → p.0 ++ more ≡ letters
       → Turn same template o others bs letters rest
@@ -136,7 +136,7 @@ joined_ok front (Ok t) letters rest read =
     (t.0, ap (λ (x : List ℕ). let whole : Read = Ok (t.0, x) in whole) (ap (λ (p : List ℕ × List ℕ). p.1) same), ap (λ (p : List ℕ × List ℕ). p.0) same)
 joined_ok front (Err e) letters rest read = absurd (grind arith)
 
-turn : (same template : Bool) (at : ℕ) (o : Option Piece) (others : ℕ → Read) (bs letters rest : List ℕ)
+pub turn : (same template : Bool) (at : ℕ) (o : Option Piece) (others : ℕ → Read) (bs letters rest : List ℕ)
     → (if same then Ok ([], bs) else (if template then Err (Template at) else (ok_or o (BadString at) >>= λ p. with_letters p.0 (others (p.1 - 1))))) ≡ Ok (letters, rest)
     → Turn same template o others bs letters rest
 turn true template at o others bs letters rest read =

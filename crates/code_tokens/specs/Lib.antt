@@ -1,0 +1,4 @@
+-- What public contracts cite.
+pub mod Code
+pub mod Members
+pub mod Pairs
