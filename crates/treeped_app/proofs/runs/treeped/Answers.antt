@@ -1,5 +1,6 @@
 use Rattle.std.proofs.Common.{Ok, Err, refl}
 use Rattle.treeped_app.proofs.CauseLemmas.{causes_of, no_reason}
+use Rattle.treeped_app.proofs.MeansLemmas.{means_of}
 use Rattle.treeped_app.proofs.runs.treeped.Goals as goal
 
 pub returns-in-Ok-clause-causes : goal.returns-in-Ok-clause-causes
