@@ -1,20 +1,22 @@
 -- A run that comes with a report has written what it means.
 use Rattle.std.proofs.Common.{◌≡◌, ℕ, ◌+◌, ◌==◌, ◌&&◌, Bool, true, false, List, [], ◌∷◌, Contains, Option, Some, None, Result, Ok, Err, if◌then◌else◌, refl, sym, ap, ◌∙◌, subst, inl, inr}
 use Rattle.std.specs.Prelude.{option_map, option_and_then}
-use Rattle.tp_io.specs.Sinks.{Adds}
+use Rattle.tp_io.specs.Files.{Load}
 use Rattle.limits.specs.declared.budgets.Limits.{Limits}
 use Rattle.command_words.specs.declared.words.Mode.{Mode}
 use Rattle.command_words.specs.declared.words.Mode.TheVariants.{Report, Prune, Dead, Runs, Site, SitePrune}
 use Rattle.command_words.specs.declared.words.Order.{Order}
 use Rattle.command_words.specs.Orders.{takes_pages, order_of}
 use Rattle.run_ends.specs.declared.status.Status.{Status}
+use Rattle.run_ends.specs.Tells.{Put, put_of}
 use Rattle.usage_report.specs.Answers.{line_of}
-use Rattle.treeped_app.specs.Commands.{Headline}
+use Rattle.treeped_app.specs.Commands.{Headline, IsEnded}
 use Rattle.treeped_app.specs.Meaning.{Page, ArePages, MeansFrom, MeansPages, Means}
 use Rattle.treeped_app.specs.Modes.{Said, text_of}
 use Rattle.treeped_app.specs.Readings.{Told, Texts, Inputs, read_inputs, ring_texts}
-use Rattle.treeped_app.specs.Runs.{Run, IsSaid, AreSaid, IsWhole}
+use Rattle.treeped_app.specs.Runs.{Run, run_of, IsSaid, AreSaid, IsWhole}
 use Rattle.treeped_app.specs.Tasks.{Source, one, several, ring, Visit, visits, visits_from, Task, task_by, task_of, source_by, site_of, page_of, files_of, command}
+use Rattle.treeped_app.proofs.CauseLemmas.{headline_of}
 use Rattle.treeped_app.proofs.PageMeanings.{lines_mean, report_means, pruned_means, dead_means, runs_mean, pages_of, site_means, site_pruned_means}
 
 -- ---- a mode takes one page, or several and then at least one
@@ -101,7 +103,7 @@ module _ (r : Run) (limits : Limits) where
   by_source (one n) m (s ∷ []) fits whole = on_one n m s fits whole
   by_source (one n) m (s ∷ x ∷ said) fits whole = absurd whole.all.1
   by_source (several sheet []) m said fits whole = absurd fits
-  by_source (several sheet (pair ∷ pairs)) m [] fits whole = absurd whole.all
+  by_source (several sheet ((page, script) ∷ pairs)) m [] fits whole = absurd whole.all
   by_source (several sheet ((page, script) ∷ pairs)) m (s ∷ said) fits whole = (
     pages_of (s ∷ said),
     (record { held = whole.all.0.texts.from; read = whole.all.0.read }, pages_read r.told (task_by (several sheet ((page, script) ∷ pairs)) m limits) sheet 2 pairs said whole.all.1),
@@ -117,3 +119,8 @@ means_of r s headline reports =
     let t = ends.0 in
     let whole = ends.2 in
     (t, whole.task, text_of t ends.1, ends.3, by_source r t.limits t.source t.mode ends.1 (order_fits (order_of r.words) t whole.task) whole)
+
+pub ended_means : (told : Told) (words : List (List ℕ)) (loads loads' : List Load) (held held' : Option (List ℕ)) (faults faults' : ℕ) (err : Put) (s : Status)
+    → IsEnded (run_of told words loads loads' (put_of held held' faults faults')) err s → Means told words held held' s
+ended_means told words loads loads' held held' faults faults' err s ended =
+    let r = run_of told words loads loads' (put_of held held' faults faults') in means_of r s (headline_of r err s ended)
