@@ -1,5 +1,5 @@
 -- What is written of one page means what it says, from answers that are right.
-use Rattle.std.proofs.Common.{◌≡◌, ◌⊎◌, ◌↔◌, ℕ, zero, suc, ◌+◌, Bool, true, false, List, [], ◌∷◌, ◌++◌, length, map, drop, get_or, Contains, Option, Some, None, IfSome, slice_get, Ok, refl, sym, ap, ◌∙◌, subst, inl, inr}
+use Rattle.std.proofs.Common.{◌≡◌, ◌⊎◌, ◌↔◌, ℕ, zero, suc, ◌+◌, Bool, true, false, List, [], ◌∷◌, ◌++◌, length, map, take, drop, get_or, Contains, Option, Some, None, IfSome, slice_get, Ok, refl, sym, ap, ◌∙◌, subst, inl, inr}
 use Rattle.std.proofs.lemmas.List.{drop-map}
 use Rattle.tp_base.specs.Names.{Named}
 use Rattle.tp_base.proofs.Rising.{Contains-cons, Contains-none, Contains-here}
@@ -30,13 +30,14 @@ use Rattle.usage_report.specs.Lines.{Shown, Line}
 use Rattle.usage_report.specs.RunTraces.{RunTrace}
 use Rattle.run_trace.specs.Replays.{IsRunTrace}
 use Rattle.run_trace.specs.Traces.{shown_in, IsTraceOf, AreTracesOf}
-use Rattle.dead_script.specs.Liveness.{LiveWithLosses, IsRightVerdict, AreRightVerdicts}
+use Rattle.dead_script.specs.Liveness as statement
+use Rattle.dead_script.specs.Liveness.{IsRightVerdict, AreRightVerdicts}
 use Rattle.dead_script.specs.Probes.{all_probes}
 use Rattle.dead_script.specs.VerdictLines.{Verdict, live, live_unshown, dead_at_handler, dead_at_target, unknown}
 use Rattle.dead_script.specs.Verdicts.{verdict_by, dead_behind, verdict_of, verdicts}
 use Rattle.dead_script.proofs.DeadStatementLemmas.{losses_keep_dead}
 use Rattle.dead_script.proofs.VerdictLemmas.{verdicts_right}
-use Rattle.judge.specs.Answers.{IsUsed, IsShown, AreAnswersFor}
+use Rattle.judge.specs.Answers.{IsUsed, IsShown, IsAnswerFor, AreAnswersFor}
 use Rattle.judge.specs.Goals.{Goal, matching, holding}
 use Rattle.judge.specs.Outcomes as judge
 use Rattle.judge.specs.Witnesses.{trace}
@@ -44,7 +45,7 @@ use Rattle.treeped_app.specs.Answers.{NamesIllegal, IsRightExactlyFor, IsRightEx
 use Rattle.treeped_app.specs.Laws as laws
 use Rattle.treeped_app.specs.Meaning.{Each, tree_after, NeverMatches, LeadsTo, MayLeadTo, IsCountOf, MeansLine, MeansReport, MeansPruned, MeansStatement, MeansDead, MeansRuns, DoesTheSame}
 use Rattle.treeped_app.specs.Meaning as meaning
-use Rattle.treeped_app.specs.Modes.{Said, AreAnswersOf, guards_in, report_on, text_on, is_unused}
+use Rattle.treeped_app.specs.Modes.{Said, AreAnswersOf, extra_in, guards_in, report_on, text_on, is_unused}
 use Rattle.treeped_app.specs.Readings.{Texts, Inputs, places_of, read_inputs}
 use Rattle.treeped_app.proofs.DeadLemmas.{all_told}
 
@@ -180,13 +181,13 @@ module _ (i : Inputs) where
     dead = λ no. cc;
     at_handler = λ k same. cc;
     lives = λ count x same. is.0;
-    listed = λ count x same. let one : shown ≡ Some x = cc in subst (λ (z : Option Shown). IfSome z (Rattle.dead_script.specs.Liveness.LeadsTo i.tree i.stmts s)) one is.1;
+    listed = λ count x same. let one : shown ≡ Some x = cc in subst (λ (z : Option Shown). IfSome z (statement.LeadsTo i.tree i.stmts s)) one is.1;
     unshown = λ same. cc;
   }
   by_verdict s live_unshown is = record { dead = λ no. cc; at_handler = λ k same. cc; lives = λ count x same. cc; listed = λ count x same. cc; unshown = λ same. is }
   by_verdict s (dead_at_handler j) is = record {
     dead = λ yes lives. is.0 ((losses_keep_dead i.tree i.stmts s).0 lives);
-    at_handler = λ k same. let one : j ≡ k = cc in subst (λ m. (h : ℕ) × (m ≡ h + 1) × Rattle.dead_script.specs.Liveness.IsFirstDead i.tree i.stmts s h) one is.1;
+    at_handler = λ k same. let one : j ≡ k = cc in subst (λ m. (h : ℕ) × (m ≡ h + 1) × statement.IsFirstDead i.tree i.stmts s h) one is.1;
     lives = λ count x same. cc;
     listed = λ count x same. cc;
     unshown = λ same. cc;
@@ -219,7 +220,7 @@ module _ (i : Inputs) where
   all_unknown [] gs = tt
   all_unknown (s ∷ stmts) gs = (
     subst (λ (v : Verdict). MeansStatement i s v)
-        (sym (ap (λ (a : Answer). verdict_by a (dead_behind 0 (Rattle.std.specs.Prelude.take (length s.handlers) (map (λ (g : Guard). spent) gs)))) (spent_at gs (length s.handlers)))) (nothing_said s),
+        (sym (ap (λ (a : Answer). verdict_by a (dead_behind 0 (take (length s.handlers) (map (λ (g : Guard). spent) gs)))) (spent_at gs (length s.handlers)))) (nothing_said s),
     subst (λ (z : List Answer). Each (MeansStatement i) stmts (verdicts stmts z)) (sym (drop-map (λ (g : Guard). spent) (length s.handlers + 1) gs)) (all_unknown stmts (drop (length s.handlers + 1) gs)),
   )
 
@@ -229,14 +230,14 @@ module _ (i : Inputs) where
     none_spent [] (a ∷ answers) all there = absurd all
     none_spent (g ∷ gs) [] all there = absurd all
     none_spent (g ∷ gs) (a ∷ answers) all there = elim ((Contains-cons spent a answers).0 there) [
-      | inl same ↦ absurd (subst (λ (z : Answer). Rattle.judge.specs.Answers.IsAnswerFor i.stmts (guards_in Dead i) (length i.names) i.tree limits g z) (sym same) all.0)
+      | inl same ↦ absurd (subst (λ (z : Answer). IsAnswerFor i.stmts (guards_in Dead i) (length i.names) i.tree limits g z) (sym same) all.0)
       | inr behind ↦ none_spent gs answers all.1 behind
     ]
 
     pub statements_mean : Each (MeansStatement i) i.stmts (verdicts i.stmts others)
     statements_mean = by are.are.exactly
       where
-        by : judge.AreJudged i.stmts i.sheet.items (Rattle.treeped_app.specs.Modes.extra_in Dead i) (length i.names) i.tree limits are.judged others → Each (MeansStatement i) i.stmts (verdicts i.stmts others)
+        by : judge.AreJudged i.stmts i.sheet.items (extra_in Dead i) (length i.names) i.tree limits are.judged others → Each (MeansStatement i) i.stmts (verdicts i.stmts others)
         by (inl found) = by_verdicts i.stmts (verdicts i.stmts others) (verdicts_right i.tree i.stmts i.stmts others
             (all_told i.tree i.stmts (guards_in Dead i) (length i.names) limits (all_probes i.stmts) others are.are.others_right (none_spent _ others found.1)))
         by (inr past) = subst (λ (z : List Answer). Each (MeansStatement i) i.stmts (verdicts i.stmts z)) (sym past.1) (all_unknown i.stmts _)

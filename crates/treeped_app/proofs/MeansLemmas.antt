@@ -1,5 +1,5 @@
 -- A run that comes with a report has written what it means.
-use Rattle.std.proofs.Common.{◌≡◌, ℕ, ◌+◌, ◌==◌, ◌&&◌, Bool, true, false, List, [], ◌∷◌, Contains, Option, Some, None, Result, Ok, Err, if◌then◌else◌, refl, sym, ap, ◌∙◌, subst, inl, inr}
+use Rattle.std.proofs.Common.{◌≡◌, ℕ, ◌+◌, ◌==◌, ◌&&◌, Bool, true, false, List, [], ◌∷◌, map, Contains, Option, Some, None, Result, Ok, Err, if◌then◌else◌, refl, sym, ap, ◌∙◌, subst, inl, inr}
 use Rattle.std.specs.Prelude.{option_map, option_and_then}
 use Rattle.tp_io.specs.Files.{Load}
 use Rattle.limits.specs.declared.budgets.Limits.{Limits}
@@ -15,7 +15,7 @@ use Rattle.treeped_app.specs.Meaning.{Page, ArePages, MeansFrom, MeansPages, Mea
 use Rattle.treeped_app.specs.Modes.{Said, text_of}
 use Rattle.treeped_app.specs.Readings.{Told, Texts, Inputs, read_inputs, ring_texts}
 use Rattle.treeped_app.specs.Runs.{Run, run_of, IsSaid, AreSaid, IsWhole}
-use Rattle.treeped_app.specs.Tasks.{Source, one, several, ring, Visit, visits, visits_from, Task, task_by, task_of, source_by, site_of, page_of, files_of, command}
+use Rattle.treeped_app.specs.Tasks.{Names, Source, one, several, ring, Visit, visits, visits_from, Task, task_by, task_of, source_by, site_of, page_of, files_of, paired, command}
 use Rattle.treeped_app.proofs.CauseLemmas.{headline_of}
 use Rattle.treeped_app.proofs.PageMeanings.{lines_mean, report_means, pruned_means, dead_means, runs_mean, pages_of, site_means, site_pruned_means}
 
@@ -31,7 +31,7 @@ site_fits : (m : Mode) (names : List (List ℕ)) (s : Source) → takes_pages m 
 site_fits m [] s takes is = cc
 site_fits m (a ∷ []) s takes is = cc
 site_fits m (a ∷ b ∷ []) s takes is = cc
-site_fits m (a ∷ b ∷ c ∷ names) s takes is = let same : several a ((b, c) ∷ Rattle.treeped_app.specs.Tasks.paired names) ≡ s = cc in subst (λ (z : Source). Fits m z) same takes
+site_fits m (a ∷ b ∷ c ∷ names) s takes is = let same : several a ((b, c) ∷ paired names) ≡ s = cc in subst (λ (z : Source). Fits m z) same takes
 
 page_fits : (m : Mode) (names : List (List ℕ)) (s : Source) → takes_pages m ≡ false → page_of names ≡ Some s → Fits m s
 page_fits m [] s takes is = cc
@@ -74,7 +74,7 @@ module _ (told : Told) (t : Task) where
 -- ---- by where the texts come from
 
 module _ (r : Run) (limits : Limits) where
-  on_one : (n : Rattle.treeped_app.specs.Tasks.Names) (m : Mode) (s : Said) → takes_pages m ≡ false → IsWhole r (task_by (one n) m limits) (s ∷ []) → MeansFrom r.told (one n) m (text_of (task_by (one n) m limits) (s ∷ []))
+  on_one : (n : Names) (m : Mode) (s : Said) → takes_pages m ≡ false → IsWhole r (task_by (one n) m limits) (s ∷ []) → MeansFrom r.told (one n) m (text_of (task_by (one n) m limits) (s ∷ []))
   on_one n Report s takes whole = ((s.texts, s.inputs), record { held = whole.all.0.texts.from; read = whole.all.0.read }, report_means r (task_by (one n) Report limits) s whole)
   on_one n Prune s takes whole = ((s.texts, s.inputs), record { held = whole.all.0.texts.from; read = whole.all.0.read }, pruned_means r (task_by (one n) Prune limits) s whole)
   on_one n Dead s takes whole = ((s.texts, s.inputs), record { held = whole.all.0.texts.from; read = whole.all.0.read }, dead_means r (task_by (one n) Dead limits) s whole refl)
@@ -86,7 +86,7 @@ module _ (r : Run) (limits : Limits) where
   on_ring k m s whole = (
     s.inputs,
     subst (λ (x : Texts). read_inputs m None x ≡ Ok s.inputs) whole.all.0.texts.from whole.all.0.read,
-    record { lines = Rattle.std.specs.Prelude.map line_of s.items; written = refl; each = lines_mean r (task_by (ring k) m limits) s whole },
+    record { lines = map line_of s.items; written = refl; each = lines_mean r (task_by (ring k) m limits) s whole },
   )
 
   on_pages : (sheet : List ℕ) (pair : List ℕ × List ℕ) (pairs : List (List ℕ × List ℕ)) (m : Mode) (s : Said) (said : List Said) → takes_pages m ≡ true → IsWhole r (task_by (several sheet (pair ∷ pairs)) m limits) (s ∷ said)

@@ -8,6 +8,7 @@ use Rattle.tp_base.proofs.Rising.{Contains-cons, Contains-none, Contains-here, C
 use Rattle.tp_base.specs.declared.places.Place.{Place}
 use Rattle.jq_stmts.specs.Sharp.{wides}
 use Rattle.jq_stmts.specs.Statements.{Statement}
+use Rattle.sel_text.specs.Selectors.{Selector}
 use Rattle.css_read.specs.Pruned.{pruned}
 use Rattle.css_read.specs.Sheets.{Outcome, judged, Item}
 use Rattle.command_words.specs.declared.words.Mode.{Mode}
@@ -131,7 +132,7 @@ module _ (r : Run) (t : Task) (said : List Said) (whole : IsWhole r t said) wher
   wide_on s there' = let page = of_page r t said whole s there' in wide_read t.mode page.0.number s.texts s.inputs page.1.read
 
   -- what is unused on a page never matches there
-  never_on : (s : Said) → Contains said s → (k : ℕ) → slice_get s.items k ≡ Some unused → (item : Item) × (u : Rattle.sel_text.specs.Selectors.Selector) × (slice_get s.inputs.sheet.items k ≡ Some item) × (item.outcome ≡ judged u) × NeverMatches s.inputs u
+  never_on : (s : Said) → Contains said s → (k : ℕ) → slice_get s.items k ≡ Some unused → (item : Item) × (u : Selector) × (slice_get s.inputs.sheet.items k ≡ Some item) × (item.outcome ≡ judged u) × NeverMatches s.inputs u
   never_on s there' k at =
       let j = s.inputs in
       let right = right_on r t said whole s there' in
@@ -154,7 +155,7 @@ module _ (r : Run) (t : Task) (said : List Said) (whole : IsWhole r t said) wher
             λ is p among.
             let x = said_of_page said p among in
             let each = of_each_page r t said whole k c at in
-            subst (λ (z : Page). (item : Item) × (u : Rattle.sel_text.specs.Selectors.Selector) × (slice_get z.1.sheet.items k ≡ Some item) × (item.outcome ≡ judged u) × NeverMatches z.1 u) x.2
+            subst (λ (z : Page). (item : Item) × (u : Selector) × (slice_get z.1.sheet.items k ≡ Some item) × (item.outcome ≡ judged u) × NeverMatches z.1 u) x.2
             (never_on x.0 x.1 k (each.unused_on_each.0 (line_unused c.answer is) x.0 x.1));
         page = page_of s;
         named = (omega (arith, best.page), ap (λ m. slice_get (pages_of said) m) place ∙ slice_get-map page_of said best.place ∙ ap (option_map page_of) giver.1);

@@ -14,7 +14,8 @@ use Rattle.run_ends.specs.declared.refusals.Part.TheVariants.{Page, Script}
 use Rattle.run_ends.specs.Refusals.{page_stop, sheet_stop}
 use Rattle.run_ends.specs.declared.stops.Stop.{Stop}
 use Rattle.treeped_app.specs.Modes.{Texts, Inputs}
-use Rattle.treeped_app.specs.Runs.{IsSheetOf, read_as, read_script_as, statements_in, read_inputs, ◌>>=◌}
+use Rattle.treeped_app.specs.Runs.{IsSheetOf}
+use Rattle.treeped_app.specs.Readings.{read_as, read_script_as, statements_in, read_inputs, ◌>>=◌}
 
 -- ---- the three texts of a page, one after another
 
