@@ -27,10 +27,10 @@ pub fn treeped<F: Files, O: Sink, E: Sink>(
     out: &mut O,
     err: &mut E,
 ) -> Status
+    ensures means { Means (F.told files.old) (map string_bytes words.now) (O.written out.old) (O.written out.new) result }
     ensures headline { let run = run_of (F.told files.old) (map string_bytes words.now) (F.loads files.old) (F.loads files.new)
         (put_of (O.written out.old) (O.written out.new) (O.faults out.old) (O.faults out.new))
         in Headline run result }
-    ensures means { Means (F.told files.old) (map string_bytes words.now) (O.written out.old) (O.written out.new) result }
     ensures ended { let run = run_of (F.told files.old) (map string_bytes words.now) (F.loads files.old) (F.loads files.new)
         (put_of (O.written out.old) (O.written out.new) (O.faults out.old) (O.faults out.new))
         in
