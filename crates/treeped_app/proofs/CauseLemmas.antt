@@ -532,13 +532,13 @@ module _ (r : Run) (err : Put) (s : Status) where
 
   headline_by : IsOne r err s → Headline r s
   headline_by (reported was ends) reports = ends
-  headline_by (said_whole Words lined ends status_is line) reports = absurd (no_report_of_words err s reports status_is)
-  headline_by (said_whole (TooLarge p) lined ends status_is line) reports = absurd (no_report_of_refused err s reports status_is)
-  headline_by (said_whole (ReadFault p) lined ends status_is line) reports = absurd (no_report_of_read_fault err s reports status_is)
-  headline_by (said_whole (Unread refusal) lined ends status_is line) reports = absurd (no_report_of_refused err s reports status_is)
-  headline_by (said_whole (Judging refusal) lined ends status_is line) reports = absurd (no_report_of_refused err s reports status_is)
-  headline_by (said_whole WriteFault lined ends status_is line) reports = elim lined [ ]
-  headline_by (said_whole NoMemory lined ends status_is line) reports = elim lined [ ]
+  headline_by (said_whole Words none ends status_is line) reports = absurd (no_report_of_words err s reports status_is)
+  headline_by (said_whole (TooLarge p) none ends status_is line) reports = absurd (no_report_of_refused err s reports status_is)
+  headline_by (said_whole (ReadFault p) none ends status_is line) reports = absurd (no_report_of_read_fault err s reports status_is)
+  headline_by (said_whole (Unread refusal) none ends status_is line) reports = absurd (no_report_of_refused err s reports status_is)
+  headline_by (said_whole (Judging refusal) none ends status_is line) reports = absurd (no_report_of_refused err s reports status_is)
+  headline_by (said_whole WriteFault none ends status_is line) reports = elim none [ ]
+  headline_by (said_whole NoMemory none ends status_is line) reports = elim none [ ]
   headline_by (cut stop ends fails) reports = absurd (fails_no_report fails reports)
   headline_by (unwritten ends status_is) reports = absurd (no_report_of_write_fault err s reports status_is)
   headline_by (spent status_is) reports = absurd (no_memory_reported s reports status_is)

@@ -4,7 +4,7 @@
 --     reads_exactly m            whether calls may stand in a script that are sharper than what is judged in their place
 --     statements_in m text       what reading a script gives
 --     read_inputs m k x          what reading a page's three texts gives
-use Rattle.std.specs.Prelude.{ℕ, ◌≤◌, Bool, true, false, if◌then◌else◌, List, [], length, map, Option, IfSome, Result, Ok, Err}
+use Rattle.std.specs.Prelude.{◌≡◌, ℕ, ◌≤◌, Bool, true, false, if◌then◌else◌, List, [], length, map, Option, IfSome, Result, Ok, Err}
 use Rattle.tp_base.specs.Names.{Named}
 pub use Rattle.tp_base.specs.Outcomes.{◌>>=◌}
 use Rattle.tp_base.specs.declared.places.Place.{Place}
