@@ -14,7 +14,7 @@ use Rattle.treeped_app.specs.Commands.{Headline, IsEnded}
 use Rattle.treeped_app.specs.Meaning.{Page, ArePages, MeansFrom, MeansPages, Means}
 use Rattle.treeped_app.specs.Modes.{Said, text_of}
 use Rattle.treeped_app.specs.Readings.{Told, Texts, Inputs, read_inputs, ring_texts}
-use Rattle.treeped_app.specs.Runs.{Run, run_of, IsSaid, AreSaid, IsWhole}
+use Rattle.treeped_app.specs.Runs.{Run, run_of, Ends, IsSaid, AreSaid, IsWhole}
 use Rattle.treeped_app.specs.Tasks.{Names, Source, one, several, ring, Visit, visits, visits_from, Task, task_by, task_of, source_by, site_of, page_of, files_of, paired, command}
 use Rattle.treeped_app.proofs.CauseLemmas.{headline_of}
 use Rattle.treeped_app.proofs.PageMeanings.{lines_mean, report_means, pruned_means, dead_means, runs_mean, pages_of, site_means, site_pruned_means}
@@ -124,3 +124,8 @@ pub ended_means : (told : Told) (words : List (List ℕ)) (loads loads' : List L
     → IsEnded (run_of told words loads loads' (put_of held held' faults faults')) err s → Means told words held held' s
 ended_means told words loads loads' held held' faults faults' err s ended =
     let r = run_of told words loads loads' (put_of held held' faults faults') in means_of r s (headline_of r err s ended)
+
+-- a run that ends with its report
+pub whole_means : (told : Told) (words : List (List ℕ)) (loads loads' : List Load) (held held' : Option (List ℕ)) (faults faults' : ℕ) (s : Status)
+    → Ends (run_of told words loads loads' (put_of held held' faults faults')) (Ok s) → Means told words held held' s
+whole_means told words loads loads' held held' faults faults' s ends = means_of (run_of told words loads loads' (put_of held held' faults faults')) s (λ reports. ends)
