@@ -6,7 +6,7 @@ use Rattle.tree_sem.specs.Trees.{LabelTree}
 use Rattle.tree_sem.proofs.WithinLemmas.{within_itself}
 use Rattle.sel_text.specs.Selectors.{Selector}
 use Rattle.jq_stmts.specs.Statements.{Statement}
-use Rattle.jq_sem.specs.Events.{AreLegalEvents, end_of_events, ReachesWithLosses, events_of}
+use Rattle.jq_sem.specs.Events.{end_of_events, ReachesWithLosses, events_of}
 use Rattle.jq_sem.specs.Reachability.{IsLegal, after_statement, after_step, end_of, AreLegal, Reaches}
 use Rattle.jq_sem.specs.Statements.{Selected}
 use Rattle.jq_sem.proofs.EventLemmas.{without_losses, legal_as_events, end_of_steps, losses_reach_is}
@@ -52,8 +52,7 @@ module _ (stmts others : List Statement) where
       found None is legal = absurd legal
       found (Some s) is selects =
           let here : IsLegal t stmts step = subst (λ o. IsSomeAnd o (λ x. Selected t x step.at)) (sym is) selects in
-          let there = at_Contains others s (among s (Contains-at stmts step.stmt s is) ([], tt, step.at, selects)) in
-          (
+          let there = at_Contains others s (among s (Contains-at stmts step.stmt s is) ([], tt, step.at, selects)) in (
             record { stmt = there.0; at = step.at },
             subst (λ o. IsSomeAnd o (λ x. Selected t x step.at)) (sym there.1) selects,
             ap (λ o. after_statement o step.at t) (there.1 ∙ sym is),
@@ -63,8 +62,7 @@ module _ (stmts others : List Statement) where
   same_ends [] t among legal = ([], tt, refl)
   same_ends (step ∷ steps) t among legal =
       let first = one_same t step legal.0 among in
-      let rest = same_ends steps (after_step t stmts step) (among_later t step legal.0 among) legal.1 in
-      (
+      let rest = same_ends steps (after_step t stmts step) (among_later t step legal.0 among) legal.1 in (
         first.0 ∷ rest.0,
         (first.1, subst (λ z. AreLegal z others rest.0) (sym first.2) rest.1),
         ap (λ z. end_of z others rest.0) first.2 ∙ rest.2,

@@ -24,7 +24,13 @@ fn main(rt: HostRuntime) -> ExitCode {
     let mut out = HostSink::output(rt.stdout());
     let mut err = HostSink::error(rt.stderr());
     let status = match words(alloc, env::args(&rt)) {
-        Ok(words) => run(alloc, &words, &mut HostFiles::new(alloc, rt), &mut out, &mut err),
+        Ok(words) => run(
+            alloc,
+            &words,
+            &mut HostFiles::new(alloc, rt),
+            &mut out,
+            &mut err,
+        ),
         Err(_) => no_words(&mut err),
     };
     exit_code(status)

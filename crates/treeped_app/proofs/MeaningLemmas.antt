@@ -1,26 +1,23 @@
 -- What is written of one page means what it says, from answers that are right.
-use Rattle.std.proofs.Common.{◌≡◌, ◌⊎◌, ◌↔◌, ℕ, zero, suc, ◌+◌, Bool, true, false, List, [], ◌∷◌, ◌++◌, length, map, take, drop, get_or, Contains, Option, Some, None, IfSome, slice_get, Ok, refl, sym, ap, ◌∙◌, subst, inl, inr}
+use Rattle.std.proofs.Common.{◌≡◌, ℕ, zero, suc, ◌+◌, List, [], ◌∷◌, length, map, take, drop, get_or, Contains, Option, Some, None, IfSome, slice_get, Ok, refl, sym, ap, ◌∙◌, subst, inl, inr}
 use Rattle.std.proofs.lemmas.List.{drop-map}
 use Rattle.tp_base.specs.Names.{Named}
-use Rattle.tp_base.proofs.Rising.{Contains-cons, Contains-none, Contains-here}
+use Rattle.tp_base.proofs.Rising.{Contains-cons, Contains-none}
 use Rattle.tree_sem.specs.Trees.{LabelTree}
-use Rattle.tree_sem.specs.declared.actions.Event.{Event}
 use Rattle.sel_core.specs.Selectors.{Matches}
 use Rattle.sel_text.specs.Selectors.{Selector}
 use Rattle.sel_text.specs.declared.faults.Skip.{Skip}
 use Rattle.css_read.specs.Reading.{read_sheet}
-use Rattle.css_read.specs.Sheets.{Outcome, judged, skipped as left_out, Item, Sheet}
+use Rattle.css_read.specs.Sheets.{Outcome, judged, skipped as left_out, Item}
 use Rattle.css_prune.specs.NodeEffects.{Tells}
 use Rattle.jq_stmts.specs.Sharp.{wides}
 use Rattle.jq_stmts.specs.Statements.{Statement}
 use Rattle.jq_sem.specs.Events.{AreLegalEvents, end_of_events}
 use Rattle.jq_sem.specs.Reachability.{end_of}
-use Rattle.jq_exact.specs.Events.{AreLegalExactEvents}
 use Rattle.jq_exact.specs.Exact.{AreLegalExactly, IsBrokenAt}
 use Rattle.jq_exact.proofs.WideLemmas.{events_wide}
 use Rattle.guard_sem.specs.Guards.{Guard}
 use Rattle.limits.specs.declared.budgets.Limits.{Limits}
-use Rattle.command_words.specs.declared.words.Mode.{Mode}
 use Rattle.command_words.specs.declared.words.Mode.TheVariants.{Dead}
 use Rattle.proof_check.specs.declared.proofs.Proof.{Proof}
 use Rattle.proof_check.specs.declared.unfolded.Unfolded.{Unfolded}
@@ -34,19 +31,19 @@ use Rattle.dead_script.specs.Liveness as statement
 use Rattle.dead_script.specs.Liveness.{IsRightVerdict, AreRightVerdicts}
 use Rattle.dead_script.specs.Probes.{all_probes}
 use Rattle.dead_script.specs.VerdictLines.{Verdict, live, live_unshown, dead_at_handler, dead_at_target, unknown}
-use Rattle.dead_script.specs.Verdicts.{verdict_by, dead_behind, verdict_of, verdicts}
+use Rattle.dead_script.specs.Verdicts.{verdict_by, dead_behind, verdicts}
 use Rattle.dead_script.proofs.DeadStatementLemmas.{losses_keep_dead}
 use Rattle.dead_script.proofs.VerdictLemmas.{verdicts_right}
 use Rattle.judge.specs.Answers.{IsUsed, IsShown, IsAnswerFor, AreAnswersFor}
-use Rattle.judge.specs.Goals.{Goal, matching, holding}
+use Rattle.judge.specs.Goals.{Goal, matching}
 use Rattle.judge.specs.Outcomes as judge
 use Rattle.judge.specs.Witnesses.{trace}
 use Rattle.treeped_app.specs.Answers.{NamesIllegal, IsRightExactlyFor, IsRightExactly, AreRightExactly}
 use Rattle.treeped_app.specs.Laws as laws
-use Rattle.treeped_app.specs.Meaning.{Each, tree_after, NeverMatches, LeadsTo, MayLeadTo, IsCountOf, MeansLine, MeansReport, MeansPruned, MeansStatement, MeansDead, MeansRuns, DoesTheSame}
+use Rattle.treeped_app.specs.Meaning.{Each, NeverMatches, LeadsTo, MayLeadTo, IsCountOf, MeansLine, MeansStatement, DoesTheSame}
 use Rattle.treeped_app.specs.Meaning as meaning
-use Rattle.treeped_app.specs.Modes.{Said, AreAnswersOf, extra_in, guards_in, report_on, text_on, is_unused}
-use Rattle.treeped_app.specs.Readings.{Texts, Inputs, places_of, read_inputs}
+use Rattle.treeped_app.specs.Modes.{Said, AreAnswersOf, extra_in, guards_in, is_unused}
+use Rattle.treeped_app.specs.Readings.{Inputs}
 use Rattle.treeped_app.proofs.DeadLemmas.{all_told}
 
 -- ---- a line

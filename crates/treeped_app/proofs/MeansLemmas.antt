@@ -1,5 +1,5 @@
 -- A run that comes with a report has written what it means.
-use Rattle.std.proofs.Common.{◌≡◌, ℕ, ◌+◌, ◌==◌, ◌&&◌, Bool, true, false, List, [], ◌∷◌, map, Contains, Option, Some, None, Result, Ok, Err, if◌then◌else◌, refl, sym, ap, ◌∙◌, subst, inl, inr}
+use Rattle.std.proofs.Common.{◌≡◌, ℕ, ◌+◌, true, false, List, [], ◌∷◌, map, Option, Some, None, Ok, refl, subst}
 use Rattle.std.specs.Prelude.{option_map, option_and_then}
 use Rattle.tp_io.specs.Files.{Load}
 use Rattle.limits.specs.declared.budgets.Limits.{Limits}
@@ -11,11 +11,11 @@ use Rattle.run_ends.specs.declared.status.Status.{Status}
 use Rattle.run_ends.specs.Tells.{Put, put_of}
 use Rattle.usage_report.specs.Answers.{line_of}
 use Rattle.treeped_app.specs.Commands.{Headline, IsEnded}
-use Rattle.treeped_app.specs.Meaning.{Page, ArePages, MeansFrom, MeansPages, Means}
+use Rattle.treeped_app.specs.Meaning.{ArePages, MeansFrom, MeansPages, Means}
 use Rattle.treeped_app.specs.Modes.{Said, text_of}
-use Rattle.treeped_app.specs.Readings.{Told, Texts, Inputs, read_inputs, ring_texts}
-use Rattle.treeped_app.specs.Runs.{Run, run_of, Ends, IsSaid, AreSaid, IsWhole}
-use Rattle.treeped_app.specs.Tasks.{Names, Source, one, several, ring, Visit, visits, visits_from, Task, task_by, task_of, source_by, site_of, page_of, files_of, paired, command}
+use Rattle.treeped_app.specs.Readings.{Told, Texts, read_inputs}
+use Rattle.treeped_app.specs.Runs.{Run, run_of, Ends, AreSaid, IsWhole}
+use Rattle.treeped_app.specs.Tasks.{Names, Source, one, several, ring, visits_from, Task, task_by, task_of, source_by, site_of, page_of, paired}
 use Rattle.treeped_app.proofs.CauseLemmas.{headline_of}
 use Rattle.treeped_app.proofs.PageMeanings.{lines_mean, report_means, pruned_means, dead_means, runs_mean, pages_of, site_means, site_pruned_means}
 

@@ -3,12 +3,11 @@
 --     IsWhole r t said           all visits were
 --     IsAt r t .. v              the visits before this one were
 --     Ends r end                 what the run comes to: what its mode writes, with its status, or why there is nothing
-use Rattle.std.specs.Prelude.{◌≡◌, ◌⊎◌, ℕ, ◌<◌, ◌≤◌, if◌then◌else◌, List, [], ◌∷◌, ◌++◌, length, map, take, All, Contains, Option, Some, None, IfSome, Result, Ok, Err}
+use Rattle.std.specs.Prelude.{◌≡◌, ◌⊎◌, ℕ, ◌<◌, ◌≤◌, List, [], ◌∷◌, ◌++◌, length, take, All, Contains, Some, None, IfSome, Result, Ok, Err}
 use Rattle.tp_io.specs.Files.{Load}
 use Rattle.tp_io.specs.Sinks.{Adds, AddsPrefix, Rose}
 use Rattle.tp_base.specs.declared.places.TheConstants.{MOST_BYTES}
 use Rattle.run_ends.specs.declared.status.Status.{Status}
-use Rattle.run_ends.specs.declared.refusals.Part.{Part}
 use Rattle.run_ends.specs.declared.refusals.JudgeRefusal.{JudgeRefusal}
 use Rattle.run_ends.specs.declared.refusals.JudgeRefusal.TheVariants as refused
 use Rattle.run_ends.specs.declared.stops.Stop.{Stop}
@@ -24,7 +23,7 @@ use Rattle.treeped_app.specs.Modes.{Texts, Inputs, Said, extra_in, AreAnswersOf,
 use Rattle.run_ends.specs.Tells.{Put}
 use Rattle.treeped_app.specs.Readings.{AreFrom}
 pub use Rattle.treeped_app.specs.Readings.{◌>>=◌, read_as, plainly, statements_in, read_script_as, read_inputs, Told, Holds, Fit, AreHeld, ring_texts, AreFrom}
-use Rattle.treeped_app.specs.Tasks.{Names, Wanted, Origin, named, generated, Visit, visits, succeeded, failed, loads_of, all_loads, Task, command}
+use Rattle.treeped_app.specs.Tasks.{Wanted, Visit, visits, succeeded, failed, loads_of, all_loads, Task, command}
 
 -- ---- reading
 
