@@ -1,22 +1,17 @@
--- What losses, and a script without its dead statements, come to.
---     LiveWithLosses t stmts p     after some legal steps and losses the statement p selects a node
+-- What a script without its dead statements comes to.
 --     HasTheLive t stmts left      those that are left are some of the statements, with each live one among them
 --     AreWithoutDead stmts vs left they are some of the statements, with each one among them whose verdict isn't that it is dead
 --     DoTheSame t stmts left       they lead to the same trees, reach the same selectors and have the same live statements
 use Rattle.std.specs.Prelude.{◌≡◌, ◌↔◌, ℕ, false, List, Contains, Some, slice_get}
-use Rattle.tree_sem.specs.declared.actions.Event.{Event}
 use Rattle.tree_sem.specs.declared.actions.Step.{Step}
 use Rattle.tree_sem.specs.Trees.{LabelTree}
 use Rattle.sel_text.specs.Selectors.{Selector}
 use Rattle.jq_stmts.specs.Statements.{Statement}
-use Rattle.jq_sem.specs.Events.{AreLegalEvents, end_of_events, ReachesWithLosses}
+use Rattle.jq_sem.specs.Events.{ReachesWithLosses}
 use Rattle.jq_sem.specs.Reachability.{AreLegal, end_of}
-use Rattle.jq_sem.specs.Statements.{Selected}
-use Rattle.dead_script.specs.Probes.{Live}
-use Rattle.dead_script.specs.Verdicts.{Verdict, is_dead}
-
-abbrev pub LiveWithLosses : LabelTree → List Statement → Statement → Type 0
-LiveWithLosses t stmts p = (events : List Event) × AreLegalEvents t stmts events × (v : List ℕ) × Selected (end_of_events t stmts events) p v
+use Rattle.dead_script.specs.Liveness.{Live}
+pub use Rattle.dead_script.specs.Liveness.{LiveWithLosses}
+use Rattle.dead_script.specs.VerdictLines.{Verdict, is_dead}
 
 -- whatever is dead may be left out
 pub record HasTheLive (t : LabelTree) (stmts left : List Statement) : Type 0 where

@@ -4,14 +4,15 @@
 --     SelectedExactly t s v      the statement selects v
 --     IsLegalExactly t stmts s   the step's statement selects its node
 --     AreLegalExactly            each step is legal in the tree before it
-use Rattle.std.specs.Prelude.{ℕ, zero, suc, List, [], ◌∷◌, ◌++◌, reverse, Option, Some, None, IsSomeAnd, slice_get}
+--     IsBrokenAt t stmts steps i the step i is the first that isn't legal
+use Rattle.std.specs.Prelude.{ℕ, zero, suc, List, [], ◌∷◌, ◌++◌, reverse, take, Option, Some, None, IsSomeAnd, slice_get}
 use Rattle.tree_sem.specs.Series.{AreLegalBy}
 use Rattle.tree_sem.specs.Trees.{LabelTree}
 use Rattle.tree_sem.specs.declared.actions.Step.{Step}
 use Rattle.node_marks.specs.Marks.{HasOtherIn, IsFree, IsFirstIn}
 use Rattle.jq_sem.specs.Statements.{FitsOne, MayFit, IsMade, InRoot}
 use Rattle.jq_stmts.specs.Statements.{Root, matched, back}
-use Rattle.jq_sem.specs.Reachability.{after_step}
+use Rattle.jq_sem.specs.Reachability.{after_step, end_of}
 use Rattle.jq_stmts.specs.Sharp.{ExactCall, plain, closest, siblings, first, ExactChain, ExactStatement, wides}
 
 abbrev pub IsMadeExactly : LabelTree → (List ℕ → Type 0) → ExactCall → List ℕ → Type 0
@@ -58,3 +59,7 @@ after_exact_step t stmts step = after_step t (wides stmts) step
 
 abbrev pub AreLegalExactly : LabelTree → List ExactStatement → List Step → Type 0
 AreLegalExactly t stmts steps = AreLegalBy IsLegalExactly after_exact_step t stmts steps
+
+abbrev pub IsBrokenAt : LabelTree → List ExactStatement → List Step → ℕ → Type 0
+IsBrokenAt t stmts steps i =
+    AreLegalExactly t stmts (take i steps) × IsSomeAnd (slice_get steps i) (λ step. ¬ IsLegalExactly (end_of t (wides stmts) (take i steps)) stmts step)

@@ -1,14 +1,13 @@
 -- Settled answers: what the exact replay of their steps leaves of them.
---     IsBrokenAt page stmts steps i     the step i is the first that isn't legal exactly
 --     IsSettled page stmts system a b   b is said in the place of a
 --     AreSettled                        the same, answer by answer
 --     IsUnfolded page system a          the answer's proof is valid, and what it shows are the steps that it unfolds to
 --     UsedIsExact page stmts system     what is said to be used is so by steps that are legal exactly
-use Rattle.std.specs.Prelude.{◌≡◌, ◌⊎◌, ℕ, ◌≤◌, List, [], ◌∷◌, length, take, Option, Some, None, IsSomeAnd, IfSome, slice_get}
+use Rattle.std.specs.Prelude.{◌≡◌, ◌⊎◌, ℕ, ◌≤◌, List, [], ◌∷◌, length, Option, Some, None, IfSome}
 use Rattle.limits.specs.declared.budgets.TheConstants.{MOST_LIST}
 use Rattle.tree_sem.specs.Trees.{LabelTree}
 use Rattle.tree_sem.specs.declared.actions.Step.{Step}
-use Rattle.jq_sem.specs.Reachability.{AreLegal, end_of}
+use Rattle.jq_sem.specs.Reachability.{AreLegal}
 use Rattle.jq_stmts.specs.Sharp.{ExactStatement, wides}
 use Rattle.simple_core.specs.declared.system.System.{System}
 use Rattle.proof_check.specs.declared.proofs.Proof.{Proof}
@@ -18,12 +17,9 @@ use Rattle.proof_check.specs.Validity.{IsValid}
 use Rattle.usage_report.specs.Answers.{Answer, used, maybe}
 use Rattle.jq_exact.specs.declared.settling.Outcome.{Outcome}
 use Rattle.jq_exact.specs.declared.settling.Outcome.TheVariants.{Kept, Broken, NotShown}
-use Rattle.jq_exact.specs.Exact.{IsLegalExactly, AreLegalExactly}
+pub use Rattle.jq_exact.specs.Exact.{IsBrokenAt}
+use Rattle.jq_exact.specs.Exact.{AreLegalExactly}
 use Rattle.jq_exact.specs.Laws.{HasSharpStep}
-
-abbrev pub IsBrokenAt : LabelTree → List ExactStatement → List Step → ℕ → Type 0
-IsBrokenAt page stmts steps i =
-    AreLegalExactly page stmts (take i steps) × IsSomeAnd (slice_get steps i) (λ step. ¬ IsLegalExactly (end_of page (wides stmts) (take i steps)) stmts step)
 
 -- the steps that a proof unfolds to, whatever they lead to
 abbrev pub steps_of : System → Proof → LabelTree → List Step

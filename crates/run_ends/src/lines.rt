@@ -41,7 +41,7 @@ impl Stop {
 }
 
 // `treeped: page: too deep at 1:2556`, say.
-#[tactic(auto, unfolding(usage_report::specs::Report::place_text), using(std::proofs::Common::append_assoc))]
+#[tactic(auto, unfolding(usage_report::specs::Lines::place_text), using(std::proofs::Common::append_assoc))]
 fn refusal_line(alloc: Global, refusal: &Refusal) -> Result<Vec<u8>, NoMemory>
     ensures { IfOk result (λ line. line.items ≡ spec.refusal_line refusal.now) }
 {

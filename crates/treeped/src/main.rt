@@ -8,6 +8,7 @@ ghost use Rattle.std.specs.IoError.{error_kind};
 ghost use Rattle.run_ends.specs.Stops.{code_of};
 ghost use Rattle.run_ends.specs.Tells.{SaysWhy, put_of};
 ghost use Rattle.treeped_app.specs.Commands.{Causes, Headline, IsEnded};
+ghost use Rattle.treeped_app.specs.Meaning.{Means};
 ghost use Rattle.treeped_app.specs.Runs.{run_of};
 
 use std::alloc::{AllocError, Global};
@@ -43,6 +44,7 @@ fn run<F: Files, O: Sink, E: Sink>(
     out: &mut O,
     err: &mut E,
 ) -> Status
+    ensures means { Means (F.told files.old) (map string_bytes words.now) (O.written out.old) (O.written out.new) result }
     ensures headline { let run = run_of (F.told files.old) (map string_bytes words.now) (F.loads files.old) (F.loads files.new)
         (put_of (O.written out.old) (O.written out.new) (O.faults out.old) (O.faults out.new))
         in Headline run result }

@@ -25,7 +25,7 @@ use Rattle.treeped_app.specs.Runs.{Told, Run, Ends, Fit, AreFrom, AreTexts, Exce
 use Rattle.treeped_app.proofs.BudgetLemmas.{OverOn, left_open, all_decided, doubt_sharp}
 use Rattle.treeped_app.proofs.RingLemmas.{well_read}
 use Rattle.run_ends.specs.Tells.{Says, SaysWhy}
-use Rattle.treeped_app.specs.Commands.{Reports, IsTold, IsEnded, Fails, IsRefusal, FailedAt, AreToldFrom, FitFrom, IsWell, AreWell, HasVisit, IsRefusedOrFails, NothingFails, HasMaybe, IsInDoubt, Causes}
+use Rattle.treeped_app.specs.Commands.{Reports, IsTold, IsEnded, Fails, IsRefusal, FailedAt, AreToldFrom, FitFrom, IsWell, AreWell, HasVisit, IsRefusedOrFails, NothingFails, HasMaybe, IsInDoubt, Causes, Headline}
 
 -- the stops whose line is said whole or not at all
 abbrev IsLined : Stop → Type 0
@@ -522,3 +522,26 @@ pub no_reason : (r : Run) (err : Put) (s : Status) (wants_memory : Type 0) → E
 no_reason r err s wants_memory ends =
     let reports = status_reports r err s _ _ ends.4 in
     record { write_fault = λ is. absurd (no_report_of_write_fault err s reports is); no_memory = λ is. absurd (no_memory_reported s reports is) }
+
+-- ---- a report is whole and right
+
+module _ (r : Run) (err : Put) (s : Status) where
+  fails_no_report : Fails err s → Reports s → ⊥
+  fails_no_report (inl a) reports = no_report_of_write_fault err s reports a.0
+  fails_no_report (inr a) reports = no_memory_reported s reports a
+
+  headline_by : IsOne r err s → Headline r s
+  headline_by (reported was ends) reports = ends
+  headline_by (said_whole Words none ends status_is line) reports = absurd (no_report_of_words err s reports status_is)
+  headline_by (said_whole (TooLarge p) none ends status_is line) reports = absurd (no_report_of_refused err s reports status_is)
+  headline_by (said_whole (ReadFault p) none ends status_is line) reports = absurd (no_report_of_read_fault err s reports status_is)
+  headline_by (said_whole (Unread refusal) none ends status_is line) reports = absurd (no_report_of_refused err s reports status_is)
+  headline_by (said_whole (Judging refusal) none ends status_is line) reports = absurd (no_report_of_refused err s reports status_is)
+  headline_by (said_whole WriteFault none ends status_is line) reports = elim none [ ]
+  headline_by (said_whole NoMemory none ends status_is line) reports = elim none [ ]
+  headline_by (cut stop ends fails) reports = absurd (fails_no_report fails reports)
+  headline_by (unwritten ends status_is) reports = absurd (no_report_of_write_fault err s reports status_is)
+  headline_by (spent status_is) reports = absurd (no_memory_reported s reports status_is)
+
+  pub headline_of : IsEnded r err s → Headline r s
+  headline_of ended = headline_by (one_end r err s ended.0 ended.1 ended.2)

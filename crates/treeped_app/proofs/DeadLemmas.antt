@@ -15,7 +15,7 @@ use Rattle.guard_simplify.specs.Law.{IsOver}
 use Rattle.rule_translate.specs.Translation.{guard_of}
 use Rattle.proof_check.specs.declared.proofs.Proof.{Proof}
 use Rattle.proof_check.specs.declared.unfolded.Unfolded.{Unfolded}
-use Rattle.usage_report.specs.Answers.{Answer, used, maybe, used_unshown, unused, skipped, spent}
+use Rattle.usage_report.specs.Answers.{Answer, used, maybe, used_unshown, unused, skipped, spent, shown_of}
 use Rattle.limits.specs.declared.budgets.Limits.{Limits}
 use Rattle.judge.specs.Answers.{IsUsed, AreAnswersFor}
 use Rattle.judge.specs.Goals.{selecting, holding}
@@ -39,7 +39,7 @@ module _ (stmts : List Statement) (guards : List Guard) (n : ℕ) (page : LabelT
 -- ---- from right answers to what they tell
 
 module _ (page : LabelTree) (stmts : List Statement) (guards : List Guard) (n : ℕ) (limits : Limits) where
-  shown_witness : (p : Statement) (proof : Proof) (steps : ℕ) (shown : Option Unfolded) → IsUsed stmts guards n page limits (selecting p) proof steps shown → IfSome shown (LeadsTo page stmts p)
+  shown_witness : (p : Statement) (proof : Proof) (steps : ℕ) (shown : Option Unfolded) → IsUsed stmts guards n page limits (selecting p) proof steps shown → IfSome (shown_of shown) (LeadsTo page stmts p)
   shown_witness p proof steps None is = tt
   shown_witness p proof steps (Some u) is = record {
     legal = subst (λ (z : List Step). AreLegal page stmts z) (sym is.shows.1) is.witness.legal;

@@ -23,5 +23,8 @@ pub mod BestLemmas
 pub mod WritingLemmas
 pub mod PreservationLemmas
 pub mod EngineLemmas
+pub mod MeaningLemmas
+pub mod PageMeanings
+pub mod MeansLemmas
 mod PruneLemmas
 mod Rows

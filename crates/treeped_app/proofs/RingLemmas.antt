@@ -26,7 +26,7 @@ use Rattle.ring_reads.proofs.ScriptForest.{reads_markup}
 use Rattle.ring_reads.proofs.ScriptLines.{scans_rings}
 use Rattle.treeped_app.specs.Modes.{Texts, Inputs, reads_exactly}
 use Rattle.treeped_app.specs.Tasks.{Source, one, several, ring, Origin, named, generated, Visit, visits, visits_from, Task, task_by, task_of, site_of, page_of, files_of, source_by, command}
-use Rattle.treeped_app.specs.Runs.{Told, ring_texts, read_as, plainly, statements_in, read_inputs}
+use Rattle.treeped_app.specs.Readings.{Told, ring_texts, read_as, plainly, statements_in, read_inputs}
 use Rattle.treeped_app.specs.Commands.{AreToldFrom, ReadFrom, IsWell}
 use Rattle.treeped_app.proofs.RingLines.{IsOk, script_read}
 

@@ -14,7 +14,8 @@ use Rattle.run_ends.specs.declared.refusals.Part.TheVariants.{Page, Script}
 use Rattle.run_ends.specs.Refusals.{page_stop, sheet_stop}
 use Rattle.run_ends.specs.declared.stops.Stop.{Stop}
 use Rattle.treeped_app.specs.Modes.{Texts, Inputs}
-use Rattle.treeped_app.specs.Runs.{IsSheetOf, read_as, read_script_as, statements_in, read_inputs, ◌>>=◌}
+use Rattle.treeped_app.specs.Runs.{IsSheetOf}
+use Rattle.treeped_app.specs.Readings.{read_as, read_script_as, statements_in, read_inputs, ◌>>=◌}
 
 -- ---- the three texts of a page, one after another
 
@@ -66,3 +67,15 @@ one_sheet_read m m' k k' x y i j same is is' =
     let a = sheet_read m k x i is in
     let b = sheet_read m' k' y j is' in
     one_shape y.sheet a.0 b.0 a.1 b.1 i.sheet j.sheet (subst (λ (z : List ℕ). read_sheet z a.0 ≡ (a.1, Ok i.sheet)) same a.2) b.2
+
+-- the statements that are judged are those of the script, with calls that may select more
+pub wide_read : (m : Mode) (k : Option ℕ) (x : Texts) (i : Inputs) → read_inputs m k x ≡ Ok i → wides i.exact ≡ i.stmts
+unfolding read_inputs
+wide_read m k x i is =
+    let p = then_ok (page_in k x) (behind_page m k x) i is in
+    let s = then_ok (sheet_in x p.0.1) (behind_sheet m k x p.0) i p.2 in
+    let j = then_ok (script_in m k x s.0.1) (all_three p.0 s.0) i s.2 in
+    let made : Inputs = all_read p.0 s.0 j.0 in
+    let both : all_three p.0 s.0 j.0 ≡ Ok i = j.2 in
+    let same : made ≡ i = cc in
+    subst (λ (z : Inputs). wides z.exact ≡ z.stmts) same refl

@@ -1,6 +1,5 @@
 -- What each mode promises: what it asks besides the selectors of a sheet, what it writes of the answers, and the status that they give.
 --     Said                 what was read of a page, and what is said of it
---     reads_exactly m      whether calls may stand in a script that are sharper than what is judged in their place
 --     goals_in m i         the goals that are asked besides the sheet's selectors
 --     IsOverBudget m l i   a budget doesn't suffice for each line
 --     AreJudgedOf          right answers for the sheet's items and for those goals, of the statements that are judged
@@ -10,13 +9,7 @@
 --     status_of t said     the status: 7 where a line is open, else 1 where a line is unused or dead, else 0
 use Rattle.std.specs.Prelude.{◌≡◌, ℕ, Bool, true, false, ◌||◌, if◌then◌else◌, List, [], ◌∷◌, ◌++◌, length, map, Option}
 use Rattle.std.specs.List.{list_any}
-use Rattle.tp_base.specs.Names.{Named}
-use Rattle.tp_base.specs.declared.places.Place.{Place}
-use Rattle.tree_sem.specs.Trees.{LabelTree}
 use Rattle.css_read.specs.Pruned.{pruned}
-use Rattle.css_read.specs.Sheets.{Sheet}
-use Rattle.jq_stmts.specs.Sharp.{ExactStatement}
-use Rattle.jq_stmts.specs.Statements.{Statement}
 use Rattle.jq_exact.specs.Settling.{AreSettled}
 use Rattle.guard_sem.specs.Guards.{Guard}
 use Rattle.usage_report.specs.Answers.{Answer, maybe, used_unshown, unused, spent}
@@ -39,20 +32,7 @@ use Rattle.run_ends.specs.declared.status.Status.TheVariants as status
 use Rattle.treeped_app.specs.Answers.{AreRight, AreRightFor, AreRightExactly, IsPastBudget}
 use Rattle.usage_report.specs.Summary.{summary}
 use Rattle.treeped_app.specs.Tasks.{Source, ring, Task}
-
--- the texts of a page's three files
-pub record Texts : Type 0 where
-  pub page : List ℕ
-  pub sheet : List ℕ
-  pub script : List ℕ
-
--- what is read: the page's tree, the sheet, the script's statements as they are judged and as they stand in it, and all names
-pub record Inputs : Type 0 where
-  pub tree : LabelTree
-  pub sheet : Sheet
-  pub stmts : List Statement
-  pub exact : List ExactStatement
-  pub names : List Named
+pub use Rattle.treeped_app.specs.Readings.{Texts, Inputs, places_of, reads_exactly}
 
 -- a page's texts, what was read of them, an answer for each item of the sheet, one for each other goal, and for whole runs a trace
 -- for each item or none
@@ -63,16 +43,7 @@ pub record Said : Type 0 where
   pub others : List Answer
   pub traces : List (Option RunTrace)
 
-abbrev pub places_of : Inputs → List Place
-places_of i = map (λ (s : Statement). s.place) i.stmts
-
 -- ---- what is asked
-
--- statements that may be dead, and whole runs, are those that are judged
-abbrev pub reads_exactly : Mode → Bool
-reads_exactly Dead = false
-reads_exactly Runs = false
-reads_exactly _ = true
 
 -- whether each handler of each statement ever runs, and the statement itself
 abbrev pub goals_in : Mode → Inputs → List Goal

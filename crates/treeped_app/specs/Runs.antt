@@ -1,67 +1,31 @@
 -- What a run of the command comes to, and why.
---     statements_in m text       what reading a script gives
---     read_inputs m k x          what reading a page's three texts gives
 --     IsSaid told t v s          a visit was loaded and read, and what is said of it is right
 --     IsWhole r t said           all visits were
 --     IsAt r t .. v              the visits before this one were
 --     Ends r end                 what the run comes to: what its mode writes, with its status, or why there is nothing
-use Rattle.std.specs.Prelude.{◌≡◌, ◌⊎◌, ℕ, ◌<◌, ◌≤◌, if◌then◌else◌, List, [], ◌∷◌, ◌++◌, length, map, take, All, Contains, Option, Some, None, IfSome, Result, Ok, Err}
-use Rattle.tp_base.specs.Names.{Named}
-pub use Rattle.tp_base.specs.Outcomes.{◌>>=◌}
+use Rattle.std.specs.Prelude.{◌≡◌, ◌⊎◌, ℕ, ◌<◌, ◌≤◌, List, [], ◌∷◌, ◌++◌, length, take, All, Contains, Some, None, IfSome, Result, Ok, Err}
 use Rattle.tp_io.specs.Files.{Load}
 use Rattle.tp_io.specs.Sinks.{Adds, AddsPrefix, Rose}
 use Rattle.tp_base.specs.declared.places.TheConstants.{MOST_BYTES}
 use Rattle.run_ends.specs.declared.status.Status.{Status}
-use Rattle.run_ends.specs.declared.refusals.Part.{Part}
-use Rattle.run_ends.specs.declared.refusals.Part.TheVariants.{Page, Script}
 use Rattle.run_ends.specs.declared.refusals.JudgeRefusal.{JudgeRefusal}
 use Rattle.run_ends.specs.declared.refusals.JudgeRefusal.TheVariants as refused
 use Rattle.run_ends.specs.declared.stops.Stop.{Stop}
 use Rattle.run_ends.specs.declared.stops.Stop.TheVariants.{Words, TooLarge, ReadFault, Unread, Judging, WriteFault, NoMemory}
-use Rattle.html_subset.specs.Reading.{read_page}
+use Rattle.tp_base.specs.Names.{Named}
 use Rattle.css_read.specs.Reading.{read_sheet}
 use Rattle.css_read.specs.Sheets.{Sheet}
-use Rattle.jq_stmts.specs.Sharp.{ExactStatement, exact_statement, wides}
-use Rattle.jq_stmts.specs.Statements.{Statement}
-use Rattle.jq_words.specs.Words.{Outcome}
-use Rattle.jq_read.specs.Script.{exact_script, script}
 use Rattle.guard_simplify.specs.declared.simplified.SimplifyFault.{SimplifyFault}
 use Rattle.guard_simplify.specs.declared.simplified.SimplifyFault.TheVariants as fault
 use Rattle.judge.specs.Outcomes.{IsFault, IsWithin}
 use Rattle.command_words.specs.declared.words.Mode.{Mode}
-use Rattle.triple_gen.specs.Ring as rings
-use Rattle.treeped_app.specs.Modes.{Texts, Inputs, Said, reads_exactly, extra_in, AreAnswersOf, HasTraces, text_of, status_of}
-use Rattle.run_ends.specs.Refusals.{page_stop, sheet_stop, script_stop}
+use Rattle.treeped_app.specs.Modes.{Texts, Inputs, Said, extra_in, AreAnswersOf, HasTraces, text_of, status_of}
 use Rattle.run_ends.specs.Tells.{Put}
-use Rattle.treeped_app.specs.Tasks.{Names, Wanted, Origin, named, generated, Visit, visits, succeeded, failed, loads_of, all_loads, Task, command}
+use Rattle.treeped_app.specs.Readings.{AreFrom}
+pub use Rattle.treeped_app.specs.Readings.{◌>>=◌, read_as, plainly, statements_in, read_script_as, read_inputs, Told, Holds, Fit, AreHeld, ring_texts, AreFrom}
+use Rattle.treeped_app.specs.Tasks.{Wanted, Visit, visits, succeeded, failed, loads_of, all_loads, Task, command}
 
 -- ---- reading
-
--- what was read of a text, with the names then, or why the run stops at it
-abbrev pub read_as : {A E : Type 0} → (E → Stop) → List Named × Result A E → Result (A × List Named) Stop
-read_as stop (names, Ok x) = Ok (x, names)
-read_as stop (names, Err e) = Err (stop e)
-
--- statements that stand in the script as they are judged
-abbrev pub plainly : Outcome (List Statement × List Named) → Outcome (List ExactStatement × List Named)
-plainly (Ok (stmts, names)) = Ok (map exact_statement stmts, names)
-plainly (Err e) = Err e
-
--- the statements of a script, with sharp calls or without
-abbrev pub statements_in : Mode → List ℕ → List Named → Outcome (List ExactStatement × List Named)
-statements_in m text names = if reads_exactly m then exact_script text names else plainly (script text names)
-
-abbrev pub read_script_as : Part → List ℕ → Outcome (List ExactStatement × List Named) → Result (List ExactStatement × List Named) Stop
-read_script_as part text (Ok r) = Ok r
-read_script_as part text (Err e) = Err (script_stop part text e)
-
--- the page, the sheet and the script are read in this order, with one list of names that is new for each page
-unfoldable pub read_inputs : Mode → Option ℕ → Texts → Result Inputs Stop
-read_inputs m page x = do
-  p ← read_as (page_stop (Page page) x.page) (read_page x.page [])
-  s ← read_as (sheet_stop x.sheet) (read_sheet x.sheet p.1)
-  j ← read_script_as (Script page) x.script (statements_in m x.script s.1)
-  Ok (record { tree = p.0; sheet = s.0; stmts = wides j.0; exact = j.0; names = j.1 })
 
 -- the sheet was read of this text, whatever names were there before
 abbrev pub IsSheetOf : List ℕ → Sheet → Type 0
@@ -69,39 +33,12 @@ IsSheetOf text sheet = (names : List Named) × (later : List Named) × (read_she
 
 -- ---- loading
 
--- The bytes that each name holds, where they are told.
-abbrev pub Told : Type 0
-Told = List ℕ → Option (List ℕ)
-
--- a name holds this text, is within the limit on bytes, or is past it, where its bytes are told
-abbrev pub Holds : Told → List ℕ → List ℕ → Type 0
-Holds told name text = IfSome (told name) (λ bytes. text ≡ bytes)
-
+-- a name's text is within the limit on bytes, or past it, where its bytes are told
 abbrev pub Fits : Told → List ℕ → Type 0
 Fits told name = IfSome (told name) (λ bytes. length bytes ≤ MOST_BYTES)
 
 abbrev pub Exceeds : Told → List ℕ → Type 0
 Exceeds told name = IfSome (told name) (λ bytes. MOST_BYTES < length bytes)
-
--- none is past the limit
-pub record Fit (x : Texts) : Type 0 where
-  pub page : length x.page ≤ MOST_BYTES
-  pub sheet : length x.sheet ≤ MOST_BYTES
-  pub script : length x.script ≤ MOST_BYTES
-
--- the three names hold these texts
-pub record AreHeld (told : Told) (n : Names) (x : Texts) : Type 0 where
-  pub page : Holds told n.page x.page
-  pub sheet : Holds told n.sheet x.sheet
-  pub script : Holds told n.script x.script
-
-abbrev pub ring_texts : ℕ → Texts
-ring_texts k = record { page = rings.page k; sheet = rings.sheet k; script = rings.script k }
-
--- the texts come from there
-abbrev pub AreFrom : Told → Origin → Texts → Type 0
-AreFrom told (named n) x = AreHeld told n x
-AreFrom told (generated k) x = x ≡ ring_texts k
 
 -- and none is past the limit
 pub record AreTexts (told : Told) (v : Visit) (x : Texts) : Type 0 where

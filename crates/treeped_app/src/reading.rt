@@ -51,7 +51,7 @@ pub(crate) struct Inputs {
 }
 
 /// Reads the page, the sheet and the script, in this order, with one table of names. The page has a number where there are several.
-#[tactic(auto, unfolding(crate::specs::Runs::read_inputs))]
+#[tactic(auto, unfolding(crate::specs::Readings::read_inputs))]
 pub(crate) fn read_all(
     alloc: Global,
     mode: Mode,

@@ -5,6 +5,7 @@ ghost use Rattle.treeped_app.specs.Views as view;
 ghost use Rattle.treeped_app.specs.Runs.{Ends, run_of};
 ghost use Rattle.run_ends.specs.Tells.{SaysWhy, put_of};
 ghost use Rattle.treeped_app.specs.Commands.{Headline, IsEnded, Causes};
+ghost use Rattle.treeped_app.specs.Meaning.{Means};
 
 use crate::pages::{run_page, run_ring};
 use crate::sites::run_site;
@@ -26,6 +27,7 @@ pub fn treeped<F: Files, O: Sink, E: Sink>(
     out: &mut O,
     err: &mut E,
 ) -> Status
+    ensures means { Means (F.told files.old) (map string_bytes words.now) (O.written out.old) (O.written out.new) result }
     ensures headline { let run = run_of (F.told files.old) (map string_bytes words.now) (F.loads files.old) (F.loads files.new)
         (put_of (O.written out.old) (O.written out.new) (O.faults out.old) (O.faults out.new))
         in Headline run result }

@@ -15,7 +15,8 @@ use Rattle.css_read.specs.Sheets.{judged, skipped, Item}
 use Rattle.usage_report.specs.Answers as answers
 use Rattle.usage_report.specs.Reportable.{IsReportable, AreReportable}
 use Rattle.usage_report.specs.RunTraces.{RunTrace, listed, stopped}
-use Rattle.usage_report.specs.Report.{report, report_with, run_text, trace_text, place_text, path_text, step_text, shown_text, count_text, head_text, broken_text, illegal_text}
+use Rattle.usage_report.specs.Report.{report, report_with}
+use Rattle.usage_report.specs.Lines.{run_text, trace_text, place_text, path_text, step_text, shown_text, count_text, head_text, broken_text, illegal_text}
 
 -- `.a` at 1:1, and at 2:1 `.a > b`
 abbrev names : List Named

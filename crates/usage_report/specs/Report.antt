@@ -1,121 +1,36 @@
--- The text of a report, whose answers are reportable on its items (`Reportable.antt`).
-use Rattle.std.specs.Prelude.{ℕ, ◌+◌, ◌-◌, ◌^◌, ◌==◌, if◌then◌else◌, List, [], ◌∷◌, ◌++◌, codes, get_or, map, Option, Some, None}
-use Rattle.std.specs.List.{flat_map}
-use Rattle.std.specs.Fmt.{decimal}
+-- The text of a report by its answers: that of their lines. The answers are reportable on its items (`Reportable.antt`).
+use Rattle.std.specs.Prelude.{ℕ, List, map, Option}
 use Rattle.tp_base.specs.Names.{Named}
-use Rattle.tp_base.specs.Places.{place_at}
 use Rattle.tp_base.specs.declared.places.Place.{Place}
-use Rattle.tree_sem.specs.declared.actions.Step.{Step}
-use Rattle.sel_text.specs.declared.faults.Skip.{Skip}
-use Rattle.sel_text.specs.declared.faults.Skip.TheVariants as cause
-use Rattle.sel_text.specs.SelectorText.{selector_text}
 use Rattle.css_read.specs.Sheets as sheets
 use Rattle.proof_check.specs.declared.unfolded.Unfolded.{Unfolded}
-use Rattle.usage_report.specs.RunTraces.{RunTrace, listed, stopped}
-use Rattle.usage_report.specs.Answers.{Answer, used, maybe, used_unshown, unused, skipped, spent}
+use Rattle.usage_report.specs.RunTraces.{RunTrace}
+use Rattle.usage_report.specs.Answers.{Answer, shown_of, line_of}
+use Rattle.usage_report.specs.Lines as says
+pub use Rattle.usage_report.specs.Lines.{place_text, path_text, statement_place, step_text, run_text, trace_text, illegal_text, count_text, cause_text, outcome_text, version, first_line, no_traces}
 
--- `line:column`
-unfoldable pub place_text : Place → List ℕ
-place_text place = decimal place.line ++ codes ":" ++ decimal place.column
+abbrev pub shown_text : List Place → Option Unfolded → Option RunTrace → List ℕ
+shown_text places shown trace = says.shown_text places (shown_of shown) trace
 
--- `/` for the root, else `/` before each child number
-unfoldable pub path_text : List ℕ → List ℕ
-path_text [] = codes "/"
-path_text (k ∷ at) = flat_map (λ n. codes "/" ++ decimal n) (k ∷ at)
+abbrev pub broken_text : List Place → Option Unfolded → Option ℕ → List ℕ
+broken_text places shown broken = says.broken_text places (shown_of shown) broken
 
--- the place of a statement, by its number
-abbrev pub statement_place : List Place → ℕ → Place
-statement_place places stmt = get_or places stmt (record { line = 1; column = 1 })
+abbrev pub head_text : List ℕ → List ℕ → List ℕ → Answer → List ℕ
+head_text text place selector a = says.head_text text place selector (line_of a)
 
--- a line for a step; statements are counted from 1
-unfoldable pub step_text : List Place → Step → List ℕ
-step_text places step =
-    codes "  " ++ decimal (step.stmt + 1) ++ codes " at " ++ place_text (statement_place places step.stmt) ++ codes " on " ++ path_text step.at ++ codes "\n"
-
--- a line for a run; statements are counted from 1
-unfoldable pub run_text : List Place → ℕ → List ℕ
-run_text places run = codes "  run " ++ decimal (run + 1) ++ codes " at " ++ place_text (statement_place places run) ++ codes "\n"
-
--- the runs and the match, or where they stop
-unfoldable pub trace_text : List Place → RunTrace → List ℕ
-trace_text places (listed runs at) = flat_map (run_text places) runs ++ codes "  match " ++ path_text at ++ codes "\n"
-trace_text places (stopped run) = codes "  runs stop at " ++ decimal run ++ codes "\n"
-
--- the steps and the match, or the runs in their place, or that they are not listed
-unfoldable pub shown_text : List Place → Option Unfolded → Option RunTrace → List ℕ
-shown_text places None trace = codes "  not listed\n"
-shown_text places (Some u) None = flat_map (step_text places) u.steps ++ codes "  match " ++ path_text u.at ++ codes "\n"
-shown_text places (Some u) (Some trace) = trace_text places trace
-
--- the step that isn't legal, counted from 1
-unfoldable pub illegal_text : ℕ → List ℕ
-illegal_text i = codes "  illegal at step " ++ decimal (i + 1) ++ codes "\n"
-
--- the steps and the one that isn't legal, or that they were not replayed
-unfoldable pub broken_text : List Place → Option Unfolded → Option ℕ → List ℕ
-broken_text places (Some u) (Some i) = flat_map (step_text places) u.steps ++ illegal_text i
-broken_text places shown broken = codes "  not replayed\n"
-
--- a number of steps, with `+` where it is the greatest that is counted and there may be more
-unfoldable pub count_text : ℕ → List ℕ
-count_text steps = decimal steps ++ (if steps == 2 ^ 64 - 1 then codes "+" else [])
-
-abbrev pub cause_text : Skip → List ℕ
-cause_text cause.Sibling = codes "sibling"
-cause_text cause.Pseudo = codes "pseudo"
-cause_text cause.Attribute = codes "attribute"
-cause_text cause.Escape = codes "escape"
-cause_text cause.Long = codes "long"
-cause_text cause.Bad = codes "bad"
-
--- the first line of an answer in a sheet of this text, for an item whose place and whose selector's text are these
-unfoldable pub head_text : List ℕ → List ℕ → List ℕ → Answer → List ℕ
-head_text text place selector (used proof steps shown) = place ++ codes " used " ++ count_text steps ++ codes " " ++ selector ++ codes "\n"
-head_text text place selector (maybe proof steps shown broken) = place ++ codes " maybe " ++ count_text steps ++ codes " " ++ selector ++ codes "\n"
-head_text text place selector used_unshown = place ++ codes " used-unshown " ++ selector ++ codes "\n"
-head_text text place selector unused = place ++ codes " unused " ++ selector ++ codes "\n"
-head_text text place selector (skipped cause at) = place ++ codes " skipped " ++ cause_text cause ++ codes " at " ++ place_text (place_at text at) ++ codes "\n"
-head_text text place selector spent = place ++ codes " spent " ++ selector ++ codes "\n"
-
--- a text, and behind it the lines of an answer's trace, if it has one
 abbrev pub with_trace : List Place → List ℕ → Answer → Option RunTrace → List ℕ
-with_trace places front (used proof steps shown) trace = front ++ shown_text places shown trace
-with_trace places front (maybe proof steps shown broken) trace = front ++ broken_text places shown broken
-with_trace places front _ trace = front
+with_trace places front a trace = says.with_trace places front (line_of a) trace
 
--- the lines of an answer
-abbrev pub answer_text : List ℕ → List Place → List ℕ → List ℕ → Answer → Option RunTrace → List ℕ
-answer_text text places place selector a trace = with_trace places (head_text text place selector a) a trace
-
--- the selector of an item that is judged
-abbrev pub outcome_text : List Named → sheets.Outcome → List ℕ
-outcome_text names (sheets.judged s) = selector_text names s
-outcome_text names (sheets.skipped cause at) = []
-
--- the lines of an item
 abbrev pub item_text : List ℕ → List Named → List Place → sheets.Item → Answer → Option RunTrace → List ℕ
-item_text text names places i a trace = answer_text text places (place_text (place_at text i.from)) (outcome_text names i.outcome) a trace
+item_text text names places i a trace = says.item_text text names places i (line_of a) trace
 
--- the lines of the items, each with its answer and, where runs stand in the place of its steps, these
 abbrev pub lines : List ℕ → List Named → List Place → List sheets.Item → List Answer → List (Option RunTrace) → List ℕ
-lines text names places (i ∷ items) (a ∷ answers) (trace ∷ traces) = item_text text names places i a trace ++ lines text names places items answers traces
-lines text names places _ _ _ = []
+lines text names places items answers traces = says.lines text names places items (map line_of answers) traces
 
--- what a report begins with: the command, and the version of the report's text
-abbrev pub version : List ℕ
-version = codes "treeped 2"
-
-abbrev pub first_line : List ℕ
-first_line = version ++ codes "\n"
-
--- a report on a sheet of this text with these traces
+-- with these traces
 abbrev pub report_with : List ℕ → List Named → List Place → sheets.Sheet → List Answer → List (Option RunTrace) → List ℕ
-report_with text names places sheet answers traces = first_line ++ lines text names places sheet.items answers traces
+report_with text names places sheet answers traces = says.report_with text names places sheet (map line_of answers) traces
 
--- no item has runs in the place of its steps
-abbrev pub no_traces : List sheets.Item → List (Option RunTrace)
-no_traces items = map (λ i. None) items
-
--- the report on a sheet of this text
+-- with the steps that the answers show
 abbrev pub report : List ℕ → List Named → List Place → sheets.Sheet → List Answer → List ℕ
-report text names places sheet answers = report_with text names places sheet answers (no_traces sheet.items)
+report text names places sheet answers = says.report text names places sheet (map line_of answers)

@@ -52,7 +52,7 @@ impl Piece {
     }
 
     /// `line:column`.
-    #[tactic(auto, unfolding(crate::specs::Report::place_text), using(std::proofs::Common::append_assoc))]
+    #[tactic(auto, unfolding(crate::specs::Lines::place_text), using(std::proofs::Common::append_assoc))]
     pub fn place(&mut self, place: Place) -> Result<(), NoMemory>
         ensures { OnOk result (self.new.bytes.items ≡ self.old.bytes.items ++ spec.place_text place) }
     {

@@ -2,8 +2,10 @@
 ghost use Rattle.std.specs.Prelude.{◌≡◌, ◌++◌, map, IfOk, OnOk, OnErr};
 ghost use Rattle.std.specs.Fmt.{decimal};
 ghost use Rattle.tp_io.specs.Sinks.{Adds, AddsPrefix, Rose};
+ghost use Rattle.usage_report.specs.Answers.{line_of};
+ghost use Rattle.usage_report.specs.Counts as spec;
+ghost use Rattle.usage_report.specs.Summary.{summary as summary_of};
 ghost use Rattle.usage_report.specs.Views.{answer_of};
-ghost use Rattle.usage_report.specs.Summary as spec;
 
 use crate::answers::Answer;
 use crate::faults::ReportFault;
@@ -24,7 +26,7 @@ pub(crate) enum Form {
 
 // Whether an answer is of a form.
 fn is_of(form: Form, answer: &Answer) -> bool
-    ensures { result ≡ spec.is_of form (answer_of answer.now) }
+    ensures { result ≡ spec.is_of form (line_of (answer_of answer.now)) }
 {
     match (form, answer) {
         (Form::Used, Answer::Used { .. }) => true,
@@ -39,7 +41,7 @@ fn is_of(form: Form, answer: &Answer) -> bool
 // How many answers are of a form.
 #[tactic(auto, using(crate::proofs::SeenLemmas::count_seen))]
 fn count_of(form: Form, answers: &[Answer]) -> usize
-    ensures { result ≡ spec.count_of form (map answer_of answers.now) }
+    ensures { result ≡ spec.count_of form (map line_of (map answer_of answers.now)) }
 {
     let mut count = 0;
     'answers: for answer in answers {
@@ -52,7 +54,7 @@ fn count_of(form: Form, answers: &[Answer]) -> usize
 
 // The steps of an answer.
 fn steps_of(answer: &Answer) -> u64
-    ensures { result ≡ spec.steps_of (answer_of answer.now) }
+    ensures { result ≡ spec.steps_of (line_of (answer_of answer.now)) }
 {
     match answer {
         Answer::Used { steps, .. } => *steps,
@@ -63,7 +65,7 @@ fn steps_of(answer: &Answer) -> u64
 // The steps of all answers, or the greatest number where they are more.
 #[tactic(auto, using(crate::proofs::SeenLemmas::sum_seen))]
 fn all_steps(answers: &[Answer]) -> u64
-    ensures { result ≡ spec.all_steps (map answer_of answers.now) }
+    ensures { result ≡ spec.all_steps (map line_of (map answer_of answers.now)) }
 {
     let mut sum = 0u64;
     'answers: for answer in answers {
@@ -79,16 +81,16 @@ fn put_count(
     form: Form,
     answers: &[Answer],
 ) -> Result<(), NoMemory>
-    ensures { OnOk result (piece.new.bytes.items ≡ piece.old.bytes.items ++ words.now ++ decimal (spec.count_of form (map answer_of answers.now))) }
+    ensures { OnOk result (piece.new.bytes.items ≡ piece.old.bytes.items ++ words.now ++ decimal (spec.count_of form (map line_of (map answer_of answers.now)))) }
 {
     piece.put(words)?;
     piece.number(count_of(form, answers) as u64)
 }
 
 // How many answers are of each form.
-#[tactic(auto, unfolding(crate::specs::Summary::with_counts))]
+#[tactic(auto, unfolding(crate::specs::Counts::with_counts))]
 fn put_counts(piece: &mut Piece, answers: &[Answer]) -> Result<(), NoMemory>
-    ensures { OnOk result (piece.new.bytes.items ≡ spec.with_counts piece.old.bytes.items (map answer_of answers.now)) }
+    ensures { OnOk result (piece.new.bytes.items ≡ spec.with_counts piece.old.bytes.items (map line_of (map answer_of answers.now))) }
 {
     put_count(piece, b", used ", Form::Used, answers)?;
     put_count(piece, b", used-unshown ", Form::UsedUnshown, answers)?;
@@ -98,9 +100,9 @@ fn put_counts(piece: &mut Piece, answers: &[Answer]) -> Result<(), NoMemory>
 }
 
 // `gen 20: selectors 80, used 60, used-unshown 0, unused 20, skipped 0, spent 0, steps 840`, say.
-#[tactic(auto, unfolding(crate::specs::Summary::summary))]
+#[tactic(auto, unfolding(crate::specs::Counts::summary))]
 fn summary(alloc: Global, n: u32, answers: &[Answer]) -> Result<Piece, NoMemory>
-    ensures { IfOk result (λ p. p.bytes.items ≡ spec.summary n (map answer_of answers.now)) }
+    ensures { IfOk result (λ p. p.bytes.items ≡ spec.summary n (map line_of (map answer_of answers.now))) }
 {
     let mut piece = Piece::new(alloc);
     piece.put(b"gen ")?;
@@ -121,8 +123,8 @@ pub fn write_summary<O: Sink>(
     answers: &[Answer],
     out: &mut O,
 ) -> Result<(), ReportFault>
-    ensures ok { OnOk result (Adds (O.written out.old) (O.written out.new) (spec.summary n (map answer_of answers.now))) }
-    ensures err { OnErr result (AddsPrefix (O.written out.old) (O.written out.new) (spec.summary n (map answer_of answers.now))) }
+    ensures ok { OnOk result (Adds (O.written out.old) (O.written out.new) (summary_of n (map answer_of answers.now))) }
+    ensures err { OnErr result (AddsPrefix (O.written out.old) (O.written out.new) (summary_of n (map answer_of answers.now))) }
     ensures write { result ≡ Err ReportFault.Write → Rose (O.faults out.old) (O.faults out.new) }
 {
     let piece = summary(alloc, n, answers)?;

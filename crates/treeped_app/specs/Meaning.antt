@@ -1,0 +1,238 @@
+-- What a run promises where it comes with a report, for whoever knows pages, sheets and scripts, and no prover. The words of the command
+-- line order a mode; the files that they name are read as a page, a sheet and the statements of a script; and each line that is written is
+-- so. What follows is the whole of it: one record a mode, one field a sentence.
+--     NeverMatches i s       no steps and losses from the page lead to a node that the selector matches
+--     LeadsTo i s x          the steps of x are the script's own, and at their end the selector matches the node of x
+--     MeansLine i item line  what a line says of an item of the sheet
+--     MeansReport, MeansPruned, MeansDead, MeansRuns, MeansSite, MeansSitePruned, MeansRing      what each mode writes
+--     Means                  a status of a report comes only with such a text
+use Rattle.std.specs.Prelude.{◌≡◌, ◌⊎◌, ◌↔◌, ℕ, ◌+◌, ◌-◌, ◌<◌, min, Bool, true, false, List, [], ◌∷◌, ◌++◌, length, map, Contains, Option, Some, None, slice_get, Ok}
+use Rattle.tp_base.specs.Names.{Named}
+use Rattle.tp_io.specs.Sinks.{Adds}
+use Rattle.tree_sem.specs.Trees.{LabelTree}
+use Rattle.tree_sem.specs.declared.actions.Event.{Event}
+use Rattle.tree_sem.specs.declared.actions.Step.{Step}
+use Rattle.sel_core.specs.Selectors.{Matches}
+use Rattle.sel_text.specs.Selectors.{Selector}
+use Rattle.sel_text.specs.declared.faults.Skip.{Skip}
+use Rattle.css_read.specs.Effects.{effect}
+use Rattle.css_read.specs.Pruned.{pruned}
+use Rattle.css_read.specs.Reading.{read_sheet}
+use Rattle.css_read.specs.Sheets as sheets
+use Rattle.css_prune.specs.NodeEffects.{Tells}
+use Rattle.jq_stmts.specs.Sharp.{wides}
+use Rattle.jq_stmts.specs.Statements.{Statement}
+use Rattle.jq_sem.specs.Events.{end_of_events}
+use Rattle.jq_sem.specs.Reachability.{AreLegal, end_of}
+use Rattle.jq_exact.specs.Events.{AreLegalExactEvents}
+use Rattle.jq_exact.specs.Exact.{AreLegalExactly, IsBrokenAt}
+use Rattle.usage_report.specs.Counts.{summary}
+use Rattle.usage_report.specs.Lines.{Shown, Line, used, maybe, used_unshown, unused, skipped, MOST_COUNT, report, report_with}
+use Rattle.usage_report.specs.RunTraces.{RunTrace}
+use Rattle.run_trace.specs.Replays.{IsRunTrace}
+use Rattle.dead_script.specs.Liveness as statement
+use Rattle.dead_script.specs.VerdictLines.{Verdict, live, live_unshown, dead_at_handler, is_dead, verdict_lines}
+use Rattle.site_judge.specs.SiteLines.{Best, site_report}
+use Rattle.command_words.specs.declared.words.Mode.{Mode}
+use Rattle.command_words.specs.declared.words.Mode.TheVariants.{Prune, Dead, Runs, SitePrune}
+use Rattle.run_ends.specs.declared.status.Status.{Status}
+use Rattle.run_ends.specs.declared.status.Status.TheVariants as status
+use Rattle.treeped_app.specs.Readings.{Texts, Inputs, places_of, read_inputs, Told, AreHeld, ring_texts}
+use Rattle.treeped_app.specs.Tasks.{Source, one, several, ring, Task, command}
+
+-- Each of the first has one of the second, in the same order, and there are no others.
+abbrev pub Each : {A B : Type 0} → (A → B → Type 0) → List A → List B → Type 0
+Each R [] [] = Unit {0}
+Each R (a ∷ others) (b ∷ bs) = R a b × Each R others bs
+Each R _ _ = ⊥
+
+-- ---- what is said of a selector
+
+-- What the script's statements make of the page by these steps; and by such steps with classes and nodes lost between them.
+abbrev pub tree_by : Inputs → List Step → LabelTree
+tree_by i steps = end_of i.tree (wides i.exact) steps
+
+abbrev pub tree_after : Inputs → List Event → LabelTree
+tree_after i events = end_of_events i.tree (wides i.exact) events
+
+-- Whatever steps the script takes, each of them by a call on a node that it selects then, and whatever is lost between them: no node
+-- matches.
+abbrev pub NeverMatches : Inputs → Selector → Type 0
+NeverMatches i s = (events : List Event) → AreLegalExactEvents i.tree i.exact events → (v : List ℕ) → ¬ Matches (tree_after i events) v s
+
+-- Each step is one that the script takes, in the tree before it, and at their end the selector matches the node.
+pub record LeadsTo (i : Inputs) (s : Selector) (x : Shown) : Type 0 where
+  pub legal : AreLegalExactly i.tree i.exact x.steps
+  pub matches : Matches (tree_by i x.steps) x.at s
+
+-- The same by calls that may select more than the script's own, as those that are judged in their place.
+pub record MayLeadTo (i : Inputs) (s : Selector) (x : Shown) : Type 0 where
+  pub legal : AreLegal i.tree i.stmts x.steps
+  pub matches : Matches (end_of i.tree i.stmts x.steps) x.at s
+
+-- the number of the steps, or the greatest number that is counted
+abbrev pub IsCountOf : List Step → ℕ → Type 0
+IsCountOf steps count = count ≡ min (length steps) MOST_COUNT
+
+-- What a line says of its item.
+pub record MeansLine (i : Inputs) (item : sheets.Item) (line : Line) : Type 0 where
+  -- `unused`: on no tree that the script makes of the page does the selector match a node, even where classes and nodes were lost.
+  pub unused : (s : Selector) → item.outcome ≡ sheets.judged s → line ≡ unused → NeverMatches i s
+  -- `used`: so many steps of the script lead to a node that it matches.
+  pub counted : (s : Selector) (count : ℕ) (shown : Option Shown) → item.outcome ≡ sheets.judged s → line ≡ used count shown → (x : Shown) × LeadsTo i s x × IsCountOf x.steps count
+  -- And those that are listed do.
+  pub listed : (s : Selector) (count : ℕ) (x : Shown) → item.outcome ≡ sheets.judged s → line ≡ used count (Some x) → LeadsTo i s x × IsCountOf x.steps count
+  -- `maybe`: so many steps lead there by calls that may select more than the script's own.
+  pub doubted : (s : Selector) (count : ℕ) (shown : Option Shown) (broken : Option ℕ) → item.outcome ≡ sheets.judged s → line ≡ maybe count shown broken → (x : Shown) × MayLeadTo i s x × IsCountOf x.steps count
+  -- And of those that are listed the one that is named is the first that the script doesn't take.
+  pub broken : (s : Selector) (count : ℕ) (x : Shown) (k : ℕ) → item.outcome ≡ sheets.judged s → line ≡ maybe count (Some x) (Some k) → MayLeadTo i s x × IsBrokenAt i.tree i.exact x.steps k
+  -- `used-unshown`: some steps lead there by such calls.
+  pub unshown : (s : Selector) → item.outcome ≡ sheets.judged s → line ≡ used_unshown → (x : Shown) × MayLeadTo i s x
+  -- `skipped`: the item isn't read as a selector that is judged, for this cause; and each such item is skipped.
+  pub left_out : (cause : Skip) (at : ℕ) → (line ≡ skipped cause at) ↔ (item.outcome ≡ sheets.skipped cause at)
+
+-- ---- one page
+
+-- Without options: each item of the sheet has its line, once, in the sheet's order.
+pub record MeansReport (x : Texts) (i : Inputs) (text : List ℕ) : Type 0 where
+  pub lines : List Line
+  pub written : text ≡ report x.sheet i.names (places_of i) i.sheet lines
+  pub each : Each (MeansLine i) i.sheet.items lines
+
+-- What is left of a sheet is read, and does at each node of each tree that the script makes of the page, even where classes and nodes were
+-- lost, what the whole sheet does: the same selectors match, in the same order, each with its block and the at-rules round it.
+pub record DoesTheSame (x : Texts) (i : Inputs) (left : List ℕ) : Type 0 where
+  pub names : List Named
+  pub later : List Named
+  pub read : read_sheet x.sheet names ≡ (later, Ok i.sheet)
+  pub again : sheets.Sheet
+  pub read_again : read_sheet left later ≡ (later, Ok again)
+  pub effects : (events : List Event) → AreLegalExactEvents i.tree i.exact events → (v : List ℕ) (test : Selector → Bool) → Tells (tree_after i events) v test → effect test left again ≡ effect test x.sheet i.sheet
+
+abbrev pub is_unused : Line → Bool
+is_unused unused = true
+is_unused _ = false
+
+-- `--prune`: the sheet without the selectors that are unused, and what is left does the same.
+pub record MeansPruned (x : Texts) (i : Inputs) (text : List ℕ) : Type 0 where
+  pub lines : List Line
+  pub each : Each (MeansLine i) i.sheet.items lines
+  pub written : text ≡ pruned x.sheet i.sheet (map is_unused lines)
+  pub same : DoesTheSame x i text
+
+-- What a line says of a statement.
+pub record MeansStatement (i : Inputs) (s : Statement) (v : Verdict) : Type 0 where
+  -- `dead`: on no tree that the script makes of the page does the statement select a node, even where classes and nodes were lost.
+  pub dead : is_dead v ≡ true → ¬ statement.LiveWithLosses i.tree i.stmts s
+  -- `at handler`: the handler that is named never runs, and those round it do.
+  pub at_handler : (k : ℕ) → v ≡ dead_at_handler k → (j : ℕ) × (k ≡ j + 1) × statement.IsFirstDead i.tree i.stmts s j
+  -- `live`: some steps lead to a node that it selects.
+  pub lives : (count : ℕ) (shown : Option Shown) → v ≡ live count shown → statement.Live i.tree i.stmts s
+  -- And those that are listed do.
+  pub listed : (count : ℕ) (x : Shown) → v ≡ live count (Some x) → statement.LeadsTo i.tree i.stmts s x
+  -- `live-unshown`: so do some.
+  pub unshown : v ≡ live_unshown → statement.Live i.tree i.stmts s
+
+-- `--dead`: the report, and then a line for each statement of the script, in its order.
+pub record MeansDead (x : Texts) (i : Inputs) (text : List ℕ) : Type 0 where
+  pub front : List ℕ
+  pub reported : MeansReport x i front
+  pub verdicts : List Verdict
+  pub written : text ≡ front ++ verdict_lines i.stmts verdicts
+  pub each : Each (MeansStatement i) i.stmts verdicts
+
+-- `--runs`: the report, in which whole runs stand in the place of steps: those of the steps' statements, one after another, and the first
+-- node that the selector matches then; or the run after which the page is too large.
+pub record MeansRuns (x : Texts) (i : Inputs) (text : List ℕ) : Type 0 where
+  pub lines : List Line
+  pub traces : List (Option RunTrace)
+  pub written : text ≡ report_with x.sheet i.names (places_of i) i.sheet lines traces
+  pub each : Each (MeansLine i) i.sheet.items lines
+  pub runs : (k : ℕ) (item : sheets.Item) (line : Line) (r : RunTrace) → slice_get i.sheet.items k ≡ Some item → slice_get lines k ≡ Some line → slice_get traces k ≡ Some (Some r)
+      → (s : Selector) × (count : ℕ) × (x : Shown) × (item.outcome ≡ sheets.judged s) × (line ≡ used count (Some x)) × IsRunTrace i.tree i.stmts s x.steps r
+
+abbrev pub MeansPage : Mode → Texts → Inputs → List ℕ → Type 0
+MeansPage Prune x i text = MeansPruned x i text
+MeansPage Dead x i text = MeansDead x i text
+MeansPage Runs x i text = MeansRuns x i text
+MeansPage _ x i text = MeansReport x i text
+
+-- ---- several pages
+
+-- a page's texts, and what is read of them
+abbrev pub Page : Type 0
+Page = Texts × Inputs
+
+-- What a line says of the k-th item of a sheet that several pages use.
+pub record MeansBest (pages : List Page) (k : ℕ) (b : Best) : Type 0 where
+  -- `unused`: on no page does its selector ever match a node.
+  pub unused : b.line ≡ unused → (p : Page) → Contains pages p → (item : sheets.Item) × (s : Selector) × (slice_get p.1.sheet.items k ≡ Some item) × (item.outcome ≡ sheets.judged s) × NeverMatches p.1 s
+  -- It is of the page that is named, counted from 1, and so on this page.
+  pub page : Page
+  pub named : (0 < b.page) × (slice_get pages (b.page - 1) ≡ Some page)
+  pub item : sheets.Item
+  pub there : slice_get page.1.sheet.items k ≡ Some item
+  pub line : MeansLine page.1 item b.line
+
+-- the last of the pages, by whose names the report is written
+pub record IsLast (pages : List Page) (p : Page) : Type 0 where
+  pub before : List Page
+  pub is : pages ≡ before ++ p ∷ []
+
+-- `--site`: each item of the sheet has its line, once, in the sheet's order.
+pub record MeansSite (pages : List Page) (text : List ℕ) : Type 0 where
+  pub bests : List Best
+  pub last : Page
+  pub is_last : IsLast pages last
+  pub written : text ≡ site_report last.0.sheet last.1.names (map (λ (p : Page). places_of p.1) pages) last.1.sheet (length pages) bests
+  pub one_each : length bests ≡ length last.1.sheet.items
+  pub each : (k : ℕ) (b : Best) → slice_get bests k ≡ Some b → MeansBest pages k b
+
+-- `--site --prune`: the sheet without what no page uses, and what is left does the same on each page.
+pub record MeansSitePruned (pages : List Page) (text : List ℕ) : Type 0 where
+  pub bests : List Best
+  pub last : Page
+  pub is_last : IsLast pages last
+  pub one_each : length bests ≡ length last.1.sheet.items
+  pub each : (k : ℕ) (b : Best) → slice_get bests k ≡ Some b → MeansBest pages k b
+  pub written : text ≡ pruned last.0.sheet last.1.sheet (map (λ (b : Best). is_unused b.line) bests)
+  pub same : (p : Page) → Contains pages p → DoesTheSame p.0 p.1 text
+
+abbrev pub MeansPages : Mode → List Page → List ℕ → Type 0
+MeansPages SitePrune pages text = MeansSitePruned pages text
+MeansPages _ pages text = MeansSite pages text
+
+-- ---- a ring of boxes
+
+-- `--gen`: one line, which counts such lines for the sheet of a ring of k boxes.
+pub record MeansRing (k : ℕ) (i : Inputs) (text : List ℕ) : Type 0 where
+  pub lines : List Line
+  pub written : text ≡ summary k lines
+  pub each : Each (MeansLine i) i.sheet.items lines
+
+-- ---- a run
+
+-- the texts of the page of this number are those that the three names hold, and are read as these inputs
+pub record IsPage (told : Told) (m : Mode) (number : Option ℕ) (page sheet script : List ℕ) (p : Page) : Type 0 where
+  pub held : AreHeld told (record { page = page; sheet = sheet; script = script }) p.0
+  pub read : read_inputs m number p.0 ≡ Ok p.1
+
+-- the pages of a site, from the k-th on, with one sheet
+abbrev pub ArePages : Told → Mode → (sheet : List ℕ) → ℕ → List (List ℕ × List ℕ) → List Page → Type 0
+ArePages told m sheet k [] [] = Unit {0}
+ArePages told m sheet k ((page, script) ∷ pairs) (p ∷ pages) = IsPage told m (Some k) page sheet script p × ArePages told m sheet (k + 1) pairs pages
+ArePages told m sheet k _ _ = ⊥
+
+-- what is written, by where the texts come from
+abbrev pub MeansFrom : Told → Source → Mode → List ℕ → Type 0
+MeansFrom told (one n) m text = (p : Page) × IsPage told m None n.page n.sheet n.script p × MeansPage m p.0 p.1 text
+MeansFrom told (several sheet pairs) m text = (pages : List Page) × ArePages told m sheet 1 pairs pages × MeansPages m pages text
+MeansFrom told (ring k) m text = (i : Inputs) × (read_inputs m None (ring_texts k) ≡ Ok i) × MeansRing k i text
+
+-- a status that comes with a report: 0, 1 and 7
+abbrev pub Reports : Status → Type 0
+Reports s = (s ≡ status.Complete) ⊎ (s ≡ status.Unused) ⊎ (s ≡ status.Budget)
+
+-- With such a status the words order a task, and what standard output got, which held the one and now holds the other, is such a text.
+abbrev pub Means : Told → (words : List (List ℕ)) → (held held' : Option (List ℕ)) → Status → Type 0
+Means told words held held' s = Reports s → (t : Task) × (command words ≡ Some t) × (text : List ℕ) × Adds held held' text × MeansFrom told t.source t.mode text
