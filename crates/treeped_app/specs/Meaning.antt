@@ -1,6 +1,9 @@
 -- What a run promises where it comes with a report, for whoever knows pages, sheets and scripts, and no prover. The words of the command
 -- line order a mode; the files that they name are read as a page, a sheet and the statements of a script; and each line that is written is
--- so. What follows is the whole of it: one record a mode, one field a sentence.
+-- so. What follows is the whole of it: one record a mode, one field a sentence. `(x : A) × B` says that there is an x of A for which B
+-- holds. How the three files are read (`read_inputs`), how a line is spelled (`report`) and which of the three statuses comes
+-- (`Modes`) is said elsewhere. Of the inputs `exact` are the statements as they stand in the script, and `stmts` are those that are
+-- judged in their place: the same, but for calls of `closest`, `siblings` and `first`, in whose place stand calls that select more.
 --     NeverMatches i s       no steps and losses from the page lead to a node that the selector matches
 --     LeadsTo i s x          the steps of x are the script's own, and at their end the selector matches the node of x
 --     MeansLine i item line  what a line says of an item of the sheet
@@ -48,15 +51,15 @@ Each R _ _ = ⊥
 
 -- ---- what is said of a selector
 
--- What the script's statements make of the page by these steps; and by such steps with classes and nodes lost between them.
+-- The page after these steps; and after steps with losses between them. A step does what its call does, at one node.
 abbrev pub tree_by : Inputs → List Step → LabelTree
 tree_by i steps = end_of i.tree (wides i.exact) steps
 
 abbrev pub tree_after : Inputs → List Event → LabelTree
 tree_after i events = end_of_events i.tree (wides i.exact) events
 
--- Whatever steps the script takes, each of them by a call on a node that it selects then, and whatever is lost between them: no node
--- matches.
+-- Start from the page, and let the script's calls act, in any order and any number of times, each on a node that it selects at that moment;
+-- between them any atoms of a node (a class, an id, an attribute) and any nodes may go away. No node ever matches.
 abbrev pub NeverMatches : Inputs → Selector → Type 0
 NeverMatches i s = (events : List Event) → AreLegalExactEvents i.tree i.exact events → (v : List ℕ) → ¬ Matches (tree_after i events) v s
 
@@ -65,7 +68,7 @@ pub record LeadsTo (i : Inputs) (s : Selector) (x : Shown) : Type 0 where
   pub legal : AreLegalExactly i.tree i.exact x.steps
   pub matches : Matches (tree_by i x.steps) x.at s
 
--- The same by calls that may select more than the script's own, as those that are judged in their place.
+-- The same by the statements that are judged, whose calls may select more than the script's own.
 pub record MayLeadTo (i : Inputs) (s : Selector) (x : Shown) : Type 0 where
   pub legal : AreLegal i.tree i.stmts x.steps
   pub matches : Matches (end_of i.tree i.stmts x.steps) x.at s
@@ -74,13 +77,14 @@ pub record MayLeadTo (i : Inputs) (s : Selector) (x : Shown) : Type 0 where
 abbrev pub IsCountOf : List Step → ℕ → Type 0
 IsCountOf steps count = count ≡ min (length steps) MOST_COUNT
 
--- What a line says of its item.
+-- What a line says of its item, which is one selector of a list in the sheet. It is about this page with this script. Of a line that isn't
+-- named here nothing is promised.
 pub record MeansLine (i : Inputs) (item : sheets.Item) (line : Line) : Type 0 where
   -- `unused`: on no tree that the script makes of the page does the selector match a node, even where classes and nodes were lost.
   pub unused : (s : Selector) → item.outcome ≡ sheets.judged s → line ≡ unused → NeverMatches i s
   -- `used`: so many steps of the script lead to a node that it matches.
   pub counted : (s : Selector) (count : ℕ) (shown : Option Shown) → item.outcome ≡ sheets.judged s → line ≡ used count shown → (x : Shown) × LeadsTo i s x × IsCountOf x.steps count
-  -- And those that are listed do.
+  -- Steps that are listed lead to the node on the line `match`. There may be other steps, and fewer.
   pub listed : (s : Selector) (count : ℕ) (x : Shown) → item.outcome ≡ sheets.judged s → line ≡ used count (Some x) → LeadsTo i s x × IsCountOf x.steps count
   -- `maybe`: so many steps lead there by calls that may select more than the script's own.
   pub doubted : (s : Selector) (count : ℕ) (shown : Option Shown) (broken : Option ℕ) → item.outcome ≡ sheets.judged s → line ≡ maybe count shown broken → (x : Shown) × MayLeadTo i s x × IsCountOf x.steps count
@@ -88,7 +92,8 @@ pub record MeansLine (i : Inputs) (item : sheets.Item) (line : Line) : Type 0 wh
   pub broken : (s : Selector) (count : ℕ) (x : Shown) (k : ℕ) → item.outcome ≡ sheets.judged s → line ≡ maybe count (Some x) (Some k) → MayLeadTo i s x × IsBrokenAt i.tree i.exact x.steps k
   -- `used-unshown`: some steps lead there by such calls.
   pub unshown : (s : Selector) → item.outcome ≡ sheets.judged s → line ≡ used_unshown → (x : Shown) × MayLeadTo i s x
-  -- `skipped`: the item isn't read as a selector that is judged, for this cause; and each such item is skipped.
+  -- `skipped`: the item isn't read as a selector that is judged, for this cause; and each such item is skipped. Whether it
+  -- matches isn't said.
   pub left_out : (cause : Skip) (at : ℕ) → (line ≡ skipped cause at) ↔ (item.outcome ≡ sheets.skipped cause at)
 
 -- ---- one page
@@ -128,9 +133,9 @@ pub record MeansStatement (i : Inputs) (s : Statement) (v : Verdict) : Type 0 wh
   pub at_handler : (k : ℕ) → v ≡ dead_at_handler k → (j : ℕ) × (k ≡ j + 1) × statement.IsFirstDead i.tree i.stmts s j
   -- `live`: some steps lead to a node that it selects.
   pub lives : (count : ℕ) (shown : Option Shown) → v ≡ live count shown → statement.Live i.tree i.stmts s
-  -- And those that are listed do.
+  -- Steps that are listed lead to a node that it selects.
   pub listed : (count : ℕ) (x : Shown) → v ≡ live count (Some x) → statement.LeadsTo i.tree i.stmts s x
-  -- `live-unshown`: so do some.
+  -- `live-unshown`: some steps lead to such a node; none is listed.
   pub unshown : v ≡ live_unshown → statement.Live i.tree i.stmts s
 
 -- `--dead`: the report, and then a line for each statement of the script, in its order.
@@ -167,7 +172,7 @@ Page = Texts × Inputs
 pub record MeansBest (pages : List Page) (k : ℕ) (b : Best) : Type 0 where
   -- `unused`: on no page does its selector ever match a node.
   pub unused : b.line ≡ unused → (p : Page) → Contains pages p → (item : sheets.Item) × (s : Selector) × (slice_get p.1.sheet.items k ≡ Some item) × (item.outcome ≡ sheets.judged s) × NeverMatches p.1 s
-  -- It is of the page that is named, counted from 1, and so on this page.
+  -- The line names a page, counted from 1, and is true of that page.
   pub page : Page
   pub named : (0 < b.page) × (slice_get pages (b.page - 1) ≡ Some page)
   pub item : sheets.Item
@@ -233,6 +238,6 @@ MeansFrom told (ring k) m text = (i : Inputs) × (read_inputs m None (ring_texts
 abbrev pub Reports : Status → Type 0
 Reports s = (s ≡ status.Complete) ⊎ (s ≡ status.Unused) ⊎ (s ≡ status.Budget)
 
--- With such a status the words order a task, and what standard output got, which held the one and now holds the other, is such a text.
+-- With such a status the words order a task, and exactly such a text was added to what standard output held.
 abbrev pub Means : Told → (words : List (List ℕ)) → (held held' : Option (List ℕ)) → Status → Type 0
 Means told words held held' s = Reports s → (t : Task) × (command words ≡ Some t) × (text : List ℕ) × Adds held held' text × MeansFrom told t.source t.mode text
