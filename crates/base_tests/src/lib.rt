@@ -1,4 +1,4 @@
-//! Tests of sets, trees, selectors and diagrams, as a caller sees them.
+//! Tests of class sets, trees, selectors, and diagrams of two atoms.
 #![tactic(auto)]
 
 #[cfg(test)]

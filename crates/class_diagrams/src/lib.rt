@@ -1,4 +1,4 @@
-//! Reduced ordered decision diagrams of monotone conditions on class sets. Equal diagrams have equal references.
+//! Reduced ordered decision diagrams of monotone conditions, with their unique table and memo. Equal diagrams have equal references.
 #![tactic(auto)]
 
 mod atom_sets;

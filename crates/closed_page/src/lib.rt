@@ -1,4 +1,4 @@
-//! A closed page: its nodes by number, their labels, and the first round of each atom.
+//! The page with its least fixpoint: each node's label, and the round in which each atom came.
 #![tactic(auto)]
 
 mod closed;

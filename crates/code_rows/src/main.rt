@@ -1,5 +1,6 @@
-//! Reads the examples of a table, a line each, and prints the tokens of each below it, as `code_tokens` reads them, and the offsets at
-//! which it isn't sure what is meant. A line that begins with `# ` is a heading.
+//! A table of tokens of real JavaScript, run as a program. Reads the examples of a table, a line each, and prints the tokens of
+//! each below it, as `code_tokens` reads them, and the offsets at which it isn't sure what is meant. A line that begins with `# `
+//! is a heading.
 #![tactic(auto)]
 
 mod tokens;

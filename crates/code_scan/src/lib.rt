@@ -1,4 +1,4 @@
-//! What stands at each place of JavaScript as it is written: no code is refused, and each place at which it isn't sure what is meant is told.
+//! The scanner of real JavaScript: tokens, and the places where it can't be sure.
 #![tactic(auto)]
 
 mod blanks;

@@ -1,4 +1,4 @@
-//! The tokens of JavaScript as it is written, with members that texts ask for, and for each bracket the other one.
+//! Brackets of real JavaScript, and members by a text in brackets.
 #![tactic(auto)]
 
 mod code;

@@ -1,4 +1,4 @@
-//! The command line, read through a command of `clap`.
+//! The command line's options and names, read through `clap`.
 #![tactic(auto)]
 
 mod command;

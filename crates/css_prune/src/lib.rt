@@ -1,4 +1,4 @@
-//! Sheets without their unused selectors.
+//! A sheet without its unused selectors, and why it has the same effects.
 #![tactic(auto)]
 
 mod copying;

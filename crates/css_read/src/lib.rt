@@ -1,4 +1,4 @@
-//! Sheets: which selectors stand in one, where, and in which rule.
+//! The parser of sheets: rules, at-rules and the place of each selector.
 #![tactic(auto)]
 
 mod brackets;

@@ -1,4 +1,4 @@
-//! Composition of decision diagrams, the atoms that a diagram looks at, and its size.
+//! Simultaneous composition of diagrams, the atoms that they look at, their size.
 #![tactic(auto)]
 
 mod branches;

@@ -1,5 +1,4 @@
-//! Tests of statements with sharper calls: what they select, lists of their steps, what is said of answers then, and the
-//! guards that they are judged by.
+//! Tests of `closest`, `siblings` and `first`, and of answers that are settled by them.
 #![tactic(auto)]
 
 #[cfg(test)]

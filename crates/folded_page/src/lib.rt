@@ -1,4 +1,4 @@
-//! The quotient of a page in which like children of one node are folded to one.
+//! A page whose children that are alike are folded to one.
 #![tactic(auto)]
 
 mod building;

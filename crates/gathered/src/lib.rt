@@ -1,4 +1,4 @@
-//! Atoms that come in no order, and the set of them.
+//! Atoms as they come, and the set of them, made by one sort.
 #![tactic(auto)]
 
 mod gathered;

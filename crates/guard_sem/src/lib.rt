@@ -1,4 +1,4 @@
-//! Guards: what is asked of a node and of those round it, what a selector asks, and where a guard holds.
+//! Guards, which are positive formulas over a tree, where they hold, and a selector as a guard.
 #![tactic(auto)]
 
 mod copying;

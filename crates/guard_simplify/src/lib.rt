@@ -1,4 +1,4 @@
-//! The translation of rules and guards to a simple system, whose rules look at one node and a neighbour.
+//! The translation of rules and guards into one simple system, with its law.
 #![tactic(auto)]
 
 mod asked;

@@ -1,4 +1,4 @@
-//! The parser of pages and markup, from tokens to trees.
+//! The parser of pages and markup, from tokens to a tree.
 #![tactic(auto)]
 
 mod builder;

@@ -1,4 +1,4 @@
-//! The stack of a page's open elements: which of them a tag closes, and where a start tag's element goes.
+//! The stack of open elements: what a tag closes, what it implies, where its element goes.
 #![tactic(auto)]
 
 mod elements;

@@ -1,4 +1,4 @@
-//! Chains while they are read: persistent lists of calls, of which several chains share the beginning.
+//! Chains while they are read: lists of calls that several chains share.
 #![tactic(auto)]
 
 mod marked_calls;

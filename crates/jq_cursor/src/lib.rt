@@ -1,4 +1,4 @@
-//! A position among the words of a script, and how arguments are read there.
+//! A position among a script's words, and how arguments are read there.
 #![tactic(auto)]
 
 mod argument_lists;

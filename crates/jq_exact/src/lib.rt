@@ -1,4 +1,4 @@
-//! The exact semantics of statements with sharp calls, and how it compares to the wider calls that are judged.
+//! `closest`, `siblings` and `first`, exactly, and the replay of traces by them.
 #![tactic(auto)]
 
 mod evaluation;

@@ -1,4 +1,4 @@
-//! Which form a statement has, by its first words; which values are chains; lists of expressions without effect.
+//! Which form a statement has, by its first words.
 #![tactic(auto)]
 
 mod forms;

@@ -1,4 +1,4 @@
-//! Parts of a script's chains: what a name is bound to, what a chain begins with, the calls behind it, and the statements that it makes.
+//! Scopes, bound names, what a chain begins with, where a call may stand, markup in strings.
 #![tactic(auto)]
 
 mod arguments;

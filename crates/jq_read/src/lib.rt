@@ -1,4 +1,4 @@
-//! The parser of scripts: the statements that a page's jQuery code makes.
+//! The parser of scripts: functions, chains, declarations, statements.
 #![tactic(auto)]
 
 mod arguments;

@@ -1,4 +1,4 @@
-//! Statements of a script: which nodes one selects, and what it makes of a tree.
+//! The semantics of statements: what they select, legal steps, reachability, losses, whole runs.
 #![tactic(auto)]
 
 mod actions;

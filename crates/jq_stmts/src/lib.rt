@@ -1,4 +1,4 @@
-//! Statements of a script, as they are read.
+//! The syntax tree of a script: chains, handlers, actions, and calls that are judged by wider ones.
 #![tactic(auto)]
 
 mod chains;

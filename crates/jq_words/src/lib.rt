@@ -1,5 +1,4 @@
-//! A script as words, and what needs no names to be read: brackets, joined strings, expressions of no effect, the table of
-//! jQuery's calls.
+//! A script as words: brackets, joined strings, expressions of no effect, and the table of jQuery's calls.
 #![tactic(auto)]
 
 mod brackets;

@@ -1,4 +1,4 @@
-//! The scanner of scripts: names, numbers, strings with their escapes decoded, and marks.
+//! The scanner of scripts: tokens, comments, strings and their escapes.
 #![tactic(auto)]
 
 mod bytes;

@@ -1,4 +1,4 @@
-//! What a script's statements can do to a page, and what is said of the selectors of a sheet.
+//! From statements and selectors to answers: translation, fixpoint, proofs, and the laws that tie them.
 #![tactic(auto)]
 
 mod answering;

@@ -1,4 +1,4 @@
-//! Tests of what is said of the selectors of a sheet, and of further guards.
+//! Tests of answers by both engines, and at the limits of a system.
 #![tactic(auto)]
 
 #[cfg(test)]

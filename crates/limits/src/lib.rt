@@ -1,4 +1,4 @@
-//! How much a run may work out, how much it lists, and how many pages a site has.
+//! The budgets of a run, with their ranges and their standard values.
 #![tactic(auto)]
 
 mod budgets;

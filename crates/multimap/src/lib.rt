@@ -1,4 +1,4 @@
-//! A map from each key to a list of values.
+//! For each key a list of values.
 #![tactic(auto)]
 
 mod multimap;

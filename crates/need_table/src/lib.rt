@@ -1,4 +1,4 @@
-//! Summaries by a worklist over a table of pairs: the engine of `--plain`.
+//! Summaries of added nodes by a worklist over pairs of a kind and a label.
 #![tactic(auto)]
 
 mod agenda;

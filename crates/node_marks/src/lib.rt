@@ -1,4 +1,5 @@
-//! Sets of a tree's nodes as bit vectors by node number. A step up or down maps one set to another, for all nodes at once.
+//! Sets of a tree's nodes as marks by number, and steps from one set to another. A step up or down maps one set to another, for
+//! all nodes at once.
 #![tactic(auto)]
 
 mod marks;

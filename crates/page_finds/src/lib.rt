@@ -1,4 +1,4 @@
-//! Places of a page at which a browser does more than the model of the report.
+//! Places of a page at which a browser does more than the model.
 #![tactic(auto)]
 
 mod pages;

@@ -1,4 +1,4 @@
-//! A hash table whose keys are pairs of a kind and a label.
+//! Rows by a kind and a label, each found by a hash of the two.
 #![tactic(auto)]
 
 mod pairs;

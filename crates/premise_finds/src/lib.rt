@@ -1,4 +1,4 @@
-//! What is found at places at which a browser does more than the model of the report, and the findings of a sheet.
+//! Places of a sheet at which a browser does more than the model.
 #![tactic(auto)]
 
 mod bytes;

@@ -1,5 +1,6 @@
-//! Finds the places of pages and sheets from a table, a line each: `page` or `sheet`, a bar, and the text. Prints each line, and
-//! below it what is found, a line each: its name and what is said of it. A line without a bar is a heading.
+//! A table of findings in pages and sheets, run as a program. Finds the places of pages and sheets from a table, a line each:
+//! `page` or `sheet`, a bar, and the text. Prints each line, and below it what is found, a line each: its name and what is said
+//! of it. A line without a bar is a heading.
 #![tactic(auto)]
 
 use page_finds::findings_in_page;

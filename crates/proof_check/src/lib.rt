@@ -1,4 +1,4 @@
-//! Proofs as certificates that a selector is used: their types, their check and the count of their steps.
+//! Proofs as certificates: validity, the count of their steps, the steps themselves.
 #![tactic(auto)]
 
 mod checking;

@@ -1,4 +1,4 @@
-//! What a proof that a selector is used unfolds to, and what a valid one shows.
+//! The unfolding of a proof to steps, and its soundness.
 #![tactic(auto)]
 
 mod keyed_list;

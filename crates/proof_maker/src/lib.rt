@@ -1,4 +1,4 @@
-//! The canonical proof that the root of a page gets an atom: what the atom needs and nothing else, in one order.
+//! The canonical proof of an atom.
 #![tactic(auto)]
 
 mod arrivals;

@@ -1,4 +1,4 @@
-//! What the proof of an atom needs: each atom at each place once, in the order of a proof, with a number for each entry.
+//! Which premises a proof needs, each once, in a topological order.
 #![tactic(auto)]
 
 mod names;

@@ -1,4 +1,4 @@
-//! Tests of proofs: whether they hold, how many steps they have, and what these are.
+//! Tests of proofs that hold, and of the same ones with one fault.
 #![tactic(auto)]
 
 #[cfg(test)]

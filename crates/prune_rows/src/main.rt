@@ -1,5 +1,5 @@
-//! Reads sheets from a table, a line each: the selectors that are unused, a bar, and the sheet. Prints each line, and below it
-//! what is left of the sheet. A line without a bar is a heading.
+//! A program that prints pruned sheets. Reads sheets from a table, a line each: the selectors that are unused, a bar, and the
+//! sheet. Prints each line, and below it what is left of the sheet. A line without a bar is a heading.
 #![tactic(auto)]
 
 mod flags;

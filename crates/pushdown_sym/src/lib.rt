@@ -1,4 +1,4 @@
-//! The symbolic pushdown system: for each kind and atom a diagram over the parent's visible label, computed round by round.
+//! The symbolic pushdown system: for each kind and atom a diagram over the parent's label, by rounds.
 #![tactic(auto)]
 
 mod cell_rows;

@@ -1,6 +1,6 @@
-//! Reads the examples of a table, a line each, and prints what is read of each below it. A line that begins with `# ` is a
-//! heading; where it begins with `# pages`, `# forests`, `# sheets`, `# selectors`, `# lists` or `# tokens`, it says what
-//! the lines behind it are.
+//! A program that prints what is read of pages, sheets, selectors and tokens. Reads the examples of a table, a line each, and
+//! prints what is read of each below it. A line that begins with `# ` is a heading; where it begins with `# pages`, `# forests`,
+//! `# sheets`, `# selectors`, `# lists` or `# tokens`, it says what the lines behind it are.
 #![tactic(auto)]
 
 mod pages;

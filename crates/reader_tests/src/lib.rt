@@ -1,4 +1,4 @@
-//! Worked examples of the crates that read and write: names and paths, files and sinks, sheets at their limits, and reports.
+//! Tests of names, files, sinks, a sheet at its limits, and the lines of a report.
 #![tactic(auto)]
 
 #[cfg(test)]

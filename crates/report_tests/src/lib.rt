@@ -1,4 +1,4 @@
-//! Tests of the reports that take statements: which never act, a site of several pages, and traces as whole runs.
+//! Tests of the reports on statements, on sites and on whole runs.
 #![tactic(auto)]
 
 #[cfg(test)]

@@ -1,5 +1,4 @@
-//! Laws: readers accept each short sheet, the page and the sheet of each ring, the words of its script, and what these have
-//! in brackets.
+//! Laws: the texts of each ring are read.
 #![tactic(auto)]
 
 mod laws;

@@ -1,4 +1,4 @@
-//! For each key a row of values: places in a list, say, by a key that stands there.
+//! For each key a row of values, such as the places in a list at which the key stands.
 #![tactic(auto)]
 
 mod held;

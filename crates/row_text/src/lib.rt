@@ -1,4 +1,4 @@
-//! What a line of a table of worked examples stands for, so that each such table is text.
+//! The notation of the tables of examples. What a line of a table of worked examples stands for, so that each such table is text.
 //!
 //! A control byte stands as its picture (`␊` is a line feed, `␉` a tab); `⟨EF BB BF⟩` are bytes, and `⟨⟩` is nothing;
 //! `⟨512×<div>⟩` is a text so many times, and a `№` in it is the number of its turn, from 1 on.

@@ -1,4 +1,4 @@
-//! The rules of a system, found by the atoms that they look at.
+//! The rules of a simple system, indexed by the atoms that they look at.
 #![tactic(auto)]
 
 mod indexed_system;

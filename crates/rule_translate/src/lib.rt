@@ -1,4 +1,4 @@
-//! The translation of statements to rewrite rules: a rule's guard holds exactly where its statement selects.
+//! A statement as a rewrite rule: a guard and an action.
 #![tactic(auto)]
 
 mod chains;

@@ -1,4 +1,4 @@
-//! How a run ends: the exit status, why there is no report, and the line that says so.
+//! Exit statuses, why a run stops, and the line that says so.
 #![tactic(auto)]
 
 mod faults;

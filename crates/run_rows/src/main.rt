@@ -1,4 +1,4 @@
-//! Runs the command over files in memory, as a table says, and prints how each run ends.
+//! A program that runs the command on files in memory. Runs the command over files in memory, as a table says, and prints how each run ends.
 //!
 //! The table's lines: `== NAME` begins an example, `-- file NAME` a file, whose lines follow; `-- loads N ..`,
 //! `-- puts N ..` and `-- errors N ..` say which loads, puts on `out` and puts on `err` fail, and `-- most N` how many

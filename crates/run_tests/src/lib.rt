@@ -1,4 +1,4 @@
-//! Tests of runs over files that are cut, and what is known of runs in which nothing fails, or standard error has its room.
+//! Tests of the command on files that are cut at each byte, and on rings.
 #![tactic(auto)]
 
 mod room_sink;

@@ -1,4 +1,4 @@
-//! Summaries for all visible labels of the parent at once: the cells of a system, saturated round by round.
+//! The fixpoint of the pushdown system, round by round, and summaries read from it.
 #![tactic(auto)]
 
 mod changes;

@@ -1,5 +1,6 @@
-//! Reads the examples of a table, a line each, and prints what is read of each below it. A line that begins with `# ` is a
-//! heading; where it begins as one of `HEADINGS`, it says what the lines behind it are.
+//! A program that prints what is read of scripts. Reads the examples of a table, a line each, and prints what is read of each
+//! below it. A line that begins with `# ` is a heading; where it begins as one of `HEADINGS`, it says what the lines behind it
+//! are.
 #![tactic(auto)]
 
 mod faults;

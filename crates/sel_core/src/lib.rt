@@ -1,4 +1,4 @@
-//! Whether a selector matches a node, and the atoms that a compound asks for.
+//! What a selector asks of a node, and whether it matches.
 #![tactic(auto)]
 
 mod matching;

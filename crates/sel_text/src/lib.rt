@@ -1,4 +1,4 @@
-//! The grammar of selectors: how their text is read and written.
+//! The grammar of selectors: how they are read and written, and why one isn't judged.
 #![tactic(auto)]
 
 mod bytes;

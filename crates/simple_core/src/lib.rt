@@ -1,4 +1,4 @@
-//! Systems of rules that add an atom or a child at one node at a time.
+//! Simple systems, whose rules look at one node and the next one, and their fixpoint in rounds.
 #![tactic(auto)]
 
 mod copying;

@@ -1,5 +1,4 @@
-//! Tests of statements as they are read: what they select, their guards and rules, the systems of these, and what steps, losses and
-//! whole runs make of a page.
+//! Tests of statements: sets of nodes, runs, guards, rules, simplified systems.
 #![tactic(auto)]
 
 #[cfg(test)]

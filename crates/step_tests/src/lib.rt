@@ -1,4 +1,4 @@
-//! Tests of what statements select and make, and of where steps and losses lead.
+//! Tests of single steps, and of replay.
 #![tactic(auto)]
 
 #[cfg(test)]

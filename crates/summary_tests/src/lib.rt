@@ -1,5 +1,4 @@
-//! Tests of composed diagrams and of the cells of a system, round by round; of summaries in a table of pairs and in diagrams, of
-//! both against one another, of closed pages, and of folded ones.
+//! Tests of both engines: cells, summaries, closed and folded pages, budgets.
 #![tactic(auto)]
 
 #[cfg(test)]

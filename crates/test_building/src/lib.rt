@@ -1,4 +1,4 @@
-//! What tests are made of: paths, sets, trees and small systems, by short lists or by the script that they come from.
+//! Trees and simple systems from short lists, for tests.
 #![tactic(auto)]
 
 mod building;

@@ -1,4 +1,4 @@
-//! What tests of statements read: pages, scripts and statements from their texts, and labels as texts.
+//! Pages, scripts and statements from their texts, for tests.
 #![tactic(auto)]
 
 mod labels;

@@ -1,4 +1,4 @@
-//! The vocabulary of trees: atoms and the table of their names, class sets, paths and places in a text. Also lists inside
+//! Atoms and the table of their names, class sets, paths, places in a text, and lists that contracts can see. Also lists inside
 //! types, which contracts see as lists.
 #![tactic(auto)]
 

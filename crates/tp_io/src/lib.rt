@@ -1,4 +1,4 @@
-//! The outside as two traits, files and sinks, with implementations in memory and over the system.
+//! Files that are loaded whole and sinks that are written to, in memory and over the system.
 #![tactic(auto)]
 
 mod contents;

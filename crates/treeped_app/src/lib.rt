@@ -1,4 +1,4 @@
-//! The command `treeped`: from its words and files to a report.
+//! The command in each of its modes, with the headline theorem.
 #![tactic(auto)]
 
 mod best;

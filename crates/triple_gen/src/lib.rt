@@ -1,4 +1,4 @@
-//! The generator of rings, to measure with: boxes in a ring, each of which gets the next one as a child.
+//! The generator of rings: a page, a sheet and a script of any size.
 #![tactic(auto)]
 
 mod texts;

@@ -1,5 +1,6 @@
-//! Widens sheets from a table, a line each behind `w` and a bar, and puts sheets back behind `b` and a bar. Prints each line,
-//! and below it what is written; of a sheet that is widened also what it is put back to. A line without a bar is a heading.
+//! A table of widened sheets, run as a program. Widens sheets from a table, a line each behind `w` and a bar, and puts sheets
+//! back behind `b` and a bar. Prints each line, and below it what is written; of a sheet that is widened also what it is put back
+//! to. A line without a bar is a heading.
 #![tactic(auto)]
 
 use row_text::{bytes_of, push_pictured};

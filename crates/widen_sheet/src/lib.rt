@@ -1,4 +1,4 @@
-//! Selectors that aren't judged, widened to what of them is, and back.
+//! The grammar of selectors that aren't judged, marks round what of them isn't, and the command `widen`.
 #![tactic(auto)]
 
 mod back;
