@@ -17,7 +17,7 @@ use std::alloc::Global;
 use tp_base::{Atom, ClassSet, Items, NoMemory};
 
 /// The course of a visible atom for a kind. `starts` tells whether the kind has the atom from the beginning, and `changes` is
-/// the history of its cell. `gate` are two atoms, if known, of which the parent needs one for the atom to come.
+/// the history of its cell. `gate` holds two atoms, if known, of which the parent needs one for the atom to come.
 #[derive(Drop)]
 pub(crate) struct Course {
     pub(crate) atom: Atom,
