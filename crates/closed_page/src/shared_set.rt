@@ -73,7 +73,7 @@ fn is_same(known: &SharedSet, set: &ClassSet) -> bool
     same_atoms(known.set(), set)
 }
 
-/// A pool of sets with a single atom, by the atom, and of the empty set.
+/// A pool of sets with one atom each, by the atom. The empty set stands where no set is known yet.
 #[derive(Drop)]
 pub struct SharedSets {
     none: SharedSet,

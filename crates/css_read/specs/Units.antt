@@ -30,7 +30,7 @@ behind_unit [] = []
 behind_unit (b ∷ bs) =
     if is_quote b then behind_string b false bs else (if begins_comment (b ∷ bs) then behind_close (drop 1 bs) else bs)
 
--- Some bytes that are no bracket, no quote and no `;`, and begin no comment. They are `0` to `:`, `<` to `Z`, `^` to `z`, the full stop and the
+-- Ordinary bytes: no bracket, no quote and no `;`, and none begins a comment. They are `0` to `:`, `<` to `Z`, `^` to `z`, the full stop and the
 -- space.
 abbrev pub is_plain : ℕ → Bool
 is_plain b = nat_lt 47 b && nat_lt b 59 || nat_lt 59 b && nat_lt b 91 || nat_lt 93 b && nat_lt b 123 || b == 46 || b == 32

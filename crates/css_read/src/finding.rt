@@ -56,7 +56,7 @@ impl Found {
         }
     }
 
-    // Passes over white space or a comment (`is_gap`), or over anything else, after which the innermost holder is not bare.
+    // Passes over white space or a comment (`is_gap`), or over anything else, which leaves the innermost holder not bare.
     #[tactic(auto, using(crate::proofs::FoundLemmas::none_innermost, crate::proofs::FoundLemmas::innermost_within))]
     fn pass(&mut self, is_gap: bool)
         requires { All (λ n. n < length self.old.holders.items) self.old.opened.items }

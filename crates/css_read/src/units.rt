@@ -102,8 +102,8 @@ fn stops_at(bytes: &[u8], byte: u8, brackets: &[Bracket]) -> bool
     is_one(bytes, byte) && brackets.is_empty()
 }
 
-/// The text from the first of some bytes on that stands outside brackets, strings and comments. None of these bytes is plain.
-/// Linear in the bytes before it.
+/// The text from the first of some bytes on that stands outside brackets, strings and comments. None of these bytes is
+/// ordinary. Linear in the bytes before it.
 #[tactic(auto, using(crate::proofs::Firsts::goes_on, crate::proofs::Firsts::found, crate::proofs::Firsts::ends, crate::proofs::Plains::passes, text_bytes::proofs::Rests::of_rest, text_bytes::proofs::Rests::behind_first))]
 pub(crate) fn from_first<'a>(
     alloc: Global,

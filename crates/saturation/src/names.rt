@@ -54,7 +54,7 @@ pub(crate) fn add_ends(links: &[Link], atoms: &mut Gathered) -> Result<(), NoMem
     Ok(())
 }
 
-/// The atoms that a node can get at all: those of kinds' labels, and those that a rule or a link gives.
+/// The atoms that an added node can get at all: those of kinds' labels, and those that a rule or a link gives.
 pub(crate) fn given(alloc: Global, system: &System) -> Result<ClassSet, NoMemory>
     ensures { IfOk result (λ atoms. atoms ≡ given_atoms system.now) }
 {
