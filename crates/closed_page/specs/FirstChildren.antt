@@ -1,5 +1,5 @@
--- The firsts of a node's children.
---     came_by k o              the first round is there, and isn't after the round k
+-- The first child of a node that has an atom by some round.
+--     came_by k o              the first round o exists and is at most k
 --     IsFirstChild fs v a k o  o is the least child of v that has the atom a by the round k
 use Rattle.std.specs.Prelude.{◌≡◌, ℕ, ◌<◌, leb, Bool, true, false, List, [], ◌∷◌, ◌++◌, Option, Some, None}
 use Rattle.closed_page.specs.ClosedPages.{First, round_of}

@@ -1,11 +1,11 @@
 -- First rounds, found by the parents of their nodes.
---     path_to nodes p s        the path to which the step s leads from the p-th node, and the root's where there is no p-th node
---     IsSpotOf nodes v spot    the spot stands for the node at v, and no other does
---     placed nodes fs          the firsts with the paths of their nodes
---     AreOfNodes nodes fs      each first is of a node, and a node has an atom from one round on
---     AreKept nodes fs         what is kept of firsts belongs to the nodes
---     IsRoundIn fs spot a o    o is the round of the atom at the node for which the spot stands
---     IsChildIn fs p a k o     o is the least step from the p-th node to one that has the atom by the round k
+--     path_to nodes p s        the path one step s below the p-th node, or the root's path if there is no p-th node
+--     IsSpotOf nodes v spot    this spot, and no other, stands for the node at v
+--     placed nodes fs          these firsts, with paths in place of numbers
+--     AreOfNodes nodes fs      each first is of a node, and a node has one first round for each of its atoms
+--     AreKept nodes fs         the stored firsts belong to these nodes
+--     IsRoundIn fs spot a o    o is the first round of the atom a at the spot's node
+--     IsChildIn fs p a k o     o is the least step from the p-th node to a child that has the atom a by the round k
 use Rattle.std.specs.Prelude.{◌≡◌, ◌<◌, ◌≤◌, ℕ, List, [], ◌∷◌, ◌++◌, map, Option, Some, None, option_map, unwrap_or, length, get_or, slice_get, Contains}
 use Rattle.closed_page.specs.Notes.{NodeFirst, IsSpot}
 use Rattle.closed_page.specs.declared.first_rounds.Spot.{Spot}
@@ -25,7 +25,7 @@ placed_one nodes f = record { at = path_to nodes f.parent f.step; atom = f.atom;
 abbrev pub placed : List (List ℕ) → List NodeFirst → List PageFirst
 placed nodes fs = map (placed_one nodes) fs
 
--- each first stands at a node, as far as its numbers say
+-- each first has a spot that these nodes allow
 abbrev pub AreSpots : List (List ℕ) → List NodeFirst → Type 0
 AreSpots nodes fs = (f : NodeFirst) → Contains fs f → IsSpot nodes f.parent f.step
 

@@ -1,13 +1,13 @@
--- What nodes gain, and the first rounds that come of it.
---     label_in u v             the label at v
---     firsts_at at own label round   the atoms of the label that the node doesn't have in `own`, as firsts of that round
---     new_of own label       the atoms of the label that a node doesn't have in `own`
---     IsLonger own new         new has what own has, and some atoms more
---     Gain                   a node's path, and what the node gains
---     gains_at nodes gs        what the nodes with these numbers gain, by their paths
---     with_gains u gs          the tree with the gains gs, one after another
---     IsGrown u w              w is the tree u with some gains
---     news u gs round          the firsts that they bring
+-- Gains: atoms that nodes get in a round, and the first rounds that follow.
+--     label_in u v             the label of u at v
+--     firsts_at at own label round   firsts of this round: the atoms of the label that are not in `own`
+--     new_of own label         the atoms of the label that are not in `own`
+--     IsLonger own new         new is `own` with some atoms added
+--     Gain                     the path of a node, and the atoms that it gains
+--     gains_at nodes gs        the gains gs, with paths in place of node numbers
+--     with_gains u gs          the tree u after the gains gs, one by one
+--     IsGrown u w              w is the tree u after some gains
+--     news u gs round          the firsts that the gains gs add
 --     starts t nodes           the firsts of these nodes before any round
 --     paths_at nodes ns        the paths of the nodes with these numbers
 --     AreStarts t nodes fs     the firsts fs are those of these nodes before any round, in some order of the nodes

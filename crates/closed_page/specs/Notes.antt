@@ -1,14 +1,14 @@
--- What nodes came to have, as it is kept.
---     NodeFirst              an atom of a node, by what stands for the node, and the first round in which the node has it
+-- Notes of the atoms that nodes got, as the code keeps them.
+--     NodeFirst              a first: a node by its parent's number and its step, an atom, and its first round
 --     node_firsts spot round atoms   these atoms of one node
---     firsts_in n            those for which the note n stands
---     expanded ns            those of all notes
---     IsNoted old new spot own label round   one note more: of the label, what the node doesn't have
---     IsSpot nodes p s       the p-th node is there, or p and s are what stands for the root
---     AreAtSpots nodes ns    each note is of a node, as far as its numbers say
---     IsAlike m n o          the note o is of the n-th child behind that of m, with the same atoms and the same round
---     AreAlike ns i j        so are the notes from the i-th up to the j-th of it, one after another
---     spot_cmp s t           the order of what stands for nodes: by the parent, then by the step
+--     firsts_in n            the firsts of the note n
+--     expanded ns            the firsts of all notes
+--     IsNoted old new spot own label round   one note was appended: the atoms of the label that are not in `own`
+--     IsSpot nodes p s       p is a node, or p and s stand for the root
+--     AreAtSpots nodes ns    each note has a spot that these nodes allow
+--     IsAlike m n o          the note o is of the sibling n steps behind the one of m, with the same atoms and round
+--     AreAlike ns i j        the notes from i up to j are of consecutive siblings, with the same atoms and round
+--     spot_cmp s t           the order of spots: by the parent, then by the step
 use Rattle.std.specs.Prelude.{◌≡◌, ◌⊎◌, ◌<◌, ◌≤◌, ◌+◌, ◌-◌, ℕ, List, [], ◌∷◌, ◌++◌, map, length, get_or, Contains}
 use Rattle.std.specs.List.{flat_map}
 use Rattle.std.specs.Ordering.{nat_cmp, ordering_then}

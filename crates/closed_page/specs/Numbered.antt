@@ -1,9 +1,9 @@
--- The nodes of a page by their numbers: of each the number of its parent, if it has one, and its step from there.
---     path_next before o s        the path to which the step s leads from the node o of those before; the root's where there is none
+-- The nodes of a page by number: for each its parent's number, if it has one, and its step from there.
+--     path_next before o s        the path one step s below the node o of those before; the root's path if o is none
 --     paths_up parents steps n    the paths of the first n nodes
---     paths_by parents steps      those of all
---     AreNumbered nodes ..        the nodes at these paths have such parents, steps and children; the root stands first
---     parent_told numbers i       the number of the i-th node's parent, where the root's is of no account
+--     paths_by parents steps      the paths of all nodes
+--     AreNumbered nodes ..        the nodes at these paths have these parents, steps and children, and the root is the first
+--     parent_told numbers i       the number of the i-th node's parent; the root's entry has no meaning
 --     told numbers                the parents of all nodes
 --     AreColumns t numbers steps  the parents and steps are those of the nodes of t
 use Rattle.std.specs.Prelude.{◌≡◌, ℕ, zero, suc, ◌<◌, List, [], ◌∷◌, ◌++◌, map, Option, Some, None, length, get_or}

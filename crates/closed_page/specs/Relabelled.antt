@@ -1,7 +1,7 @@
 -- A tree with other labels, and the tree that has nodes at given paths.
---     label_by nodes own v   the label that stands where the path v does
---     relabelled f t         the tree t, where the node at a path has the label that f gives it
---     with_node p row        the row with a node at the path p, and what has to be there for it
+--     label_by nodes own v   the label that belongs to the path v, and no atoms if v is not there
+--     relabelled f t         the tree t, where f gives the label for each path
+--     with_node p row        the row after a node is added at the path p, with all nodes that this needs
 --     shape_of nodes         the tree with nodes at these paths, where all labels are empty
 use Rattle.std.specs.Prelude.{ℕ, zero, suc, List, [], ◌∷◌, if◌then◌else◌}
 use Rattle.std.specs.Str.{bytes_eq}
@@ -12,7 +12,7 @@ label_by [] own v = []
 label_by (n ∷ nodes) [] v = []
 label_by (n ∷ nodes) (l ∷ own) v = if bytes_eq n v then l else label_by nodes own v
 
--- the same in a row, whose first tree has the number k
+-- the same for a row whose first tree has the index k
 abbrev pub relabelled_row : (List ℕ → List ℕ) → ℕ → Row → Row
 relabelled_row f k no_nodes = no_nodes
 relabelled_row f k (node l below next) = node (f (k ∷ [])) (relabelled_row (λ p. f (k ∷ p)) 0 below) (relabelled_row f (suc k) next)
@@ -20,7 +20,7 @@ relabelled_row f k (node l below next) = node (f (k ∷ [])) (relabelled_row (λ
 abbrev pub relabelled : (List ℕ → List ℕ) → LabelTree → LabelTree
 relabelled f t = record { label = f []; below = relabelled_row f 0 t.below }
 
--- the row with f at what is below its k-th tree, and empty trees up to that one where it is shorter
+-- the row with f applied below its k-th tree; empty trees are added up to that one if the row is shorter
 abbrev pub row_with : (Row → Row) → ℕ → Row → Row
 row_with f zero no_nodes = node [] (f no_nodes) no_nodes
 row_with f zero (node l below next) = node l (f below) next

@@ -1,21 +1,21 @@
--- Firsts by their atoms: a row for each atom, of runs of children.
+-- Firsts by atoms: for each atom a row of runs. A run is consecutive siblings with the same first round.
 --     row_at rows a            the runs of the atom a
---     IsIn x spot              the child for which the spot stands is in the run x
---     Covers row spot          it is in a run of the row, and Tells row spot r says that this run is of the round r
+--     IsIn x spot              the child at the spot is in the run x
+--     Covers row spot          the child is in a run of the row; Tells row spot r: this run has the round r
 --     IsBefore x y             the run x ends before the run y
 --     AreOrdered row           each run ends before those behind it
---     EndsBefore x spot        the run ends before the child, and EndsBy x spot not behind it
---     start_of x, end_of x     its first and its last child
---     IsWith x y z             z is the run x with the children of the run y
---     IsPutIn old new y        the children of the run y were put into the row, behind all others
---     IsPut old new a y        this was done in the row of the atom a
+--     EndsBefore x spot        the run ends before the child; EndsBy x spot: it ends before or at the child
+--     start_of x, end_of x     the first and the last child of the run
+--     IsWith x y z             z is the run x extended by the children of the run y
+--     IsPutIn old new y        the children of the run y were added to the row, and no child stands behind them
+--     IsPut old new a y        the same for the row of the atom a, where no other row changed
 --     all_in rows              the firsts of all rows
---     AreByAtom fs rows        the rows tell the firsts fs
---     AreByAtomWith fs as y rows   they tell these, and the atoms as of the children of the run y
---     IsRunOf ns i j y         y is the run of the children of the notes from the i-th up to the j-th
---     IsOfRun as y f           the first f is of one of the atoms as, and of a child of the run y
---     IsRoundInRow row spot o  o is the round of the child
---     IsChildInRow row p k o   o is the least step from the p-th node to one that came by the round k
+--     AreByAtom fs rows        the rows hold exactly the firsts fs
+--     AreByAtomWith fs as y rows   they hold these, and firsts of the atoms `as` for the children of the run y
+--     IsRunOf ns i j y         y is the run of the children of the notes from i up to j
+--     IsOfRun as y f           the first f is of an atom in `as` and of a child in the run y
+--     IsRoundInRow row spot o  o is the round that the row has for the child, if it has one
+--     IsChildInRow row p k o   o is the least step from the p-th node to a child of round k or before
 use Rattle.std.specs.Prelude.{◌≡◌, ◌≢◌, ◌⊎◌, ◌==◌, ◌&&◌, ◌||◌, ◌<◌, ◌≤◌, ◌+◌, ◌-◌, nat_lt, nat_le, Bool, ℕ, suc, List, [], ◌∷◌, ◌++◌, map, Option, Some, None, get_or, Contains}
 use Rattle.std.specs.List.{flat_map, range_with_len, AllPairs}
 use Rattle.closed_page.specs.declared.first_rounds.Spot.{Spot}
@@ -44,7 +44,7 @@ pub record AreOrdered (row : List Run) : Type 0 where
   pub pairs : AllPairs IsBefore row
   pub filled : (x : Run) → Contains row x → x.first ≤ x.last
 
--- the tests
+-- the same as tests
 abbrev pub covers : Run → Spot → Bool
 covers x spot = (x.parent == spot.parent) && nat_le x.first spot.step && nat_le spot.step x.last
 
@@ -131,7 +131,7 @@ abbrev pub IsRoundInRow : List Run → Spot → Option ℕ → Type 0
 IsRoundInRow row spot None = Covers row spot → ⊥
 IsRoundInRow row spot (Some r) = Tells row spot r
 
--- children of the p-th node that came by the round k
+-- a run of children of the p-th node with the round k or one before
 pub record IsBelowIn (p k : ℕ) (x : Run) : Type 0 where
   pub parent : x.parent ≡ p
   pub round : x.round ≤ k

@@ -1,6 +1,6 @@
--- A page whose nodes have the labels and the first rounds of other nodes.
---     moved g v                  the first g, at the node at v
---     IsSpread t numbers l l'    the i-th node of t has in l' what the node with the i-th of these numbers has in l
+-- A page whose nodes take their labels and first rounds from other nodes.
+--     moved g v                  the first g, for the node at v instead
+--     IsSpread t numbers l l'    in l' the i-th node of t has the label and firsts that l has for the node with the i-th number
 use Rattle.std.specs.Prelude.{◌≡◌, ◌↔◌, ℕ, ◌<◌, List, get_or, Contains, IsSome}
 use Rattle.tree_sem.specs.Trees.{LabelTree, count_of, node_at, label_at}
 use Rattle.tree_sem.specs.Order.{paths_of}
@@ -14,7 +14,7 @@ moved g v = record { at = v; atom = g.atom; round = g.round }
 abbrev pub from_at : Labelled → List ℕ → ℕ → List ℕ
 from_at l numbers i = node_of l (get_or numbers i 0)
 
--- the first f is that of the node from which the i-th one has it
+-- the first f is a first of the source of the i-th node, for the i-th node
 pub record IsMoved (numbers : List ℕ) (l l' : Labelled) (i : ℕ) (f : PageFirst) : Type 0 where
   pub first : PageFirst
   pub known : Contains l.firsts first

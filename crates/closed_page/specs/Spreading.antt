@@ -1,13 +1,13 @@
--- How the labels and the firsts of a page come from those of another one.
---     IsNumberAt nodes p s o     o is the number of the node to which the step s leads from the p-th node, or of the root
---     AreLabelled t own u        the tree u has the nodes of t, and these labels
---     note_path nodes n          the path of the node of which the note n tells
---     AreNumbersOf nodes ns v n  these are the numbers of the nodes of the first n notes
---     AreByNode nodes ns rows    each note stands at the number of its node
+-- How a page takes its labels and firsts from another page.
+--     IsNumberAt nodes p s o     o is the number of the node at the spot, or none if no node is there
+--     AreLabelled t own u        the tree u has the nodes of t with these labels
+--     note_path nodes n          the path of the node of the note n
+--     AreNumbersOf nodes ns v n  v has the numbers of the nodes of the first n notes
+--     AreByNode nodes ns rows    the row of a node has exactly the places of its notes
 --     again s m                  the note m, at another spot
---     all_again known s places   those of the notes that have these places, at another spot
---     AreAgain nodes numbers known rows These ns   the notes ns tell of These nodes what those known do of the nodes with the numbers
---     AreMoved numbers l l' fs   the firsts fs are those of the nodes of l, each at a node of l'
+--     all_again known s places   the notes at these places, at another spot
+--     AreAgain nodes numbers known rows These ns   ns are the notes of These nodes, each copied from the node with its number
+--     AreMoved numbers l l' fs   the firsts fs are firsts of l, each for a node of l' instead
 use Rattle.std.specs.Prelude.{◌≡◌, ◌↔◌, ◌<◌, ℕ, List, [], map, Option, Some, None, length, get_or, Contains, IsSome}
 use Rattle.tree_sem.specs.Trees.{LabelTree, count_of, node_at, label_at}
 use Rattle.tree_sem.specs.Order.{paths_of}
@@ -51,12 +51,12 @@ again s m = record { spot = s; round = m.round; atoms = m.atoms }
 abbrev pub all_again : List NodeNews → Spot → List ℕ → List NodeNews
 all_again known s places = map (λ p. again s (news_at known p)) places
 
--- the note n tells of the i-th node what the p-th of those known does of another one
+-- the note n is the p-th known note, at the spot of the i-th node
 pub record IsAgain (nodes : List (List ℕ)) (known : List NodeNews) (i p : ℕ) (n : NodeNews) : Type 0 where
   pub stands : IsSpotOf nodes (get_or nodes i []) n.spot
   pub same : n ≡ again n.spot (news_at known p)
 
--- the notes ns tell of the nodes whose numbers are in `These` what those known do of the nodes with the numbers
+-- the notes ns of the nodes in `These` are those that are known of their sources
 pub record AreAgain (nodes : List (List ℕ)) (numbers : List ℕ) (known : List NodeNews) (rows : List (List ℕ)) (These : ℕ → Type 0) (ns : List NodeNews) : Type 0 where
   pub right : (n : NodeNews) → Contains ns n → (i : ℕ) × (p : ℕ) × These i × Contains (row_of rows (get_or numbers i 0)) p × IsAgain nodes known i p n
   pub whole : (i p : ℕ) → These i → Contains (row_of rows (get_or numbers i 0)) p → (n : NodeNews) × Contains ns n × IsAgain nodes known i p n

@@ -3,7 +3,7 @@ use Rattle.std.specs.Prelude.{ℕ, List, map, refl}
 use Rattle.std.specs.Coded.{Coded, code_by, coded×, coded_ℕ, coded_list}
 use Rattle.closed_page.specs.ClosedPages.{First}
 
--- an atom of the node at a path, and the first round in which the node has it
+-- the path of a node, an atom of it, and the first round in which the node has it
 pub record PageFirst : Type 0 where
   pub at : List ℕ
   pub atom : ℕ

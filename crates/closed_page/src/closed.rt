@@ -1,4 +1,4 @@
-//! A closed page.
+//! A closed page, ready for queries.
 ghost use Rattle.std.specs.Prelude.{◌≡◌, ◌++◌, ◌∷◌, ℕ, List, [], find, option_copied, unwrap_or, IfOk};
 ghost use Rattle.std.specs.List.{range_with_len};
 ghost use Rattle.tree_sem.specs.Trees.{label_at, children_at};
@@ -14,8 +14,8 @@ use std::alloc::Global;
 use std::marker::Model;
 use tp_base::{Atom, ClassSet, NoMemory, Path};
 
-/// For each node of a page its closed label, and for each node and atom the round in which it came; no tree is kept. A contract
-/// sees the page with its closed labels.
+/// The closed label of each node of a page, and the first round of each of its atoms. No tree is kept. A contract sees the page
+/// as a tree with closed labels, and the first rounds.
 #[derive(Drop)]
 pub struct Closed {
     own: Vec<SharedSet>,
@@ -39,8 +39,8 @@ impl Model for Closed {
 }
 
 impl Closed {
-    /// A page whose labels are closed. Linear in its firsts and the largest atom, but for a sort of what each node came to
-    /// have in each round; it takes the memory of runs of children that came to have an atom in one round.
+    /// Makes the closed page from a page whose labels are closed. Linear in the atoms of its notes and the largest atom, plus
+    /// one sort of the notes. First rounds take memory for each run of siblings that got an atom in one round.
     pub fn new(alloc: Global, page: PageLabels) -> Result<Closed, NoMemory>
         requires nodes { AreOfNodes page.nodes page.firsts }
         requires others { HasNoOthers page.labels (firsts_of page.firsts) }
@@ -72,8 +72,8 @@ impl Closed {
         self.firsts.round(at, atom)
     }
 
-    /// The least number of a child that has the atom by the round. Linear in the path's length, logarithmic
-    /// in the runs of the atom, and linear in those of the children before it, which have the atom later.
+    /// The first child that has the atom by this round, by its index. Linear in the path's length and logarithmic in the runs
+    /// of the atom. Linear, too, in the runs of the children before it, which got the atom later.
     pub fn first_child(&self, at: &Path, atom: Atom, round: u64) -> Option<u32>
         ensures { result ≡ find (λ n. came_by round (round_of self.now.firsts (at.now ++ n ∷ []) atom))
             (range_with_len 0 (unwrap_or (children_at at.now self.now.labels) 0)) }

@@ -1,4 +1,4 @@
-//! The first rounds of a page, found by the parents of its nodes.
+//! The first rounds of a page's atoms, found by a node's parent and the node's index there.
 ghost use Rattle.std.specs.Prelude.{◌≡◌, ◌<◌, ◌≤◌, ◌∷◌, ◌++◌, ℕ, List, [], None, length, get_or, Contains, IfOk, IfSome, IsNone, true, false};
 ghost use Rattle.std.specs.List.Sorted.{IsPartitionPoint};
 ghost use Rattle.closed_page.specs.ClosedPages.{round_of};
@@ -15,14 +15,15 @@ use std::alloc::Global;
 use std::marker::Model;
 use tp_base::{Atom, NoMemory, Path};
 
-/// What stands for a node: its parent's number and its step from there; for the root, the count of the nodes and 0.
+/// A node by its parent's number and its step from there. The root has the count of the nodes in place of a parent, and step 0.
 #[derive(Clone, Copy, Debug, PartialEq, Eq, PartialOrd, Ord)]
 pub(crate) struct Spot {
     pub(crate) parent: usize,
     pub(crate) step: u32,
 }
 
-/// Firsts by their atoms, those of each in their order. A contract sees them with the paths of their nodes.
+/// Firsts (a node, an atom and its first round) in a sorted row for each atom. A contract sees them with the paths of their
+/// nodes.
 #[derive(Drop)]
 pub(crate) struct FirstRounds {
     nodes: PageNodes,
@@ -45,8 +46,8 @@ impl Model for FirstRounds {
 }
 
 impl FirstRounds {
-    /// Puts firsts in order, those of each atom by themselves. Linear in the atoms of the notes and the largest atom, but for a
-    /// sort of the notes.
+    /// Sorts the firsts of the notes into rows. Linear in the atoms of the notes and the largest atom, plus one sort of the
+    /// notes.
     pub(crate) fn new(
         alloc: Global,
         nodes: PageNodes,
@@ -60,7 +61,7 @@ impl FirstRounds {
         Ok(FirstRounds { nodes, rows })
     }
 
-    /// The number of a node. Linear in its path's length where the node is there.
+    /// The number of the node at a path. Linear in the path's length where the node is there.
     pub(crate) fn number_of(&self, at: &Path) -> Option<usize>
         ensures some { IfSome result (λ i. (i < length self.now.nodes) × (get_or self.now.nodes i [] ≡ at.now)) }
         ensures none { IsNone result → ¬ Contains self.now.nodes at.now }
@@ -82,8 +83,8 @@ impl FirstRounds {
         }
     }
 
-    /// The least child of a node that has the atom by the round. Linear in the path's length, logarithmic in the
-    /// runs of the atom, and linear in those of the children before it, which have the atom later.
+    /// The first child of a node that has the atom by this round. Linear in the path's length and logarithmic in the runs of
+    /// the atom. Linear, too, in the runs of the children before it, which got the atom later.
     pub(crate) fn first_child(&self, at: &Path, atom: Atom, round: u64) -> Option<u32>
         ensures { IsFirstChild self.now.firsts at.now atom round result }
     {
@@ -94,7 +95,7 @@ impl FirstRounds {
     }
 }
 
-/// What stands for the node with this number.
+/// The spot of the node with this number.
 pub(crate) fn spot_of(nodes: &PageNodes, number: usize) -> Spot
     requires { number < length nodes.now }
     ensures { IsSpotOf nodes.now (get_or nodes.now number []) result }
@@ -111,7 +112,7 @@ pub(crate) fn spot_of(nodes: &PageNodes, number: usize) -> Spot
     }
 }
 
-// The place of the first run that doesn't end before the child.
+// The index of the first run that does not end before the child.
 fn place_of(row: &[Run], spot: Spot) -> usize
     requires { AreOrdered row.now }
     ensures bound { result ≤ length row.now }
@@ -120,7 +121,7 @@ fn place_of(row: &[Run], spot: Spot) -> usize
     row.partition_point(|run| run.ends_before(spot))
 }
 
-// The round in which the child came to have the row's atom.
+// The round in which the child got the row's atom.
 fn round_in(row: &[Run], spot: Spot) -> Option<u64>
     requires { AreOrdered row.now }
     ensures { IsRoundInRow row.now spot result }
@@ -135,7 +136,7 @@ fn round_in(row: &[Run], spot: Spot) -> Option<u64>
     None
 }
 
-// The least step from the node with this number to one that has the row's atom by the round.
+// The least step from this node to a child that has the row's atom by the round.
 fn child_in(row: &[Run], parent: usize, round: u64) -> Option<u32>
     requires { AreOrdered row.now }
     ensures { IsChildInRow row.now parent round result }

@@ -1,4 +1,4 @@
-//! The firsts of a page by their atoms, where children of one node that stand next to each other are kept as one.
+//! The firsts of a page by atoms. Siblings that stand next to each other and get an atom in one round are stored as one run.
 ghost use Rattle.std.specs.Prelude.{◌≡◌, ◌<◌, ◌≤◌, ℕ, List, ◌++◌, length, Contains, IfOk, OnOk, IfSome, IsNone, IsTrue, IsFalse};
 ghost use Rattle.std.specs.List.Sorted.{IsSortedByKey};
 ghost use Rattle.closed_page.specs.declared.first_rounds.Spot.{Spot};
@@ -11,7 +11,7 @@ use std::alloc::Global;
 use std::marker::Model;
 use tp_base::{Atom, ClassSet, NoMemory};
 
-/// Children of one node, from the first to the last, that came to have an atom in one round.
+/// A run: consecutive children of one node, from `first` to `last`, that got an atom in one round.
 #[derive(Clone, Copy, Debug, PartialEq, Eq)]
 pub(crate) struct Run {
     pub(crate) parent: usize,
@@ -35,7 +35,7 @@ impl Run {
         self.parent < spot.parent || (self.parent == spot.parent && self.last < spot.step)
     }
 
-    // The run with these children, where they came in the same round and stand next to it.
+    // The run extended by these children, if they follow it directly and came in the same round.
     fn with(self, kids: Run) -> Option<Run>
         ensures { IfSome result (λ x. IsWith self kids x) }
     {
@@ -54,7 +54,7 @@ impl Run {
     }
 }
 
-/// The firsts of one atom, in the order of the parents and their children. A contract sees the list of their runs.
+/// The firsts of one atom, sorted by the parents and then by the children. A contract sees the list of their runs.
 #[derive(Drop)]
 pub(crate) struct FirstRow {
     items: Vec<Run>,
@@ -70,7 +70,7 @@ impl Model for FirstRow {
 }
 
 impl FirstRow {
-    // Whether the last run takes in these children.
+    // Adds the children to the last run, if they follow it in the same round, and tells whether they did.
     fn takes(&mut self, kids: Run) -> bool
         requires ordered { AreOrdered self.old }
         requires ends { AllEndBy self.old (start_of kids) }
@@ -92,7 +92,7 @@ impl FirstRow {
         }
     }
 
-    // Puts in children that aren't before the others.
+    // Adds children that do not stand before the others.
     fn put(&mut self, kids: Run) -> Result<(), NoMemory>
         requires ordered { AreOrdered self.old }
         requires ends { AllEndBy self.old (start_of kids) }
@@ -107,7 +107,7 @@ impl FirstRow {
     }
 }
 
-// Makes a row for the atom.
+// Makes empty rows up to the atom.
 fn reach(rows: &mut Vec<FirstRow>, alloc: Global, atom: Atom) -> Result<(), NoMemory>
     ensures there { OnOk result (atom < length rows.new.items) }
     ensures same { OnOk result ((a : ℕ) → row_at rows.new.items a ≡ row_at rows.old.items a) }
@@ -120,7 +120,7 @@ fn reach(rows: &mut Vec<FirstRow>, alloc: Global, atom: Atom) -> Result<(), NoMe
     Ok(())
 }
 
-// Puts children into the row of the atom. Linear in the atom's number, where it is the largest so far.
+// Adds children to the row of the atom. Linear in the atom's number where it is the largest so far.
 fn put(rows: &mut Vec<FirstRow>, alloc: Global, atom: Atom, kids: Run) -> Result<(), NoMemory>
     requires ordered { AreOrdered (row_at rows.old.items atom) }
     requires ends { AllEndBy (row_at rows.old.items atom) (start_of kids) }
@@ -133,7 +133,7 @@ fn put(rows: &mut Vec<FirstRow>, alloc: Global, atom: Atom, kids: Run) -> Result
     Ok(())
 }
 
-// Puts children into the rows of these atoms.
+// Adds children to the rows of these atoms.
 fn put_all(
     rows: &mut Vec<FirstRow>,
     alloc: Global,
@@ -153,7 +153,7 @@ fn put_all(
     Ok(())
 }
 
-// The children of the notes from the i-th on, up to the one before the end.
+// The run of the children of the notes from the i-th on, before `end`.
 fn kids_of(notes: &[NodeNews], i: usize, end: usize) -> Run
     requires { AreAlike notes.now i end }
     ensures { IsRunOf notes.now i end result }
@@ -183,9 +183,8 @@ fn by_atoms(alloc: Global, notes: &[NodeNews]) -> Result<Vec<FirstRow>, NoMemory
     Ok(rows)
 }
 
-// Puts notes in the order of the nodes' parents, and of the children of each.
-// Those of a round come in the order of the document, so that this sort, which finds what is in order already, costs little
-// where few nodes have nodes below them.
+// Sorts notes by the nodes' parents and then by the children. The notes of a round come in document order. The sort uses order
+// that is there, so that it costs little where few nodes have descendants.
 fn in_order(notes: &mut Vec<NodeNews>) -> Result<(), NoMemory>
     ensures sorted { OnOk result (IsSortedByKey (λ n. n.spot) spot_cmp notes.new.items) }
     ensures back { OnOk result ((f : NodeFirst) → Contains (expanded notes.new.items) f → Contains (expanded notes.old.items) f) }
@@ -195,9 +194,9 @@ fn in_order(notes: &mut Vec<NodeNews>) -> Result<(), NoMemory>
     Ok(())
 }
 
-/// The firsts of notes by their atoms, each row in order. It costs a sort of the notes, a comparison of each with the one
-/// before, and the largest atom; and for each run of children that came to have the same atoms in one round a few steps for
-/// each of these. It takes memory for each row, and for each run of children that came to have the atom in one round.
+/// The firsts of notes in sorted rows by atoms. Costs a sort of the notes, a comparison of each with the one before, and a step
+/// for each number up to the largest atom. Each run of children with the same new atoms in one round costs a few steps for each
+/// of these atoms. Each row takes memory, and so does each run in it.
 pub(crate) fn in_rows(alloc: Global, notes: Vec<NodeNews>) -> Result<Vec<FirstRow>, NoMemory>
     ensures rows { IfOk result (λ r. AreByAtom (expanded notes.items) r.items) }
     ensures sorted { IfOk result (λ r. AreSorted r.items) }
@@ -208,7 +207,7 @@ pub(crate) fn in_rows(alloc: Global, notes: Vec<NodeNews>) -> Result<Vec<FirstRo
     Ok(rows)
 }
 
-/// The firsts of an atom. Constant.
+/// The runs of an atom. Constant.
 pub(crate) fn row_of(rows: &[FirstRow], atom: Atom) -> &[Run]
     ensures { result.now ≡ row_at rows.now atom }
 {

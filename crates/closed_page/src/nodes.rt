@@ -1,4 +1,4 @@
-//! The nodes of a page, by their numbers in the order of the document.
+//! The nodes of a page, numbered in document order.
 ghost use Rattle.std.specs.Prelude.{◌≡◌, ◌<◌, ◌++◌, ◌∷◌, ℕ, List, [], Some, length, get_or, slice_get, Contains, ◌↔◌, IsTrue, IfSome, IsNone, IfOk, OnOk};
 ghost use Rattle.tree_sem.specs.Trees.{LabelTree};
 ghost use Rattle.tree_sem.specs.Order.{paths_of};
@@ -13,8 +13,8 @@ use std::alloc::Global;
 use std::marker::Model;
 use tp_base::{NoMemory, Path};
 
-/// Of each node the number of its parent, its step from there, and the numbers of its children; no path is kept. The parent's
-/// number of the root is of no account. A contract sees the paths.
+/// For each node the number of its parent, its step from there, and the numbers of its children. No path is kept. The root's
+/// parent number has no meaning. A contract sees the paths.
 #[derive(Drop)]
 pub(crate) struct PageNodes {
     parents: Vec<usize>,
@@ -34,8 +34,8 @@ impl Model for PageNodes {
 }
 
 impl PageNodes {
-    /// The nodes of a page, from the numbers of their parents, where the root's is of no account, and their steps. Linear in
-    /// them.
+    /// Makes the nodes from their parents' numbers and their steps. The root's parent number has no meaning. Linear in the
+    /// nodes.
     pub(crate) fn new(
         alloc: Global,
         parents: Vec<usize>,
@@ -52,14 +52,14 @@ impl PageNodes {
         })
     }
 
-    /// How many there are.
+    /// How many nodes there are.
     pub(crate) fn count(&self) -> usize
         ensures { result ≡ length self.now }
     {
         self.parents.len()
     }
 
-    /// The number of a node's parent.
+    /// The number of a node's parent, and `None` for the root. Constant.
     pub(crate) fn parent(&self, number: usize) -> Option<usize>
         requires { number < length self.now }
         ensures above { IsAbove self.now (get_or self.now number []) result }
@@ -70,7 +70,7 @@ impl PageNodes {
         told_parent(&self.parents, number)
     }
 
-    /// The last step to a node; 0 for the root.
+    /// The step from a node's parent to the node, and 0 for the root.
     pub(crate) fn step(&self, number: usize) -> u32
         requires { number < length self.now }
         ensures { (v : List ℕ) (k : ℕ) → get_or self.now number [] ≡ v ++ k ∷ [] → result ≡ k }
@@ -78,7 +78,7 @@ impl PageNodes {
         self.steps[number]
     }
 
-    /// The numbers of a node's children.
+    /// The numbers of a node's children, in their order. Constant.
     pub(crate) fn kids(&self, number: usize) -> &[usize]
         requires { number < length self.now }
         ensures { AreKids self.now number result.now }
@@ -86,8 +86,8 @@ impl PageNodes {
         self.kids.of(number)
     }
 
-    /// The number of the node to which a step leads from the node with this number, or of the root, for which the count of the
-    /// nodes and 0 stand. Constant where the node is there, as children stand in their order.
+    /// The number of the node to which a step leads from this parent. The count of the nodes with step 0 stands for the root.
+    /// Constant where the node is there, since children are in order.
     pub(crate) fn number_at(&self, parent: usize, step: u32) -> Option<usize>
         requires { IsSpot self.now parent step }
         ensures { IsNumberAt self.now parent step result }
@@ -98,7 +98,8 @@ impl PageNodes {
         Some(0)
     }
 
-    /// The number of a path. Linear in its length where it is there, and else linear in the children of a node, too.
+    /// The number of the node at a path. Linear in the path's length where the node is there. Otherwise also linear in the
+    /// children of one node.
     pub(crate) fn number_of(&self, at: &Path) -> Option<usize>
         ensures some { IfSome result (λ i. (i < length self.now) × (get_or self.now i [] ≡ at.now)) }
         ensures none { IsNone result → ¬ Contains self.now at.now }
@@ -142,7 +143,7 @@ fn kids_of(alloc: Global, numbers: &[usize]) -> Result<Index, NoMemory>
     Ok(kids)
 }
 
-// Whether this is the step of a node.
+// Whether this step leads to the node.
 fn has_step(steps: &[u32], number: usize, step: u32) -> bool
     ensures { IsTrue result ↔ (slice_get steps.now number ≡ Some step) }
 {
@@ -152,7 +153,7 @@ fn has_step(steps: &[u32], number: usize, step: u32) -> bool
     }
 }
 
-// The number at the place of a step, if the step is that of its node.
+// The number at the index `step` of the row, if this step leads to its node.
 fn at_place(row: &[usize], steps: &[u32], step: u32) -> Option<usize>
     ensures { IfSome result (λ c. Contains row.now c × (slice_get steps.now c ≡ Some step)) }
 {
@@ -164,7 +165,7 @@ fn at_place(row: &[usize], steps: &[u32], step: u32) -> Option<usize>
     }
 }
 
-// The number of which the node has this step, by a look at each.
+// The number in the row to whose node this step leads, by a linear search.
 fn search(row: &[usize], steps: &[u32], step: u32) -> Option<usize>
     ensures some { IfSome result (λ c. Contains row.now c × (slice_get steps.now c ≡ Some step)) }
     ensures none { IsNone result → (c : ℕ) → Contains row.now c → ¬ (slice_get steps.now c ≡ Some step) }
@@ -177,8 +178,7 @@ fn search(row: &[usize], steps: &[u32], step: u32) -> Option<usize>
     None
 }
 
-// The number of a node's child that this step leads to. The children stand in their order, so that the child is at its
-// place among them.
+// The number of the child to which this step leads. Children are in order, so that the step is normally the child's index.
 fn child_of(kids: &Index, steps: &[u32], number: usize, step: u32) -> Option<usize>
     ensures some { IfSome result (λ c. Contains (row_of kids.now number) c × (slice_get steps.now c ≡ Some step)) }
     ensures none { IsNone result → (c : ℕ) → Contains (row_of kids.now number) c → ¬ (slice_get steps.now c ≡ Some step) }

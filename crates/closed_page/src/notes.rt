@@ -1,4 +1,4 @@
-//! What nodes of a page came to have, node by node and round by round.
+//! Notes of the atoms that nodes of a page get, one for each node and round.
 ghost use Rattle.std.specs.Prelude.{◌≡◌, ◌↔◌, ◌∷◌, ◌++◌, ◌<◌, ◌^◌, ℕ, List, [], length, Contains, IfOk, OnOk, IsTrue};
 ghost use Rattle.std.specs.List.Sorted.{IsStrictlyIncreasing};
 ghost use Rattle.closed_page.specs.Firsts.{IsSpotOf};
@@ -10,7 +10,7 @@ use crate::shared_set::{A_FEW, SharedSet};
 use pair_table::same_atoms;
 use tp_base::{Atom, ClassSet, NoMemory};
 
-/// The atoms that a node came to have in a round, by what stands for the node.
+/// A note: the atoms that a node got in a round.
 #[derive(Drop)]
 pub(crate) struct NodeNews {
     pub(crate) spot: Spot,
@@ -18,7 +18,7 @@ pub(crate) struct NodeNews {
     pub(crate) atoms: SharedSet,
 }
 
-/// Whether the other set has none of these atoms, each of which is sought there.
+/// Whether no atom of the set is in the other one. Each atom costs a search of the other set.
 pub fn are_all_missing(set: &ClassSet, other: &ClassSet) -> bool
     ensures { IsTrue result ↔ ((a : ℕ) → Contains set.now a → ¬ Contains other.now a) }
 {
@@ -30,7 +30,7 @@ pub fn are_all_missing(set: &ClassSet, other: &ClassSet) -> bool
     true
 }
 
-// Whether no atom is in both. Linear in the two lengths.
+// Whether the two sets have no atom in common. Linear in both lengths.
 fn are_apart(set: &ClassSet, other: &ClassSet) -> bool
     ensures apart { IsTrue result → (a : ℕ) → Contains set.now a → ¬ Contains other.now a }
     ensures rising { IsStrictlyIncreasing set.now }
@@ -54,7 +54,7 @@ fn are_apart(set: &ClassSet, other: &ClassSet) -> bool
     true
 }
 
-// Those atoms of a set that another doesn't have.
+// The atoms of a set that another set does not have.
 fn left_of(own: &ClassSet, set: &ClassSet) -> Result<ClassSet, NoMemory>
     ensures { IfOk result (λ s. s ≡ new_of own.now set.now) }
 {
@@ -75,7 +75,7 @@ fn push_new(own: &ClassSet, atom: Atom, left: &mut Vec<Atom>) -> Result<(), NoMe
     Ok(())
 }
 
-// Whether a node has no atom of a label. A few of these are sought, more cost a walk along both.
+// Whether a node has no atom of a label. A few atoms are searched for, more of them cost a walk along both sets.
 fn is_all_new(own: &ClassSet, label: &ClassSet) -> bool
     ensures apart { IsTrue result → (a : ℕ) → Contains label.now a → ¬ Contains own.now a }
     ensures rising { IsStrictlyIncreasing label.now }
@@ -86,7 +86,7 @@ fn is_all_new(own: &ClassSet, label: &ClassSet) -> bool
     are_apart(label, own)
 }
 
-// Those atoms of a label that a node doesn't have. Where it has none of them, the label is shared.
+// The atoms of a label that a node does not have. If it has none of them, the label itself is shared.
 fn new_to(own: &ClassSet, label: &SharedSet) -> Result<SharedSet, NoMemory>
     ensures atoms { IfOk result (λ s. s ≡ new_of own.now label.now) }
     ensures rising { IsStrictlyIncreasing label.now }
@@ -101,8 +101,8 @@ fn new_to(own: &ClassSet, label: &SharedSet) -> Result<SharedSet, NoMemory>
     Ok(shared)
 }
 
-/// Notes the atoms of a label that the node didn't have. Linear in the two labels, or a search for each of a few atoms; it
-/// takes the memory of a set only where the node had some of the atoms.
+/// Notes the atoms of a label that the node does not have. Linear in both labels, or a search for each of a few atoms. A new
+/// set is allocated only if the node has some of the atoms.
 pub(crate) fn note(
     notes: &mut Vec<NodeNews>,
     spot: Spot,
@@ -120,7 +120,7 @@ pub(crate) fn note(
     Ok(())
 }
 
-// Whether the second node stands that many steps behind the first, and came to have the same atoms in the same round.
+// Whether the second node stands `by` steps behind the first, and got the same atoms in the same round.
 fn is_alike(first: &NodeNews, second: &NodeNews, by: usize) -> bool
     ensures { IsTrue result → IsAlike first.now by second.now }
 {
@@ -136,8 +136,8 @@ fn is_alike(first: &NodeNews, second: &NodeNews, by: usize) -> bool
     same_atoms(second.atoms.set(), first.atoms.set())
 }
 
-/// Where the notes end that are of one run of children with the i-th, and have the same atoms and the same round. It costs a
-/// comparison with each of these and one more.
+/// The end of the notes from the i-th on that are of consecutive siblings with the same atoms and round. Costs a comparison for
+/// each of them and one more.
 pub(crate) fn alike_to(notes: &[NodeNews], i: usize) -> usize
     requires { i < length notes.now }
     ensures { AreAlike notes.now i result }

@@ -1,4 +1,4 @@
-//! The labels of a page and their first rounds, by the numbers of its nodes in the order of the document.
+//! The labels of a page and the first rounds of their atoms, by node numbers in document order.
 ghost use Rattle.std.specs.Prelude.{◌≡◌, ◌<◌, ◌⊎◌, ◌↔◌, ◌++◌, ◌+◌, ◌^◌, ℕ, [], Some, None, map, length, get_or, IfOk, OnOk, OnErr, IfSome, IsSome, IsNone, List, Contains};
 ghost use Rattle.tree_sem.specs.Trees.{LabelTree, node_at, label_at, edit_at, count_of};
 ghost use Rattle.tree_sem.specs.Order.{paths_of};
@@ -26,15 +26,15 @@ use std::marker::Model;
 use tp_base::{ClassSet, NoMemory};
 use tree_sem::Tree;
 
-/// The labels of a page's nodes by their numbers, and the first rounds of the atoms.
+/// The labels of a page by node numbers, and the first rounds of the atoms.
 #[derive(Drop)]
 pub(crate) struct PageParts {
     pub(crate) own: Vec<SharedSet>,
     pub(crate) firsts: FirstRounds,
 }
 
-/// The nodes of a page by their numbers, the label of each now, and the first rounds of the atoms, so far; no tree is kept. A
-/// contract sees the tree with the labels, the paths of the nodes, and the firsts with these paths.
+/// A page whose labels still grow: its numbered nodes, their labels now, and the first rounds so far. No tree is kept. A
+/// contract sees the tree with these labels, the paths of the nodes, and the firsts with these paths.
 #[derive(Drop)]
 pub struct PageLabels {
     nodes: PageNodes,
@@ -59,7 +59,8 @@ impl Model for PageLabels {
 }
 
 impl PageLabels {
-    /// A page, with all its atoms as firsts of round 0, from its columns. Linear in them and in the nodes.
+    /// Makes the labels of a page from its columns, with all its atoms as firsts of round 0. Linear in the columns and the
+    /// nodes.
     pub fn new(alloc: Global, page: &Tree, columns: Columns<'_>) -> Result<PageLabels, NoMemory>
         requires { IsNumbering page.now columns.parents.items columns.steps.items (map (λ b. b.now) columns.labels.items) }
         ensures labels { IfOk result (λ l. l.labels ≡ page.now) }
@@ -78,8 +79,8 @@ impl PageLabels {
         Ok(labels)
     }
 
-    /// The numbers of all nodes, those of each node's children behind one another, and the root's last. So stand the firsts of an
-    /// atom in its row, and none of these notes has to be moved there. Linear in the nodes.
+    /// The numbers of all nodes, children of one node behind one another, and the root last. Rows of firsts have this order, so
+    /// that notes made in it need no sorting. Linear in the nodes.
     pub(crate) fn by_parents(&self, alloc: Global) -> Result<Vec<usize>, NoMemory>
         requires { (t : LabelTree) × (self.now.nodes ≡ paths_of t) }
         ensures within { IfOk result (λ v. (i : ℕ) → Contains v.items i → i < length self.now.nodes) }
@@ -94,7 +95,7 @@ impl PageLabels {
         Ok(numbers)
     }
 
-    // The nodes of a page with their labels, of which no firsts are noted yet. Linear in the nodes.
+    // The labels of a page without firsts. Linear in the nodes.
     fn numbered(alloc: Global, page: &Tree, columns: Columns<'_>) -> Result<PageLabels, NoMemory>
         requires { IsNumbering page.now columns.parents.items columns.steps.items (map (λ b. b.now) columns.labels.items) }
         ensures labels { IfOk result (λ l. l.labels ≡ page.now) }
@@ -110,7 +111,7 @@ impl PageLabels {
         })
     }
 
-    /// The nodes of a page with other labels, of which no firsts are noted yet. Linear in the nodes.
+    /// The nodes of a page with other labels and without firsts. Linear in the nodes.
     pub(crate) fn with_own(
         alloc: Global,
         page: &Tree,
@@ -130,7 +131,7 @@ impl PageLabels {
         })
     }
 
-    /// The same nodes and labels, and the firsts of these notes. Constant.
+    /// The same nodes and labels, with the firsts of these notes. Constant.
     pub(crate) fn with_notes(self, notes: Vec<NodeNews>) -> PageLabels
         requires { AreAtSpots self.nodes notes.items }
         ensures labels { result.labels ≡ self.labels }
@@ -152,7 +153,7 @@ impl PageLabels {
         &self.notes
     }
 
-    /// The number of the node of which a note tells, where there is such a node. Constant.
+    /// The number of a note's node, if there is such a node. Constant.
     pub(crate) fn number_of(&self, note: &NodeNews) -> Option<usize>
         requires { IsSpot self.now.nodes note.now.spot.parent note.now.spot.step }
         ensures { IsNumberAt self.now.nodes note.now.spot.parent note.now.spot.step result }
@@ -179,7 +180,7 @@ impl PageLabels {
         Ok(numbers)
     }
 
-    /// The label of a node.
+    /// The label of a node now. Constant.
     pub fn own(&self, number: usize) -> &ClassSet
         requires { number < length self.now.nodes }
         ensures { label_at (node_of self.now number) self.now.labels ≡ Some result.now }
@@ -187,7 +188,7 @@ impl PageLabels {
         self.own[number].set()
     }
 
-    /// The label of each node, once more. Linear in the nodes: the labels are shared.
+    /// Copies of all labels, by node numbers. They share the sets. Linear in the nodes.
     pub fn all_own(&self, alloc: Global) -> Result<Vec<SharedSet>, NoMemory>
         ensures { IfOk result (λ v. AreAllLabels self.now.labels self.now.nodes v.items (length self.now.nodes)) }
     {
@@ -195,7 +196,7 @@ impl PageLabels {
         Ok(labels)
     }
 
-    /// The number of a node's parent.
+    /// The number of a node's parent, and `None` for the root. Constant.
     pub fn parent(&self, number: usize) -> Option<usize>
         requires { number < length self.now.nodes }
         ensures above { IsAbove self.now.nodes (node_of self.now number) result }
@@ -205,7 +206,7 @@ impl PageLabels {
         self.nodes.parent(number)
     }
 
-    /// The numbers of a node's children.
+    /// The numbers of a node's children, in their order. Constant.
     pub fn kids(&self, number: usize) -> &[usize]
         requires { number < length self.now.nodes }
         ensures kids { AreKids self.now.nodes number result.now }
@@ -214,7 +215,7 @@ impl PageLabels {
         self.nodes.kids(number)
     }
 
-    /// Adds the number of a node's parent to these, if there is a parent. Constant.
+    /// Appends the number of a node's parent to the row, if there is a parent. Constant.
     pub fn add_parent(&self, number: usize, row: &mut Vec<usize>) -> Result<(), NoMemory>
         requires number { number < length self.now.nodes }
         ensures kept { OnOk result ((i : ℕ) → Contains row.old.items i → Contains row.new.items i) }
@@ -231,8 +232,8 @@ impl PageLabels {
         }
     }
 
-    /// Notes a node at its parent, if there is one. A refusal changes nothing that stands at any number. Linear in the parent's
-    /// number, where it is the largest so far.
+    /// Notes a node among the callers of its parent, if there is one. When memory runs out, no row has changed. Linear in the
+    /// parent's number where it is the largest so far.
     pub fn call(&self, alloc: Global, number: usize, callers: &mut Index) -> Result<(), NoMemory>
         requires { number < length self.now.nodes }
         ensures ok { OnOk result (IsCalled self.now.nodes callers.old callers.new number) }
@@ -247,7 +248,7 @@ impl PageLabels {
         }
     }
 
-    /// What stands for a node.
+    /// The spot of a node.
     pub(crate) fn spot(&self, number: usize) -> Spot
         requires { number < length self.now.nodes }
         ensures { IsSpotOf self.now.nodes (node_of self.now number) result }
@@ -255,7 +256,7 @@ impl PageLabels {
         spot_of(&self.nodes, number)
     }
 
-    /// Notes those of these atoms that a node doesn't have as its firsts of a round.
+    /// Notes the atoms that a node does not have, as its firsts of this round.
     pub(crate) fn note(
         &mut self,
         number: usize,
@@ -273,7 +274,7 @@ impl PageLabels {
         note(&mut self.notes, spot, self.own[number].set(), label, round)
     }
 
-    // Notes all atoms of a node, if it has any, as its firsts of round 0.
+    // Notes all atoms of a node, if any, as its firsts of round 0.
     fn note_own(&mut self, number: usize, none: &ClassSet) -> Result<(), NoMemory>
         requires number { number < length self.old.nodes }
         requires none { none.now ≡ [] }
@@ -291,9 +292,9 @@ impl PageLabels {
         note(&mut self.notes, spot, none, &self.own[number], 0)
     }
 
-    /// Adds atoms to the label of a node. Where the node before it has the label that comes of it, they share that. Else a few
-    /// atoms cost a search of each one's place, and a step for each atom behind it; more cost a walk along both labels, as does
-    /// the first time at a node, when its label is copied.
+    /// Adds atoms to the label of a node. If the node before it has the resulting label, both share that set. Otherwise each of
+    /// a few atoms costs a search and shifts the atoms behind it, and more atoms cost a walk along both labels. The first
+    /// addition at a node also copies its label.
     pub(crate) fn add(&mut self, number: usize, label: &ClassSet) -> Result<(), NoMemory>
         requires { number < length self.old.nodes }
         ensures labels { OnOk result (self.new.labels ≡ edit_at (node_of self.old number) (add_classes label.now) self.old.labels) }
@@ -311,7 +312,7 @@ impl PageLabels {
         Ok(())
     }
 
-    /// The labels by the numbers of the nodes, and the firsts by their atoms.
+    /// The labels by node numbers, and the firsts in rows by atoms.
     pub(crate) fn into_parts(self, alloc: Global) -> Result<PageParts, NoMemory>
         requires { AreOfNodes self.nodes self.firsts }
         ensures tree { IfOk result (λ r. relabelled (label_by r.firsts.nodes r.own.items) (shape_of r.firsts.nodes) ≡ self.labels) }

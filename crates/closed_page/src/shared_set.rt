@@ -1,4 +1,4 @@
-//! Sets of atoms that several hold.
+//! Sets of atoms that are shared and copied on write.
 ghost use Rattle.std.specs.Prelude.{◌≡◌, ◌⊎◌, ◌<◌, ℕ, [], All, map, length, get_or, Contains, IfOk, IfSome, OnOk, IsTrue};
 ghost use Rattle.tp_base.specs.Classes.{union_of};
 ghost use Rattle.closed_page.specs.Gains.{IsLonger};
@@ -9,7 +9,7 @@ use std::marker::Model;
 use std::rc::Rc;
 use tp_base::{Atom, ClassSet, NoMemory};
 
-/// A set of atoms, which copies share. A contract sees the set.
+/// A set of atoms that its copies share. A contract sees the set.
 #[derive(Drop)]
 pub struct SharedSet {
     set: Rc<ClassSet>,
@@ -24,7 +24,7 @@ impl Model for SharedSet {
 }
 
 impl SharedSet {
-    /// Constant: the set is kept as it is.
+    /// Takes the set over without a copy. Constant.
     pub fn new(set: ClassSet) -> Result<SharedSet, NoMemory>
         ensures { IfOk result (λ s. s ≡ set) }
     {
@@ -40,8 +40,8 @@ impl SharedSet {
         &self.set
     }
 
-    /// Adds atoms to the set, which is copied where others hold it, too. A few atoms cost a search of each one's place, and a
-    /// step for each atom behind it; more cost a walk along both sets. A refusal may leave some of them there.
+    /// Adds atoms to the set. The set is copied first if others share it. Each of a few atoms costs a search and shifts the
+    /// atoms behind it, and more cost a walk along both sets. When memory runs out, some of the atoms may be there.
     pub(crate) fn add(&mut self, atoms: &ClassSet) -> Result<(), NoMemory>
         ensures all { OnOk result (self.new ≡ union_of self.old atoms.now) }
         ensures longer { IsLonger self.old self.new }
@@ -56,7 +56,7 @@ impl SharedSet {
         Ok(())
     }
 
-    /// The same set once more. Constant: both share it.
+    /// A copy that shares the set. Constant.
     pub fn share(&self) -> Result<SharedSet, NoMemory>
         ensures { IfOk result (λ s. s ≡ self.now) }
     {
@@ -73,7 +73,7 @@ fn is_same(known: &SharedSet, set: &ClassSet) -> bool
     same_atoms(known.set(), set)
 }
 
-/// Sets of one atom each, by the atom, and the set without atoms where none is known.
+/// A pool of sets with one atom each, by the atom. The empty set stands where no set is known yet.
 #[derive(Drop)]
 pub struct SharedSets {
     none: SharedSet,
@@ -81,7 +81,7 @@ pub struct SharedSets {
 }
 
 impl SharedSets {
-    /// No set is known yet.
+    /// An empty pool.
     pub fn new(alloc: Global) -> Result<SharedSets, NoMemory> {
         Ok(SharedSets {
             none: SharedSet::new(ClassSet::new(alloc))?,
@@ -89,7 +89,7 @@ impl SharedSets {
         })
     }
 
-    // Makes a place for the atom.
+    // Makes a place of the pool for the atom.
     fn reach(&mut self, place: usize) -> Result<(), NoMemory>
         ensures { OnOk result (place < length self.new.ones.items) }
     {
@@ -100,7 +100,7 @@ impl SharedSets {
         Ok(())
     }
 
-    // The set, which is the one that is known at the place, or is known there from now on.
+    // The pool's set at the place. If there is none, the given set is put there.
     fn one(&mut self, set: ClassSet, place: usize) -> Result<SharedSet, NoMemory>
         ensures { IfOk result (λ s. s ≡ set) }
     {
@@ -116,8 +116,8 @@ impl SharedSets {
         Ok(shared)
     }
 
-    /// The set, kept as it is. One of a single atom is shared with those before it that had this atom alone. Constant, but linear
-    /// in the atom's number where it is the largest so far.
+    /// Takes the set over without a copy. Sets with the same single atom share one from the pool. Constant, but linear in the
+    /// atom's number where it is the largest so far.
     pub fn share_of(&mut self, set: ClassSet) -> Result<SharedSet, NoMemory>
         ensures { IfOk result (λ s. s ≡ set) }
     {
@@ -130,7 +130,7 @@ impl SharedSets {
     }
 }
 
-/// These sets, once more. Linear in their number.
+/// Copies that share these sets. Linear in their number.
 pub(crate) fn shares(alloc: Global, sets: &[SharedSet]) -> Result<Vec<SharedSet>, NoMemory>
     ensures { IfOk result (λ v. v.items ≡ sets.now) }
 {
@@ -143,7 +143,7 @@ pub(crate) fn shares(alloc: Global, sets: &[SharedSet]) -> Result<Vec<SharedSet>
     Ok(shared)
 }
 
-/// Those of these sets that have these numbers, once more. Linear in the numbers.
+/// Copies of the sets with these numbers, which share them. Linear in the numbers.
 pub(crate) fn shares_at(
     alloc: Global,
     sets: &[SharedSet],
@@ -162,7 +162,7 @@ pub(crate) fn shares_at(
     Ok(shared)
 }
 
-// The last of these sets, if it has the same atoms as another one.
+// The last of these sets, if it equals the other set.
 fn last_if_same<'a>(sets: &'a [SharedSet], set: &ClassSet) -> Option<&'a SharedSet>
     ensures { IfSome result (λ s. s.now ≡ set.now) }
 {
@@ -174,7 +174,7 @@ fn last_if_same<'a>(sets: &'a [SharedSet], set: &ClassSet) -> Option<&'a SharedS
     }
 }
 
-// The set once more; the last of these, if it is the same.
+// The last of these sets, if it equals the other set, and else a copy of that one.
 fn copy_after(sets: &[SharedSet], set: &ClassSet) -> Result<SharedSet, NoMemory>
     ensures { IfOk result (λ s. s ≡ set.now) }
 {
@@ -186,7 +186,7 @@ fn copy_after(sets: &[SharedSet], set: &ClassSet) -> Result<SharedSet, NoMemory>
     Ok(copy)
 }
 
-/// Copies of these sets, but that those of the same atoms that stand one behind the other share one. Linear in them.
+/// Copies of these sets, where equal sets behind one another share one copy. Linear in the sets.
 pub(crate) fn copies(alloc: Global, sets: &[&ClassSet]) -> Result<Vec<SharedSet>, NoMemory>
     ensures { IfOk result (λ v. v.items ≡ map (λ s. s.now) sets.now) }
 {
@@ -198,7 +198,7 @@ pub(crate) fn copies(alloc: Global, sets: &[&ClassSet]) -> Result<Vec<SharedSet>
     Ok(shared)
 }
 
-/// So many atoms at most are sought one by one in another set, which for more of them is walked along.
+/// The most atoms that are searched for one by one in another set. For more of them both sets are walked along.
 pub(crate) const A_FEW: usize = 8;
 
 // Whether the atom is in one of the sets.
@@ -211,7 +211,7 @@ fn has_either(first: &ClassSet, second: &ClassSet, atom: Atom) -> bool
     second.has(atom)
 }
 
-// Whether each atom is in one of two other sets.
+// Whether each atom of a set is in one of two other sets.
 fn are_in_either(set: &ClassSet, first: &ClassSet, second: &ClassSet) -> bool
     ensures { IsTrue result → (a : ℕ) → Contains set.now a → Contains first.now a ⊎ Contains second.now a }
 {
@@ -223,7 +223,7 @@ fn are_in_either(set: &ClassSet, first: &ClassSet, second: &ClassSet) -> bool
     true
 }
 
-// Whether a set of a few atoms has those of two other sets, and no others.
+// Whether a set of a few atoms is the union of two other sets.
 fn is_joined(set: &ClassSet, own: &ClassSet, atoms: &ClassSet) -> bool
     ensures { IsTrue result → set.now ≡ union_of own.now atoms.now }
 {
@@ -241,8 +241,8 @@ fn is_joined(set: &ClassSet, own: &ClassSet, atoms: &ClassSet) -> bool
     are_in_either(set, own, atoms)
 }
 
-/// The set before the one with this number, if it has its atoms and these, and no others. A few steps for each of the atoms,
-/// and constant where it has more than a few.
+/// The set before the one with this number, if it is the union of that one and these atoms. A few steps for each atom of the
+/// set before, and constant if it has more than a few.
 pub(crate) fn joined_before(
     sets: &[SharedSet],
     number: usize,
@@ -274,7 +274,7 @@ fn add_each(set: &mut ClassSet, atoms: &ClassSet) -> Result<(), NoMemory>
     Ok(())
 }
 
-// Adds these atoms, a few of them one by one.
+// Adds these atoms: a few one by one, more by a walk along both sets.
 fn add_all(set: &mut ClassSet, atoms: &ClassSet) -> Result<(), NoMemory>
     ensures all { OnOk result (set.new ≡ union_of set.old atoms.now) }
     ensures longer { IsLonger set.old set.new }

@@ -1,4 +1,4 @@
-//! The labels and first rounds of a page, whose nodes have them from the nodes of another one.
+//! Spreading: the nodes of a page take their labels and first rounds from the nodes of a folded page.
 ghost use Rattle.std.specs.Prelude.{◌≡◌, ◌<◌, ◌++◌, ◌↔◌, ℕ, List, map, length, get_or, Contains, IsSome, IfOk, OnOk};
 ghost use Rattle.tree_sem.specs.Trees.{LabelTree, count_of, node_at, label_at};
 ghost use Rattle.tree_sem.specs.Order.{paths_of};
@@ -20,7 +20,7 @@ use std::alloc::Global;
 use tp_base::NoMemory;
 use tree_sem::Tree;
 
-// The numbers of the nodes of which notes tell.
+// The numbers of the notes' nodes.
 fn numbers_of(
     alloc: Global,
     labels: &PageLabels,
@@ -37,7 +37,7 @@ fn numbers_of(
     Ok(numbers)
 }
 
-// The places of notes, by the numbers of their nodes.
+// An index of notes by the numbers of their nodes.
 fn by_nodes(alloc: Global, labels: &PageLabels, notes: &[NodeNews]) -> Result<Index, NoMemory>
     requires nodes { (t : LabelTree) × (labels.now.nodes ≡ paths_of t) }
     requires spots { AreAtSpots labels.now.nodes notes.now }
@@ -48,7 +48,7 @@ fn by_nodes(alloc: Global, labels: &PageLabels, notes: &[NodeNews]) -> Result<In
     Ok(index)
 }
 
-// What a note tells, of another node.
+// A copy of the note at this place, for another node.
 fn again_at(known: &[NodeNews], place: usize, spot: Spot) -> Result<NodeNews, NoMemory>
     requires { place < length known.now }
     ensures { IfOk result (λ n. n ≡ again spot (news_at known.now place)) }
@@ -62,7 +62,7 @@ fn again_at(known: &[NodeNews], place: usize, spot: Spot) -> Result<NodeNews, No
     })
 }
 
-// Notes of a node what the notes with these places tell of another one.
+// Copies the notes at these places for another node.
 fn note_again(
     known: &[NodeNews],
     places: &[usize],
@@ -79,7 +79,7 @@ fn note_again(
     Ok(())
 }
 
-// The places of the notes of the node from which one has its own.
+// The places of the notes of the node from which the node with this number takes its own.
 fn places_for<'a>(index: &'a Index, numbers: &[usize], number: usize) -> &'a [usize]
     requires { number < length numbers.now }
     ensures { result.now ≡ row_of index.now (get_or numbers.now number 0) }
@@ -87,7 +87,7 @@ fn places_for<'a>(index: &'a Index, numbers: &[usize], number: usize) -> &'a [us
     index.of(numbers[number])
 }
 
-// The notes of a page's nodes, in the order in which the firsts of an atom stand in its row.
+// The notes of a page's nodes, in the order of the rows of firsts.
 fn all_notes(
     alloc: Global,
     labels: &PageLabels,
@@ -112,7 +112,7 @@ fn all_notes(
     Ok(notes)
 }
 
-// The notes of a page's nodes, each of which has those of the node with its number in another page.
+// The notes of a page's nodes, each taken from the node with its number in the folded page.
 fn spread_notes(
     alloc: Global,
     labels: &PageLabels,
@@ -132,7 +132,7 @@ fn spread_notes(
     Ok(notes)
 }
 
-// The labels of a page's nodes, each of which has that of the node with its number in another page.
+// The labels of a page's nodes, each taken from the node with its number in the folded page.
 fn spread_labels(
     alloc: Global,
     page: &Tree,
@@ -153,9 +153,9 @@ fn spread_labels(
     Ok(labels)
 }
 
-/// The labels and first rounds of a page, from its columns, of whose nodes each has those of the node with one of these numbers
-/// in another page. Linear in the nodes and the notes of both: each label and each set of atoms is shared, and the notes stand in
-/// the order of the nodes' parents, so that none has to be moved into its row.
+/// The labels and first rounds of a page. The i-th node takes them from the node of the folded page with the i-th number.
+/// Linear in the nodes and notes of both pages. All sets are shared, and the notes come in the order of the rows, so that no
+/// sort has to move them.
 pub fn spread(
     alloc: Global,
     page: &Tree,

@@ -1,6 +1,6 @@
--- A sheet that is read, to the definitions.
---     IsDraft    what holds of it between two rules, and between two selectors of a rule
---     ReadsOn    what each call that reads on keeps: the text, and the number of each name
+-- The invariant of a sheet in the course of reading.
+--     IsDraft    what holds between two rules, and between two selectors of a rule
+--     ReadsOn    what each further call preserves: the text, and the number of each name
 use Rattle.std.specs.Prelude.{◌≡◌, ◌≤◌, map, length}
 use Rattle.sel_text.specs.Results.{IsFront}
 use Rattle.css_read.specs.declared.faults.TheConstants.{MOST_SELECTORS}

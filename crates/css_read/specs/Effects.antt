@@ -1,9 +1,9 @@
--- What a sheet does, and what a sheet that was pruned has in common with the one before.
---     effect         of each selector that passes a test: its block, and the heads of the at-rules round it
+-- The effect of a sheet, and what a pruned sheet has in common with the sheet before.
+--     effect         for each selector that passes a test: its block, and the heads of the at-rules around it
 --     stayed         the selectors that stay
---     AreMoved       selectors with the same outcomes, at other places
---     KeepsSheet     what is read of the pruned text
---     KeepsSheets    it is so for each sheet that a text is read as, and all flags
+--     AreMoved       the same selectors with the same outcomes, at other places
+--     KeepsSheet     the pruned text reads as the sheet that stayed, with the same effects
+--     KeepsSheets    the same for every sheet that the text reads as, and for all flags
 use Rattle.std.specs.Prelude.{◌≡◌, ℕ, zero, suc, ◌+◌, ◌&&◌, not, Bool, true, false, if◌then◌else◌, List, [], ◌∷◌, ◌++◌, length, slice_range, Option, Some, None, get_or, Ok}
 use Rattle.tp_base.specs.Names.{Named}
 use Rattle.sel_text.specs.Selectors.{Selector}
@@ -17,7 +17,7 @@ use Rattle.css_read.specs.declared.sheets.Range.{Range}
 
 -- ---- effects
 
--- a selector, its block from `{` on, and the at-rules round it up to their `{`, the outermost first
+-- a selector, its block from `{` on, and the heads of the at-rules around it (each up to its `{`), the outermost first
 pub record Style : Type 0 where
   pub selector : Selector
   pub block : List ℕ
@@ -27,12 +27,12 @@ abbrev pub heads_at : List (List (List ℕ)) → Option ℕ → List (List ℕ)
 heads_at heads None = []
 heads_at heads (Some n) = get_or heads n []
 
--- of each holder those round it and its own, behind those that are found
+-- the heads around each holder together with its own, appended to those found before
 abbrev pub heads_from : List ℕ → List (List (List ℕ)) → List Holder → List (List (List ℕ))
 heads_from text found [] = found
 heads_from text found (h ∷ hs) = heads_from text (found ++ (heads_at found h.inside ++ slice_range text h.from h.brace ∷ []) ∷ []) hs
 
--- what the rules of a text are for their selectors: the block, and the heads round it
+-- what a rule gives to its selectors: its block, and the heads around it
 abbrev pub Scope : Type 0
 Scope = List ℕ × List (List ℕ)
 
@@ -47,7 +47,7 @@ abbrev pub style_of : (Selector → Bool) → List Scope → ℕ → Outcome →
 style_of test scopes k (judged s) = let scope = get_or scopes k ([], []) in if test s then (record { selector = s; block = scope.0; heads = scope.1 }) ∷ [] else []
 style_of test scopes k (skipped why at) = []
 
--- The selectors that pass are those that match a node.
+-- The test stands for a page: it passes the selectors that match some node.
 abbrev pub effect_in : (Selector → Bool) → List Scope → List Item → List Style
 effect_in test scopes [] = []
 effect_in test scopes (i ∷ items) = style_of test scopes i.rule i.outcome ++ effect_in test scopes items
@@ -70,7 +70,7 @@ stayed_in fixed (f ∷ fs) = if goes f && not (get_or fixed f.0.rule false) then
 unfoldable pub stayed : List ℕ → Sheet → List Bool → List Item
 stayed text sheet flags = let fs = with_flags sheet.items flags in stayed_in (fixed_rules text 0 sheet.rules fs) fs
 
--- the number of a rule, when those that go are left out
+-- the number of a rule after the rules that go are removed
 abbrev pub number_left : List Bool → ℕ → ℕ
 number_left [] k = k
 number_left (g ∷ gone) zero = 0
@@ -92,7 +92,7 @@ AreMoved gone [] [] = Unit {0}
 AreMoved gone (i ∷ is) (j ∷ js) = IsMoved gone i j × AreMoved gone is js
 AreMoved gone is js = ⊥
 
--- a flagged selector is judged, and doesn't pass the test
+-- a flagged selector that is judged fails the test
 abbrev pub FailsTest : (Selector → Bool) → Flagged → Type 0
 FailsTest test (i, false) = Unit {0}
 FailsTest test (i, true) = FailsAt i.outcome
@@ -105,7 +105,7 @@ abbrev pub AllFail : (Selector → Bool) → List Flagged → Type 0
 AllFail test [] = Unit {0}
 AllFail test (f ∷ fs) = FailsTest test f × AllFail test fs
 
--- a flagged selector is judged
+-- each flagged selector is judged, and none is skipped
 abbrev pub AreJudged : List Flagged → Type 0
 AreJudged [] = Unit {0}
 AreJudged ((i, false) ∷ fs) = AreJudged fs
@@ -122,6 +122,6 @@ pub record KeepsSheet (text : List ℕ) (names : List Named) (sheet : Sheet) (fl
   pub items : AreMoved (gone_rules text 0 sheet.rules (with_flags sheet.items flags)) (stayed text sheet flags) again.items
   pub effects : (test : Selector → Bool) → AllFail test (with_flags sheet.items flags) → effect test (pruned text sheet flags) again ≡ effect test text sheet
 
--- with the names known that the text was read with
+-- the pruned text is read with the names that are known after the first reading
 abbrev pub KeepsSheets : List ℕ → Type 0
 KeepsSheets text = (names later : List Named) (sheet : Sheet) (flags : List Bool) → read_sheet text names ≡ (later, Ok sheet) → length flags ≡ length sheet.items → (again : Sheet) × KeepsSheet text later sheet flags again

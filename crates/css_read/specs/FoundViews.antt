@@ -1,4 +1,4 @@
--- What was found by the code is to the definitions.
+-- The holders that the code has found, as the definitions see them.
 use Rattle.std.specs.Prelude.{reverse}
 use Rattle.css_read.specs.declared.finding.Found.{Found}
 use Rattle.css_read.specs.FoundHolders as spec

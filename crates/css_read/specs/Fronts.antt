@@ -1,4 +1,4 @@
--- What a front of the code is to the definitions.
+-- A front of the code, as the definitions see it.
 use denote.Bor.{Bor}
 use Rattle.std.specs.Prelude.{◌≡◌, ℕ, ◌==◌, ◌&&◌, Bool, false, List, [], ◌∷◌}
 use Rattle.css_read.specs.declared.fronts.Front.{Front}
@@ -8,7 +8,7 @@ use Rattle.css_read.specs.Rules.{Begun}
 abbrev pub front_view : Front × Bor (List ℕ) → Begun
 front_view f = (f.0, f.1.now)
 
--- how many bytes a rule's list takes
+-- the length of a rule's list in bytes, and 0 for other fronts
 abbrev pub list_len : Front → ℕ
 list_len (Styles len) = len
 list_len f = 0

@@ -1,16 +1,16 @@
--- The selectors of a list, as places in the file. `to` is the offset of the list's end, or of a selector's.
---     piece_of    without the white space and the comments at both ends
---     pieces      one before each comma outside brackets, strings and comments, and one behind the last
+-- The selectors of a list, as ranges of the file. `to` is the offset where the list, or a selector, ends.
+--     piece_of    the range of a selector without white space and comments at both ends
+--     pieces      the selectors of a list, split at commas outside brackets, strings and comments
 use Rattle.std.specs.Prelude.{ℕ, zero, suc, ◌+◌, ◌-◌, ◌==◌, ◌&&◌, Bool, true, if◌then◌else◌, List, [], ◌∷◌, length, take, codes}
 use Rattle.sel_text.specs.Bytes.{behind_gap}
 use Rattle.css_read.specs.declared.sheets.Range.{Range}
 use Rattle.css_read.specs.Units.{behind_unit, begins_gap, from_first}
 
--- a string, a comment or a byte of n bytes, before so many others that count
+-- the length up to the last byte that counts: a unit of n bytes, which is a gap or not, before `others` further ones that count
 abbrev pub with_unit : Bool → ℕ → ℕ → ℕ
 with_unit gap n others = if gap && others == 0 then 0 else n + others
 
--- How many bytes there are up to the white space and the comments at the end. `skip` bytes are left of a string or a comment.
+-- The length without white space and comments at the end, where `skip` bytes are left of a string or a comment.
 unfoldable pub solid_len : ℕ → List ℕ → ℕ
 solid_len skip [] = 0
 solid_len (suc skip) (b ∷ bs) = solid_len skip bs
@@ -25,11 +25,11 @@ piece_of to bs =
 abbrev pub from_comma : List ℕ → List ℕ
 from_comma bs = from_first (codes ",") bs
 
--- the one before the next comma
+-- the selector before the next comma
 unfoldable pub first_piece : ℕ → List ℕ → Range
 first_piece to bs = let rest = from_comma bs in piece_of (to - length rest) (take (length bs - length rest) bs)
 
--- one behind each comma, of which the text begins with the first; `skip` bytes are left before it
+-- one selector behind each comma, where the text begins with the first comma; `skip` bytes are left before it
 unfoldable pub more_pieces : ℕ → ℕ → List ℕ → List Range
 more_pieces to skip [] = []
 more_pieces to (suc skip) (b ∷ bs) = more_pieces to skip bs

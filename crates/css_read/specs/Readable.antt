@@ -1,4 +1,4 @@
--- The selectors of a sheet that are judged: their atoms are names, each of a kind that has a place in a selector.
+-- The judged selectors of a sheet: their atoms are names of kinds that a selector can have.
 use Rattle.std.specs.Prelude.{List, All}
 use Rattle.tp_base.specs.Names.{Named}
 use Rattle.sel_text.specs.Readable.{IsReadable}

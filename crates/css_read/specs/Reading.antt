@@ -1,9 +1,9 @@
--- Reading a sheet: the selectors of each rule, from left to right. Names are entered into the table as they are read.
---     add_item      a selector
---     add_items     those of a list
---     add_rule      a rule
---     add_rules     all rules
---     read_sheet    a file
+-- Reading a sheet from left to right. The table gets each name when it is read.
+--     add_item      reads one selector
+--     add_items     reads those of a list
+--     add_rule      reads one rule
+--     add_rules     reads all rules
+--     read_sheet    reads a file
 use Rattle.std.specs.Prelude.{ℕ, ◌==◌, nat_lt, slice_range, if◌then◌else◌, List, [], ◌∷◌, ◌++◌, length, Result, Ok, Err}
 use Rattle.std.specs.Str.Lossy.{utf8_valid_len}
 use Rattle.tp_base.specs.Names.{Named}
@@ -18,7 +18,7 @@ use Rattle.css_read.specs.Rules.{Rule, rules_of}
 use Rattle.css_read.specs.Pieces.{pieces}
 use Rattle.css_read.specs.Sheets.{Outcome, judged, skipped, Item, Sheet}
 
--- the names in the table at the end, and what is read
+-- the names of the table at the end, and the result
 abbrev pub Ending : Type 0 → Type 0
 Ending A = List Named × Result A SheetFault
 
@@ -29,18 +29,18 @@ then_read (names, Err e) f = (names, Err e)
 abbrev pub item : ℕ → Range → Outcome → Item
 item rule piece outcome = record { from = piece.from; to = piece.to; rule = rule; outcome = outcome }
 
--- what a selector of a sheet is, by how it reads
+-- the selector of a sheet that comes of the reading of its text
 abbrev pub item_from : ℕ → Range → one.Ending Selector → Ending Item
 item_from rule piece (names, Ok s) = (names, Ok (item rule piece (judged s)))
 item_from rule piece (names, Err (sel.Skipped why at)) = (names, Ok (item rule piece (skipped why at)))
 item_from rule piece (names, Err sel.TooManyAtoms) = (names, Err (TooManyAtoms piece.from))
 item_from rule piece (names, Err sel.Memory) = (names, Err Memory)
 
--- the selector at a piece of a rule
+-- reads the selector at a range of a rule's list
 unfoldable pub read_item : List ℕ → ℕ → List Named → Range → Ending Item
 read_item text rule names piece = item_from rule piece (one.read_selector text piece.from piece.to names)
 
--- those that are read already, and the one at a piece
+-- adds the selector at a range to those that were read before
 unfoldable pub add_item : List ℕ → ℕ → List Item → List Named → Range → Ending (List Item)
 add_item text rule found names piece =
     if nat_lt (length found) MOST_SELECTORS then then_read (read_item text rule names piece) (λ later i. (later, Ok (found ++ i ∷ [])))
@@ -53,7 +53,7 @@ add_items text rule found names (p ∷ ps) = then_read (add_item text rule found
 abbrev pub pieces_of : List ℕ → Rule → List Range
 pieces_of text rule = pieces rule.brace (slice_range text rule.from rule.brace)
 
--- a sheet with the selectors of one more rule, which goes from the first byte of its list to the end of its block
+-- adds a rule, from the first byte of its list to the end of its block, with its selectors
 unfoldable pub add_rule : List ℕ → Sheet → List Named → Rule → Ending Sheet
 add_rule text found names r =
     then_read (add_items text (length found.rules) found.items names (pieces_of text r))

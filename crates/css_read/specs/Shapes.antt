@@ -1,5 +1,5 @@
 -- What two readings of one text have in common, whatever names were in the table before.
---     AreAlike         equally many selectors, at the same places and in the same rules; the same ones are skipped, for the same causes
+--     AreAlike         the same number of selectors, at the same places and in the same rules; the same ones are skipped, for the same causes
 --     HasOneShape      two readings that are both accepted are alike
 use Rattle.std.specs.Prelude.{◌≡◌, ℕ, List, [], ◌∷◌, Ok}
 use Rattle.tp_base.specs.Names.{Named}
@@ -11,7 +11,7 @@ IsAlikeOutcome (judged s) (judged u) = Unit {0}
 IsAlikeOutcome (skipped why at) (skipped other other_at) = (why ≡ other) × (at ≡ other_at)
 IsAlikeOutcome o p = ⊥
 
--- the names that a selector has are no part of it
+-- the names in the selectors may differ
 pub record IsAlike (i j : Item) : Type 0 where
   pub from : i.from ≡ j.from
   pub to : i.to ≡ j.to

@@ -1,6 +1,6 @@
--- Strings, comments, brackets, and what stands outside them.
---     behind_unit    behind the string, the comment or the byte that the text begins with
---     from_first     the text from the first of some bytes on, outside brackets, strings and comments
+-- Units (strings, comments, single bytes), brackets, and the search outside them.
+--     behind_unit    the text behind its first unit: a string, a comment or a byte
+--     from_first     the text from the first of some bytes on that stands outside brackets, strings and comments
 use Rattle.std.specs.Prelude.{ℕ, zero, suc, ◌-◌, ◌==◌, ◌&&◌, ◌||◌, Bool, true, false, if◌then◌else◌, nat_eq, nat_lt, List, [], ◌∷◌, length, drop, Option, Some, None, codes}
 use Rattle.std.specs.List.{starts_with, list_any}
 use denote.Enum.Bare.{sameb}
@@ -15,7 +15,8 @@ use Rattle.css_read.specs.declared.brackets.Bracket.TheVariants.{Round, Square, 
 abbrev pub is_quote : ℕ → Bool
 is_quote b = b == 34 || b == 39
 
--- Behind a string, from behind its opening quote on. An escaped byte counts as nothing. An LF that isn't escaped ends the string and stands behind it.
+-- The text behind a string, from the text behind its opening quote. The byte behind a backslash ends nothing. An LF without a backslash ends the
+-- string, and the text begins with this LF.
 unfoldable pub behind_string : ℕ → Bool → List ℕ → List ℕ
 behind_string quote escaped [] = []
 behind_string quote true (b ∷ bs) = behind_string quote false bs
@@ -29,8 +30,8 @@ behind_unit [] = []
 behind_unit (b ∷ bs) =
     if is_quote b then behind_string b false bs else (if begins_comment (b ∷ bs) then behind_close (drop 1 bs) else bs)
 
--- some of the bytes that are no bracket, no quote and no `;`, and begin no comment: from `0` to `:`, from `<` to `Z`, from `^` to `z`, the full stop and
--- the space
+-- Ordinary bytes: no bracket, no quote and no `;`, and none begins a comment. They are `0` to `:`, `<` to `Z`, `^` to `z`, the full stop and the
+-- space.
 abbrev pub is_plain : ℕ → Bool
 is_plain b = nat_lt 47 b && nat_lt b 59 || nat_lt 59 b && nat_lt b 91 || nat_lt 93 b && nat_lt b 123 || b == 46 || b == 32
 
@@ -50,7 +51,7 @@ closed b = if b == 41 then Some Round else (if b == 93 then Some Square else (if
 abbrev pub is : Bracket → Bracket → Bool
 is = sameb the_type
 
--- The open brackets are listed from the innermost outward. A closing one counts where the innermost open one is of its kind.
+-- The open brackets, the innermost first. A closing bracket counts if it is of the innermost open one's kind.
 abbrev pub after_closed : Option Bracket → List Bracket → List Bracket
 after_closed None brackets = brackets
 after_closed (Some k) [] = []
@@ -71,7 +72,7 @@ is_one bytes b = list_any (λ y. nat_eq y b) bytes
 abbrev pub stops_at : List ℕ → ℕ → List Bracket → Bool
 stops_at bytes b brackets = is_one bytes b && (length brackets == 0)
 
--- with these brackets open; `skip` bytes are left of a string or a comment
+-- the search with these brackets open, where `skip` bytes are left of a unit
 unfoldable pub from_first_in : List ℕ → List Bracket → ℕ → List ℕ → List ℕ
 from_first_in bytes brackets skip [] = []
 from_first_in bytes brackets (suc skip) (b ∷ bs) = from_first_in bytes brackets skip bs

@@ -1,4 +1,4 @@
--- What a sheet of the code is to the definitions.
+-- A sheet of the code, as the definitions see it.
 use Rattle.std.specs.Prelude.{map}
 use Rattle.sel_text.specs.Views.{selector_of}
 use Rattle.css_read.specs.declared.sheets.Outcome.{Outcome}

@@ -1,4 +1,4 @@
-//! Brackets, and which of them are open.
+//! The stack of open brackets.
 ghost use Rattle.std.specs.Prelude.{◌≡◌, reverse, OnOk};
 ghost use Rattle.css_read.specs.Units as spec;
 
@@ -34,7 +34,7 @@ fn closed(byte: u8) -> Option<Bracket>
     }
 }
 
-/// Keeps the open brackets, the innermost last, after a byte.
+/// Updates the stack of open brackets, the innermost last, after a byte. Constant on average.
 #[tactic(auto, unfolding(crate::specs::Units::after_byte), using(tp_base::proofs::Lists::pushed_last, tp_base::proofs::Lists::popped_last))]
 pub(crate) fn track(brackets: &mut Vec<Bracket>, byte: u8) -> Result<(), AllocError>
     ensures { OnOk result (reverse brackets.new.items ≡ spec.after_byte byte (reverse brackets.old.items)) }

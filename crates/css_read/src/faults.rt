@@ -2,19 +2,19 @@
 use thiserror::Error;
 use tp_base::{MOST_ATOMS, OutOfMemory};
 
-/// How many selectors a sheet may have.
+/// The most selectors that a sheet may have.
 pub const MOST_SELECTORS: usize = 20_000;
 
-/// Why a sheet is not read. Each number is the index of a byte of the file, with a byte order mark counted.
+/// Why a sheet is not read. Each number is a byte offset in the file, where a byte order mark counts as three bytes.
 #[derive(Clone, Copy, Debug, PartialEq, Eq, Error)]
 pub enum SheetFault {
-    /// How many bytes at the file's front are UTF-8.
+    /// The offset up to which the file is UTF-8.
     #[error("not utf-8")]
     NotUtf8(usize),
-    /// The place of the first selector that is one too many.
+    /// The first byte of the first selector above the limit.
     #[error("more than {MOST_SELECTORS} selectors")]
     TooManySelectors(usize),
-    /// The place of the selector with the first name for which the table has no room.
+    /// The first byte of the first selector with a name for which the table has no room.
     #[error("more than {MOST_ATOMS} different names")]
     TooManyAtoms(usize),
     #[error("no memory")]

@@ -1,4 +1,4 @@
-//! Finding the at-rules whose block holds rules, from left to right.
+//! Finds the holders of a text: the at-rules whose block holds rules.
 ghost use Rattle.std.specs.Prelude.{◌≡◌, ◌≤◌, ◌<◌, ◌+◌, ◌^◌, nat_lt, not, All, drop, length, codes, IfOk, OnOk};
 ghost use Rattle.sel_text.specs.Grammar as grammar;
 ghost use Rattle.tp_base.specs.declared.places.TheConstants.{MOST_BYTES};
@@ -18,7 +18,7 @@ use std::alloc::{AllocError, Global};
 use text_bytes::behind_order_mark;
 use tp_base::NoMemory;
 
-// Whether the at-rule that begins at an offset says nothing where it holds no rule.
+// Whether the at-rule at an offset has no effect when it holds no rule.
 fn is_loose(text: &[u8], from: usize) -> bool
     requires { from < length text.now }
     ensures { result ≡ not (grammar.is_word (spec.at_name text.now from) (codes "layer")) }
@@ -27,17 +27,17 @@ fn is_loose(text: &[u8], from: usize) -> bool
     !is_word(behind.split_at(name_len(behind)).0, b"layer")
 }
 
-/// What is known of the at-rules of a text, as far as it was read.
+/// The holders of a text, as far as it was read, and the owner of each rule.
 #[derive(Drop)]
 pub(crate) struct Found {
     holders: Vec<Holder>,
     owners: Vec<Option<u32>>,
-    /// The numbers of those that are open, the innermost last.
+    /// The numbers of the open holders, the innermost last.
     opened: Vec<u32>,
 }
 
 impl Found {
-    // Whether one is open.
+    // Whether a holder is open.
     #[tactic(auto, using(crate::proofs::FoundLemmas::inside_is))]
     fn is_inside(&self) -> bool
         ensures { result ≡ nat_lt 0 (length (found_of self.now).opened) }
@@ -45,7 +45,7 @@ impl Found {
         !self.opened.is_empty()
     }
 
-    // The number of the innermost one that is open.
+    // The number of the innermost open holder.
     #[tactic(auto, using(crate::proofs::FoundLemmas::last_is))]
     fn innermost(&self) -> Option<u32>
         ensures { result ≡ spec.innermost (found_of self.now).opened }
@@ -56,7 +56,7 @@ impl Found {
         }
     }
 
-    // Passes over white space or a comment, or over something else.
+    // Passes over white space or a comment (`is_gap`), or over anything else, which leaves the innermost holder not bare.
     #[tactic(auto, using(crate::proofs::FoundLemmas::none_innermost, crate::proofs::FoundLemmas::innermost_within))]
     fn pass(&mut self, is_gap: bool)
         requires { All (λ n. n < length self.old.holders.items) self.old.opened.items }
@@ -77,7 +77,7 @@ impl Found {
         };
     }
 
-    // Begins a block. What is found of it holds where nothing ends it.
+    // Begins a holder. Until something else is found, it ends with the file and is bare.
     #[tactic(auto, using(crate::proofs::FoundLemmas::pushed, crate::proofs::FoundLemmas::below_more))]
     fn open(&mut self, text: &[u8], place: Range) -> Result<(), AllocError>
         requires from { place.from < length text.now }
@@ -102,7 +102,7 @@ impl Found {
         Ok(())
     }
 
-    // Ends the innermost block that is open.
+    // Closes the innermost open holder.
     #[tactic(auto, using(crate::proofs::FoundLemmas::popped))]
     fn close(&mut self, to: usize)
         requires { All (λ n. n < length self.old.holders.items) self.old.opened.items }
@@ -117,7 +117,7 @@ impl Found {
         self.holders[number as usize] = Holder { to, ..holder };
     }
 
-    // Adds a rule, with the innermost one that is open.
+    // Adds a rule, whose owner is the innermost open holder.
     fn add_rule(&mut self) -> Result<(), AllocError>
         ensures found { OnOk result (found_of self.new ≡ found.with_rule (found_of self.old)) }
         ensures holders { self.new.holders ≡ self.old.holders }
@@ -128,7 +128,7 @@ impl Found {
         Ok(())
     }
 
-    // Goes over what stands where a rule may begin.
+    // Takes one front, which stands where a rule may begin.
     fn step(&mut self, text: &[u8], front: Front, place: Range) -> Result<(), AllocError>
         requires from { place.from < length text.now }
         requires to { place.from < place.to }
@@ -148,7 +148,7 @@ impl Found {
     }
 }
 
-// Finds them in a text. Linear in it.
+// Finds the holders of a text. Linear in the text.
 #[tactic(auto, using(crate::proofs::HolderSteps::begins, crate::proofs::HolderSteps::goes_on, crate::proofs::HolderSteps::ends, text_bytes::proofs::Rests::of_rest))]
 fn find(alloc: Global, text: &[u8]) -> Result<Found, AllocError>
     requires { length text.now ≤ MOST_BYTES }
@@ -172,8 +172,8 @@ fn find(alloc: Global, text: &[u8]) -> Result<Found, AllocError>
     Ok(found)
 }
 
-/// Finds the at-rules whose block holds rules, and the innermost one round each rule. Linear in the file, in time and
-/// in memory.
+/// Finds the at-rules whose block holds rules, and for each rule the innermost of them around it. Linear in the file, in time
+/// and in memory.
 #[tactic(auto, using(crate::proofs::HolderLemmas::holders_found, crate::proofs::HolderLemmas::owners_found, crate::proofs::HeldLemmas::rules_held, crate::proofs::HeldLemmas::holders_nested))]
 pub fn read_holders(alloc: Global, text: &[u8]) -> Result<Holders, NoMemory>
     requires in_limit { length text.now ≤ MOST_BYTES }

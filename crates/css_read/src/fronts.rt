@@ -1,4 +1,4 @@
-//! What stands where a rule may begin.
+//! Fronts: what a text begins with, where a rule may begin.
 ghost use Rattle.std.specs.Prelude.{◌≡◌, ◌≤◌, ◌<◌, false, length, drop, IfOk};
 ghost use Rattle.std.specs.List.{list_any};
 ghost use Rattle.text_bytes.specs.Rests.{IsRest};
@@ -13,13 +13,13 @@ use std::alloc::{AllocError, Global};
 /// What a text begins with, where a rule may begin.
 #[derive(Clone, Copy, Debug, PartialEq, Eq)]
 pub enum Front {
-    /// White space, a comment, or what has no list that is read.
+    /// White space, a comment, or something without a list of selectors that is read.
     Passed,
-    /// The beginning of a block that holds rules.
+    /// The head of an at-rule, up to the `{` of its block that holds rules.
     Opens,
-    /// The end of one.
+    /// The `}` of such a block.
     Closes,
-    /// A rule whose list of selectors takes so many bytes.
+    /// A rule whose list of selectors is this many bytes long.
     Styles(usize),
 }
 
@@ -37,7 +37,7 @@ fn prelude_ends(inside: bool) -> &'static [u8]
     if inside { b";{}" } else { b";{" }
 }
 
-// The text behind a block, from behind its `{` on.
+// The text behind a block. The given text begins behind the block's `{`.
 #[tactic(auto, unfolding(crate::specs::Rules::behind_block), using(text_bytes::proofs::Rests::of_rest))]
 fn behind_block(alloc: Global, text: &[u8]) -> Result<&[u8], AllocError>
     ensures gives { IfOk result (λ r. r.now ≡ spec.behind_block text.now) }
@@ -59,7 +59,7 @@ fn behind_byte(text: &[u8]) -> &[u8]
     }
 }
 
-// Whether the at-rules of a name have blocks that hold rules.
+// Whether at-rules with this name have blocks that hold rules.
 #[tactic(auto, unfolding(crate::specs::Rules::holds_rules))]
 fn holds_rules(name: &[u8]) -> bool
     ensures { result ≡ spec.holds_rules name.now }
@@ -70,7 +70,7 @@ fn holds_rules(name: &[u8]) -> bool
         || is_word(name, b"container")
 }
 
-// An at-rule from behind its `{` on.
+// The front of an at-rule, from the text behind its `{`.
 fn at_block(alloc: Global, holds: bool, text: &[u8]) -> Result<(Front, &[u8]), AllocError>
     ensures gives { IfOk result (λ f. front_view f ≡ spec.at_block holds text.now) }
     ensures rest { IfOk result (λ f. IsRest text.now f.1.now) }
@@ -83,7 +83,7 @@ fn at_block(alloc: Global, holds: bool, text: &[u8]) -> Result<(Front, &[u8]), A
     Ok((Front::Passed, rest))
 }
 
-// An at-rule from behind its `@` on.
+// The front of an at-rule, from the text behind its `@`.
 #[tactic(auto, unfolding(crate::specs::Rules::at_rule), using(text_bytes::proofs::Rests::of_rest))]
 fn at_rule(alloc: Global, inside: bool, text: &[u8]) -> Result<(Front, &[u8]), AllocError>
     ensures gives { IfOk result (λ f. front_view f ≡ spec.at_rule inside text.now) }
@@ -102,7 +102,7 @@ fn at_rule(alloc: Global, inside: bool, text: &[u8]) -> Result<(Front, &[u8]), A
     }
 }
 
-// A list of selectors with its block. Without a block it is passed over.
+// The front of a list of selectors with its block. Without a block it is passed over.
 #[tactic(auto, unfolding(crate::specs::Rules::style_rule), using(crate::proofs::Lists::shorter, text_bytes::proofs::Rests::of_rest))]
 fn style_rule(alloc: Global, inside: bool, text: &[u8]) -> Result<(Front, &[u8]), AllocError>
     requires { IsStart inside text.now }
@@ -119,8 +119,8 @@ fn style_rule(alloc: Global, inside: bool, text: &[u8]) -> Result<(Front, &[u8])
     Ok((Front::Styles(text.len() - end.len()), rest))
 }
 
-/// What stands at the beginning of a text, inside a block that holds rules or outside all, and the text behind it.
-/// Linear in what is passed over.
+/// The front of a text, and the text behind it. `inside` tells whether a block that holds rules is open. Linear in the bytes up
+/// to that text.
 #[tactic(auto, unfolding(crate::specs::Rules::next_front), using(text_bytes::proofs::Rests::of_rest, text_bytes::proofs::Rests::behind_first, text_bytes::proofs::Rests::itself))]
 pub fn next_front(alloc: Global, inside: bool, text: &[u8]) -> Result<(Front, &[u8]), AllocError>
     requires { 0 < length text.now }
@@ -144,7 +144,7 @@ pub fn next_front(alloc: Global, inside: bool, text: &[u8]) -> Result<(Front, &[
     }
 }
 
-/// How many blocks that hold rules are open behind a front.
+/// The number of open blocks that hold rules, behind a front.
 pub fn depth_after(depth: usize, front: Front) -> usize
     requires { depth < usize.MAX }
     ensures { result ≡ spec.depth_after depth front }

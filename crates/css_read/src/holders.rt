@@ -1,27 +1,27 @@
-//! The at-rules whose block holds rules, and which of them are round each rule.
+//! Holders: the at-rules whose block holds rules, and which of them are around each rule.
 use tp_base::Items;
 
-/// An at-rule with a block that holds rules: the offsets of its `@`, of its `{` and of its end.
+/// A holder: an at-rule whose block holds rules. The offsets are those of its `@`, of its `{`, and of the byte behind its end.
 #[derive(Clone, Copy, Debug, PartialEq, Eq)]
 pub struct Holder {
     pub from: usize,
     pub brace: usize,
     pub to: usize,
-    /// The number of the innermost one round it, counted from 0.
+    /// The number, counted from 0, of the innermost holder around it.
     pub inside: Option<u32>,
-    /// Whether it is `@media`, `@supports` or `@container`, which say nothing where they hold no rule.
+    /// Whether it is `@media`, `@supports` or `@container`, which have no effect when they hold no rule.
     pub loose: bool,
-    /// Whether its block has nothing but white space, comments, rules and further ones.
+    /// Whether its block has only white space, comments, rules and holders.
     pub bare: bool,
 }
 
 /// Holders of a file, in the order of their `@`. A contract sees the list of them.
 pub type HolderList = Items<Holder>;
 
-/// The numbers of holders. A contract sees the list of them.
+/// For each rule the number of the innermost holder around it, if there is one. A contract sees the list of them.
 pub type Owners = Items<Option<u32>>;
 
-/// The holders of a file, and for each rule the innermost one round it.
+/// The holders of a file, and for each rule the innermost one around it.
 #[derive(Debug, Drop)]
 pub struct Holders {
     pub holders: HolderList,

@@ -1,4 +1,4 @@
-//! The selectors of a list, as places in the file.
+//! The selectors of a list, as byte ranges of the file.
 ghost use Rattle.std.specs.Prelude.{◌≡◌, ◌≤◌, length, IfOk};
 ghost use Rattle.text_bytes.specs.Rests.{IsRest};
 ghost use Rattle.css_read.specs.Pieces as spec;
@@ -9,7 +9,7 @@ use sel_text::behind_gap;
 use std::alloc::{AllocError, Global};
 use text_bytes::is_blank;
 
-// How many bytes there are up to the white space and the comments at the end. Linear.
+// The length of the text without white space and comments at its end. Linear.
 #[tactic(auto, using(crate::proofs::Solids::begins, crate::proofs::Solids::goes_gap, crate::proofs::Solids::goes_solid, crate::proofs::Solids::passes_plain, crate::proofs::Solids::ends, text_bytes::proofs::Rests::of_rest, text_bytes::proofs::Rests::behind_first, text_bytes::proofs::Rests::itself))]
 fn solid_len(text: &[u8]) -> usize
     ensures gives { result ≡ spec.solid_len 0 text.now }
@@ -32,7 +32,7 @@ fn solid_len(text: &[u8]) -> usize
     len
 }
 
-// Where a selector stands whose text ends at an offset, without white space and comments at both ends.
+// The range of a selector whose text ends at an offset, without white space and comments at both ends.
 #[tactic(auto, unfolding(crate::specs::Pieces::piece_of))]
 fn piece_of(to: usize, text: &[u8]) -> Range
     requires { length text.now ≤ to }
@@ -48,8 +48,8 @@ fn piece_of(to: usize, text: &[u8]) -> Range
     }
 }
 
-/// The selector before the next comma of a list that ends at an offset, and the text from the comma on. Linear in
-/// what is passed over.
+/// The range of the selector before the next comma, and the text from the comma on. `to` is the offset at which the list ends.
+/// Linear in the bytes before the comma.
 #[tactic(auto, unfolding(crate::specs::Pieces::first_piece))]
 pub fn first_piece(alloc: Global, to: usize, text: &[u8]) -> Result<(Range, &[u8]), AllocError>
     requires { length text.now ≤ to }

@@ -1,4 +1,4 @@
-//! Reading a sheet, from left to right.
+//! Reads a sheet from left to right.
 ghost use Rattle.std.specs.Prelude.{◌≡◌, ◌≤◌, ◌<◌, ◌+◌, All, length, map, slice_range, IfOk, OnOk};
 ghost use Rattle.text_bytes.specs.Rests.{IsRest};
 ghost use Rattle.sel_text.specs.Results.{IsFront};
@@ -24,7 +24,7 @@ use std::mem::replace;
 use text_bytes::behind_order_mark;
 use tp_base::AtomTable;
 
-/// A sheet that is read, up to a place: its text, the table of names, and what was read of it.
+/// A sheet in the course of reading: its text, the table of names, and what was read so far.
 #[derive(Drop)]
 pub(crate) struct Draft<'t> {
     text: &'t [u8],
@@ -34,7 +34,7 @@ pub(crate) struct Draft<'t> {
 }
 
 impl<'t> Draft<'t> {
-    // Reads the selector at a piece of a rule.
+    // Reads the selector at a range of a rule's list.
     #[tactic(auto, unfolding(crate::specs::Reading::read_item))]
     fn read_item(&mut self, rule: u32, piece: Range) -> Result<SheetItem, SheetFault>
         requires from { piece.from ≤ piece.to }
@@ -62,7 +62,7 @@ impl<'t> Draft<'t> {
         })
     }
 
-    // Reads the selector at a piece of a rule, if there may be one more.
+    // Reads the selector at a range of a rule's list, unless the limit is reached.
     #[tactic(auto, unfolding(crate::specs::Reading::add_item), using(sel_text::proofs::Fronts::front_itself))]
     fn add_item(&mut self, rule: u32, piece: Range) -> Result<(), SheetFault>
         requires from { piece.from ≤ piece.to }
@@ -107,7 +107,7 @@ impl<'t> Draft<'t> {
         Ok(())
     }
 
-    // Reads the rule that goes from one offset to another, if it is one.
+    // Reads the range between two offsets, if it is a rule.
     #[tactic(auto, unfolding(crate::specs::Reading::add_rules, crate::specs::Reading::add_rule), using(sel_text::proofs::Fronts::front_itself))]
     fn add_front(&mut self, front: Front, place: Range) -> Result<(), SheetFault>
         requires within { place.from + list_len front ≤ length self.old.text.now }
@@ -129,7 +129,7 @@ impl<'t> Draft<'t> {
         Ok(())
     }
 
-    // Reads the rules of the text.
+    // Reads all rules of the text.
     #[tactic(auto, using(crate::proofs::RuleSteps::begins, crate::proofs::RuleSteps::goes_on, crate::proofs::RuleSteps::fails, crate::proofs::RuleSteps::ends, sel_text::proofs::Fronts::front_itself, sel_text::proofs::Fronts::front_of_front, text_bytes::proofs::Rests::of_rest))]
     fn add_rules(&mut self) -> Result<(), SheetFault>
         requires none { draft_of self.old ≡ spec.empty_sheet }
@@ -156,8 +156,8 @@ impl<'t> Draft<'t> {
     }
 }
 
-/// Reads a sheet. A byte order mark at its front is passed over. The names that were read before a refusal stay in
-/// the table. Linear in the file, in time and in memory.
+/// Reads a sheet. A byte order mark at its front is passed over. If the sheet is refused, the names that were read before stay
+/// in the table. Linear in the file, in time and in memory.
 #[tactic(auto, unfolding(crate::specs::Reading::read_sheet), using(text_bytes::proofs::Utf8::valid_len, sel_text::proofs::Fronts::front_itself))]
 pub fn read_sheet(alloc: Global, text: &[u8], atoms: &mut AtomTable) -> Result<Sheet, SheetFault>
     ensures reads { Reads sheet_of result atoms.new (spec.read_sheet text.now atoms.old) }

@@ -1,22 +1,22 @@
-//! What is read of a sheet: its selectors, and the rules that they belong to.
+//! A sheet as it is read: its selectors, and the rules that have them.
 use sel_text::{Selector, Skip};
 use tp_base::Items;
 
-/// The bytes of a file from `from` up to and without `to`.
+/// The bytes of a file from the offset `from` up to, but without, the offset `to`.
 #[derive(Clone, Copy, Debug, PartialEq, Eq)]
 pub struct Range {
     pub from: usize,
     pub to: usize,
 }
 
-/// What a selector is to be judged as, or why it isn't, and the index of the byte that says so.
+/// How a selector is judged, or the cause for which it is skipped and the offset of the byte that is the cause.
 #[derive(Debug, Drop)]
 pub enum Outcome {
     Judged(Selector),
     Skipped(Skip, usize),
 }
 
-/// A selector of a sheet: the bytes that it takes, the number of its rule, counted from 0, and what is read of it.
+/// A selector of a sheet: its bytes, the number of its rule, counted from 0, and its outcome.
 #[derive(Debug, Drop)]
 pub struct SheetItem {
     pub from: usize,
@@ -25,13 +25,14 @@ pub struct SheetItem {
     pub outcome: Outcome,
 }
 
-/// The selectors of a sheet, as they stand in the file. A contract sees the list of them.
+/// The selectors of a sheet, in the file's order. A contract sees the list of them.
 pub type SheetItems = Items<SheetItem>;
 
-/// Ranges of a file. A contract sees the list of them.
+/// Byte ranges of a file. A contract sees the list of them.
 pub type Ranges = Items<Range>;
 
-/// What is read of a sheet. A rule goes from the first byte of its list of selectors to the end of its block.
+/// The selectors and the rules of a sheet. The range of a rule goes from the first byte of its list of selectors to the end of
+/// its block.
 #[derive(Debug, Drop)]
 pub struct Sheet {
     pub items: SheetItems,

@@ -1,4 +1,4 @@
-//! Strings, comments, and what stands outside them and outside brackets.
+//! Units of a text (strings, comments, single bytes), and the search outside strings, comments and brackets.
 ghost use Rattle.std.specs.Prelude.{◌≡◌, ◌<◌, length, reverse, false, IfOk};
 ghost use Rattle.std.specs.List.{list_any};
 ghost use Rattle.text_bytes.specs.Rests.{IsRest};
@@ -9,7 +9,7 @@ use sel_text::behind_close;
 use std::alloc::{AllocError, Global};
 use text_bytes::is_blank;
 
-// The text behind a string, from behind its opening quote on.
+// The text behind a string. The given text begins behind the opening quote.
 #[tactic(auto, unfolding(crate::specs::Units::behind_string), using(text_bytes::proofs::Rests::of_rest, text_bytes::proofs::Rests::behind_first, text_bytes::proofs::Rests::itself))]
 fn behind_string(quote: u8, text: &[u8]) -> &[u8]
     ensures gives { result.now ≡ spec.behind_string quote false text.now }
@@ -44,8 +44,8 @@ fn begins_comment(text: &[u8]) -> bool
     text.starts_with(b"/*")
 }
 
-/// Whether a byte is no bracket and no quote, ends nothing, and begins no comment: what letters, digits, full stops and
-/// spaces are.
+/// Whether a byte is ordinary, as letters, digits, full stops and spaces are: no bracket, no quote and no end, and it begins no
+/// comment.
 pub(crate) fn is_plain(byte: u8) -> bool
     ensures { result ≡ spec.is_plain byte }
 {
@@ -56,7 +56,7 @@ pub(crate) fn is_plain(byte: u8) -> bool
         || byte == b' '
 }
 
-/// The text behind the string, the comment or the byte that it begins with.
+/// The text behind its first unit: a string, a comment or a byte. Linear in the unit.
 #[tactic(auto, unfolding(crate::specs::Units::behind_unit), using(text_bytes::proofs::Rests::of_rest, text_bytes::proofs::Rests::behind_first, text_bytes::proofs::Rests::dropped))]
 pub fn behind_unit(text: &[u8]) -> &[u8]
     ensures gives { result.now ≡ spec.behind_unit text.now }
@@ -102,8 +102,8 @@ fn stops_at(bytes: &[u8], byte: u8, brackets: &[Bracket]) -> bool
     is_one(bytes, byte) && brackets.is_empty()
 }
 
-/// The text from the first of some bytes on, outside brackets, strings and comments. None of these is plain. Linear in
-/// what is passed over.
+/// The text from the first of some bytes on that stands outside brackets, strings and comments. None of these bytes is
+/// ordinary. Linear in the bytes before it.
 #[tactic(auto, using(crate::proofs::Firsts::goes_on, crate::proofs::Firsts::found, crate::proofs::Firsts::ends, crate::proofs::Plains::passes, text_bytes::proofs::Rests::of_rest, text_bytes::proofs::Rests::behind_first))]
 pub(crate) fn from_first<'a>(
     alloc: Global,

@@ -1,5 +1,5 @@
--- A set to which something was added.
---     IsBetween least most set     the set has all that is in the least one, and nothing that isn't in the most one
+-- A set between two others, such as an addition leaves that ran out of memory.
+--     IsBetween least most set     the set includes `least` and is a subset of `most`
 use Rattle.std.specs.Prelude.{ℕ, List, Contains}
 
 pub record IsBetween (least most set : List ℕ) : Type 0 where

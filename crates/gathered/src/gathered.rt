@@ -1,4 +1,4 @@
-//! Atoms as they come, of which a set is made by one sort.
+//! A buffer of atoms, and the set that one sort makes of it.
 ghost use Rattle.std.specs.Prelude.{◌≡◌, ◌++◌, [], not, length, take, IfOk, OnOk, OnErr};
 ghost use Rattle.std.specs.List.{filter};
 ghost use Rattle.std.specs.List.Sorted.{IsStrictlyIncreasing};
@@ -10,10 +10,10 @@ use std::alloc::Global;
 use std::marker::Model;
 use tp_base::{Atom, ClassSet, NoMemory};
 
-// So many atoms, or an eighth as many as a set has, are moved into it one by one.
+// Up to this many atoms, or up to an eighth of the set's size, are moved into a set one by one.
 const A_FEW: usize = 8;
 
-/// Atoms in the order in which they come, of which one may come twice. A contract sees the set of them.
+/// A buffer of atoms in the order in which they come. An atom may stand there more than once. A contract sees the set of them.
 #[derive(Drop)]
 pub struct Gathered {
     atoms: Vec<Atom>,
@@ -28,7 +28,7 @@ impl Model for Gathered {
     ghost view = { λ g. union_of [] g.atoms.items };
 }
 
-// Puts the atoms of a set behind these. After a refusal these stand in front still.
+// Appends the atoms of a set. When memory runs out, the old atoms still stand in front.
 fn push_each(atoms: &mut Vec<Atom>, set: &ClassSet) -> Result<(), NoMemory>
     ensures ok { OnOk result (atoms.new.items ≡ atoms.old.items ++ set.now) }
     ensures err { OnErr result (take (length atoms.old.items) atoms.new.items ≡ atoms.old.items) }
@@ -40,7 +40,7 @@ fn push_each(atoms: &mut Vec<Atom>, set: &ClassSet) -> Result<(), NoMemory>
 }
 
 impl Gathered {
-    /// No atoms yet.
+    /// An empty buffer.
     pub fn new(alloc: Global) -> Self
         ensures { result ≡ [] }
     {
@@ -49,7 +49,7 @@ impl Gathered {
         }
     }
 
-    /// One more. Constant on average, since nothing is moved.
+    /// Adds one atom. Amortized constant.
     #[tactic(auto, using(crate::proofs::GatheredLemmas::one_more))]
     pub fn add(&mut self, atom: Atom) -> Result<(), NoMemory>
         ensures ok { OnOk result (self.new ≡ with_class atom self.old) }
@@ -59,7 +59,7 @@ impl Gathered {
         Ok(())
     }
 
-    /// Those of a set. Linear in them.
+    /// Adds the atoms of a set. Linear in their number.
     #[tactic(auto, using(crate::proofs::GatheredLemmas::more_of_set, crate::proofs::GatheredLemmas::same_again))]
     pub fn union(&mut self, set: &ClassSet) -> Result<(), NoMemory>
         ensures ok { OnOk result (self.new ≡ union_of self.old set.now) }
@@ -75,7 +75,7 @@ impl Gathered {
         }
     }
 
-    /// All of another one. Linear in them, on average: what was there isn't looked at.
+    /// Adds the atoms of another buffer. Amortized linear in their number.
     #[tactic(auto, using(crate::proofs::GatheredLemmas::joined))]
     pub fn append(&mut self, other: &Gathered) -> Result<(), NoMemory>
         ensures ok { OnOk result (self.new ≡ union_of self.old other.now) }
@@ -85,23 +85,24 @@ impl Gathered {
         Ok(())
     }
 
-    /// The set of them, by one sort.
+    /// The set of the atoms. Costs one sort.
     pub fn into_set(self) -> Result<ClassSet, NoMemory>
         ensures { IfOk result (λ s. s ≡ self) }
     {
         ClassSet::of(self.atoms)
     }
 
-    /// Forgets all, and keeps the room for others.
+    /// Removes all atoms, and keeps the memory for others.
     pub fn clear(&mut self)
         ensures { self.new ≡ [] }
     {
         self.atoms.clear();
     }
 
-    /// Moves all into a set, and those that it didn't have to `news`, in increasing order and in the place of what stood there. A
-    /// few cost a search of the set for each, and a move of its atoms for each that is new; many cost a sort and a copy of the set.
-    /// After a refusal the set may have some of them and `news` may tell others: moved once more, all are in the set.
+    /// Moves all atoms into a set. Those that the set did not have replace the content of `news`, in increasing order. Each of
+    /// a few atoms costs a search of the set, and each new one shifts the atoms behind it. Many atoms cost a sort and a copy of
+    /// the set. When memory runs out, the set may have some of the atoms, and `news` has no meaning. The atoms are still here,
+    /// and another call moves them all.
     pub fn move_to(&mut self, set: &mut ClassSet, news: &mut Vec<Atom>) -> Result<(), NoMemory>
         ensures set { OnOk result (set.new ≡ union_of set.old self.old) }
         ensures news { OnOk result (news.new.items ≡ filter (λ a. not (has_class a set.old)) self.old) }

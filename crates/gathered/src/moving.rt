@@ -1,4 +1,4 @@
-//! Atoms that move into a set.
+//! Two ways to move atoms into a set: one by one, or sorted.
 ghost use Rattle.std.specs.Prelude.{◌≡◌, ◌↔◌, ◌++◌, ℕ, [], not, Contains, OnOk, OnErr};
 ghost use Rattle.std.specs.List.{filter};
 ghost use Rattle.std.specs.List.Sorted.{IsStrictlyIncreasing};
@@ -7,7 +7,7 @@ ghost use Rattle.gathered.specs.Between.{IsBetween};
 
 use tp_base::{Atom, ClassSet, NoMemory};
 
-// Puts atoms in increasing order, once each.
+// Sorts atoms and removes duplicates.
 fn order(news: &mut Vec<Atom>)
     ensures rises { IsStrictlyIncreasing news.new.items }
     ensures same { (a : ℕ) → Contains news.new.items a ↔ Contains news.old.items a }
@@ -18,7 +18,7 @@ fn order(news: &mut Vec<Atom>)
     }
 }
 
-// Adds the atoms one by one, and those that the set doesn't have to `news`.
+// Adds the atoms one by one. Those that the set did not have are appended to `news`.
 fn add_each(atoms: &[Atom], set: &mut ClassSet, news: &mut Vec<Atom>) -> Result<(), NoMemory>
     requires { news.old.items ≡ [] }
     ensures set { OnOk result (set.new ≡ union_of set.old atoms.now) }
@@ -35,7 +35,7 @@ fn add_each(atoms: &[Atom], set: &mut ClassSet, news: &mut Vec<Atom>) -> Result<
     Ok(())
 }
 
-/// Adds the atoms to a set by a search for each, and those that it didn't have to `news`, where there is none yet.
+/// Adds each atom to a set by a search. Those that the set did not have go to `news`, which is empty before.
 pub(crate) fn move_few(
     atoms: &[Atom],
     set: &mut ClassSet,
@@ -52,7 +52,7 @@ pub(crate) fn move_few(
     Ok(())
 }
 
-// Adds to `news` the atoms of a set that another one doesn't have.
+// Appends to `news` the atoms of `given` that `set` does not have.
 fn add_news(set: &ClassSet, given: &ClassSet, news: &mut Vec<Atom>) -> Result<(), NoMemory>
     ensures { OnOk result (news.new.items ≡ news.old.items ++ filter (λ a. not (has_class a set.now)) given.now) }
 {
@@ -65,7 +65,7 @@ fn add_news(set: &ClassSet, given: &ClassSet, news: &mut Vec<Atom>) -> Result<()
     Ok(())
 }
 
-/// Adds the atoms to a set by a walk along both, and those that it didn't have to `news`, where there is none yet.
+/// Sorts the atoms and adds them to a set in one walk. Those that the set did not have go to `news`, which is empty before.
 pub(crate) fn move_many(
     atoms: &[Atom],
     set: &mut ClassSet,

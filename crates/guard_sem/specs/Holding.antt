@@ -1,4 +1,4 @@
--- Where a guard holds: at nodes of the tree, and at no other path.
+-- Where a guard holds. It holds at no path without a node.
 use Rattle.std.specs.Prelude.{◌≡◌, ◌⊎◌, ℕ, ◌<◌, List, [], ◌∷◌, ◌++◌, length, take}
 use Rattle.tree_sem.specs.Trees.{LabelTree}
 use Rattle.tree_sem.specs.Nodes.{IsNode, HasAtom}

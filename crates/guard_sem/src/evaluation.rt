@@ -1,4 +1,4 @@
-//! Where a guard holds, from the inside out: for each part of it the set of all nodes where that part holds.
+//! Evaluation of a guard, from the inside out: for each part of it the set of nodes where that part holds.
 ghost use Rattle.std.specs.Prelude.{◌↔◌, ◌⊎◌, IsTrue, IfOk};
 ghost use Rattle.tree_sem.specs.Nodes.{IsNode};
 ghost use Rattle.node_marks.specs.Marks.{IsMarked, IsSetOf, HasDescendantIn};
@@ -11,8 +11,8 @@ use std::alloc::Global;
 use tp_base::{NoMemory, Path};
 use tree_sem::Tree;
 
-/// Whether the guard holds at the node at the path; false where no node is there. It costs one walk over the tree,
-/// and a step for each node and each part of the guard, where an atom is sought in the node's label.
+/// Whether the guard holds at the node of this path, and `false` where there is no such node. Costs a walk over the tree, and a
+/// step for each node and each part of the guard. The step for an atom is a search of the node's label.
 pub fn holds(alloc: Global, tree: &Tree, at: &Path, g: &Guard) -> Result<bool, NoMemory>
     ensures { IfOk result (λ holds. IsTrue holds ↔ Holds tree.now at.now g.now) }
 {
@@ -40,7 +40,7 @@ fn marked(nodes: &NumberedTree, g: &Guard) -> Result<Marks, NoMemory>
     }
 }
 
-// The nodes of a set, and those with one of them below.
+// The nodes of a set, and those that have a descendant in it.
 fn at_or_below(nodes: &NumberedTree, marks: &Marks) -> Result<Marks, NoMemory>
     ensures { IfOk result (λ m. IsSetOf nodes.now m (λ v. IsMarked nodes.now marks.now v ⊎ HasDescendantIn (IsMarked nodes.now marks.now) v)) }
 {

@@ -1,6 +1,6 @@
 -- The budgets that a run can ask for.
---     standard           those of a run that asks for none
---     IsInRange l        what can be asked for
+--     standard           the budgets of a run that sets none of its own
+--     IsInRange l        a run can ask for these budgets
 use Rattle.std.specs.Prelude.{◌≤◌, false}
 use Rattle.limits.specs.declared.budgets.Limits.{Limits}
 use Rattle.limits.specs.declared.budgets.TheConstants.{MOST_PAIRS, MOST_BRANCHES, MOST_ENTRIES, MOST_LIST}
@@ -8,7 +8,7 @@ use Rattle.limits.specs.declared.budgets.TheConstants.{MOST_PAIRS, MOST_BRANCHES
 abbrev pub standard : Limits
 standard = record { plain = false; pairs = 50000; nodes = 4194304; entries = 100000; list = 1000 }
 
--- at least one of each that is worked out, and no more than the most; a trace may be listed in no step
+-- each budget of the engine is at least 1, and none is above its largest value; a listed trace may have length 0
 pub record IsInRange (l : Limits) : Type 0 where
   pub pairs_least : 1 ≤ l.pairs
   pub pairs : l.pairs ≤ MOST_PAIRS

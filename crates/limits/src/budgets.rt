@@ -3,31 +3,31 @@ ghost use Rattle.std.specs.Prelude.{◌≡◌};
 ghost use Rattle.limits.specs.Budgets as spec;
 ghost use Rattle.limits.specs.declared.budgets.TheConstants.{MOST_PAIRS, MOST_BRANCHES, MOST_ENTRIES, MOST_LIST};
 
-/// The most pairs that can be asked for.
+/// The largest budget of pairs that a run can ask for.
 pub const MOST_PAIRS: u32 = 10_000_000;
-/// The most branches of diagrams.
+/// The largest budget of diagram branches.
 pub const MOST_BRANCHES: u32 = 67_108_864;
-/// The most entries of a proof.
+/// The largest budget of entries for one proof.
 pub const MOST_ENTRIES: u32 = 10_000_000;
-/// The most steps of a listed trace.
+/// The largest number of steps that a listed trace may have.
 pub const MOST_LIST: u32 = 4_000;
 
-/// How much may be worked out, and how much is listed.
+/// The budgets of a run: how much the engine may compute, and how long a listed trace may be.
 #[derive(Clone, Copy, Debug, PartialEq, Eq)]
 pub struct Limits {
     /// Whether summaries are held in a table of pairs, in place of diagrams.
     pub plain: bool,
-    /// How many pairs of a kind and a parent's label the table may need. Nothing asks for it but with `plain`.
+    /// The most pairs of a kind and a parent's visible label in the table. Used with `plain` only.
     pub pairs: u32,
-    /// How many branches the diagrams may need. Nothing asks for it with `plain`.
+    /// The most branches in the diagrams. Not used with `plain`.
     pub nodes: u32,
-    /// How many entries one proof may have.
+    /// The most entries of one proof.
     pub entries: u32,
-    /// How many steps a trace has at most that is listed.
+    /// The most steps of a trace that a report lists step by step.
     pub list: u32,
 }
 
-/// The limits of a run that asks for none.
+/// The limits of a run that sets none of its own.
 pub fn standard() -> Limits
     ensures standard { result ≡ spec.standard }
     ensures in_range { spec.IsInRange result }

@@ -1,4 +1,4 @@
 //! The size of a site.
 
-/// How many pages a site has at most.
+/// The most pages of a site.
 pub const MOST_PAGES: u32 = 64;

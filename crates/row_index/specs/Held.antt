@@ -1,4 +1,4 @@
--- Places in their order, whatever they lie in.
+-- The list of places that each variant of `Held` stands for.
 use Rattle.std.specs.Prelude.{ℕ, List, [], ◌∷◌}
 use Rattle.row_index.specs.declared.held.Held.{Held}
 use Rattle.row_index.specs.declared.held.Held.TheVariants.{Empty, One, More}

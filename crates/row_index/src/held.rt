@@ -1,11 +1,11 @@
-//! Places in their order, as they lie in memory.
+//! A list of places that allocates no memory for fewer than two.
 ghost use Rattle.std.specs.Prelude.{◌≡◌, ◌∷◌, [], ◌++◌, IfOk, OnOk, OnErr};
 ghost use Rattle.row_index.specs.Held.{places_of};
 
 use std::alloc::Global;
 use tp_base::NoMemory;
 
-/// No place, a single one, which needs no memory of its own, or several.
+/// No place, one place, or several. Only several allocate memory.
 #[derive(Drop)]
 pub(crate) enum Held {
     Empty,
@@ -13,7 +13,7 @@ pub(crate) enum Held {
     More(Vec<usize>),
 }
 
-// Two places.
+// A list of two places.
 fn two(alloc: Global, first: usize, second: usize) -> Result<Vec<usize>, NoMemory>
     ensures { IfOk result (λ v. v.items ≡ first ∷ second ∷ []) }
 {
@@ -35,7 +35,7 @@ impl Held {
         }
     }
 
-    /// Puts one place behind these. Constant on average.
+    /// Appends a place. Amortized constant.
     pub(crate) fn push(&mut self, alloc: Global, place: usize) -> Result<(), NoMemory>
         ensures ok { OnOk result (places_of self.new ≡ places_of self.old ++ place ∷ []) }
         ensures err { OnErr result (places_of self.new ≡ places_of self.old) }

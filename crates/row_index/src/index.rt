@@ -1,4 +1,4 @@
-//! For each key the places that stand there.
+//! An index: for each key the places that are noted for it.
 ghost use Rattle.std.specs.Prelude.{◌≡◌, ◌≢◌, ◌<◌, ℕ, [], ◌∷◌, ◌++◌, None, length, get_or, IfOk, OnOk, OnErr};
 ghost use Rattle.row_index.specs.Rows.{row_of, IsNoted, IsNotedIf, AreByNumber};
 
@@ -7,7 +7,7 @@ use std::alloc::Global;
 use std::marker::Model;
 use tp_base::NoMemory;
 
-/// Places in their order. A contract sees the list of them.
+/// The places of one key, in the order in which they were noted. A contract sees the list of them.
 #[derive(Drop)]
 pub(crate) struct Row {
     held: Held,
@@ -30,7 +30,7 @@ impl Row {
         Row { held: Held::Empty }
     }
 
-    // One place behind these. Constant on average.
+    // Appends a place. Amortized constant.
     fn push(&mut self, alloc: Global, place: usize) -> Result<(), NoMemory>
         ensures ok { OnOk result (self.new ≡ self.old ++ place ∷ []) }
         ensures err { OnErr result (self.new ≡ self.old) }
@@ -39,8 +39,8 @@ impl Row {
     }
 }
 
-/// For each key the places that stand there; where a single one does, it needs no memory but the key's. A contract sees the rows
-/// of places, by their keys.
+/// For each key the places that are noted for it, in a row for each number up to the largest key. A row with a single place
+/// allocates no memory of its own. A contract sees the rows.
 #[derive(Drop)]
 pub struct Index {
     rows: Vec<Row>,
@@ -55,7 +55,7 @@ impl Model for Index {
 }
 
 impl Index {
-    /// No place at any key.
+    /// An index without places.
     pub fn new(alloc: Global) -> Index
         ensures { result ≡ [] }
     {
@@ -64,7 +64,7 @@ impl Index {
         }
     }
 
-    /// The places at a key. Constant.
+    /// The places of a key, in the order in which they were noted. Constant.
     pub fn of(&self, key: usize) -> &[usize]
         ensures { result.now ≡ row_of self.now key }
     {
@@ -74,7 +74,7 @@ impl Index {
         }
     }
 
-    // Makes a row for the key.
+    // Makes empty rows up to the key.
     fn reach(&mut self, key: usize) -> Result<(), NoMemory>
         ensures there { OnOk result (key < length self.new) }
         ensures same { (k : ℕ) → row_of self.new k ≡ row_of self.old k }
@@ -85,8 +85,8 @@ impl Index {
         Ok(())
     }
 
-    /// Notes a place at a key, behind those that stand there. A refusal changes nothing that `of` gives. Linear in the key, where
-    /// it is the largest so far.
+    /// Appends a place to the row of a key. When memory runs out, `of` gives what it gave before. Amortized constant, but
+    /// linear in the key where it is the largest so far.
     pub fn note(&mut self, alloc: Global, key: usize, place: usize) -> Result<(), NoMemory>
         ensures ok { OnOk result (IsNoted self.old self.new key place) }
         ensures err { OnErr result ((k : ℕ) → row_of self.new k ≡ row_of self.old k) }
@@ -97,7 +97,7 @@ impl Index {
         Ok(())
     }
 
-    /// Takes the places of a key away.
+    /// Removes all places of a key. Constant.
     pub fn clear(&mut self, key: usize)
         ensures here { row_of self.new key ≡ [] }
         ensures others { (k : ℕ) → k ≢ key → row_of self.new k ≡ row_of self.old k }
@@ -107,7 +107,8 @@ impl Index {
         }
     }
 
-    /// Places in a list of numbers, by the numbers that stand there.
+    /// The index of a list of numbers. Each number is a key, and its row has the places at which it stands. Linear in the list
+    /// and its largest number.
     pub fn of_numbers(alloc: Global, numbers: &[Option<usize>]) -> Result<Index, NoMemory>
         ensures { IfOk result (λ t. AreByNumber numbers.now t) }
     {
@@ -118,7 +119,7 @@ impl Index {
         Ok(index)
     }
 
-    // Notes a place at the number that stands there, if one does.
+    // Notes the i-th place for its number, if it has one.
     fn note_number(
         &mut self,
         alloc: Global,

@@ -1,4 +1,4 @@
-//! For each key a row of values.
+//! Rows of values of any type, by keys.
 ghost use Rattle.std.specs.Prelude.{◌≡◌, ◌<◌, ℕ, [], length, OnOk, OnErr};
 ghost use Rattle.row_index.specs.Rows.{row_of, IsNoted};
 
@@ -6,7 +6,7 @@ use std::alloc::Global;
 use std::marker::Model;
 use tp_base::NoMemory;
 
-/// Values in their order. A contract sees the list of them.
+/// The values of one key, in the order in which they were noted. A contract sees the list of them.
 #[derive(Drop)]
 pub(crate) struct Row<V> {
     items: Vec<V>,
@@ -20,7 +20,7 @@ impl<V> Model for Row<V> {
     ghost view = { λ r. r.items.items };
 }
 
-/// For each key a row of values. A contract sees the rows, by their keys.
+/// For each key a row of values. There is a row for each number up to the largest key. A contract sees the rows.
 #[derive(Drop)]
 pub struct Rows<V> {
     rows: Vec<Row<V>>,
@@ -35,7 +35,7 @@ impl<V> Model for Rows<V> {
 }
 
 impl<V: Drop> Rows<V> {
-    /// No value at any key.
+    /// Rows without values.
     pub fn new(alloc: Global) -> Rows<V>
         ensures { result ≡ [] }
     {
@@ -44,7 +44,7 @@ impl<V: Drop> Rows<V> {
         }
     }
 
-    /// The values at a key. Constant.
+    /// The values of a key, in the order in which they were noted. Constant.
     pub fn of(&self, key: usize) -> &[V]
         ensures { result.now ≡ row_of self.now key }
     {
@@ -54,7 +54,7 @@ impl<V: Drop> Rows<V> {
         }
     }
 
-    // Makes a row for the key.
+    // Makes empty rows up to the key.
     fn reach(&mut self, alloc: Global, key: usize) -> Result<(), NoMemory>
         ensures there { OnOk result (key < length self.new) }
         ensures same { (k : ℕ) → row_of self.new k ≡ row_of self.old k }
@@ -67,8 +67,8 @@ impl<V: Drop> Rows<V> {
         Ok(())
     }
 
-    /// Notes a value at a key, behind those that stand there. A refusal changes nothing that `of` gives. Linear in the key, where
-    /// it is the largest so far.
+    /// Appends a value to the row of a key. When memory runs out, `of` gives what it gave before. Amortized constant, but
+    /// linear in the key where it is the largest so far.
     pub fn note(&mut self, alloc: Global, key: usize, value: V) -> Result<(), NoMemory>
         ensures ok { OnOk result (IsNoted self.old self.new key value) }
         ensures err { OnErr result ((k : ℕ) → row_of self.new k ≡ row_of self.old k) }

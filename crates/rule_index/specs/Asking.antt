@@ -1,10 +1,10 @@
--- What a label gives and asks, by what of it is fresh: what only older atoms give is there.
---     IsMore own given old new   new is old with what is given, but for some of what is in own, and rises where old does
---     AreMet rules own fresh     own has what rules give that need some atom, and no fresh one
---     AreMetBy rules own fresh   own has what rules give that need no fresh atom
+-- What a label gives and asks, where some of its atoms are fresh.
+--     IsMore own given old new   new is old with the given atoms, of which those in own may be missing, and rises where old does
+--     AreMet rules own fresh     own has what a rule gives whose needs it has, unless the rule needs nothing or a fresh atom
+--     AreMetBy rules own fresh   own has what a rule gives whose needs it has, unless the rule needs a fresh atom
 --     AreUnseen links atoms      no link looks at one of the atoms
---     AsksAnew s a               a label that gets the atom asks something else than before
---     AreKinds s own kinds       the kinds that the label adds, in any order
+--     AsksAnew s a               the atom is visible or makes a child, so that a label with it may ask for other pairs
+--     AreKinds s own kinds       the kinds of the children that the label makes, in any order
 use Rattle.std.specs.Prelude.{◌≡◌, ◌⊎◌, ◌↔◌, ℕ, List, [], All, Contains}
 use Rattle.std.specs.List.Sorted.{IsStrictlyIncreasing}
 use Rattle.simple_core.specs.declared.system.System.{System}

@@ -1,8 +1,7 @@
--- Rules found by the atoms that they look at.
---     IsIndex key rules rows   each rule's place stands at the rule's key, and nothing else stands anywhere
---     AreFound rules rows own fresh   each rule that the label meets stands at 0 or behind a fresh atom, but for those that give
---                              an atom which the label has
---     by_label f rules rows at label   what the rules give that are found at the keys of the label's atoms
+-- Indexes of rules by the atoms that they look at.
+--     IsIndex key rules rows   the row of each key has exactly the places of the rules with this key
+--     AreFound rules rows own fresh   a rule whose needs own has stands at 0 or at a fresh atom, unless own has what it gives
+--     by_label f rules rows at label   what f gives of the rules that stand at the keys of the label's atoms
 use Rattle.std.specs.Prelude.{◌≡◌, ◌⊎◌, ℕ, ◌+◌, List, [], ◌∷◌, slice_get, Some, option_map, unwrap_or, All, Contains}
 use Rattle.std.specs.List.{flat_map}
 use Rattle.simple_core.specs.declared.system.System.{System}
@@ -16,26 +15,26 @@ pub record IsIndex {X : Type 0} (key : X → ℕ) (rules : List X) (rows : List 
   pub whole : (i : ℕ) (x : X) → slice_get rules i ≡ Some x → Contains (row_of rows (key x)) i
   pub only : (k i : ℕ) → Contains (row_of rows k) i → (x : X) × (slice_get rules i ≡ Some x) × (key x ≡ k)
 
--- the place was noted at each of these atoms, one more than its number
+-- the place was noted for each of these atoms, at one more than its number
 pub record AreNeedsNoted (old new : List (List ℕ)) (needs : List ℕ) (place : ℕ) : Type 0 where
   pub kept : (k i : ℕ) → Contains (row_of old k) i → Contains (row_of new k) i
   pub each : (a : ℕ) → Contains needs a → Contains (row_of new (a + 1)) place
 
--- and at 0, if there is none
+-- the same, and at 0 for a rule without needs
 pub record IsRuleNoted (old new : List (List ℕ)) (needs : List ℕ) (place : ℕ) : Type 0 where
   pub noted : AreNeedsNoted old new needs place
   pub free : needs ≡ [] → Contains (row_of new 0) place
 
--- a rule that needs nothing stands at 0, each other behind each atom that it needs
+-- a rule without needs stands at 0, each other rule at each atom that it needs
 pub record AreLocalsAt (rules : List Local) (rows : List (List ℕ)) : Type 0 where
   pub free : (i : ℕ) (r : Local) → slice_get rules i ≡ Some r → r.needs ≡ [] → Contains (row_of rows 0) i
   pub each : (i : ℕ) (r : Local) (a : ℕ) → slice_get rules i ≡ Some r → Contains r.needs a → Contains (row_of rows (a + 1)) i
 
--- where a rule may stand once: at 0 if it needs nothing, else behind one of the atoms that it needs
+-- the key of a rule that stands once: 0 without needs, else one of the atoms that it needs
 abbrev pub IsOneKey : List ℕ → ℕ → Type 0
 IsOneKey needs key = ((needs ≡ []) × (key ≡ 0)) ⊎ ((a : ℕ) × Contains needs a × (key ≡ a + 1))
 
--- each rule stands at a place of this kind
+-- each rule stands at such a key
 pub record AreRareAt (rules : List Local) (rows : List (List ℕ)) : Type 0 where
   pub one : (i : ℕ) (r : Local) → slice_get rules i ≡ Some r → (key : ℕ) × IsOneKey r.needs key × Contains (row_of rows key) i
 
@@ -56,7 +55,7 @@ pub record AreIndexes (s : System) (local rare up down child : List (List ℕ)) 
   pub of_down : AreLinksAt s.down down
   pub of_child : AreSpawnsAt s.child child
 
--- what comes of the rule at a place, and of the rules at the places of a row
+-- what f gives of the rule at a place, and of the rules at the places of a row
 abbrev pub at_place : {X : Type 0} → (X → List ℕ) → List X → ℕ → List ℕ
 at_place f rules i = unwrap_or (option_map f (slice_get rules i)) []
 

@@ -1,4 +1,4 @@
-//! The rules of a system, found by the atoms that they look at.
+//! A system with indexes of its rules, and what its rules give to a label.
 ghost use Rattle.std.specs.Prelude.{◌≡◌, ◌≢◌, ◌++◌, ◌+◌, ◌∷◌, [], ℕ, map, Contains, All, IfOk, OnOk, OnErr, IsTrue, IsFalse};
 ghost use Rattle.std.specs.List.Sorted.{IsStrictlyIncreasing};
 ghost use Rattle.tp_base.specs.Classes.{has_class, all_among, union_of};
@@ -19,8 +19,8 @@ use std::alloc::Global;
 use std::marker::Model;
 use tp_base::{Atom, ClassSet, NoMemory};
 
-/// A system, and for each atom the places of the rules that look at it. What atoms give costs a look at them and at the
-/// rules that stand there. A contract sees the system.
+/// A system with indexes: for each atom the places of the rules that look at it. To apply rules to some atoms costs a step for
+/// each atom and for each rule that looks at it. A contract sees the system.
 #[derive(Drop)]
 pub struct IndexedSystem<'a> {
     system: &'a System,
@@ -43,9 +43,8 @@ impl<'a> Model for IndexedSystem<'a> {
 }
 
 impl<'a> IndexedSystem<'a> {
-    /// Notes where each rule stands: one that looks at one node behind each atom that it needs, and in a second index, by one
-    /// more walk over what rules need, behind the rarest of these alone. Linear in what they need and in the largest atom that
-    /// they look at.
+    /// Builds the indexes. A local rule stands at each atom that it needs, and in a second index only at the rarest of them.
+    /// Linear in the atoms that rules need and in the largest atom that rules look at.
     pub fn new(alloc: Global, system: &'a System) -> Result<IndexedSystem<'a>, NoMemory>
         ensures { IfOk result (λ s. s ≡ system.now) }
     {
@@ -64,22 +63,23 @@ impl<'a> IndexedSystem<'a> {
         })
     }
 
-    /// The links from a child.
+    /// The links that look at a child.
     pub fn down_links(&self) -> &[Link]
         ensures { result.now ≡ self.now.down }
     {
         self.system.down.items()
     }
 
-    /// The atoms that links from a parent look at.
+    /// The visible atoms: those that links look at in a parent.
     pub fn visible(&self) -> &ClassSet
         ensures { result.now ≡ self.now.visible }
     {
         &self.system.visible
     }
 
-    /// Adds what a label gives to its own node, where what only older atoms give is there. A rule is tested once for each fresh
-    /// atom that it needs; where the whole label is fresh, once if the label has the rarest atom that it needs, else not at all.
+    /// Adds what local rules give at a label, where the label has what older atoms alone give. A rule is tested once for each
+    /// fresh atom that it needs. Where the whole label is fresh, only rules whose rarest atom the label has are tested, once
+    /// each.
     pub fn add_local(
         &self,
         label: &ClassSet,
@@ -97,8 +97,9 @@ impl<'a> IndexedSystem<'a> {
         add_by_needs(rules, &self.local, label, fresh, next)
     }
 
-    /// The same by what came last to a label, where what older atoms give is there, and what rules give that need nothing. A rule
-    /// is tested once for each of these atoms that it needs, by a search of the label for each other one that it needs.
+    /// Adds what local rules give at a label, by the atoms that came last to it. The label has what older atoms alone give, and
+    /// what rules without needs give. A rule is tested once for each of the new atoms that it needs. Each test searches the
+    /// label for the rule's other atoms.
     pub fn add_later(
         &self,
         label: &ClassSet,
@@ -115,7 +116,7 @@ impl<'a> IndexedSystem<'a> {
         Ok(())
     }
 
-    /// Adds what the label of the parent gives.
+    /// Adds what links give from the label of the parent. Linear in the label and in the links that look at its atoms.
     pub fn add_up(&self, label: &ClassSet, next: &mut Gathered) -> Result<(), NoMemory>
         requires { IsStrictlyIncreasing next.old }
         ensures ok { OnOk result (next.new ≡ union_of next.old (given_by_links self.now.up label.now)) }
@@ -124,7 +125,7 @@ impl<'a> IndexedSystem<'a> {
         add_linked(self.system.up.items(), &self.up, label, next)
     }
 
-    /// Adds what the label of a child gives.
+    /// Adds what links give from the label of a child. Linear in the label and in the links that look at its atoms.
     pub fn add_down(&self, label: &ClassSet, next: &mut Gathered) -> Result<(), NoMemory>
         requires { IsStrictlyIncreasing next.old }
         ensures ok { OnOk result (next.new ≡ union_of next.old (given_by_links self.now.down label.now)) }
@@ -133,7 +134,7 @@ impl<'a> IndexedSystem<'a> {
         add_linked(self.system.down.items(), &self.down, label, next)
     }
 
-    /// Adds what one atom of a child gives.
+    /// Adds what links give from one atom of a child. Linear in the links that look at it.
     pub fn add_down_of(&self, atom: Atom, next: &mut Gathered) -> Result<(), NoMemory>
         requires { IsStrictlyIncreasing next.old }
         ensures ok { OnOk result (next.new ≡ union_of next.old (given_by_links self.now.down (atom ∷ []))) }
@@ -142,15 +143,15 @@ impl<'a> IndexedSystem<'a> {
         add_linked_by(self.system.down.items(), &self.down, atom, next)
     }
 
-    /// The kinds.
+    /// The kinds of the system, by their numbers.
     pub fn kinds(&self) -> &[Kind]
         ensures { result.now ≡ self.now.kinds }
     {
         self.system.kinds.items()
     }
 
-    /// Whether a label that gets these atoms asks something else than before. A yes costs time alone. It costs a search of the
-    /// visible atoms for each of them.
+    /// Whether a label that gets these atoms may ask for other pairs than before. `false` is certain. A wrong `true` costs time
+    /// alone. Logarithmic in the visible atoms, for each of these.
     pub fn is_asking(&self, fresh: &ClassSet) -> bool
         ensures { IsFalse result → (a : ℕ) → Contains fresh.now a → ¬ AsksAnew self.now a }
     {
@@ -162,7 +163,8 @@ impl<'a> IndexedSystem<'a> {
         false
     }
 
-    /// The same of what came last to a label. Linear in that.
+    /// Whether a label to which these atoms came last may ask for other pairs than before. `false` is certain. Linear in their
+    /// number.
     pub fn is_asking_by(&self, fresh: &[First]) -> bool
         requires { IsSound self.now }
         ensures { IsFalse result → (f : First) → Contains fresh.now f → ¬ AsksAnew self.now f.atom }
@@ -177,7 +179,7 @@ impl<'a> IndexedSystem<'a> {
         false
     }
 
-    /// Whether links from a parent look at an atom. Constant.
+    /// Whether an atom is visible: some link looks at it in a parent. Constant.
     pub fn is_visible(&self, atom: Atom) -> bool
         requires { IsSound self.now }
         ensures { result ≡ has_class atom self.now.visible }
@@ -185,7 +187,7 @@ impl<'a> IndexedSystem<'a> {
         self.up.of(atom.0 as usize).len() != 0
     }
 
-    /// The atoms of a label at which links from a parent look. Linear in the label: the sort at its end finds them in order.
+    /// The visible atoms of a label. Linear in the label, since the sort at the end finds them in order.
     pub fn visible_of(&self, label: &ClassSet) -> Result<ClassSet, NoMemory>
         requires { IsSound self.now }
         ensures { IfOk result (λ s. s ≡ visible_in self.now label.now) }
@@ -200,7 +202,7 @@ impl<'a> IndexedSystem<'a> {
         ClassSet::of(seen)
     }
 
-    // Whether a link from a parent looks at an atom, or it adds a child.
+    // Whether an atom is visible or makes a child.
     fn is_looked_at(&self, atom: Atom) -> bool
         requires { IsSound self.now }
         ensures { IsFalse result → ¬ AsksAnew self.now atom }
@@ -208,37 +210,38 @@ impl<'a> IndexedSystem<'a> {
         self.is_visible(atom) || self.spawns(atom)
     }
 
-    // Whether a label that gets this atom asks something else than before.
+    // Whether a label that gets this atom may ask for other pairs than before.
     fn asks(&self, atom: Atom) -> bool
         ensures { IsFalse result → ¬ AsksAnew self.now atom }
     {
         self.system.visible.has(atom) || self.spawns(atom)
     }
 
-    // Whether an atom adds a child.
+    // Whether an atom makes a child.
     fn spawns(&self, atom: Atom) -> bool
         ensures { IsFalse result → (c : Spawn) → Contains self.now.child c → c.needs ≢ atom }
     {
         self.child.of(atom.0 as usize).len() != 0
     }
 
-    /// Whether some link from a child looks at one of these atoms, so that they give something to the parent. A yes costs time
-    /// alone. Linear in them.
+    /// Whether some link looks at one of these atoms in a child, so that they may give something to the parent. `false` is
+    /// certain. A wrong `true` costs time alone. Linear in the number of atoms.
     pub fn is_seen_above(&self, label: &ClassSet) -> bool
         ensures { IsFalse result → AreUnseen self.now.down label.now }
     {
         are_seen(self.system.down.items(), &self.down, label)
     }
 
-    /// Whether some link from a parent looks at one of these atoms, so that they give something to children. A yes costs time
-    /// alone. Linear in them.
+    /// Whether some link looks at one of these atoms in a parent, so that they may give something to children. `false` is
+    /// certain. A wrong `true` costs time alone. Linear in the number of atoms.
     pub fn is_seen_below(&self, label: &ClassSet) -> bool
         ensures { IsFalse result → AreUnseen self.now.up label.now }
     {
         are_seen(self.system.up.items(), &self.up, label)
     }
 
-    /// The kinds that a label adds; one may stand there more than once.
+    /// The kinds of the children that a label makes. A kind may stand there more than once. Linear in the label and in these
+    /// kinds.
     pub fn kinds_of(&self, alloc: Global, label: &ClassSet) -> Result<Vec<u32>, NoMemory>
         ensures { IfOk result (λ v. AreKinds self.now label.now v.items) }
     {
@@ -281,7 +284,7 @@ fn has_each(label: &ClassSet, needs: &ClassSet) -> bool
     true
 }
 
-// Whether the label has an atom, where it has the other one.
+// Whether the label has the atom `need`. It has the atom `known`, which is not searched for.
 fn has_need(label: &ClassSet, need: Atom, known: Atom) -> bool
     requires { Contains label.now known }
     ensures { result ≡ has_class need label.now }
@@ -292,7 +295,7 @@ fn has_need(label: &ClassSet, need: Atom, known: Atom) -> bool
     label.has(need)
 }
 
-// Whether the label has each of these atoms, where it has one of them, which isn't searched for.
+// Whether the label has each of these atoms. It has the atom `known`, which is not searched for.
 fn has_others(label: &ClassSet, needs: &ClassSet, known: Atom) -> bool
     requires { Contains label.now known }
     ensures { result ≡ all_among needs.now label.now }
@@ -358,7 +361,7 @@ fn add_rule_by(
     Ok(())
 }
 
-// The same as `add_rules`, where an atom is known that the label has.
+// The same as `add_rules`, for a label that has the atom `known`.
 fn add_rules_by(
     rules: &[Local],
     row: &[usize],
@@ -378,14 +381,14 @@ fn add_rules_by(
     Ok(())
 }
 
-// Whether each atom of the label is a fresh one. Constant where there are fewer or more of these, else linear in them.
+// Whether each atom of the label is fresh. Constant where the two lengths differ, else linear in them.
 fn are_all_fresh(label: &ClassSet, fresh: &ClassSet) -> bool
     ensures { IsTrue result → All (Contains fresh.now) label.now }
 {
     label.len() == fresh.len() && label.within(fresh)
 }
 
-// Adds what the rules give that stand behind one of these atoms.
+// Adds what the rules give that the index has at one of the fresh atoms.
 fn add_by_each(
     rules: &[Local],
     index: &Index,
@@ -403,7 +406,7 @@ fn add_by_each(
     Ok(())
 }
 
-// The same, for the atoms of firsts, which the label has.
+// The same for fresh atoms with their first rounds, which the label has.
 fn add_by_firsts(
     rules: &[Local],
     index: &Index,

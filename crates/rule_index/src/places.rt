@@ -1,4 +1,4 @@
-//! Places in lists of rules, by what the rules look at.
+//! Indexes of rules, by the atoms that the rules look at. They hold places in the list of rules.
 ghost use Rattle.std.specs.Prelude.{◌≡◌, ◌⊎◌, ◌<◌, length, Contains, IfOk, OnOk};
 ghost use Rattle.rule_index.specs.Indexes.{IsRuleNoted, AreNeedsNoted, IsOneKey, AreLocalsAt, AreRareAt, AreLinksAt, AreSpawnsAt};
 
@@ -7,7 +7,8 @@ use simple_core::{Link, Local, Spawn};
 use std::alloc::Global;
 use tp_base::{Atom, ClassSet, NoMemory};
 
-/// Rules by each atom that they need, one more than its number; those that need none at 0. Linear in what they need.
+/// The index of local rules by each atom that they need. The key is one more than the atom's number, and 0 for rules without
+/// needs. Linear in the needs and the largest atom.
 pub(crate) fn locals_at(alloc: Global, rules: &[Local]) -> Result<Index, NoMemory>
     ensures { IfOk result (λ t. AreLocalsAt rules.now t) }
 {
@@ -51,8 +52,8 @@ fn note_needs(
     Ok(())
 }
 
-/// Rules by the rarest atom that they need, one more than its number: the one that the fewest rules need, which the index by
-/// each atom tells, and the largest of such; those that need none at 0. Linear in what they need.
+/// The index of local rules by the rarest atom that each needs: the one that the fewest rules need, and the largest of several.
+/// The key is one more than the atom's number, and 0 for rules without needs. Linear in the needs and the largest atom.
 pub(crate) fn rarest_at(alloc: Global, rules: &[Local], local: &Index) -> Result<Index, NoMemory>
     ensures { IfOk result (λ t. AreRareAt rules.now t) }
 {
@@ -65,7 +66,7 @@ pub(crate) fn rarest_at(alloc: Global, rules: &[Local], local: &Index) -> Result
     Ok(rare)
 }
 
-// One more than the rarest of these atoms, 0 if there is none.
+// One more than the number of the rarest of these atoms, and 0 if there is none.
 fn rarest_key(local: &Index, needs: &ClassSet) -> usize
     ensures { IsOneKey needs.now result }
 {
@@ -76,8 +77,8 @@ fn rarest_key(local: &Index, needs: &ClassSet) -> usize
     atom.0 as usize + 1
 }
 
-// The one of these atoms that the fewest rules need, the largest of such: atoms of the system's own, which no label of a page
-// has at first, stand behind the names. That it is the rarest is for time alone.
+// The atom that the fewest rules need, and the largest of several. The system's own atoms have the largest numbers, and no
+// label of a page has them at first. The choice matters for time alone.
 fn rarest(local: &Index, needs: &ClassSet) -> Atom
     requires { 0 < length needs.now }
     ensures { Contains needs.now result }
@@ -105,7 +106,7 @@ fn rules_at(local: &Index, atom: Atom) -> usize {
     local.of(atom.0 as usize + 1).len()
 }
 
-/// Links by the atom that they look at.
+/// The index of links by the atom that they look at. Linear in the links and the largest of these atoms.
 pub(crate) fn links_at(alloc: Global, links: &[Link]) -> Result<Index, NoMemory>
     ensures { IfOk result (λ t. AreLinksAt links.now t) }
 {
@@ -118,7 +119,7 @@ pub(crate) fn links_at(alloc: Global, links: &[Link]) -> Result<Index, NoMemory>
     Ok(index)
 }
 
-/// Spawns by the atom that they need.
+/// The index of spawns by the atom that they need. Linear in the spawns and the largest of these atoms.
 pub(crate) fn spawns_at(alloc: Global, spawns: &[Spawn]) -> Result<Index, NoMemory>
     ensures { IfOk result (λ t. AreSpawnsAt spawns.now t) }
 {

@@ -1,4 +1,4 @@
--- What is true of summaries in diagrams.
+-- The invariant of summaries in diagrams.
 use Rattle.std.specs.Prelude.{◌≡◌, ℕ, List, All}
 use Rattle.class_diagrams.specs.Arena.{Arena}
 use Rattle.simple_core.specs.declared.system.System.{System}

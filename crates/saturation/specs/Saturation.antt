@@ -1,9 +1,9 @@
--- How the calculation of all cells goes on, round by round.
---     IsRound       what is true after each round
---     AreChanges    what one round gives: the cells that changed
---     AreNotedUpTo  the histories with these changes
---     IsBuilt       what is true at the end
---     IsDone        what is true after k rounds, of the code's state
+-- Saturation: all cells, round by round, up to the fixpoint.
+--     IsRound       the invariant after each round
+--     AreChanges    the cells that change in one round
+--     AreNotedUpTo  the histories after some of these changes are noted
+--     IsBuilt       the result at the end
+--     IsDone        the invariant of the code's state after k rounds
 use Rattle.std.specs.Prelude.{◌≡◌, ◌≢◌, ℕ, suc, ◌<◌, List, [], ◌∷◌, ◌++◌, length, All, Contains, Result, Ok, Err, ◌⊎◌}
 use Rattle.tp_base.specs.declared.atoms.TheConstants.{MOST_ATOMS}
 use Rattle.class_diagrams.specs.References.{Reference}
@@ -23,7 +23,7 @@ use Rattle.saturation.specs.Held.{AreWork, HoldsCells}
 use Rattle.saturation.specs.Histories.{Change, IsHistory}
 use Rattle.saturation.specs.Waking.{CellName, Fits}
 
--- the changes of each cell
+-- the history of each cell, by kind and atom
 abbrev pub Histories : Type 0
 Histories = ℕ → ℕ → List Change
 
@@ -31,7 +31,7 @@ Histories = ℕ → ℕ → List Change
 abbrev pub empty : ℕ → Arena
 empty nodes = record { branches = []; limit = nodes }
 
--- round m + 1 changed some cell: its diagram then, which differs from the one before
+-- some cell changed in round m + 1: it got a diagram that differs from the one before
 pub record IsChange (s : System) (branches : List Tree) (kinds atoms m : ℕ) : Type 0 where
   pub kind : ℕ
   pub atom : ℕ
@@ -42,8 +42,8 @@ pub record IsChange (s : System) (branches : List Tree) (kinds atoms m : ℕ) : 
   pub tree : tree_at branches place ≡ cell s (suc m) kind atom
   pub differs : cell s (suc m) kind atom ≢ cell s m kind atom
 
--- After k rounds the histories tell the cells of all these rounds; what is not in `todo` stays as it is in the next one; each
--- of the rounds changed something; and the arena holds only what these rounds had to calculate.
+-- After k rounds the histories have all changes so far. Cells outside the worklist `todo` do not change in the next round. Each round changed some
+-- cell, and the arena holds only work of these rounds.
 pub record IsRound (s : System) (nodes k : ℕ) (d : Arena) (histories : Histories) (todo : List CellName) : Type 0 where
   pub told : (j a : ℕ) → j < length s.kinds → IsHistory s d.branches k (histories j a) j a
   pub others : (j a : ℕ) → j < length s.kinds → Contains todo (j, a) ⊎ (cell s (suc k) j a ≡ cell s k j a)
@@ -51,7 +51,7 @@ pub record IsRound (s : System) (nodes k : ℕ) (d : Arena) (histories : Histori
   pub changed : (m : ℕ) → m < k → IsChange s d.branches (length s.kinds) MOST_ATOMS m
   pub work : Brings (empty nodes) d (work s k)
 
--- each of these cells got this diagram in round k + 1, and each other cell of `todo` stays
+-- each of these cells changes to this diagram in round k + 1, and no other cell of `todo` changes
 pub record AreChanges (s : System) (k : ℕ) (old new : Arena) (todo : List CellName) (changes : List (CellName × Reference)) : Type 0 where
   pub inside : All (λ c. IsIn new.branches c.1) changes
   pub trees : All (λ c. tree_at new.branches c.1 ≡ cell s (suc k) c.0.0 c.0.1) changes
@@ -60,16 +60,16 @@ pub record AreChanges (s : System) (k : ℕ) (old new : Arena) (todo : List Cell
   pub others : (j a : ℕ) → Contains todo (j, a) → ((f : Reference) × Contains changes ((j, a), f)) ⊎ (cell s (suc k) j a ≡ cell s k j a)
   pub brings : Brings old new (of_each_cell s (partial_results s (cell s k)))
 
--- a cell and its history up to round k
+-- a cell is that of round k, and its history goes up to round k
 abbrev pub IsTold : System → List Tree → ℕ → Histories → CellTrees → ℕ → ℕ → Type 0
 IsTold s branches k histories now j a = IsHistory s branches k (histories j a) j a × (now j a ≡ cell s k j a)
 
--- each cell is told up to round k + 1, or up to round k where none of these changes is of it
+-- each cell and its history go up to round k + 1, or up to round k if no noted change is of it
 abbrev pub AreNotedUpTo : System → List Tree → ℕ → List (CellName × Reference) → Histories → CellTrees → Type 0
 AreNotedUpTo s branches k done histories now = (j a : ℕ) → j < length s.kinds
     → IsTold s branches (suc k) histories now j a ⊎ (IsTold s branches k histories now j a × ((f : Reference) → ¬ Contains done ((j, a), f)))
 
--- at some cell of the next round the arena had no room
+-- the arena was full at some cell of the next round
 pub record IsFullIn (s : System) (k : ℕ) (old : Arena) : Type 0 where
   pub kind : ℕ
   pub atom : ℕ
@@ -84,13 +84,13 @@ IsStep s k old new done changes (Ok u) = AreChanges s k old new done changes
 IsStep s k old new done changes (Err Full) = IsFullIn s k old
 IsStep s k old new done changes (Err Memory) = Unit {0}
 
--- what a cell of the next round that is looked at adds to the changes, from cells that are of any round
+-- one step of a round: the changes after the calculation of one more cell, whatever the round
 abbrev pub Steps : System → Entries → Arena → Arena → CellName → List (CellName × Reference) → List (CellName × Reference) → Result (Unit {0}) DiagramFault → Type 0
 Steps s cells old new name before after result = (k : ℕ) (first : Arena) (done : List CellName) → IsSound s → Contains (given_atoms s) name.1 → Tells s old.branches cells k
     → AreChanges s k first old done before → IsStep s k first new (done ++ name ∷ []) after result
 
--- what is true at the end: a round at rest, histories that tell all cells up to it, cells that are those of that round, and branches that
--- are work of a round that is reached, with all those of the cells of each round at rest
+-- A round is at rest. The histories and the cells are those up to this round. The branches are work of a reached round, and include the cells of each
+-- round at rest.
 pub record IsBuilt (s : System) (d : Arena) (histories : Histories) (cells : Entries) : Type 0 where
   pub round : ℕ
   pub few : round < 4611686018427387904

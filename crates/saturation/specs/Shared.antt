@@ -1,4 +1,4 @@
--- What a contract sees of summaries in diagrams: the system, and the branches that are held.
+-- What a contract sees of summaries in diagrams: the system and the stored branches.
 use Rattle.std.specs.Prelude.{List}
 use Rattle.class_diagrams.specs.Trees.{Tree}
 use Rattle.simple_core.specs.declared.system.System.{System}

@@ -1,8 +1,8 @@
 -- Which cells the first round may change.
---     bare_gives rules             what rules that need nothing give
---     labelled kind label          the cells of a kind's label, which hold from the beginning
---     labelled_each s n            those of the first n kinds
---     AreFirst s todo              all cells that a rule may change in the first round, and only such as fit the system
+--     bare_gives rules             the atoms that rules without needs give
+--     labelled kind label          the cells of a kind's label, which are true from the beginning
+--     labelled_each s n            the cells of the first n kinds' labels
+--     AreFirst s todo              the worklist has each cell that the first round may change, and only cells of the system
 use Rattle.std.specs.Prelude.{◌≡◌, ℕ, ◌<◌, Bool, true, false, List, [], ◌∷◌, map, filter, length, All, Contains}
 use Rattle.std.specs.List.{flat_map, range_with_len}
 use Rattle.simple_core.specs.declared.rules.Local.{Local}

@@ -1,9 +1,9 @@
 -- Tables of numbers, and what a system's rules put into them.
---     noted_in rows a        the numbers that are noted for a
---     IsNoted keys n f g     n was noted for the keys, and nothing else
---     HasAll keys n xs f     each x of the list has its n noted for its keys, and nothing else is noted
---     AreReads s ..          for each cell, which cells of the round behind it are calculated from it
---     AreReadsOf s reads     the same of what the code keeps
+--     noted_in rows a        the numbers that are noted for the number a
+--     IsNoted keys n f g     g is f with n noted for each of the keys
+--     HasAll keys n xs f     f has exactly the number `n x` for each key of each x in the list
+--     AreReads s ..          the tables of the rules of s, by what the rules look at
+--     AreReadsOf s reads     the same for the tables of the code
 use Rattle.std.specs.Prelude.{◌≡◌, ℕ, List, Contains, ◌⊎◌}
 use Rattle.row_index.specs.Rows.{row_of}
 use Rattle.simple_core.specs.declared.rules.Local.{Local}
@@ -33,8 +33,8 @@ OfLinks links f = HasAll (λ l b. l.from ≡ b) (λ l. l.to) links f
 abbrev pub OfSpawns : List Spawn → (ℕ → List ℕ) → Type 0
 OfSpawns spawns f = HasAll (λ c b. c.kind ≡ b) (λ c. c.needs) spawns f
 
--- by_needs: what rules give to a node that has an atom; by_child: what links give to the parent of one that has it; makers: the
--- atoms that make a child of a kind; needed: the atoms that make children; looked: those, and the visible ones
+-- `by_needs` has what local rules give by their needs, `by_child` what links give from a child, `makers` the atoms that make each kind. `needed` are
+-- the atoms that make children, and `looked` these and the visible ones.
 pub record AreReads (s : System) (by_needs by_child makers : ℕ → List ℕ) (needed looked : List ℕ) : Type 0 where
   pub needs : OfNeeds s.local by_needs
   pub child : OfLinks s.down by_child
@@ -43,6 +43,6 @@ pub record AreReads (s : System) (by_needs by_child makers : ℕ → List ℕ) (
   pub making : (c : Spawn) → Contains s.child c → Contains looked c.needs
   pub visible : (b : ℕ) → Contains s.visible b → Contains looked b
 
--- the same of a system's rules as the code keeps them
+-- the same for the tables of the code
 abbrev pub AreReadsOf : System → Reads → Type 0
 AreReadsOf s r = AreReads s (noted_in r.by_needs) (noted_in r.by_child) (noted_in r.makers) r.needs r.looked

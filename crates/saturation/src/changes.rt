@@ -1,4 +1,4 @@
-//! The cells that change in a round.
+//! One round of all cells: which of them change.
 ghost use Rattle.std.specs.Prelude.{◌↔◌, ◌≡◌, ℕ, ◌<◌, length, All, Contains, IfOk, IsErrOf};
 ghost use Rattle.class_diagrams.specs.Arena.{StartsWith, IsArena};
 ghost use Rattle.simple_core.specs.Systems.{IsSound};
@@ -14,7 +14,7 @@ use simple_core::GainFault;
 use std::alloc::Global;
 use tp_base::{Atom, NoMemory};
 
-// One cell of the next round, which is noted where it differs.
+// Calculates one cell for the next round, and notes it if it changes.
 fn one_cell(
     round: &mut Round<'_, '_>,
     d: &mut Diagrams,
@@ -34,7 +34,7 @@ fn one_cell(
     Ok(())
 }
 
-// The cells of the next round that differ.
+// Calculates the worklist's cells for the next round, and notes those that change.
 fn one_round(
     alloc: Global,
     equations: &Equations,
@@ -67,7 +67,7 @@ fn fault_of(fault: DiagramFault) -> GainFault
     }
 }
 
-/// The cells of the next round that differ, where so many rounds are done.
+/// The cells of the worklist that change in the next round, with their new diagrams.
 pub(crate) fn changed_cells(
     alloc: Global,
     equations: &Equations,

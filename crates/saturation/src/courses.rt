@@ -1,4 +1,4 @@
-//! What can come to a kind: the histories once more, by kinds, without the atoms that never come.
+//! Courses: for each kind the histories of the visible atoms that may come to it.
 ghost use Rattle.std.specs.Prelude.{◌≡◌, ◌<◌, ◌-◌, ◌++◌, ◌||◌, nat_lt, ℕ, false, List, [], ◌∷◌, length, map, slice_get, Some, All, Contains, IfOk, OnOk, IfSome, IsNone};
 ghost use Rattle.std.specs.List.{flat_map};
 ghost use Rattle.std.specs.List.Sorted.{IsStrictlyIncreasing};
@@ -16,8 +16,8 @@ use simple_core::{First, System};
 use std::alloc::Global;
 use tp_base::{Atom, ClassSet, Items, NoMemory};
 
-/// A visible atom that can come to a kind: whether the kind has it from the beginning, two atoms of which a parent has to have
-/// one for it to come, where such are known, and the history of its cell.
+/// The course of a visible atom for a kind. `starts` tells whether the kind has the atom from the beginning, and `changes` is
+/// the history of its cell. `gate` holds two atoms, if known, of which the parent needs one for the atom to come.
 #[derive(Drop)]
 pub(crate) struct Course {
     pub(crate) atom: Atom,
@@ -27,7 +27,7 @@ pub(crate) struct Course {
 }
 
 impl Course {
-    // Whether a parent with these visible atoms has none of the two.
+    // Whether a parent with these visible atoms has neither atom of the gate.
     fn is_shut<L: AtomSet>(&self, parent: &L) -> bool
         ensures { result ≡ is_shut self.now.gate (L.atoms parent.now) }
     {
@@ -37,7 +37,8 @@ impl Course {
         }
     }
 
-    /// The first round in which the atom comes, below a parent with these visible atoms.
+    /// The first round in which the atom comes below a parent with these visible atoms. One evaluation of a diagram for each
+    /// step of a binary search over the changes.
     pub(crate) fn first_under<L: AtomSet>(&self, d: &Diagrams, parent: &L) -> Option<u64>
         requires { CanBeAsked d.now.branches (L.atoms parent.now) self.now }
         ensures { result ≡ first_in self.now.starts d.now.branches self.now.changes (L.atoms parent.now) }
@@ -52,14 +53,14 @@ impl Course {
     }
 }
 
-// Whether an atom is there from the beginning, or its cell changes.
+// Whether an atom may come: it is there from the beginning, or its cell changes.
 fn may_come(starts: bool, history: &[(u64, Ref)]) -> bool
     ensures { result ≡ (starts || nat_lt 0 (length history.now)) }
 {
     starts || history.len() > 0
 }
 
-// Two atoms of which a parent has to have one, by the diagram of the last change.
+// The gate of the last change's diagram, unless the atom is there from the beginning.
 fn gate_of(d: &Diagrams, starts: bool, history: &[(u64, Ref)]) -> Option<(Atom, Atom)>
     requires { All (λ c. IsIn d.now.branches c.1) history.now }
     ensures gate { IsGated d.now.branches starts history.now result }
@@ -74,7 +75,7 @@ fn gate_of(d: &Diagrams, starts: bool, history: &[(u64, Ref)]) -> Option<(Atom, 
     }
 }
 
-// An atom of a kind with this label, whose cell has this history, unless it never comes.
+// Adds the course of an atom for a kind with this label and this history, unless the atom never comes.
 fn add_course(
     alloc: Global,
     d: &Diagrams,
@@ -102,8 +103,8 @@ fn add_course(
     Ok(())
 }
 
-// The courses of the visible atoms, for a kind with this label. The changes of each are looked for behind those of the one
-// before.
+// The courses of the visible atoms for a kind with this label. The search for each atom's changes begins where the last one
+// ended.
 fn row_with(
     alloc: Global,
     d: &Diagrams,
@@ -144,8 +145,8 @@ fn row_of(
     row_with(alloc, d, histories, kind, label, &system.visible)
 }
 
-/// The courses of each kind, in the order of the kinds. One look into the histories for each kind and visible atom, which is
-/// constant where all atoms whose cells change are visible and change once.
+/// The courses of each kind, in the order of the kinds. One lookup of a history for each kind and visible atom. A lookup is
+/// constant where each changed cell is of a visible atom and changes once.
 pub(crate) fn rows_of(
     alloc: Global,
     d: &Diagrams,
@@ -222,8 +223,9 @@ fn firsts_under<L: AtomSet>(
     Ok(firsts)
 }
 
-/// What comes by these courses below a parent with these visible atoms, in no more room than it needs. One look into the
-/// diagrams for each course that has changes and isn't shut, and one more each time that their count doubles.
+/// The atoms that come by these courses below a parent with these visible atoms, each with its first round. A course costs an
+/// evaluation only if it has changes and its gate is open, and one more each time its changes double. The list takes no more
+/// memory than it needs.
 pub(crate) fn firsts_by(
     alloc: Global,
     courses: &[Course],

@@ -1,4 +1,4 @@
-//! The changes of each cell.
+//! Histories: the changes of each cell, round by round.
 ghost use Rattle.std.specs.Prelude.{◌≡◌, ◌<◌, ℕ, ◌==◌, ◌&&◌, ◌++◌, if◌then◌else◌, All, [], ◌∷◌, OnOk, IfOk};
 ghost use Rattle.std.specs.List.Sorted.{IsNonDecreasingBy};
 ghost use Rattle.row_index.specs.Rows.{row_of};
@@ -13,8 +13,8 @@ use std::alloc::Global;
 use std::marker::Model;
 use tp_base::{Atom, NoMemory};
 
-/// The first change whose diagram holds under the label, by its round. As each holds where an earlier one does, half of
-/// them are left after each look.
+/// The round of the first change whose diagram is true under the label. Later diagrams are true where earlier ones are, so that
+/// a binary search finds it.
 pub(crate) fn first_round_under<L: AtomSet>(
     changes: &[(u64, Ref)],
     d: &Diagrams,
@@ -41,7 +41,7 @@ pub(crate) fn first_round_under<L: AtomSet>(
     }
 }
 
-/// The changes of the cells, by kinds, each with its atom, in the order in which they came.
+/// A log of changes: for each kind the changes of its cells, each with its atom, in the order in which they came.
 #[derive(Drop)]
 pub(crate) struct Log {
     alloc: Global,
@@ -68,7 +68,7 @@ impl Log {
         }
     }
 
-    /// One change more.
+    /// Appends a change.
     pub(crate) fn push(
         &mut self,
         kind: u32,
@@ -91,7 +91,7 @@ impl Log {
     }
 }
 
-/// The changes of a kind's cells, by the atoms of these in increasing order, and of one cell in the order of the rounds.
+/// The changes of a kind's cells, sorted by atoms. Changes of one cell stand in the order of their rounds.
 #[derive(Drop)]
 pub(crate) struct HistoryRow {
     atoms: Vec<Atom>,
@@ -110,7 +110,7 @@ impl Model for HistoryRow {
     ghost invariant = { λ r. AreApart r.atoms.items r.changes.items };
 }
 
-// The same changes by their atoms, in increasing order; those of one atom stay in theirs.
+// Sorts the changes by atoms. Changes of one atom keep their order.
 fn by_atoms(alloc: Global, row: &[(Atom, (u64, Ref))]) -> Result<Vec<(Atom, (u64, Ref))>, NoMemory>
     ensures order { IfOk result (λ v. IsNonDecreasingBy (λ n. n.0) v.items) }
     ensures same { (a : ℕ) → IfOk result (λ v. changes_of a v.items ≡ changes_of a row.now) }
@@ -121,7 +121,7 @@ fn by_atoms(alloc: Global, row: &[(Atom, (u64, Ref))]) -> Result<Vec<(Atom, (u64
 }
 
 impl HistoryRow {
-    // Changes that are in the order of their atoms.
+    // A row of changes that are sorted by atoms.
     fn of_ordered(alloc: Global, noted: &[(Atom, (u64, Ref))]) -> Result<HistoryRow, NoMemory>
         requires { IsNonDecreasingBy (λ n. n.0) noted.now }
         ensures { IfOk result (λ r. r ≡ noted.now) }
@@ -136,8 +136,8 @@ impl HistoryRow {
         Ok(HistoryRow { atoms, changes })
     }
 
-    // The changes of an atom's cell, and where those of greater atoms begin. Constant where the atom's begin near a place and
-    // are one at most, and else logarithmic in those of all.
+    // The changes of an atom's cell, and the place behind them. Constant where they begin near the given place and are one at
+    // most. Otherwise logarithmic in the row.
     fn of(&self, atom: Atom, near: usize) -> (&[(u64, Ref)], usize)
         ensures part { result.0.now ≡ changes_of atom self.now }
         ensures behind { IsBehind atom self.now result.1 }
@@ -149,7 +149,7 @@ impl HistoryRow {
     }
 }
 
-/// The history of each cell: the rounds in which it changed, each with its diagram from then on.
+/// The history of each cell: the rounds in which it changed, and its diagram from each of them on.
 #[derive(Drop)]
 pub(crate) struct Histories {
     rows: Vec<HistoryRow>,
@@ -165,7 +165,7 @@ impl Model for Histories {
 }
 
 impl Histories {
-    /// The histories of so many kinds, from their changes. Linear in these, but for a sort of those of each kind.
+    /// Makes the histories of `kinds` kinds from a log. Linear in the changes, plus a sort of each kind's changes.
     pub(crate) fn of_log(alloc: Global, log: &Log, kinds: usize) -> Result<Self, NoMemory>
         ensures { (j a : ℕ) → j < kinds → IfOk result (λ h. history_in h j a ≡ history_in log.now j a) }
     {
@@ -181,8 +181,8 @@ impl Histories {
         *self.rows.allocator()
     }
 
-    /// The history of a cell, and the place behind it among the changes of its kind. Constant where it stands near the given
-    /// place and is one change at most, and else logarithmic in the changes of its kind.
+    /// The history of a cell, and the place behind it in the changes of its kind. Constant where it stands near the given place
+    /// and has at most one change. Otherwise logarithmic in the changes of the kind.
     pub(crate) fn near(&self, kind: u32, atom: Atom, place: usize) -> (&[(u64, Ref)], usize)
         ensures history { result.0.now ≡ history_in self.now kind atom }
         ensures behind { IsBehind atom (row_of self.now kind) result.1 }

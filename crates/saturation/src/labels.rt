@@ -1,4 +1,4 @@
-//! Labels that are read from cells.
+//! Labels of added nodes, read from cells.
 ghost use Rattle.std.specs.Prelude.{◌≡◌, ◌↔◌, ℕ, true, Contains, IfOk};
 ghost use Rattle.std.specs.List.Sorted.{IsStrictlyIncreasing};
 ghost use Rattle.class_diagrams.specs.Trees.{eval};
@@ -33,7 +33,7 @@ fn label_under<L: AtomSet>(
     Ok(label)
 }
 
-/// Those of the atoms whose cells hold below a parent with these visible atoms. One look for each of them.
+/// The given atoms whose cells are true below a parent with these visible atoms. One evaluation of a diagram for each atom.
 pub(crate) fn label_of(
     alloc: Global,
     atoms: &ClassSet,

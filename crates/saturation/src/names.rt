@@ -1,4 +1,4 @@
-//! The cells that rules can change.
+//! The cells that the first round may change.
 ghost use Rattle.std.specs.Prelude.{◌≡◌, ◌≤◌, ◌<◌, ◌++◌, ℕ, [], length, IfOk, OnOk, map};
 ghost use Rattle.std.specs.List.{flat_map, range_with_len};
 ghost use Rattle.tp_base.specs.Classes.{union_of};
@@ -54,7 +54,7 @@ pub(crate) fn add_ends(links: &[Link], atoms: &mut Gathered) -> Result<(), NoMem
     Ok(())
 }
 
-/// The atoms that some kind or rule gives.
+/// The atoms that an added node can get at all: those of kinds' labels, and those that a rule or a link gives.
 pub(crate) fn given(alloc: Global, system: &System) -> Result<ClassSet, NoMemory>
     ensures { IfOk result (λ atoms. atoms ≡ given_atoms system.now) }
 {
@@ -66,7 +66,7 @@ pub(crate) fn given(alloc: Global, system: &System) -> Result<ClassSet, NoMemory
     atoms.into_set()
 }
 
-// What rules that need nothing give.
+// Adds the atoms that rules without needs give.
 fn add_bare(rules: &[Local], atoms: &mut Gathered) -> Result<(), NoMemory>
     ensures { OnOk result (atoms.new ≡ union_of atoms.old (bare_gives rules.now)) }
 {
@@ -80,7 +80,7 @@ fn add_bare(rules: &[Local], atoms: &mut Gathered) -> Result<(), NoMemory>
     Ok(())
 }
 
-// The atoms that links from the parent give, or rules that need nothing.
+// The atoms that links from the parent or rules without needs give.
 fn given_anywhere(alloc: Global, system: &System) -> Result<ClassSet, NoMemory>
     ensures { IfOk result (λ atoms. atoms ≡ union_of (union_of [] (map (λ (l : Link). l.to) system.now.up)) (bare_gives system.now.local)) }
 {
@@ -90,7 +90,7 @@ fn given_anywhere(alloc: Global, system: &System) -> Result<ClassSet, NoMemory>
     atoms.into_set()
 }
 
-// The cells of a kind's label, which hold from the beginning.
+// Adds the cells of a kind's label, which are true from the beginning.
 fn add_label(
     system: &System,
     kind: u32,
@@ -107,7 +107,7 @@ fn add_label(
     Ok(())
 }
 
-// Those of each kind.
+// The cells of all kinds' labels.
 fn label_cells(alloc: Global, system: &System) -> Result<Vec<((u32, Atom), Ref)>, NoMemory>
     requires { length system.now.kinds ≤ MOST_KINDS }
     ensures { IfOk result (λ cs. cs.items ≡ labelled_each system.now (length system.now.kinds)) }
@@ -119,7 +119,7 @@ fn label_cells(alloc: Global, system: &System) -> Result<Vec<((u32, Atom), Ref)>
     Ok(cells)
 }
 
-// Each of so many kinds with these atoms.
+// Adds a cell for each of `count` kinds and each of these atoms.
 fn add_kinds(count: usize, atoms: &ClassSet, cells: &mut Vec<(u32, Atom)>) -> Result<(), NoMemory>
     requires { count ≤ MOST_KINDS }
     ensures { OnOk result (cells.new.items ≡ cells.old.items ++ named_each (range_with_len 0 count) atoms.now) }
@@ -130,8 +130,8 @@ fn add_kinds(count: usize, atoms: &ClassSet, cells: &mut Vec<(u32, Atom)>) -> Re
     Ok(())
 }
 
-/// The cells that the first round may change: those that read one of a kind's label, and of each kind those of the atoms
-/// that a link from the parent gives or a rule that needs nothing.
+/// The worklist of the first round. It has the cells that read a cell of a kind's label. For each kind it also has the atoms
+/// that a link from the parent or a rule without needs gives.
 pub(crate) fn first_cells(
     alloc: Global,
     system: &System,

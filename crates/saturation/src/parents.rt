@@ -1,4 +1,4 @@
-//! The kinds that can make a child.
+//! The kinds whose nodes can make a child, and the cells to recalculate there.
 ghost use Rattle.std.specs.Prelude.{◌≡◌, ◌++◌, false, get_or, List, IfOk, OnOk};
 ghost use Rattle.class_diagrams.specs.Trees.{Tree};
 ghost use Rattle.pushdown_sym.specs.CellMap.{trees_in};
@@ -10,7 +10,7 @@ use pushdown_sym::{Cells, Ends};
 use std::alloc::Global;
 use tp_base::{Atom, ClassSet, NoMemory};
 
-// The atom with each of these kinds.
+// Adds a cell of the atom for each of these kinds.
 fn add_atom(todo: &mut Vec<(u32, Atom)>, kinds: &[u32], atom: Atom) -> Result<(), NoMemory>
     ensures { OnOk result (todo.new.items ≡ todo.old.items ++ with_atom atom kinds.now) }
 {
@@ -21,7 +21,7 @@ fn add_atom(todo: &mut Vec<(u32, Atom)>, kinds: &[u32], atom: Atom) -> Result<()
     Ok(())
 }
 
-// The kinds below the count whose nodes may have an atom.
+// The kinds, below the count, whose nodes may have an atom.
 fn makers_of(alloc: Global, now: &Cells, count: usize, atom: Atom) -> Result<Vec<u32>, NoMemory>
     ensures { (branches : List Tree) → IfOk result (λ kinds. AreMakers (trees_in branches now.now) count atom kinds.items) }
 {
@@ -36,7 +36,7 @@ fn makers_of(alloc: Global, now: &Cells, count: usize, atom: Atom) -> Result<Vec
     Ok(makers)
 }
 
-/// The cells of the second atom of each pair, for the kinds whose nodes may have the first.
+/// For each pair of atoms, adds the cells of the second atom for the kinds whose nodes may have the first.
 pub(crate) fn add_above(
     alloc: Global,
     now: &Cells,
@@ -53,7 +53,7 @@ pub(crate) fn add_above(
     Ok(())
 }
 
-// Those of these kinds that are marked, each with these atoms.
+// Adds a cell for each of these kinds that is marked and each of these atoms.
 fn add_marked(
     kinds: &[u32],
     marks: &[bool],
@@ -81,8 +81,8 @@ fn is_marked(marks: &[bool], kind: u32) -> bool
     }
 }
 
-/// The marked kinds, each with the ends of those of these atoms that its nodes may have. A look at each kind that may have
-/// one of the atoms.
+/// For each of these atoms and each marked kind that may have it, adds the cells of the atom's ends. One step for each kind
+/// that may have the atom, and one for each added cell.
 pub(crate) fn add_seen(
     now: &Cells,
     marks: &[bool],

@@ -1,4 +1,4 @@
-//! Which cells read a cell.
+//! An index of which cells read a cell.
 ghost use Rattle.std.specs.Prelude.{◌≡◌, [], map, IfOk, OnOk};
 ghost use Rattle.tp_base.specs.Classes.{union_of};
 ghost use Rattle.simple_core.specs.declared.rules.Spawn.{Spawn};
@@ -11,8 +11,9 @@ use simple_core::{Spawn, System};
 use std::alloc::Global;
 use tp_base::{ClassSet, NoMemory};
 
-/// The rules of a system by what they look at, but for `makers`, which has the spawns by the kind that they make. `needs` are
-/// the atoms that make children, and `looked` these and those that children see.
+/// The rules of a system as tables. `by_needs` has what local rules give by their needs, `by_child` what links give from a
+/// child, and `makers` the atoms that make each kind. `needs` are all atoms that make children, and `looked` these and the
+/// visible ones.
 #[derive(Drop)]
 pub(crate) struct Reads {
     pub(crate) by_needs: Table,

@@ -1,4 +1,4 @@
-//! A round's changes noted.
+//! Notes the changes of a round, and makes the worklist of the next one.
 ghost use Rattle.std.specs.Prelude.{◌≡◌, ℕ, suc, length, List, [], ◌∷◌, ◌++◌, All, Contains, IfOk, OnOk};
 ghost use Rattle.class_diagrams.specs.References.{Reference};
 ghost use Rattle.class_diagrams.specs.Arena.{Arena, tree_at, IsIn};
@@ -21,7 +21,7 @@ use pushdown_sym::{Cells, Ends};
 use std::alloc::Global;
 use tp_base::{Atom, NoMemory};
 
-// One change noted, unless the cell has it.
+// Notes one change, unless the cell has this diagram already.
 fn note_one(
     d: &Diagrams,
     cells: &mut Cells,
@@ -44,7 +44,7 @@ fn note_one(
     Ok(())
 }
 
-// All changes of a round noted.
+// Notes all changes of a round.
 fn note_all(
     d: &Diagrams,
     cells: &mut Cells,
@@ -65,7 +65,7 @@ fn note_all(
     Ok(())
 }
 
-/// The changes noted, and the cells to calculate in the round behind it.
+/// Notes the changes, and returns the worklist of the next round.
 pub(crate) fn noted(
     alloc: Global,
     d: &Diagrams,

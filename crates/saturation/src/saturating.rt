@@ -1,4 +1,4 @@
-//! Rounds until no cell changes.
+//! Saturation: rounds until no cell changes.
 ghost use Rattle.std.specs.Prelude.{◌≡◌, ℕ, true, false, length, [], IsOk, IsErrOf, OnOk};
 ghost use Rattle.class_diagrams.specs.Arena.{IsArena};
 ghost use Rattle.simple_core.specs.Systems.{IsSound};
@@ -66,7 +66,7 @@ fn saturate_from(
     }
 }
 
-// Rounds over a system with its equations.
+// Saturates the cells of a system by its equations.
 fn saturate_by(
     alloc: Global,
     system: &System,
@@ -102,7 +102,7 @@ fn has_no_kinds(system: &System) -> bool
     system.kinds.items().len() == 0
 }
 
-/// Rounds over cells of the first round, until none changes. Where the system adds no nodes, there are no cells.
+/// Saturates the cells: does rounds until none changes. A system that adds no nodes has no cells.
 pub(crate) fn saturate(
     alloc: Global,
     system: &System,

@@ -1,4 +1,4 @@
-//! Summaries that are read from diagrams.
+//! Summaries for all visible labels at once, read from decision diagrams.
 ghost use Rattle.std.specs.Prelude.{◌≡◌, ℕ, ◌<◌, ◌≤◌, ◌^◌, [], length, All, IfOk, IfSome, IsOk, IsErrOf};
 ghost use Rattle.tp_base.specs.Classes.{has_class};
 ghost use Rattle.class_diagrams.specs.Arena.{IsIn, IsArena};
@@ -25,7 +25,7 @@ use std::alloc::Global;
 use std::marker::Model;
 use tp_base::{Atom, ClassSet, Items, NoMemory};
 
-// The cells of a round at rest, and how they came to be.
+// The cells at the fixpoint, and their histories.
 #[derive(Drop)]
 struct Ended {
     cells: Cells,
@@ -48,7 +48,7 @@ fn all_rounds(alloc: Global, system: &System, diagrams: &mut Diagrams) -> Result
     Ok(Ended { cells, histories })
 }
 
-// A system, the atoms that it gives, and what can come to each of its kinds.
+// A copy of a system, the atoms that it gives, and the courses of each kind.
 #[derive(Drop)]
 struct Copied {
     system: System,
@@ -79,10 +79,9 @@ fn copy_of(
     })
 }
 
-/// The summaries of a system, for every visible label of the parent. A contract sees the system and the branches that are held.
-/// What comes to a pair (`firsts`) costs a look for each visible atom that can come to the kind at all, of which `rows` has a
-/// list for each kind; into a diagram only where the parent has an atom of its gate. One visible atom is found there by a
-/// binary search.
+/// The summaries of a system, for every visible label of a parent. A contract sees the system and the stored branches. `firsts`
+/// costs a step for each visible atom that may come to the kind (its `rows`). It evaluates a diagram only where the parent has
+/// an atom of the gate. A single atom is found by a binary search.
 #[derive(Drop)]
 pub struct SharedSummaries {
     system: System,
@@ -109,10 +108,10 @@ impl Model for SharedSummaries {
 }
 
 impl SharedSummaries {
-    /// The summaries of a system, in at most so many branches. Rounds go on until no cell changes, the first over the cells
-    /// that a rule may change then, each other over those that read one that changed in the round before. Where what
-    /// children see changed, a kind costs a look at each atom that makes children and that its nodes may have. Behind them
-    /// there is one look into the histories for each kind and visible atom.
+    /// Builds the summaries with at most `nodes` branches, by rounds until no cell changes. The first round calculates the
+    /// cells that a rule may change. Each later round calculates the cells that read one which changed before. Where what
+    /// children see changed, a kind costs a step for each of its atoms that make children. At the end there is one lookup of a
+    /// history for each kind and visible atom.
     pub fn build(alloc: Global, system: &System, nodes: u32) -> Result<Self, GainFault>
         requires sound { IsSound system.now }
         requires nodes { nodes ≤ MOST_BRANCHES }
@@ -135,7 +134,7 @@ impl SharedSummaries {
         })
     }
 
-    // What a node of the kind has at the end, below a parent with these visible atoms.
+    // The label at which a node of the kind ends, below a parent with these visible atoms.
     fn last_label(&self, alloc: Global, kind: u32, parent: &ClassSet) -> Result<ClassSet, NoMemory>
         requires kind { kind < length self.now.system.kinds }
         ensures { IfOk result (λ label. IsRest self.now.system kind parent.now label) }
@@ -160,8 +159,8 @@ impl SharedSummaries {
         kinds[kind as usize].label.has(atom)
     }
 
-    // The first round after which a node of the kind has the atom, below a parent with these visible atoms. A visible one
-    // is looked up in the row of the kind.
+    // The first round in which a node of the kind has the atom, below a parent with these visible atoms. A visible atom is
+    // looked up in the kind's row.
     fn first_told(&self, kind: u32, parent: &ClassSet, atom: Atom) -> Option<u64>
         requires { kind < length self.now.system.kinds }
         ensures first { IsFirst (λ k. grown self.now.system k kind parent.now) atom result }
@@ -177,7 +176,7 @@ impl SharedSummaries {
         }
     }
 
-    // The same of any atom, by the changes of its cell.
+    // The same for any atom, from the history of its cell.
     fn first_noted(&self, kind: u32, parent: &ClassSet, atom: Atom) -> Option<u64>
         requires { kind < length self.now.system.kinds }
         ensures first { IsFirst (λ k. grown self.now.system k kind parent.now) atom result }
@@ -202,7 +201,7 @@ impl Summaries for SharedSummaries {
 
     ghost spent_on = { λ s. None };
 
-    // The histories are by kind, so that nothing is to be found first.
+    // Histories are found by the kind alone, so that an entry holds no information.
     ghost is_entry = { λ s n q. Unit {0} };
 
     ghost room = { λ s. None };

@@ -1,4 +1,4 @@
-//! For each number a list of numbers.
+//! Tables: for each number a list of numbers.
 ghost use Rattle.std.specs.Prelude.{◌≡◌, [], Contains, IfOk, OnOk};
 ghost use Rattle.saturation.specs.Tables.{noted_in, IsNoted, OfNeeds, OfLinks, OfSpawns};
 
@@ -8,7 +8,8 @@ use std::alloc::Global;
 use std::marker::Model;
 use tp_base::{ClassSet, NoMemory};
 
-/// The numbers that are noted for each number, in order, in a row for each number up to the largest that has some.
+/// For each number a list of noted numbers, in the order in which they came. There is a row for each number up to the largest
+/// key.
 #[derive(Drop)]
 pub(crate) struct Table {
     rows: Rows<u32>,
@@ -31,7 +32,7 @@ impl Table {
         }
     }
 
-    /// What rules give to a node that has an atom.
+    /// The table of local rules: the atoms that rules give, by each atom that they need.
     pub(crate) fn of_needs(alloc: Global, rules: &[Local]) -> Result<Self, NoMemory>
         ensures { IfOk result (λ t. OfNeeds rules.now (noted_in t)) }
     {
@@ -43,7 +44,7 @@ impl Table {
         Ok(table)
     }
 
-    /// What links give to the node next to one that has an atom.
+    /// The table of links: the atoms that they give, by the atom that they look at.
     pub(crate) fn of_links(alloc: Global, links: &[Link]) -> Result<Self, NoMemory>
         ensures { IfOk result (λ t. OfLinks links.now (noted_in t)) }
     {
@@ -55,7 +56,7 @@ impl Table {
         Ok(table)
     }
 
-    /// The atoms that make a child of a kind.
+    /// The table of spawns: the atoms that make a child, by its kind.
     pub(crate) fn of_spawns(alloc: Global, spawns: &[Spawn]) -> Result<Self, NoMemory>
         ensures { IfOk result (λ t. OfSpawns spawns.now (noted_in t)) }
     {
@@ -73,7 +74,7 @@ impl Table {
         self.rows.of(key as usize)
     }
 
-    // A number for each of these keys.
+    // Notes a number for each of these keys.
     fn note_each(&mut self, alloc: Global, keys: &ClassSet, number: u32) -> Result<(), NoMemory>
         ensures { OnOk result (IsNoted (Contains keys.now) number (noted_in self.old) (noted_in self.new)) }
     {

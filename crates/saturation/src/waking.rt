@@ -1,4 +1,4 @@
-//! The cells that are calculated again.
+//! Waking: which cells a change puts into the worklist.
 ghost use Rattle.std.specs.Prelude.{◌≡◌, ◌<◌, ◌++◌, ℕ, List, length, All, Contains, IfOk, OnOk};
 ghost use Rattle.std.specs.List.Sorted.{IsStrictlySortedBy};
 ghost use Rattle.simple_core.specs.declared.system.System.{System};
@@ -17,7 +17,7 @@ use pushdown_sym::{Cells, Ends};
 use std::alloc::Global;
 use tp_base::{Atom, NoMemory};
 
-/// A kind with each of these atoms.
+/// Adds the cells of a kind for these atoms.
 pub(crate) fn add_named(
     todo: &mut Vec<(u32, Atom)>,
     kind: u32,
@@ -42,7 +42,7 @@ fn add_each(todo: &mut Vec<(u32, Atom)>, kinds: &[u32], atoms: &[u32]) -> Result
     Ok(())
 }
 
-// Marks the kind of a cell, if its atom is one of those that are looked at.
+// Marks the kind of a cell if children, or links from children, look at its atom.
 fn mark(marks: &mut Vec<bool>, looked: &Marks, name: (u32, Atom))
     ensures { AreMarked looked.now name marks.old.items marks.new.items }
 {
@@ -52,8 +52,9 @@ fn mark(marks: &mut Vec<bool>, looked: &Marks, name: (u32, Atom))
     }
 }
 
-// What a change wakes: the cells that rules calculate from it, and what links give to the parents of the kind, each such
-// atom with those that make a child of the kind. The kind is marked, if children or its links from them look at the atom.
+// Wakes the readers of a changed cell. Local rules lead to other cells of its kind. Links lead to parents of the kind, as pairs
+// of an atom that makes the kind and an atom that the parent gets. The kind is marked if children, or links from children, look
+// at the atom.
 fn wake_one(
     reads: &Reads,
     name: (u32, Atom),
@@ -75,7 +76,7 @@ fn wake_one(
     Ok(())
 }
 
-// What all changes wake.
+// The readers of all changed cells.
 #[derive(Drop)]
 struct Woken {
     cells: Vec<(u32, Atom)>,
@@ -106,7 +107,7 @@ fn woken_by(
     })
 }
 
-/// Each cell once, kind by kind.
+/// The cells without duplicates, sorted by kinds and atoms.
 pub(crate) fn sorted(cells: Vec<(u32, Atom)>) -> Result<Vec<(u32, Atom)>, NoMemory>
     ensures order { IfOk result (λ once. IsStrictlySortedBy cell_cmp once.items) }
     ensures kept { IfOk result (λ once. (c : CellName) → Contains cells.items c → Contains once.items c) }
@@ -118,8 +119,8 @@ pub(crate) fn sorted(cells: Vec<(u32, Atom)>) -> Result<Vec<(u32, Atom)>, NoMemo
     Ok(in_order)
 }
 
-/// The cells to calculate after these changes: those that read one that changed. What links may give to a node that makes
-/// children is noted.
+/// The worklist after these changes: all cells that read one which changed. For atoms that make children, `ends` notes what
+/// links may give to their nodes.
 pub(crate) fn readers(
     alloc: Global,
     now: &Cells,

@@ -1,5 +1,5 @@
--- What comes to an added node, each with its first round.
---     AreFirsts atoms labels firsts     the firsts are those of the atoms that come, with the rounds in which they do
+-- The atoms that come to an added node, each with its first round.
+--     AreFirsts atoms labels firsts     the firsts have those of the atoms that some label has, each with its first round
 use Rattle.std.specs.Prelude.{◌≡◌, ℕ, List, Some, Contains}
 use Rattle.simple_core.specs.Rounds.{IsFirst}
 use Rattle.simple_core.specs.declared.summaries.First.{First}

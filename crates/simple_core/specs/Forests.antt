@@ -1,4 +1,4 @@
--- What is asked of a system besides its soundness, so that the proofs of its atoms keep to the forests of its statements.
+-- A condition on a system besides its soundness. With it, proofs of atoms keep to the forests of the script's statements.
 use Rattle.std.specs.Prelude.{◌≡◌, ◌≢◌, ℕ, true, List, Contains, Some, None, slice_get}
 use Rattle.tree_sem.specs.Trees.{LabelTree}
 use Rattle.tree_sem.specs.Nodes.{HasAtom}
@@ -23,7 +23,8 @@ IsOwn s page a j = NoLocal s a × NoLink s.up a × NoLink s.down a × ((v : List
 abbrev pub IsFromBelow : System → LabelTree → ℕ → Type 0
 IsFromBelow s page a = NoLocal s a × NoLink s.up a × ((v : List ℕ) → ¬ HasAtom page v a) × ((i : ℕ) → ¬ Contains (kind_label s i) a)
 
--- what spawns an inner kind is the own atom of the kind above it, and what spawns a top kind that comes beside a child comes from below
+-- A spawn of an inner kind needs the own atom of the kind above it. A spawn of a top kind that goes beside the selected node needs an atom that comes
+-- from a child alone.
 pub record KeepsForests (s : System) (page : LabelTree) : Type 0 where
   pub inner : (c : Spawn) (kind : Kind) (j : ℕ) → Contains s.child c → slice_get s.kinds c.kind ≡ Some kind → kind.above ≡ Some j → IsOwn s page c.needs j
   pub beside : (c : Spawn) (kind : Kind) → Contains s.child c → slice_get s.kinds c.kind ≡ Some kind → kind.above ≡ None → kind.beside ≡ true → IsFromBelow s page c.needs

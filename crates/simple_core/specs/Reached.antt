@@ -1,5 +1,5 @@
--- Trees that a system makes of a tree by legal steps.
---     IsLater s u u'    u' is the end of some legal steps from u, and has at each node of u what that has
+-- The trees that a system makes of a tree by legal steps.
+--     IsLater s u u'    some legal steps lead from u to u', and u' keeps each node of u with its atoms
 --     Got s u v a       some later tree has the atom a at v
 use Rattle.std.specs.Prelude.{◌≡◌, ℕ, List}
 use Rattle.tree_sem.specs.Trees.{LabelTree}

@@ -1,5 +1,5 @@
--- Steps of a system: one rule, at one node.
---     IsLegal s t step       the rule is one of s, and what it looks at is there
+-- The steps of a system: one rule, applied at one node.
+--     IsLegal s t step       the rule is one of s, and the tree has the atoms that it looks at
 --     end_of t steps         the tree after the steps
 --     AreLegal s t steps     each step is legal in the tree before it
 use Rattle.std.specs.Prelude.{◌≡◌, ℕ, List, [], ◌∷◌, ◌++◌, Contains}
@@ -12,7 +12,7 @@ use Rattle.simple_core.specs.declared.rules.Spawn.{Spawn}
 use Rattle.simple_core.specs.declared.system.System.{System}
 use Rattle.simple_core.specs.Systems.{kind_label}
 
--- a rule of one of the lists, and the path of the node at which it adds something
+-- a rule of one of the lists, and the path of the node that gets an atom or a child
 pub data SimpleStep : Type 0 where
   by_local : Local → List ℕ → SimpleStep
   by_up : Link → List ℕ → SimpleStep

@@ -1,4 +1,4 @@
-//! The rules that give each atom.
+//! Indexes of a system's rules by the atom that they give.
 ghost use Rattle.std.specs.Prelude.{◌≡◌, IfOk};
 ghost use Rattle.simple_core.specs.Givers.{places_in, AreGivers, AreAllGivers};
 
@@ -9,7 +9,8 @@ use std::alloc::Global;
 use std::marker::Model;
 use tp_base::{Atom, NoMemory};
 
-/// For each atom the places, in a list of rules, of those that give it, in a row for each atom up to the largest that is given.
+/// An index: for each atom the places of the rules that give it, in a list of rules. There is a row for each atom up to the
+/// largest that is given.
 #[derive(Drop)]
 pub struct Givers {
     places: Index,
@@ -24,7 +25,7 @@ impl Model for Givers {
 }
 
 impl Givers {
-    /// The givers of rules that look at one node. Linear in the rules and the largest atom that they give.
+    /// The index of local rules. Linear in the rules and the largest atom that they give.
     pub fn of_locals(alloc: Global, rules: &[Local]) -> Result<Self, NoMemory>
         ensures { IfOk result (AreGivers (λ r. r.gives) rules.now) }
     {
@@ -36,7 +37,7 @@ impl Givers {
         Ok(Givers { places })
     }
 
-    /// The givers of rules that look at a node and the one next to it. Linear in the rules and the largest atom that they give.
+    /// The index of links. Linear in the links and the largest atom that they give.
     pub fn of_links(alloc: Global, links: &[Link]) -> Result<Self, NoMemory>
         ensures { IfOk result (AreGivers (λ l. l.to) links.now) }
     {
@@ -48,7 +49,7 @@ impl Givers {
         Ok(Givers { places })
     }
 
-    /// The places of the rules that give the atom. Constant.
+    /// The places of the rules that give the atom, in increasing order. Constant.
     pub fn of(&self, atom: Atom) -> &[usize]
         ensures { result.now ≡ places_in self.now atom }
     {
@@ -56,7 +57,7 @@ impl Givers {
     }
 }
 
-/// The givers of a system's rules that look at one node, of its links from a parent, and of its links from a child.
+/// The three indexes of a system: of its local rules, of its links from a parent, and of its links from a child.
 #[derive(Drop)]
 pub struct AllGivers {
     pub locals: Givers,
@@ -65,7 +66,7 @@ pub struct AllGivers {
 }
 
 impl AllGivers {
-    /// Linear in the rules and the largest atom that they give.
+    /// Builds the three indexes. Linear in the rules and the largest atom that they give.
     pub fn of(alloc: Global, system: &System) -> Result<Self, NoMemory>
         ensures { IfOk result (AreAllGivers system.now) }
     {
