@@ -193,8 +193,8 @@ pub fn dot_name(
     Ok(name)
 }
 
-/// The number of a call's arguments, where the call may stand there with so many. `at` is the offset of its name. Linear in the
-/// words of the arguments.
+/// The number of a call's arguments, where the call may stand there with so many. `at` is the offset of its name. Constant on
+/// average.
 #[tactic(auto, unfolding(crate::specs::Calls::admitted))]
 pub fn admitted(
     reader: Reader<'_>,
