@@ -7,8 +7,8 @@ use Rattle.tp_base.specs.declared.places.Place.{Place}
 use Rattle.jq_stmts.specs.Statements.{Statement}
 use Rattle.usage_report.specs.Lines.{Shown, place_text, count_text, shown_text}
 
--- live after so many steps, which may be shown, or after steps that aren't; dead at the handler with this number, counted from 1, the
--- first that never runs; dead where all handlers run and the statement selects no node; or a budget ran out
+-- Live after a number of steps, which may be shown, or after steps that can't be shown. Dead at a handler, counted from 1: the first
+-- that never runs. Dead where all handlers run and the statement selects no node. Unknown where a budget ran out.
 pub data Verdict : Type 0 where
   live : (steps : ℕ) (shown : Option Shown) → Verdict
   live_unshown : Verdict

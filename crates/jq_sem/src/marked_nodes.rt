@@ -11,7 +11,7 @@ use std::alloc::Global;
 use tp_base::{NoMemory, Path};
 use tree_sem::{Action, MOST_NODES, Tour, Tree, TreeFault, has_room};
 
-/// The count of marked nodes with a number from `from` on, in a tree of `nodes` nodes.
+/// The count of marked nodes with a number from `from` on, in a tree of `nodes` nodes. Linear in these.
 pub fn marked_count(marks: &Marks, from: u32, nodes: u32) -> u32
     requires { from ≤ nodes }
     ensures count { result ≡ count_marked marks.now from (nodes - from) }

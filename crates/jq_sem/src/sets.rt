@@ -15,7 +15,7 @@ use node_marks::{Marks, NumberedTree};
 use sel_text::{Compound, Join, Selector};
 use tp_base::NoMemory;
 
-/// The set that a call makes from a set. A few steps for each node and each compound of the call.
+/// The set that a call makes from a set. A few steps for each node and each compound and atom of the call.
 pub fn of_call(tree: &NumberedTree, call: &Call, marks: &Marks) -> Result<Marks, NoMemory>
     ensures { IfOk result (λ m. (v : List ℕ) → IsMarked tree.now m v ↔ IsMade tree.now (IsMarked tree.now marks.now) (call_of call.now) v) }
 {
@@ -154,7 +154,7 @@ fn narrowed(tree: &NumberedTree, compounds: &[Compound], marks: &Marks) -> Resul
     tree.in_both(&may, marks)
 }
 
-/// The nodes that one of the compounds fits; every node, where there are none.
+/// The nodes that one of the compounds fits; every node, where there are none. The cost is that of `fitting`.
 pub fn may_fit(tree: &NumberedTree, compounds: &[Compound]) -> Result<Marks, NoMemory>
     ensures { IfOk result (λ m. (v : List ℕ) → IsMarked tree.now m v ↔ MayFit tree.now (atoms_of compounds.now) v) }
 {
@@ -164,7 +164,7 @@ pub fn may_fit(tree: &NumberedTree, compounds: &[Compound]) -> Result<Marks, NoM
     fitting(tree, compounds)
 }
 
-/// The nodes that one of the compounds fits.
+/// The nodes that one of the compounds fits. A few steps for each node and each compound and its atoms.
 pub fn fitting(tree: &NumberedTree, compounds: &[Compound]) -> Result<Marks, NoMemory>
     ensures { IfOk result (λ m. (v : List ℕ) → IsMarked tree.now m v ↔ FitsOne tree.now (atoms_of compounds.now) v) }
 {

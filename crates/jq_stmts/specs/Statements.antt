@@ -9,7 +9,7 @@ pub data Root : Type 0 where
   matched : List Selector → Root
   this : Root
 
--- a call that makes a new set; a list of compounds, each as its atoms, filters it, and for children, parent, parents and near an empty list keeps every node
+-- a call that makes a new set; compounds, each as its atoms, filter it; without compounds, children, parent, parents and near keep every node
 pub data Call : Type 0 where
   find : List (List ℕ) → Call
   children : List (List ℕ) → Call
@@ -26,7 +26,7 @@ pub record Chain : Type 0 where
   pub root : Root
   pub calls : List Call
 
--- The handlers, outermost first, the chain of the call that acts, what it does, and where its name stands.
+-- The chains of the handlers, outermost first, the chain of the call that acts, its action, and the place of its name.
 pub record Statement : Type 0 where
   pub handlers : List Chain
   pub chain : Chain

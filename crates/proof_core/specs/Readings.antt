@@ -28,8 +28,8 @@ AreLegalBy Legal after t steps = series.AreLegalBy (λ t (none : Unit {0}) step.
 abbrev pub step_at : ℕ → List ℕ → Step
 step_at s v = record { stmt = s; at = v }
 
--- A meaning for a system: the subtree of each kind in its forest, the legal steps with the trees that they lead to, the truth of an atom
--- at a node, and the truth of the target at a node.
+-- A meaning for a system. It has the subtree of each kind in its forest, and the legal steps with the trees that they lead to. It says
+-- of which nodes an atom, and the target, are true.
 pub record Reading : Type 1 where
   pub system : System
   pub kind_tree : ℕ → LabelTree

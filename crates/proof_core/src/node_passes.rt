@@ -103,7 +103,7 @@ fn go_down(path: &mut Path, way: &[u32], alloc: Global) -> Result<(), NoMemory>
     Ok(())
 }
 
-/// An item that names no child, at the node with this number.
+/// An item that names no child, at the node with this number. Constant.
 pub fn stays(node: usize, atom: Atom, alloc: Global) -> NodePass
     ensures node { result.node ≡ node }
     ensures pass { (before : List Seen) (v : List ℕ) → passed_to v (seen_one before result) ≡ record { atom = atom; child = None; end = v } }
@@ -116,7 +116,7 @@ pub fn stays(node: usize, atom: Atom, alloc: Global) -> NodePass
     }
 }
 
-/// An item whose walk ends with its own way.
+/// An item whose walk ends with its own way. Constant.
 pub fn alone(node: usize, pass: Pass) -> NodePass
     ensures node { result.node ≡ node }
     ensures pass { (before : List Seen) (v : List ℕ) → passed_to v (seen_one before result) ≡ passed_of v pass }

@@ -49,7 +49,7 @@ pub fn way_from(here: Passes, atom: Atom) -> Vec<u32>
     }
 }
 
-/// An item that names no child.
+/// An item that names no child. Constant.
 pub fn plain(alloc: Global, atom: Atom) -> Pass
     ensures atom { result.atom ≡ atom }
     ensures child { result.child ≡ None }
@@ -62,7 +62,7 @@ pub fn plain(alloc: Global, atom: Atom) -> Pass
     }
 }
 
-/// An item that names the child k. Its way goes to this child and then on by `way`.
+/// An item that names the child k. Its way goes to this child and then on by `way`. Constant on average.
 pub fn down(atom: Atom, k: u32, way: Vec<u32>) -> Result<Pass, NoMemory>
     ensures atom { IfOk result (λ p. p.atom ≡ atom) }
     ensures child { IfOk result (λ p. p.child ≡ Some k) }

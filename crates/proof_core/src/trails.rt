@@ -34,7 +34,7 @@ impl Trail {
         }
     }
 
-    /// The allocator that its memory comes from.
+    /// The allocator that its memory comes from. Constant.
     pub fn allocator(&self) -> Global {
         *self.steps.allocator()
     }

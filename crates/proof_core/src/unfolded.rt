@@ -40,8 +40,8 @@ impl From<NoMemory> for UnfoldFault {
 }
 
 /// The steps of a valid proof, where they are at most the limit, and the node of the match. Each sound system meets the condition on
-/// siblings. Linear in the items that are passed, each counted as often as it is named, and in the lengths of the paths of the
-/// steps and of the page's items, on average.
+/// siblings. Linear, on average, in the items that are passed and in the lengths of the paths of the steps and of the page's items.
+/// An item counts as often as it is named.
 pub fn unfold(
     alloc: Global,
     proof: &Proof,

@@ -1,5 +1,5 @@
-//! The steps of an entry at a node, with those of the entries that it names. The levels above wait on a stack, so that a
-//! chain of entries may be as long as memory lets it.
+//! The steps of an entry at a node, with the steps of the entries that it names. The levels above wait on a stack, so only
+//! memory limits the length of a chain of entries.
 ghost use Rattle.std.specs.Prelude.{◌≡◌, ◌<◌, ◌≤◌, ◌-◌, ◌∷◌, ◌++◌, ℕ, List, [], IsTrue, IfOk, OnOk, Some, None, false, length, slice_get};
 ghost use Rattle.simple_core.specs.declared.system.TheConstants.{MOST_KINDS};
 ghost use Rattle.proof_core.specs.Trails.{progress_of};

@@ -83,7 +83,7 @@ impl ChildCounts {
     }
 }
 
-/// Adds the step of a local rule, if it has one.
+/// Adds the step of a local rule, if it has one. Linear in the path's length.
 pub fn after_local(system: &System, rule: u64, at: &Path, trail: &mut Trail) -> Result<(), NoMemory>
     ensures { OnOk result (progress_of trail.new ≡ spec.after_local system.now (slice_get system.now.local rule) at.now (progress_of trail.old)) }
 {
@@ -96,7 +96,7 @@ pub fn after_local(system: &System, rule: u64, at: &Path, trail: &mut Trail) -> 
     }
 }
 
-/// The kind of a spawn rule.
+/// The kind of a spawn rule. Constant.
 pub fn spawned(system: &System, spawn: u64) -> Option<&Kind>
     ensures { option_copied result ≡ spec.spawned system.now spawn }
 {
@@ -104,7 +104,7 @@ pub fn spawned(system: &System, spawn: u64) -> Option<&Kind>
     system.kinds.items().get(spawn.kind as usize)
 }
 
-/// The atom that a spawn rule needs.
+/// The atom that a spawn rule needs. Constant.
 pub fn needed_by(system: &System, spawn: u64) -> Atom
     ensures { result ≡ spec.needed_by system.now spawn }
 {
@@ -114,7 +114,7 @@ pub fn needed_by(system: &System, spawn: u64) -> Atom
     }
 }
 
-/// The left side of a `down` link.
+/// The left side of a `down` link. Constant.
 pub fn from_of(system: &System, link: u64) -> Atom
     ensures { result ≡ spec.from_of (slice_get system.now.down link) }
 {

@@ -4,7 +4,7 @@
 --     DeadIsRight        the line of `--dead` on each statement is right, where no answer is `spent`
 --     DeadDoesNothing    a script does the same without statements whose lines say `dead`
 --     SiteIsRight        an item is unused on a site exactly where it is unused on every page
---     PruneIsRight       a pruned sheet does at each node of a page what the whole sheet does, and so on each page of a site
+--     PruneIsRight       a pruned sheet does the same as the whole sheet at each node of a page, and on each page of a site
 use Rattle.std.specs.Prelude.{◌≡◌, ◌↔◌, ℕ, Bool, false, List, [], ◌∷◌, map, Contains, Some, slice_get, Ok}
 use Rattle.std.specs.List.{list_any}
 use Rattle.tp_base.specs.Names.{Named}
@@ -80,7 +80,7 @@ abbrev pub SiteIsRight : Type 0
 SiteIsRight = (r : Run) (t : Task) (said : List Said) → IsWhole r t said → (k : ℕ) (b : Best) → slice_get (site_on said).items k ≡ Some b → IsOfEachPage said k b
 
 -- The pruned sheet is read again with the names that were known when the whole sheet was read for this page. At each node of each tree
--- that legal steps and losses make of the page, it does the same as the whole sheet: the same selectors match, in the same order,
+-- that legal steps and losses make of the page, it does the same as the whole sheet. The same selectors match, in the same order,
 -- each with its block and the at-rules round it.
 pub record DoesTheSame (s : Said) (left : List ℕ) : Type 0 where
   pub reads : (names later : List Named) → read_sheet s.texts.sheet names ≡ (later, Ok s.inputs.sheet) → (again : Sheet) × (read_sheet left later ≡ (later, Ok again))

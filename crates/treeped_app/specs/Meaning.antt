@@ -49,7 +49,7 @@ Each R [] [] = Unit {0}
 Each R (a ∷ others) (b ∷ bs) = R a b × Each R others bs
 Each R _ _ = ⊥
 
--- ---- what is said of a selector
+-- ---- lines for selectors
 
 -- The page after these steps; and after steps with losses between them. A step does what its call does, at one node.
 abbrev pub tree_by : Inputs → List Step → LabelTree
@@ -58,8 +58,8 @@ tree_by i steps = end_of i.tree (wides i.exact) steps
 abbrev pub tree_after : Inputs → List Event → LabelTree
 tree_after i events = end_of_events i.tree (wides i.exact) events
 
--- Start from the page, and let the script's calls act, in any order and any number of times, each on a node that it selects at that moment;
--- between them any atoms of a node (a class, an id, an attribute) and any nodes may go away. No node ever matches.
+-- Start from the page, and let the script's calls act, in any order and any number of times. Each acts on a node that it selects at that
+-- moment. Between them any atoms of a node (a class, an id, an attribute) and any nodes may go away. No node ever matches.
 abbrev pub NeverMatches : Inputs → Selector → Type 0
 NeverMatches i s = (events : List Event) → AreLegalExactEvents i.tree i.exact events → (v : List ℕ) → ¬ Matches (tree_after i events) v s
 
@@ -82,11 +82,11 @@ IsCountOf steps count = count ≡ min (length steps) MOST_COUNT
 pub record MeansLine (i : Inputs) (item : sheets.Item) (line : Line) : Type 0 where
   -- `unused`: on no tree that the script makes of the page does the selector match a node, even where classes and nodes were lost.
   pub unused : (s : Selector) → item.outcome ≡ sheets.judged s → line ≡ unused → NeverMatches i s
-  -- `used`: so many steps of the script lead to a node that it matches.
+  -- `used`: this number of steps of the script leads to a node that it matches.
   pub counted : (s : Selector) (count : ℕ) (shown : Option Shown) → item.outcome ≡ sheets.judged s → line ≡ used count shown → (x : Shown) × LeadsTo i s x × IsCountOf x.steps count
   -- Steps that are listed lead to the node on the line `match`. There may be other steps, and fewer.
   pub listed : (s : Selector) (count : ℕ) (x : Shown) → item.outcome ≡ sheets.judged s → line ≡ used count (Some x) → LeadsTo i s x × IsCountOf x.steps count
-  -- `maybe`: so many steps lead there by calls that may select more than the script's own.
+  -- `maybe`: this number of steps leads there by calls that may select more than the script's own.
   pub doubted : (s : Selector) (count : ℕ) (shown : Option Shown) (broken : Option ℕ) → item.outcome ≡ sheets.judged s → line ≡ maybe count shown broken → (x : Shown) × MayLeadTo i s x × IsCountOf x.steps count
   -- Of the steps that are listed, the line names the first one that the script doesn't take.
   pub broken : (s : Selector) (count : ℕ) (x : Shown) (k : ℕ) → item.outcome ≡ sheets.judged s → line ≡ maybe count (Some x) (Some k) → MayLeadTo i s x × IsBrokenAt i.tree i.exact x.steps k
@@ -105,7 +105,7 @@ pub record MeansReport (x : Texts) (i : Inputs) (text : List ℕ) : Type 0 where
   pub each : Each (MeansLine i) i.sheet.items lines
 
 -- The pruned sheet can be read. At each node of each tree that the script makes of the page, even where classes and nodes were lost, it
--- does the same as the whole sheet: the same selectors match, in the same order, each with its block and the at-rules round it.
+-- does the same as the whole sheet. The same selectors match, in the same order, each with its block and the at-rules round it.
 pub record DoesTheSame (x : Texts) (i : Inputs) (left : List ℕ) : Type 0 where
   pub names : List Named
   pub later : List Named
@@ -146,8 +146,8 @@ pub record MeansDead (x : Texts) (i : Inputs) (text : List ℕ) : Type 0 where
   pub written : text ≡ front ++ verdict_lines i.stmts verdicts
   pub each : Each (MeansStatement i) i.stmts verdicts
 
--- `--runs`: the report, in which whole runs stand in the place of steps: those of the steps' statements, one after another, and the first
--- node that the selector matches then; or the run after which the page is too large.
+-- `--runs`: the report, with whole runs in the place of steps. They are runs of the steps' statements, one after another, and then comes
+-- the first node that the selector matches, or the run after which the page is too large.
 pub record MeansRuns (x : Texts) (i : Inputs) (text : List ℕ) : Type 0 where
   pub lines : List Line
   pub traces : List (Option RunTrace)

@@ -2,8 +2,8 @@
 --     Said                 the inputs and the results of a page
 --     goals_in m i         the further goals of the mode, besides the sheet's selectors
 --     IsOverBudget m l i   a budget doesn't suffice for each line
---     AreJudgedOf          right answers for the sheet's items and for those goals, of the statements that are judged
---     AreAnswersOf         those answers, settled by the statements as they stand in the script
+--     AreJudgedOf          right answers for the sheet's items and the further goals, by the statements that are judged
+--     AreAnswersOf         the same answers, settled by the statements as they stand in the script
 --     HasTraces m s        where the mode asks for whole runs, each answer that shows steps has the trace of their runs
 --     text_of t said       the text that is written
 --     status_of t said     the status: 7 where a line is open, else 1 where a line is unused or dead, else 0
@@ -34,8 +34,8 @@ use Rattle.usage_report.specs.Summary.{summary}
 use Rattle.treeped_app.specs.Tasks.{Source, ring, Task}
 pub use Rattle.treeped_app.specs.Readings.{Texts, Inputs, places_of, reads_exactly}
 
--- a page's texts, the inputs that were read from them, an answer for each item of the sheet and for each further goal, and for whole
--- runs a trace or none for each item
+-- A page's texts, the inputs that were read from them, and an answer for each item of the sheet and for each further goal. For whole
+-- runs each item has a trace or none.
 pub record Said : Type 0 where
   pub texts : Texts
   pub inputs : Inputs
@@ -43,7 +43,7 @@ pub record Said : Type 0 where
   pub others : List Answer
   pub traces : List (Option RunTrace)
 
--- ---- what is asked
+-- ---- goals
 
 -- the goals that ask whether each handler of each statement ever runs, and whether the statement itself ever selects a node
 abbrev pub goals_in : Mode → Inputs → List Goal
@@ -88,7 +88,7 @@ HasTraces m s = AreTracesIn m s.inputs s.items s.traces
 abbrev pub IsOverBudget : Mode → Limits → Inputs → Type 0
 IsOverBudget m limits i = IsPastBudget i.tree i.stmts (guards_in m i) (length i.names) limits (map matching (judged_in i.sheet.items) ++ last_goals_in m i)
 
--- ---- what is written
+-- ---- texts
 
 abbrev pub is_unused : Answer → Bool
 is_unused unused = true

@@ -72,7 +72,7 @@ AreSaid told t [] (s ∷ said) = ⊥
 AreSaid told t (v ∷ vs) [] = ⊥
 AreSaid told t (v ∷ vs) (s ∷ said) = IsSaid told t v s × AreSaid told t vs said
 
--- ---- what a run comes to
+-- ---- the end of a run
 
 -- The observable parts of a run: the told bytes of the named files, the words, the loads before and after, and the sink of
 -- the report.

@@ -28,7 +28,7 @@ pub data Source : Type 0 where
   several : (sheet : List ℕ) → List (List ℕ × List ℕ) → Source
   ring : ℕ → Source
 
--- ---- what is loaded, and in which order
+-- ---- the files that are loaded, in their order
 
 -- a file to load: its part in the run, and its name
 pub record Wanted : Type 0 where

@@ -1,5 +1,5 @@
-//! Laws of the command: its answers on statements, on sites and on scripts without sharp calls are right, a pruned sheet does the
-//! same as the whole one, and both engines give the same answers.
+//! Laws of the command. Its answers on statements, on sites and on scripts without sharp calls are right. A pruned sheet does the
+//! same as the whole one. Both engines give the same answers.
 ghost use Rattle.treeped_app.specs.Laws.{DeadDoesNothing, DeadIsRight, EnginesAgree, PlainIsRight, PruneIsRight, SiteIsRight, SitePruneIsRight};
 
 /// Two runs of the same mode on the same texts, with the same limits of a proof and of a list, write the same bytes. `--plain` and the
@@ -31,7 +31,7 @@ pub fn site_is_right()
     ensures { SiteIsRight }
 {}
 
-/// The sheet that `--prune` writes does at each node what the whole sheet does, in each tree that legal steps and losses make of the
+/// The sheet that `--prune` writes does the same as the whole sheet, at each node of each tree that legal steps and losses make of the
 /// page. With `--site` the same is true on each page, by its own script.
 pub fn prune_is_right()
     ensures page { PruneIsRight }

@@ -103,7 +103,7 @@ fn begun(alloc: Global, request: &Request<'_>, texts: &Texts<'_>) -> Result<Seen
     Ok(seen)
 }
 
-// The results for a site by those for its first page.
+// The results for a site after its first page.
 fn seen_first(alloc: Global, said: Said) -> Result<Seen, NoMemory>
     ensures first { IfOk result (λ s. IsFirst said s) }
     ensures last { IfOk result (λ s. s.last ≡ said.inputs) }

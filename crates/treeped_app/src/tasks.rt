@@ -11,7 +11,7 @@ ghost use Rattle.treeped_app.specs.Views.{source_of};
 use command_words::{Mode, Order, Word};
 use limits::Limits;
 
-/// The mode that says what is written of a page or a site, and the limits within which it is judged.
+/// The mode of a run on a page or a site, and the limits within which it is judged.
 #[derive(Clone, Copy)]
 pub(crate) struct Request<'a> {
     pub(crate) mode: Mode,
