@@ -1,7 +1,7 @@
--- What is asked once for several probes: each guard once for statements in the same handlers, and for each probe the number of its guard.
---     by_number d xs numbers      what stands at these numbers, d where nothing does
---     InOrder k numbers n         each number is one of k that were there before, or the next; in the end there are n
---     AreAsked probed guards ..   the guards at these numbers are those of the probes, each guard is the first time behind those before it
+-- Guards that several probes share, and for each probe the number of its guard.
+--     by_number d xs numbers      the elements of xs with these numbers, and d for a number that xs doesn't have
+--     InOrder k numbers n         the k numbers below k are known; each number is a known one or the next new one; at the end n are known
+--     AreAsked probed guards ..   the guards with these numbers are those of the probes; each new guard stands behind those before it
 use Rattle.std.specs.Prelude.{◌≡◌, ◌⊎◌, ℕ, ◌+◌, ◌<◌, List, [], ◌∷◌, length, map, get_or}
 use Rattle.guard_sem.specs.Guards.{Guard, always}
 

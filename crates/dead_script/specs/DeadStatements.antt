@@ -1,7 +1,7 @@
--- What a script without its dead statements comes to.
---     HasTheLive t stmts left      those that are left are some of the statements, with each live one among them
---     AreWithoutDead stmts vs left they are some of the statements, with each one among them whose verdict isn't that it is dead
---     DoTheSame t stmts left       they lead to the same trees, reach the same selectors and have the same live statements
+-- A script without its dead statements does the same.
+--     HasTheLive t stmts left      `left` are some of the statements, with all live ones among them
+--     AreWithoutDead stmts vs left `left` are some of the statements, with all those whose verdict isn't `dead`
+--     DoTheSame t stmts left       both scripts lead to the same trees, reach the same selectors and have the same live statements
 use Rattle.std.specs.Prelude.{◌≡◌, ◌↔◌, ℕ, false, List, Contains, Some, slice_get}
 use Rattle.tree_sem.specs.declared.actions.Step.{Step}
 use Rattle.tree_sem.specs.Trees.{LabelTree}
@@ -13,17 +13,17 @@ use Rattle.dead_script.specs.Liveness.{Live}
 pub use Rattle.dead_script.specs.Liveness.{LiveWithLosses}
 use Rattle.dead_script.specs.VerdictLines.{Verdict, is_dead}
 
--- whatever is dead may be left out
+-- every dead statement may be left out
 pub record HasTheLive (t : LabelTree) (stmts left : List Statement) : Type 0 where
   pub some : (s : Statement) → Contains left s → Contains stmts s
   pub live : (s : Statement) → Contains stmts s → Live t stmts s → Contains left s
 
--- each one that isn't said to be dead is left
+-- each statement whose verdict isn't `dead` is left
 pub record AreWithoutDead (stmts : List Statement) (said : List Verdict) (left : List Statement) : Type 0 where
   pub some : (s : Statement) → Contains left s → Contains stmts s
   pub others : (k : ℕ) (s : Statement) (v : Verdict) → slice_get stmts k ≡ Some s → slice_get said k ≡ Some v → is_dead v ≡ false → Contains left s
 
--- each legal list of steps of the one script has one of the other with the same end
+-- for each legal list of steps of the one script, the other has one that ends in the same tree
 abbrev pub LeadsWhere : LabelTree → List Statement → List Statement → Type 0
 LeadsWhere t stmts others = (steps : List Step) → AreLegal t others steps → (same : List Step) × AreLegal t stmts same × (end_of t stmts same ≡ end_of t others steps)
 

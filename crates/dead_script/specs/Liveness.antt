@@ -1,10 +1,10 @@
--- Whether a statement ever selects a node, and where it stops.
---     probe s k                    the statement with the first k handlers, and as its chain the next one, or its own where no more are left
+-- Whether a statement ever selects a node, and which of its handlers is the first that never runs.
+--     probe s k                    the statement with the first k handlers; its chain is the next handler's or, behind the last, its own
 --     Live t stmts p               after some legal steps the statement p selects a node
 --     LiveWithLosses t stmts p     the same, with classes and nodes lost between the steps
 --     LeadsTo t stmts p x          the steps of x are legal, and at their end p selects the node of x
---     IsFirstDead t stmts s j      the handler behind j others never runs, and those others do
---     IsRightVerdict t stmts s v   the verdict on a statement is so
+--     IsFirstDead t stmts s j      the handler behind j others never runs, and each of these runs after some steps
+--     IsRightVerdict t stmts s v   the verdict on a statement is right
 use Rattle.std.specs.Prelude.{◌≡◌, ℕ, ◌+◌, ◌<◌, List, [], ◌∷◌, length, take, IfSome, slice_get, unwrap_or}
 use Rattle.tree_sem.specs.Trees.{LabelTree}
 use Rattle.tree_sem.specs.declared.actions.Action.TheVariants.{Classes}
@@ -17,7 +17,7 @@ use Rattle.jq_sem.specs.Statements.{Selected}
 use Rattle.usage_report.specs.Lines.{Shown}
 use Rattle.dead_script.specs.VerdictLines.{Verdict, live, live_unshown, dead_at_handler, dead_at_target, unknown}
 
--- it adds no class, so that asking changes no tree
+-- a probe adds no class, so it changes no tree
 abbrev pub probe : Statement → ℕ → Statement
 probe s k = record { handlers = take k s.handlers; chain = unwrap_or (slice_get s.handlers k) s.chain; action = Classes []; place = s.place }
 
@@ -33,7 +33,7 @@ module _ (t : LabelTree) (stmts : List Statement) where
     pub legal : AreLegal t stmts x.steps
     pub selects : Selected (end_of t stmts x.steps) p x.at
 
-  -- the handler behind j others never runs, and those others do
+  -- the handler behind j others never runs, and each of these runs after some steps
   pub record IsFirstDead (s : Statement) (j : ℕ) : Type 0 where
     pub is_there : j < length s.handlers
     pub never : ¬ Live t stmts (probe s j)

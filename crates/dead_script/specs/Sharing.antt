@@ -1,6 +1,6 @@
--- What the guards of several statements, and the answers to them, are by their numbers.
+-- The guards of several statements, and the answers to them, by their numbers.
 --     further_guards s k     the guards of the probes of a statement from number k on
---     is_unused a            there are no steps
+--     is_unused a            the answer is `unused`
 use Rattle.std.specs.Prelude.{ℕ, ◌+◌, ◌-◌, Bool, true, false, List, length, map}
 use Rattle.std.specs.List.{range_with_len}
 use Rattle.jq_stmts.specs.Statements.{Statement}

@@ -6,18 +6,18 @@ ghost use Rattle.jq_stmts.specs.Views.{root_of, call_of, chain_of};
 use jq_stmts::{Call, Chain, Root};
 use sel_text::{Compound, Selector};
 
-// What is compared by what the definitions see of it.
+// Types whose values are compared by their views.
 trait Compared {
     ghost Seen: { Type 0 };
 
     ghost seen: { Self → Seen };
 
-    // Whether two are surely written the same; where it says no, that costs time alone. Linear in the shorter.
+    // Whether two values surely have the same view. A wrong no only costs time. Linear in the shorter.
     fn is_surely_same(&self, other: &Self) -> bool
         ensures { result ≡ true → seen self.now ≡ seen other.now };
 }
 
-// How many are the same, from the first on. Linear in them.
+// The length of the longest common prefix. Linear in it.
 fn shared<T: Compared>(first: &[T], second: &[T]) -> usize
     ensures in_first { result ≤ length first.now }
     ensures in_second { result ≤ length second.now }
@@ -112,7 +112,7 @@ impl Compared for Chain {
     }
 }
 
-/// How many chains are the same, from the first on. Linear in the shorter list.
+/// The number of chains in the common prefix of two lists. Linear in the shorter list.
 pub(crate) fn shared_front(first: &[Chain], second: &[Chain]) -> usize
     ensures in_first { result ≤ length first.now }
     ensures in_second { result ≤ length second.now }

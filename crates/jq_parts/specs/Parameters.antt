@@ -4,11 +4,11 @@ use Rattle.jq_words.specs.declared.faults.ScriptFault.TheVariants.{UnknownForm}
 use Rattle.jq_words.specs.Words.{Word, is_mark, is_any_name, begins, Outcome, ◌>>=◌, want, want_name, want_open}
 use Rattle.jq_parts.specs.Bindings.{Declaration}
 
--- a parameter hides what its name was bound to
+-- a parameter hides earlier declarations of its name
 abbrev pub hidden : List ℕ → Declaration
 hidden name = record { name = name; value = None; under = [] }
 
--- those behind a comma each
+-- further parameters, each behind a comma
 unfoldable pub more_parameters : ℕ → List Declaration → List Word → Outcome (List Declaration × List Word)
 more_parameters size ds [] = Ok (ds, [])
 more_parameters size ds (w ∷ []) = if is_mark (codes ",") w then Err (UnknownForm size) else Ok (ds, w ∷ [])
@@ -24,7 +24,7 @@ named_parameters size ds ws = do
   rest ← want size (codes ")") all.1
   Ok (all.0, rest)
 
--- parameters in brackets, of which so many may still be opened
+-- parameters in brackets; at most `room` brackets may still be opened
 unfoldable pub parameters : ℕ → ℕ → List Declaration → List Word → Outcome (List Declaration × List Word)
 parameters size room ds ws =
     want_open size room (codes "(") ws >>= λ inside. if begins (codes ")") inside then Ok (ds, drop 1 inside) else named_parameters size ds inside

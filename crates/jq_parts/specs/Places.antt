@@ -1,11 +1,11 @@
--- Where names stand last in a list of declarations.
---     last_in       the place of the last one of a name
---     IsIndexed     a table tells the last place of each name, and each entry the place of the one that it hides
+-- The index of the last declaration of each name.
+--     last_in       the index of the last declaration of a name
+--     IsIndexed     a table has the index of the last declaration of each name, and each entry that of the one it hides
 use Rattle.std.specs.Prelude.{◌≡◌, ⊤, ℕ, suc, if◌then◌else◌, List, [], ◌∷◌, ◌++◌, map, bytes_eq, Option, Some, None}
 use Rattle.std.specs.Option.{option_or}
 use Rattle.jq_parts.specs.declared.entries.Entry.{Entry}
 
--- the place of the last of these names that is this one, where the first has this place
+-- the last index of the name q in a list of names, of which the first has the index n
 abbrev pub last_in : ℕ → List ℕ → List (List ℕ) → Option ℕ
 last_in n q [] = None
 last_in n q (m ∷ ms) = option_or (last_in (suc n) q ms) (if bytes_eq m q then Some n else None)
@@ -16,7 +16,7 @@ name_of e = e.declaration.name.now
 abbrev pub names_in : List Entry → List (List ℕ)
 names_in es = map name_of es
 
--- each hides the last of the same name before it, behind others of these names
+-- each entry hides the last one of its name before it; the names `before` stand before all entries
 abbrev pub HideThose : List (List ℕ) → List Entry → Type 0
 HideThose before [] = ⊤
 HideThose before (e ∷ es) = (e.hides ≡ last_in 0 (name_of e) before) × HideThose (before ++ name_of e ∷ []) es

@@ -1,4 +1,4 @@
--- What the scopes, markup, effects and statements of the code are to the definitions.
+-- The abstraction functions of scopes, markup, effects and statements.
 use Rattle.std.specs.Prelude.{ℕ, map, List, Option, option_map}
 use Rattle.tp_base.specs.Places.{place_at}
 use Rattle.tree_sem.specs.declared.actions.Action.{Action}
@@ -30,7 +30,7 @@ grown_of g = grown g.atoms g.nodes
 abbrev pub effect_of : Option (SharedChain × Action) → Effect
 effect_of e = option_map (λ a. (shared_of a.0, a.1)) e
 
--- a statement of a text, which has an offset in the place of its place
+-- a statement of a text; the code has the offset where the definition has the place
 abbrev pub stated_in : List ℕ → Stated → ExactStatement
 stated_in text s = record {
   handlers = map marked_chain_of s.handlers.items;

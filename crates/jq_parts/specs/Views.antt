@@ -1,4 +1,4 @@
--- What the values and declarations of the code are to the definitions.
+-- The abstraction functions of values and declarations.
 use Rattle.std.specs.Prelude.{ℕ, List, [], map, Option, Some, None, option_map, Box}
 use Rattle.std.specs.Global.{Global}
 use Rattle.jq_parts.specs.declared.values.Value as code_value

@@ -1,4 +1,4 @@
-//! Arguments that are markup.
+//! Arguments that are markup. J stands for `$` or `jQuery`.
 ghost use Rattle.std.specs.Prelude.{◌≡◌, ◌≤◌, option_map, IfOk, IfErr, OnOk};
 ghost use Rattle.sel_text.specs.Results.{IsFront};
 ghost use Rattle.jq_words.specs.Words.{place};
@@ -14,7 +14,7 @@ use jq_words::{ScriptFault, Words, closed_texts, is_markup, joined_texts, place,
 use std::alloc::Global;
 use tree_sem::Forest;
 
-// The letters of markup in the brackets of J, where that is all there is.
+// The letters of the markup, where the words are J with markup in its brackets and nothing else.
 #[tactic(auto, unfolding(crate::specs::Arguments::wrapped))]
 fn wrapped(alloc: Global, words: &Words<'_>) -> Result<Option<Vec<u8>>, ScriptFault>
     ensures gives { IfOk result (λ v. spec.wrapped words.now.words ≡ option_map (λ l. l.items) v) }
@@ -32,7 +32,7 @@ fn wrapped(alloc: Global, words: &Words<'_>) -> Result<Option<Vec<u8>>, ScriptFa
     Ok(Some(letters))
 }
 
-// The trees of markup in the brackets of J, of which so many may still be opened.
+// The trees of the markup in the brackets of J. At most `room` brackets may still be opened.
 fn wrapped_forest(
     reader: Reader<'_>,
     room: usize,
@@ -51,7 +51,8 @@ fn wrapped_forest(
     forest(reader.alloc, place(&inside), &letters, grown)
 }
 
-/// The trees of an argument that is markup, where so many brackets may still be opened. Linear in it but for look-ups.
+/// The trees of an argument that is markup. At most `room` brackets may still be opened. Linear in the argument, besides look-ups
+/// of names.
 #[tactic(auto, unfolding(crate::specs::Arguments::markup_argument), using(html_subset::proofs::Fronts::front_itself))]
 pub fn markup_argument(
     reader: Reader<'_>,

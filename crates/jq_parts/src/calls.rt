@@ -1,4 +1,4 @@
-//! The calls of a chain: whether one may stand behind a value, and what the value is with it.
+//! The calls of a chain: which of them may stand behind a value, and the value that each one makes.
 ghost use Rattle.std.specs.Prelude.{◌≡◌, [], ◌∷◌, map, option_map, IfOk, IfErr, OnOk};
 ghost use Rattle.sel_text.specs.Selectors.{simple};
 ghost use Rattle.sel_text.specs.Views.{selector_of};
@@ -21,7 +21,7 @@ use sel_text::{Atoms, Compound, Selector};
 use std::alloc::Global;
 use tp_base::NoMemory;
 
-/// The chain of a value's elements, if it has any, which both share. Constant.
+/// The chain of a value that is a set of elements. Both share it. Constant.
 pub fn elements(reached: &Value) -> Result<Option<SharedChain>, ScriptFault>
     ensures chain { IfOk result (λ c. spec.elements_in (value_of reached.now) ≡ option_map shared_of c) }
     ensures only_memory { IfErr result (λ e. e ≡ Memory) }
@@ -35,7 +35,7 @@ pub fn elements(reached: &Value) -> Result<Option<SharedChain>, ScriptFault>
     }
 }
 
-/// A value with one call more, where it has elements. Constant.
+/// Adds a call to the chain of a value that is a set of elements. Other values stay as they are. Constant.
 pub fn with_call(alloc: Global, reached: Value, call: MarkedCall) -> Result<Value, ScriptFault>
     ensures value { IfOk result (λ r. spec.and_call (value_of reached) (marked_of call) ≡ value_of r) }
     ensures only_memory { IfErr result (λ e. e ≡ Memory) }
@@ -51,7 +51,7 @@ pub fn with_call(alloc: Global, reached: Value, call: MarkedCall) -> Result<Valu
     }
 }
 
-/// The call of a form that makes a set, by a list of compounds. For any other form, which nobody asks for, it is `end`.
+/// The call that a form makes from a list of compounds. A form that makes no set gives `end`; no caller asks for one. Constant.
 pub fn made(form: Form, compounds: Vec<Compound>) -> Result<MarkedCall, NoMemory>
     ensures { IfOk result (λ c. marked_of c ≡ spec.made (form_of form) (sem.atoms_of compounds.items)) }
 {
@@ -86,7 +86,7 @@ fn any(alloc: Global) -> Result<SharedCompounds, NoMemory>
     SharedCompounds::new(compounds)
 }
 
-/// The first node, in whose place every node is judged.
+/// The call `first`. Its wide call keeps every node. Constant.
 #[tactic(auto, using(crate::proofs::FirstSteps::first_marked))]
 pub fn first_call(alloc: Global) -> Result<MarkedCall, NoMemory>
     ensures { IfOk result (λ c. marked_of c ≡ first) }
@@ -149,7 +149,7 @@ fn is_unordered(form: Form, reached: &Value) -> bool
     }
 }
 
-// Passes the name of a call that a script may have, and gives its row and where it stands.
+// Passes the name of a known call. It gives the call's row in the table and the name's offset.
 #[tactic(auto, unfolding(crate::specs::Calls::call_name))]
 fn call_name(
     reader: Reader<'_>,
@@ -175,7 +175,7 @@ fn call_name(
     Ok((row, word.at()))
 }
 
-/// Passes `.` and the name of a call.
+/// Passes `.` and the name of a known call. It gives the call's row in the table and the name's offset. A look-up.
 #[tactic(auto, unfolding(crate::specs::Calls::dot_name), using(jq_words::proofs::Files::behind_behind))]
 pub fn dot_name(
     reader: Reader<'_>,
@@ -193,7 +193,8 @@ pub fn dot_name(
     Ok(name)
 }
 
-/// How many arguments a call has whose name stands at an offset, where it may stand with them.
+/// The number of a call's arguments, where the call may stand there with so many. `at` is the offset of its name. Constant on
+/// average.
 #[tactic(auto, unfolding(crate::specs::Calls::admitted))]
 pub fn admitted(
     reader: Reader<'_>,
@@ -217,7 +218,7 @@ pub fn admitted(
     Ok(enclosed.count)
 }
 
-/// Whether markup of a chain that is over was placed.
+/// The value at the end of a chain. It is refused where markup was not placed. Constant.
 #[tactic(auto, unfolding(crate::specs::Calls::ended))]
 pub fn ended(reached: Value, words: &Cursor<'_, '_>) -> Result<Value, ScriptFault>
     ensures { Gives value_of result (spec.ended words.now.size (value_of reached) words.now.words) }
@@ -228,7 +229,7 @@ pub fn ended(reached: Value, words: &Cursor<'_, '_>) -> Result<Value, ScriptFaul
     }
 }
 
-// The selectors that compounds are.
+// Each compound as a selector.
 fn simple_selectors(alloc: Global, compounds: &[Compound]) -> Result<Vec<Selector>, NoMemory>
     ensures { IfOk result (λ v. map simple (sem.atoms_of compounds.now) ≡ map selector_of v.items) }
 {
@@ -245,7 +246,8 @@ fn is_everywhere(reached: &Value) -> bool
     matches!(reached, Value::Everywhere)
 }
 
-/// The elements below a value that one of the compounds fits; below document and window, those anywhere. Linear in the compounds.
+/// The elements below a value that one of the compounds fits. Below document and window these are all elements that fit. Linear in
+/// the compounds.
 #[tactic(auto, unfolding(crate::specs::Calls::below))]
 pub fn below(alloc: Global, reached: &Value, compounds: Vec<Compound>) -> Result<Value, ScriptFault>
     ensures gives { IfOk result (λ r. spec.below (value_of reached.now) (sem.atoms_of compounds.items) ≡ value_of r) }

@@ -1,4 +1,4 @@
-//! The declarations that are seen at a place.
+//! The declarations that are in scope at a place of a script.
 ghost use Rattle.std.specs.Prelude.{◌≡◌, ◌-◌, [], ◌∷◌, ◌++◌, length, take, option_map, OnOk, OnErr};
 ghost use Rattle.jq_parts.specs.Bindings as spec;
 ghost use Rattle.jq_parts.specs.Views.{declaration_of, declarations_of};
@@ -10,7 +10,7 @@ use std::alloc::Global;
 use std::marker::Model;
 use tp_base::NoMemory;
 
-/// Declarations, in the order of the text. A contract sees the list of them.
+/// The declarations in scope, in the order of the text. A contract sees the list of them.
 #[derive(Drop)]
 pub struct Declarations<'a> {
     entries: Vec<Entry<'a>>,
@@ -46,7 +46,7 @@ impl<'a> Declarations<'a> {
         }
     }
 
-    /// How many there are. Constant.
+    /// The number of declarations. Constant.
     #[tactic(auto, using(crate::proofs::PlacesSteps::as_many))]
     pub fn len(&self) -> usize
         ensures { result ≡ length self.now }
@@ -54,7 +54,7 @@ impl<'a> Declarations<'a> {
         self.entries.len()
     }
 
-    /// One more. Linear in its name, on average.
+    /// Adds a declaration at the end. Linear in its name, on average.
     #[tactic(auto, using(crate::proofs::PlacesSteps::pushed, crate::proofs::PlacesSteps::one_indexed, crate::proofs::PlacesSteps::popped, crate::proofs::PlacesSteps::not_popped, crate::proofs::PlacesSteps::restored, crate::proofs::PlacesSteps::not_restored))]
     pub fn push(&mut self, declaration: Declaration<'a>) -> Result<(), NoMemory>
         ensures pushed { OnOk result (self.new ≡ self.old ++ declaration.entry ∷ []) }
@@ -73,7 +73,7 @@ impl<'a> Declarations<'a> {
         Ok(())
     }
 
-    // Leaves all but the last.
+    // Drops the last declaration.
     #[tactic(auto, using(crate::proofs::PlacesSteps::last_less, crate::proofs::PlacesSteps::none_less, crate::proofs::PlacesSteps::last_known, crate::proofs::PlacesSteps::last_gone, crate::proofs::PlacesSteps::none_gone))]
     fn drop_last(&mut self)
         ensures { self.new ≡ take (length self.old - 1) self.old }
@@ -83,7 +83,7 @@ impl<'a> Declarations<'a> {
         }
     }
 
-    /// Leaves the first so many. Linear in the others' names, on average.
+    /// Keeps the first `count` declarations. Linear in the names of the others, on average.
     #[tactic(auto, using(crate::proofs::PlacesSteps::one_cut, crate::proofs::PlacesSteps::few_cut, crate::proofs::PlacesSteps::fewer))]
     pub fn cut(&mut self, count: usize)
         ensures { self.new ≡ take count self.old }

@@ -1,4 +1,4 @@
-//! Functions: the handlers that they are, and what is seen in them.
+//! Functions: the scope when one is entered, and when it is left.
 ghost use Rattle.std.specs.Prelude.{◌≡◌, true, length, take, option_map, is_some, OnOk, OnErr, IfErr};
 ghost use Rattle.jq_words.specs.declared.faults.ScriptFault.TheVariants.{Memory};
 ghost use Rattle.jq_parts.specs.Views.{declarations_of};
@@ -8,7 +8,7 @@ ghost use Rattle.jq_parts.specs.Scopes as spec;
 use crate::scopes::{Handler, Scope};
 use jq_words::ScriptFault;
 
-/// In a function, which may be a handler. Constant on average. After a refusal the scope is as it was.
+/// Enters a function, which may be a handler. Constant on average. After a refusal the scope is as it was.
 #[tactic(auto, using(crate::proofs::HandlerSteps::pushed))]
 pub fn enter(handler: Option<Handler>, scope: &mut Scope<'_>) -> Result<(), ScriptFault>
     ensures handlers { OnOk result (handlers_of scope.new.handlers.items ≡ spec.with_handler (option_map handler_of handler) (handlers_of scope.old.handlers.items)) }
@@ -30,7 +30,7 @@ pub fn enter(handler: Option<Handler>, scope: &mut Scope<'_>) -> Result<(), Scri
     }
 }
 
-/// How many declarations are seen. Constant.
+/// The number of declarations in scope. Constant.
 #[tactic(auto, using(crate::proofs::HandlerSteps::as_many))]
 pub fn count_seen(scope: &Scope<'_>) -> usize
     ensures { result ≡ length (declarations_of scope.now.declarations) }
@@ -38,8 +38,8 @@ pub fn count_seen(scope: &Scope<'_>) -> usize
     scope.declarations.len()
 }
 
-/// Behind a function: the first so many declarations are seen again, and the first so many handlers stand
-/// round the place. Linear in what is dropped.
+/// Leaves a function. The first `seen` declarations stay in scope, and the first `outer` handlers stay round the place. Linear in
+/// the handlers and in the names that are dropped, on average.
 #[tactic(auto, using(crate::proofs::HandlerSteps::cut, crate::proofs::HandlerSteps::declarations_cut))]
 pub fn leave(seen: usize, outer: usize, had_this: bool, scope: &mut Scope<'_>)
     ensures handlers { handlers_of scope.new.handlers.items ≡ take outer (handlers_of scope.old.handlers.items) }

@@ -1,4 +1,4 @@
-//! The letters of an argument as markup.
+//! Trees from the letters of an argument that is markup.
 ghost use Rattle.std.specs.Prelude.{◌≡◌, ◌≤◌, IfOk, IfErr, OnOk};
 ghost use Rattle.sel_text.specs.Results.{IsFront};
 ghost use Rattle.jq_words.specs.Results.{Finds};
@@ -13,14 +13,14 @@ use std::alloc::Global;
 use tp_base::AtomTable;
 use tree_sem::{Forest, Tree};
 
-/// The table of names, and how many nodes all markup has so far.
+/// The table of names, and the number of nodes in all markup so far.
 #[derive(Drop)]
 pub struct Grown {
     pub atoms: AtomTable,
     pub nodes: usize,
 }
 
-// How many nodes some trees have.
+// The number of nodes in some trees.
 fn count_nodes(trees: &[Tree]) -> Result<usize, ScriptFault>
     ensures count { IfOk result (λ n. n ≡ spec.nodes_in trees.now) }
     ensures only_memory { IfErr result (λ e. e ≡ Memory) }
@@ -34,8 +34,8 @@ fn count_nodes(trees: &[Tree]) -> Result<usize, ScriptFault>
     Ok(count)
 }
 
-/// The trees in the letters of markup, whose first Text stands at an offset, and in `grown` how many nodes all markup has. Names read
-/// before a refusal stay in the table. Linear in the letters but for look-ups.
+/// Reads the trees in the letters of markup, and adds their nodes to the count in `grown`. `at` is the offset of the first string
+/// literal. Names read before a refusal stay in the table. Linear in the letters, besides look-ups of names.
 #[tactic(auto, unfolding(crate::specs::Markup::forest))]
 pub fn forest(
     alloc: Global,

@@ -10,7 +10,7 @@ use crate::values::Declaration;
 use jq_cursor::Cursor;
 use jq_words::{ScriptFault, begins};
 
-// A parameter hides what its name was bound to.
+// Declares a parameter, which hides earlier declarations of its name.
 #[tactic(auto, using(crate::proofs::ParameterSteps::one_hidden))]
 fn hide<'a>(name: &'a [u8], declarations: &mut Declarations<'a>) -> Result<(), ScriptFault>
     ensures hidden { OnOk result (declarations_of declarations.new ≡ declarations_of declarations.old ++ spec.hidden name.now ∷ []) }
@@ -38,8 +38,8 @@ fn more_parameters<'a>(
     Ok(())
 }
 
-/// Passes parameters in brackets, of which so many may still be opened: each hides what its name was bound to. Linear in them but for
-/// look-ups.
+/// Passes parameters in brackets. Each hides earlier declarations of its name. At most `room` brackets may still be opened. Linear in
+/// the parameters and, on average, in their names.
 #[tactic(auto, unfolding(crate::specs::Parameters::parameters, crate::specs::Parameters::named_parameters), using(jq_words::proofs::Files::passed, jq_words::proofs::Files::behind_behind, jq_words::proofs::Files::behind_rest))]
 pub fn parameters<'a>(
     room: usize,

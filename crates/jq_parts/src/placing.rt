@@ -1,4 +1,4 @@
-//! Where the statements of a script stand.
+//! The places of the statements in their script.
 ghost use Rattle.std.specs.List.{AllByRecursion};
 ghost use Rattle.std.specs.Prelude.{◌≡◌, ◌≤◌, ◌∷◌, ℕ, List, length, map, IfOk, IfErr};
 ghost use Rattle.tp_base.specs.Places.{place_at};
@@ -17,7 +17,7 @@ use std::alloc::Global;
 use tp_base::{Cursor, NoMemory, Place};
 use tree_sem::Action;
 
-/// A statement whose place is still the offset of its action's name.
+/// A statement that still has the offset of its action's name instead of its place.
 #[derive(Drop)]
 pub struct Stated {
     pub at: usize,
@@ -26,7 +26,7 @@ pub struct Stated {
     pub action: Action,
 }
 
-// A statement at a place, with its marks apart. Linear in its calls.
+// The statement at a place, with its marks in a list. Linear in its calls.
 #[tactic(auto, using(jq_chains::proofs::MarkSteps::told_at))]
 fn at_place(alloc: Global, place: Place, statement: Stated) -> Result<ExactStmt, NoMemory>
     requires few { length statement.handlers.items ≤ MOST_OPEN }
@@ -45,8 +45,8 @@ fn at_place(alloc: Global, place: Place, statement: Stated) -> Result<ExactStmt,
     })
 }
 
-/// The statements at their places, wide as they are judged, each with the marks of its sharp calls. Linear in the calls, and in the
-/// text where the offsets rise, as they do where a file is read.
+/// The wide statements at their places, each with the marks of its sharp calls. Linear in the calls, and in the text where the
+/// offsets rise. They do where a file is read in order.
 #[tactic(auto, using(crate::proofs::StatingSteps::placed_more, crate::proofs::StatingSteps::placed_all, crate::proofs::StatingSteps::few_handlers, crate::proofs::StatingSteps::short_chains))]
 pub fn placed(
     alloc: Global,

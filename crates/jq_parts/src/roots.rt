@@ -1,4 +1,4 @@
-//! What a chain begins with.
+//! The beginnings of chains. J stands for `$` or `jQuery`.
 ghost use Rattle.std.specs.Prelude.{◌≤◌, OnOk};
 ghost use Rattle.sel_text.specs.Results.{IsFront};
 ghost use Rattle.jq_words.specs.Results.{Gives, Finds, Turns, InFile, IsBehind};
@@ -14,7 +14,7 @@ use jq_cursor::{Cursor, PAGES, Reader, is_jquery_call, selectors, spelled};
 use jq_words::{ScriptFault, Words, argument_len, is_markup, joined_texts, only, place};
 use std::alloc::Global;
 
-// `this`, document or window, or a bound name. A look-up, and a copy where its value is markup.
+// The value of `this`, of document or window, or of a bound name. A look-up, and a copy where the value is markup.
 #[tactic(auto, using(crate::proofs::RootSteps::no_root, crate::proofs::RootSteps::this_root, crate::proofs::RootSteps::this_refused, crate::proofs::RootSteps::page_root, crate::proofs::RootSteps::name_root, crate::proofs::RootSteps::other_root))]
 fn named_root(alloc: Global, scope: &Scope<'_>, words: &Words<'_>) -> Result<Value, ScriptFault>
     ensures { Gives value_of result (spec.named_root words.now.size (scope_of scope.now) words.now.words) }
@@ -38,7 +38,7 @@ fn named_root(alloc: Global, scope: &Scope<'_>, words: &Words<'_>) -> Result<Val
     used(alloc, scope, word.spelling(), at)
 }
 
-// The letters of Texts: markup, or a list of selectors.
+// The value of string literals: markup, or the elements that a list of selectors matches.
 #[tactic(auto, unfolding(crate::specs::Roots::lettered_root))]
 fn lettered_root(
     alloc: Global,
@@ -58,7 +58,7 @@ fn lettered_root(
     Ok(Value::Elements(matched(alloc, list)?))
 }
 
-/// What stands in the brackets of J. Linear in it but for look-ups.
+/// The value of the argument of J. Linear in the argument, besides look-ups of names.
 #[tactic(auto, unfolding(crate::specs::Roots::jquery_argument), using(html_subset::proofs::Fronts::front_itself))]
 pub fn jquery_argument(
     reader: Reader<'_>,
@@ -76,7 +76,7 @@ pub fn jquery_argument(
     }
 }
 
-// The argument of J behind it, in brackets, of which so many may still be opened.
+// The value of the argument of J, which stands in brackets behind it. At most `room` brackets may still be opened.
 #[tactic(auto, unfolding(crate::specs::Roots::wrapped_root))]
 fn wrapped_root(
     reader: Reader<'_>,
@@ -102,7 +102,7 @@ fn wrapped_root(
     Ok(value)
 }
 
-/// Passes what a chain begins with: J with its argument, or a bound name. Linear in it but for look-ups.
+/// Passes the beginning of a chain: J with its argument, or a bound name. Linear in its words, besides look-ups of names.
 #[tactic(auto, unfolding(crate::specs::Roots::root))]
 pub fn root(
     reader: Reader<'_>,

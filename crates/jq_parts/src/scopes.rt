@@ -1,4 +1,4 @@
-//! What is seen at a place of a script.
+//! Scopes: the handlers and declarations at a place of a script.
 ghost use Rattle.std.specs.Prelude.{◌≡◌, bytes_eq, is_some, IsUtf8};
 ghost use Rattle.jq_words.specs.Results.{Gives};
 ghost use Rattle.jq_parts.specs.Bindings.{bound};
@@ -12,15 +12,15 @@ use jq_chains::SharedChain;
 use jq_words::{ScriptFault, letters};
 use std::alloc::Global;
 
-/// The chain of a handler's elements, and where its function begins.
+/// The chain of a handler's elements, and the offset at which its function begins.
 #[derive(Drop)]
 pub struct Handler {
     pub chain: SharedChain,
     pub at: usize,
 }
 
-/// The handlers round a place, outermost first; whether `this` names the node of the innermost one there; and the declarations that
-/// are seen.
+/// The handlers round a place, outermost first, and the declarations in scope there. `has_this` says whether `this` names the node
+/// of the innermost handler.
 #[derive(Drop)]
 pub struct Scope<'a> {
     pub handlers: Vec<Handler>,
@@ -28,7 +28,7 @@ pub struct Scope<'a> {
     pub declarations: Declarations<'a>,
 }
 
-/// Whether these are the places of the handlers. Linear in them.
+/// Whether `under` lists the offsets of the handlers, in order. Linear in the handlers.
 pub fn same_places(under: &[usize], handlers: &[Handler]) -> bool
     ensures { result ≡ bytes_eq under.now (spec.places_of (handlers_of handlers.now)) }
 {
@@ -47,7 +47,7 @@ pub fn same_places(under: &[usize], handlers: &[Handler]) -> bool
     others.is_empty()
 }
 
-/// The value of a name that stands at an offset. A look-up, and a copy where it is markup: other values are shared.
+/// The value of a name that is used at an offset. A look-up, and a copy where the value is markup. Other values are shared.
 #[tactic(auto, unfolding(crate::specs::Scopes::used, crate::specs::Bindings::bound))]
 pub fn used(alloc: Global, scope: &Scope<'_>, name: &[u8], at: usize) -> Result<Value, ScriptFault>
     requires text { IsUtf8 name.now }

@@ -1,4 +1,4 @@
-//! The statements of a script, one more at a time.
+//! The statements of a script, added one at a time.
 ghost use Rattle.std.specs.Prelude.{◌≡◌, ◌≤◌, ℕ, List, length, map, min, IfOk, OnOk};
 ghost use Rattle.jq_words.specs.Results.{Leaves};
 ghost use Rattle.jq_words.specs.declared.faults.TheConstants.{MOST_STATEMENTS};
@@ -15,7 +15,7 @@ use std::alloc::Global;
 use tp_base::NoMemory;
 use tree_sem::Action;
 
-// How many calls some chains have together, or the greatest number where they are more.
+// The number of calls in some chains, or `usize::MAX` where they are more.
 fn calls_in(chains: &[MarkedChain]) -> usize
     ensures { result ≡ min (marked.calls_in (map marked_chain_of chains.now)) usize.MAX }
 {
@@ -37,8 +37,8 @@ fn chains_of(alloc: Global, handlers: &[Handler]) -> Result<Vec<MarkedChain>, No
     Ok(copy)
 }
 
-/// Adds the statement of a call, where it acts: the call stands in these handlers, and its name at an offset. Linear in its chain and
-/// the handlers' chains, which are copied.
+/// Adds the statement of a call, if the call acts. The call stands in the handlers, and `at` is the offset of its name. Linear in its
+/// chain and the handlers' chains, which are copied.
 #[tactic(auto, unfolding(crate::specs::Stating::stated), using(crate::proofs::StatingSteps::one_stated))]
 pub fn stated(
     alloc: Global,

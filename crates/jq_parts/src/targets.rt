@@ -1,4 +1,4 @@
-//! The chain on which markup is placed.
+//! The chain of the elements where markup is placed. J stands for `$` or `jQuery`.
 ghost use Rattle.std.specs.Prelude.{◌≡◌, [], ◌∷◌, Bool, false, codes, drop, IfSome, IfNone, IsUtf8};
 ghost use Rattle.sel_text.specs.Results.{IsFront};
 ghost use Rattle.jq_words.specs.Words.{Word, is_mark, is_name_among, is_form, spelled};
@@ -19,7 +19,7 @@ use jq_words::{ScriptFault, Word, Words, joined_texts, only, place, want_open};
 use std::alloc::Global;
 use tp_base::AtomTable;
 
-// Whether a name is bound to a chain without elements.
+// Whether a name is bound to a value that isn't a set of elements.
 #[tactic(auto, unfolding(crate::specs::Bindings::bound))]
 fn is_apart(declarations: &Declarations<'_>, name: &[u8]) -> bool
     ensures { spec.is_apart (bound name.now (declarations_of declarations.now)) ≡ result }
@@ -33,7 +33,7 @@ fn is_apart(declarations: &Declarations<'_>, name: &[u8]) -> bool
     }
 }
 
-// The elements of a bound name that stands at an offset, in an argument that begins at another.
+// The elements of a bound name at `name_at`, in an argument that begins at `at`.
 #[tactic(auto, unfolding(crate::specs::Arguments::named_target))]
 fn named_target(
     alloc: Global,
@@ -54,7 +54,7 @@ fn named_target(
     }
 }
 
-// The word that stands before a closing bracket, where these two are all.
+// The first word, where only a closing bracket stands behind it.
 #[tactic(auto, using(crate::proofs::TargetSteps::closed, crate::proofs::TargetSteps::none_closed, crate::proofs::TargetSteps::other_closed, crate::proofs::TargetSteps::more_closed))]
 fn closed_word<'a>(words: &Words<'a>) -> Option<Word<'a>>
     ensures first { IfSome result (λ w. words.now.words ≡ w ∷ drop 1 words.now.words) }
@@ -73,7 +73,7 @@ fn closed_word<'a>(words: &Words<'a>) -> Option<Word<'a>>
     Some(word)
 }
 
-// The word in the brackets of J, where that is all there is.
+// The word in the brackets of J, where the words are J with one word in its brackets.
 #[tactic(auto, using(jq_words::proofs::FitSteps::form_then_two, jq_words::proofs::FitSteps::form_no_two))]
 fn wrapped_word<'a>(words: &Words<'a>) -> Option<Word<'a>>
     ensures first { IfSome result (λ w. drop 1 (drop 1 words.now.words) ≡ w ∷ drop 1 (drop 1 (drop 1 words.now.words))) }
@@ -86,7 +86,7 @@ fn wrapped_word<'a>(words: &Words<'a>) -> Option<Word<'a>>
     closed_word(&words.behind().behind())
 }
 
-// The elements of a name in the brackets of J, which begin these words.
+// The elements of a name in the brackets of J. The words begin with these brackets.
 #[tactic(auto, unfolding(crate::specs::Arguments::wrapped_target))]
 fn wrapped_target(
     reader: Reader<'_>,
@@ -105,7 +105,7 @@ fn wrapped_target(
     named_target(reader.alloc, scope, at, spelled(&inside), place(&inside))
 }
 
-// `this` in the brackets of J.
+// The chain of `this` in the brackets of J.
 #[tactic(auto, unfolding(crate::specs::Arguments::wrapped_this))]
 fn wrapped_this(
     alloc: Global,
@@ -123,7 +123,7 @@ fn wrapped_this(
     Ok(this_chain(alloc)?)
 }
 
-// A bound name alone, in an argument that begins at an offset.
+// The elements of an argument at `at` that is a bound name alone.
 #[tactic(auto, using(crate::proofs::TargetSteps::no_bare, crate::proofs::TargetSteps::other_bare, crate::proofs::TargetSteps::this_bare, crate::proofs::TargetSteps::bare))]
 fn bare_target(
     alloc: Global,
@@ -145,7 +145,7 @@ fn bare_target(
     named_target(alloc, scope, at, word.spelling(), at)
 }
 
-// `J(this)`, `J(name)` or a bound name.
+// The elements of `J(this)`, `J(name)` or a bound name.
 #[tactic(auto, using(crate::proofs::TargetSteps::not_wrapped, crate::proofs::TargetSteps::this_wrapped, crate::proofs::TargetSteps::other_wrapped, crate::proofs::TargetSteps::page_wrapped, crate::proofs::TargetSteps::name_wrapped, jq_cursor::proofs::KeywordTables::same_pages))]
 fn other_target(
     reader: Reader<'_>,
@@ -171,8 +171,8 @@ fn other_target(
     wrapped_target(reader, room, scope, at, &words.behind())
 }
 
-/// The chain on which markup is placed: that of Texts, `J(this)`, `J(name)` or a bound name, where so many brackets may still be
-/// opened. Linear in the letters of Texts but for look-ups.
+/// The chain of the elements where markup is placed: string literals with selectors, `J(this)`, `J(name)` or a bound name. At most
+/// `room` brackets may still be opened. Linear in the letters of the literals, besides look-ups of names.
 #[tactic(auto, unfolding(crate::specs::Arguments::target), using(html_subset::proofs::Fronts::front_itself))]
 pub fn target(
     reader: Reader<'_>,

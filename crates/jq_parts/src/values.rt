@@ -1,4 +1,4 @@
-//! What a chain has come to, and the names that are bound to it.
+//! The values of chains, and the names that are bound to them.
 ghost use Rattle.std.specs.Prelude.{◌≡◌, map, IfOk};
 ghost use Rattle.sel_text.specs.Views.{selector_of};
 ghost use Rattle.jq_parts.specs.Scopes as spec;
@@ -13,7 +13,7 @@ use std::rc::Rc;
 use tp_base::NoMemory;
 use tree_sem::Forest;
 
-/// What a chain has come to.
+/// The value of a chain, as far as it was read.
 #[derive(Drop)]
 pub enum Value {
     Elements(SharedChain),
@@ -21,12 +21,12 @@ pub enum Value {
     Everywhere,
     /// Markup that is still to be placed.
     Markup(Forest),
-    /// Markup that was placed, which ends a chain.
+    /// Markup that was placed. No call may follow.
     Placed,
 }
 
 impl Value {
-    /// The same value once more. Constant, but for markup.
+    /// A copy of the value. Linear in markup, else constant.
     pub fn copy(&self) -> Result<Value, NoMemory>
         ensures { IfOk result (λ v. value_of v ≡ value_of self.now) }
     {
@@ -38,7 +38,7 @@ impl Value {
         }
     }
 
-    /// Whether it is a chain that begins with `this`. Constant.
+    /// Whether the value is a chain that begins with `this`. Constant.
     pub fn is_this(&self) -> bool
         ensures { result ≡ spec.is_this (value_of self.now) }
     {
@@ -49,28 +49,29 @@ impl Value {
     }
 }
 
-/// The chain to which a name is bound, and the places of the handlers round the declaration, which others share.
+/// The value to which a name is bound, and the offsets of the handlers round its declaration. Several declarations share the
+/// offsets.
 #[derive(Drop)]
 pub struct Bound {
     pub value: Value,
     pub under: Rc<Vec<usize>>,
 }
 
-/// A name, and to what it is bound, if it is to a chain. Small, since a script can have millions of declarations.
+/// A name, with its value if it is bound to a chain. It is small, since a script can have millions of declarations.
 #[derive(Drop)]
 pub struct Declaration<'a> {
     pub name: &'a [u8],
     pub bound: Option<Box<Bound>>,
 }
 
-/// The chain of some selectors, without calls. Constant.
+/// The chain that begins with the selectors and has no calls. Constant.
 pub fn matched(alloc: Global, selectors: Vec<Selector>) -> Result<SharedChain, NoMemory>
     ensures { IfOk result (λ c. shared_of c ≡ spec.matched_chain (map selector_of selectors.items)) }
 {
     SharedChain::new(alloc, Root::List(Selectors::new(selectors)?))
 }
 
-/// The chain of `this`, without calls. Constant.
+/// The chain that begins with `this` and has no calls. Constant.
 pub fn this_chain(alloc: Global) -> Result<SharedChain, NoMemory>
     ensures { IfOk result (λ c. shared_of c ≡ spec.this_chain) }
 {

@@ -1,5 +1,5 @@
--- What can happen to a page: steps of a script, and between any two of them the loss of a class or of a node with all below it.
---     IsLegalEvent t stmts e     the step is legal in t, or what is lost is there
+-- What can happen to a page: steps of a script, and between them losses of a class, or of a node with its subtree.
+--     IsLegalEvent t stmts e     the step is legal in t, or the lost class or node is in t
 --     after_event t stmts e      the tree after the event
 --     AreLegalEvents             each event is legal in the tree before it
 --     end_of_events              the tree after the events

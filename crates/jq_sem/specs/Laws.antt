@@ -1,8 +1,8 @@
--- What goes on being so where a tree grows.
+-- Properties of nodes that are kept when a tree grows.
 --     IsMapped t u image     the map takes the nodes of t to nodes of u, the root to the root and children to children, and
 --                            each label is within the label of the image
---     IsKept t u P Q         where P holds at a node of t, Q holds at its image by each such map; there is such a map where t is
---                            within u, and where t grows to u each node is its own image
+--     IsKept t u P Q         where P holds at a node of t, Q holds at its image by each such map. A node has an image where t is
+--                            within u. Where t grows to u, each node is its own image.
 use Rattle.std.specs.Prelude.{ℕ, List}
 use Rattle.tree_sem.specs.Trees.{LabelTree}
 use Rattle.tree_sem.specs.Embedding.{IsWithin, IsImage, IsEmbedding}

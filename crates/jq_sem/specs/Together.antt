@@ -1,7 +1,7 @@
--- How chains are evaluated: a set of nodes at a time, and for all nodes at once that `this` may name.
---     IsUnder j S v           a join leads from v to a node of S
---     MadeOf t S calls v      v is in what the calls, last first, make of the set S
---     NamedBy t this u        what `this` may name: nothing outside all handlers, or one of the marked nodes
+-- Evaluation of chains on sets of nodes, for all nodes at once that `this` may name.
+--     IsUnder j S v           the combinator j leads from v to a node of S
+--     MadeOf t S calls v      v is in the set that the calls, last first, make from S
+--     NamedBy t this u        `this` may name u: no node outside all handlers, or one of the marked nodes
 --     InRoots, InOne          v is in the set of a root, of a chain, with one of U as `this`
 use Rattle.std.specs.Prelude.{◌≡◌, ℕ, List, [], ◌∷◌, Option, Some, None}
 use Rattle.tree_sem.specs.Trees.{LabelTree}

@@ -1,4 +1,4 @@
-//! The sets of chains and statements: for all nodes at once that `this` may name, which go on as one set.
+//! The sets of chains and statements. All nodes that `this` may name are evaluated together, as one set.
 ghost use Rattle.std.specs.Prelude.{◌≡◌, ◌↔◌, ℕ, List, [], Option, map, IfOk, IsTrue};
 ghost use Rattle.node_marks.specs.Marks.{IsMarked};
 ghost use Rattle.jq_sem.specs.Standing.{after, last_first};
@@ -14,7 +14,7 @@ use node_marks::{Marks, NumberedTree};
 use std::alloc::Global;
 use tp_base::NoMemory;
 
-/// What `this` may name.
+/// The nodes that `this` may name.
 #[derive(Drop)]
 pub enum This {
     /// Nothing: outside all handlers.
@@ -23,7 +23,7 @@ pub enum This {
     Nodes(Marks),
 }
 
-/// The nodes that the statement selects. Each of its calls costs a step for each node and compound.
+/// The nodes that the statement selects. Each of its calls takes one step per node and compound.
 pub fn selected(alloc: Global, tree: &NumberedTree, s: &Stmt) -> Result<Marks, NoMemory>
     ensures { IfOk result (λ m. (v : List ℕ) → IsMarked tree.now m v ↔ Selected tree.now (statement_of s.now) v) }
 {
@@ -37,7 +37,7 @@ pub fn selected(alloc: Global, tree: &NumberedTree, s: &Stmt) -> Result<Marks, N
     of_chain(alloc, tree, &this, &s.chain)
 }
 
-// The set of a chain, with each of the nodes as `this`.
+// The union of a chain's sets, with each of the nodes as `this`.
 fn of_chain(
     alloc: Global,
     tree: &NumberedTree,
@@ -54,7 +54,7 @@ fn of_chain(
     of_calls(tree, first, calls.as_slice())
 }
 
-// Whether there is anything that `this` may name; nothing at all, outside handlers, counts as one.
+// Whether `this` may name a node. Outside handlers the answer is true, since no `this` is needed there.
 fn names_some(tree: &NumberedTree, this: &This) -> bool
     ensures { IsTrue result ↔ ((u : Option (List ℕ)) × NamedBy tree.now this.now u) }
 {
@@ -64,7 +64,7 @@ fn names_some(tree: &NumberedTree, this: &This) -> bool
     }
 }
 
-// The set that a chain begins with, where it is left.
+// The set that a chain begins with; the empty set where `end` has taken it back.
 fn of_root(tree: &NumberedTree, this: &This, emptied: bool, root: &Root) -> Result<Marks, NoMemory>
     requires { (u : Option (List ℕ)) × NamedBy tree.now this.now u }
     ensures { IfOk result (λ m. (v : List ℕ) → IsMarked tree.now m v ↔ InRoots tree.now (NamedBy tree.now this.now) (after emptied (root_of root.now)) v) }
@@ -87,7 +87,7 @@ fn of_this(tree: &NumberedTree, this: &This) -> Result<Marks, NoMemory>
     }
 }
 
-// What the calls make of a set.
+// The set that the calls make from the first one.
 fn of_calls(tree: &NumberedTree, first: Marks, calls: &[&Call]) -> Result<Marks, NoMemory>
     ensures { IfOk result (λ m. (v : List ℕ) → IsMarked tree.now m v ↔ MadeOf tree.now (IsMarked tree.now first) (last_first calls.now []) v) }
 {

@@ -1,4 +1,4 @@
-//! What a larger tree keeps of a smaller one, and what losses and whole runs make of what is reached.
+//! Laws: larger trees keep matches and selections; losses and whole runs don't change which selectors a script reaches.
 ghost use Rattle.sel_core.specs.Selectors.{Matches};
 ghost use Rattle.sel_text.specs.Views.{selector_of};
 ghost use Rattle.jq_sem.specs.Events.{IsLoss, AreLegalEvents, end_of_events, ReachesWithLosses, events_of};
@@ -28,13 +28,13 @@ pub fn selection_is_kept(tree: &Tree, larger: &Tree, s: &Stmt)
     ensures { IsKept tree.now larger.now (Selected tree.now (statement_of s.now)) (Selected larger.now (statement_of s.now)) }
 {}
 
-/// By steps of a script a tree grows, so that a statement goes on selecting each node.
+/// A script's steps only grow a tree. A statement still selects each node that it selected before them.
 #[tactic(auto, using(crate::proofs::KeptLemmas::steps_keep))]
 pub fn steps_keep_selection(page: &Tree, stmts: &[Stmt], steps: &[Step], s: &Stmt)
     ensures { (v : List ℕ) → Selected page.now (statement_of s.now) v → Selected (end_of page.now (statements_of stmts.now) steps.now) (statement_of s.now) v }
 {}
 
-/// Steps are events without losses: as such they are legal exactly where they are as steps, and lead to the same tree.
+/// Steps are events without losses. They are legal events exactly where they are legal steps, and they lead to the same tree.
 pub fn steps_are_events(page: &Tree, stmts: &[Stmt], steps: &[Step])
     ensures no_losses { All (λ e. ¬ IsLoss e) (events_of steps.now) }
     ensures legal { AreLegalEvents page.now (statements_of stmts.now) (events_of steps.now) ↔ AreLegal page.now (statements_of stmts.now) steps.now }
@@ -47,23 +47,23 @@ pub fn events_are_steps(events: &[Event])
     ensures { (steps : List step.Step) × (events.now ≡ events_of steps) }
 {}
 
-/// What is reached where classes and subtrees are lost between steps is reached without losses.
+/// A script with losses of classes and subtrees between its steps reaches the same selectors as without them.
 pub fn losses_reach_nothing_more(page: &Tree, stmts: &[Stmt], s: &Selector)
     ensures { ReachesWithLosses page.now (statements_of stmts.now) (selector_of s.now) ↔ Reaches page.now (statements_of stmts.now) (selector_of s.now) }
 {}
 
-/// Whole runs reach what steps reach.
+/// Whole runs reach the same selectors as steps.
 pub fn runs_reach_the_same(page: &Tree, stmts: &[Stmt], s: &Selector)
     ensures { ReachesByRuns page.now (statements_of stmts.now) (selector_of s.now) ↔ Reaches page.now (statements_of stmts.now) (selector_of s.now) }
 {}
 
-/// Whole runs are a legal list of steps, with the same end.
+/// For whole runs there is a list of legal steps that ends in the same tree.
 pub fn runs_are_steps(page: &Tree, stmts: &[Stmt], runs: &[u32], after: &Tree)
     ensures { AreRuns page.now (statements_of stmts.now) runs.now after.now
         → (steps : List step.Step) × AreLegal page.now (statements_of stmts.now) steps × (end_of page.now (statements_of stmts.now) steps ≡ after.now) }
 {}
 
-/// The tree after legal steps is within the one after the runs of their statements.
+/// The tree after legal steps embeds into the tree after the whole runs of their statements.
 pub fn runs_make_no_less(page: &Tree, stmts: &[Stmt], steps: &[Step])
     ensures { AreLegal page.now (statements_of stmts.now) steps.now
         → (u : LabelTree) × AreRuns page.now (statements_of stmts.now) (runs_of steps.now) u × IsWithin (end_of page.now (statements_of stmts.now) steps.now) u }

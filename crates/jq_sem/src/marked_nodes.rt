@@ -1,4 +1,4 @@
-//! An action at all nodes that have a mark, in one walk.
+//! An action at all marked nodes of a tree, in one walk.
 ghost use Rattle.std.specs.Prelude.{◌≡◌, ◌-◌, ◌≤◌, ◌↔◌, IsTrue, IfOk, OnOk};
 ghost use Rattle.tree_sem.specs.Order.{paths_of};
 ghost use Rattle.tree_sem.specs.Trees.{count_of};
@@ -11,7 +11,7 @@ use std::alloc::Global;
 use tp_base::{NoMemory, Path};
 use tree_sem::{Action, MOST_NODES, Tour, Tree, TreeFault, has_room};
 
-/// How many nodes have a mark, from the one of a number on, where there are so many in all.
+/// The count of marked nodes with a number from `from` on, in a tree of `nodes` nodes. Linear in these.
 pub fn marked_count(marks: &Marks, from: u32, nodes: u32) -> u32
     requires { from ≤ nodes }
     ensures count { result ≡ count_marked marks.now from (nodes - from) }
@@ -27,8 +27,8 @@ pub fn marked_count(marks: &Marks, from: u32, nodes: u32) -> u32
     count
 }
 
-/// Whether the tree has at most so many nodes where the action is done at its marked nodes. Linear in the nodes and in the
-/// trees that are added; it takes no memory, and looks at no more trees than there is room for nodes.
+/// Whether the tree has at most `most` nodes after the action at its marked nodes. Linear in the nodes and in the
+/// trees that are added. It takes no memory, and looks at no more trees than there is room for nodes.
 pub fn stays_within(action: &Action, tree: &Tree, marks: &Marks, most: u32) -> bool
     ensures { IsTrue result ↔ count_of (run_at action.now (marked_from marks.now 0 (paths_of tree.now)) tree.now) ≤ most }
 {
@@ -39,7 +39,7 @@ pub fn stays_within(action: &Action, tree: &Tree, marks: &Marks, most: u32) -> b
             let times = marked_count(marks, 0, nodes);
             has_room(nodes, times as usize, forest.tops.items(), most)
         }
-        // The root, which has no parent, is the first node.
+        // The root is the first node. It has no parent, so nothing is added beside it.
         Action::Beside(forest) => {
             let times = marked_count(marks, 1, nodes);
             has_room(nodes, times as usize, forest.tops.items(), most)
@@ -47,8 +47,8 @@ pub fn stays_within(action: &Action, tree: &Tree, marks: &Marks, most: u32) -> b
     }
 }
 
-/// What the action makes of the tree at all its marked nodes, one after another. It costs a copy of the tree, a walk over it,
-/// a look-up of each marked node by its path, and what is added. Children stand behind those that were there, so that each
+/// Does the action at all marked nodes of the tree, one after another. The cost is a copy of the tree, a walk over it,
+/// a look-up of each marked node by its path, and the nodes that are added. New children stand behind the old ones, so each
 /// node keeps its path.
 pub fn act_at_all(
     alloc: Global,
@@ -89,7 +89,7 @@ fn act_on_copy(
     Ok(())
 }
 
-// Does what the action does, where the node of the path has a mark.
+// Does the action at the node at the path, if it is marked.
 fn act_if(marked: bool, action: &Action, made: &mut Tree, at: &Path) -> Result<(), NoMemory>
     requires node { IsNode made.old at.now }
     requires room { count_of (run_at action.now (if_marked marked at.now) made.old) ≤ MOST_NODES }
@@ -101,7 +101,7 @@ fn act_if(marked: bool, action: &Action, made: &mut Tree, at: &Path) -> Result<(
     match act_at(action, made, at) {
         Ok(()) => Ok(()),
         Err(TreeFault::Memory) => Err(NoMemory),
-        // There are a node and room.
+        // The node is there, and the tree has room.
         Err(_) => unreachable!(),
     }
 }

@@ -11,9 +11,9 @@ use std::alloc::Global;
 use tp_base::{NoMemory, Path};
 use tree_sem::Tree;
 
-/// Whether the statement selects the node at the path; false where no node is there. All chains are evaluated a
-/// set of nodes at a time, from the outermost handler's root on: the cost is that of a walk over the tree, and a
-/// few steps for each node, each call of the handlers and the chain together, and each compound of theirs.
+/// Whether the statement selects the node at the path; false where no node is there. Each chain is evaluated on sets of
+/// nodes, from the outermost handler's root on. The cost is a walk over the tree, and then a few steps for each node and each
+/// compound of each call of the handlers and the chain.
 pub fn selects(alloc: Global, s: &Stmt, tree: &Tree, at: &Path) -> Result<bool, NoMemory>
     ensures selected { IfOk result (λ yes. IsTrue yes ↔ Selected tree.now (statement_of s.now) at.now) }
     ensures node { IfOk result (λ yes. IsTrue yes → IsSome (node_at at.now tree.now)) }

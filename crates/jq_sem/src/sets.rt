@@ -15,7 +15,7 @@ use node_marks::{Marks, NumberedTree};
 use sel_text::{Compound, Join, Selector};
 use tp_base::NoMemory;
 
-/// What a call makes of a set.
+/// The set that a call makes from a set. A few steps for each node and each compound and atom of the call.
 pub fn of_call(tree: &NumberedTree, call: &Call, marks: &Marks) -> Result<Marks, NoMemory>
     ensures { IfOk result (λ m. (v : List ℕ) → IsMarked tree.now m v ↔ IsMade tree.now (IsMarked tree.now marks.now) (call_of call.now) v) }
 {
@@ -60,7 +60,7 @@ pub fn of_call(tree: &NumberedTree, call: &Call, marks: &Marks) -> Result<Marks,
     }
 }
 
-/// What one of the selectors matches.
+/// The nodes that one of the selectors matches. The cost is that of `matched_nodes` for each selector.
 pub fn matching(tree: &NumberedTree, selectors: &[Selector]) -> Result<Marks, NoMemory>
     ensures { IfOk result (λ m. (v : List ℕ) → IsMarked tree.now m v ↔ MatchesOne tree.now (map selector_of selectors.now) v) }
 {
@@ -75,8 +75,8 @@ pub fn matching(tree: &NumberedTree, selectors: &[Selector]) -> Result<Marks, No
     Ok(marks)
 }
 
-/// What the selector matches: from left to right, for each compound what all those up to it match. A few steps for each node
-/// and each of its compounds and atoms.
+/// The nodes that the selector matches. Its prefixes are matched in turn, from left to right, each by one compound more.
+/// A few steps for each node and each compound and atom of the selector.
 pub fn matched_nodes(tree: &NumberedTree, s: &Selector) -> Result<Marks, NoMemory>
     ensures { IfOk result (λ m. (v : List ℕ) → IsMarked tree.now m v ↔ Matches tree.now v (selector_of s.now)) }
 {
@@ -89,7 +89,7 @@ pub fn matched_nodes(tree: &NumberedTree, s: &Selector) -> Result<Marks, NoMemor
     }
 }
 
-// What a selector matches that has further compounds on its right, each after its join.
+// The nodes that a selector matches which has further compounds on its right, each with its combinator.
 fn with_joined(
     tree: &NumberedTree,
     first: Marks,
@@ -113,7 +113,7 @@ fn with_joined(
     Ok(marks)
 }
 
-// One compound more.
+// The nodes that a selector with one compound more matches.
 fn joined(
     tree: &NumberedTree,
     marks: &Marks,
@@ -128,7 +128,7 @@ fn joined(
     tree.in_both(&fit, &under)
 }
 
-// The nodes from which a join leads to a marked one.
+// The nodes from which a combinator leads to a marked one.
 fn under(tree: &NumberedTree, marks: &Marks, join: Join) -> Result<Marks, NoMemory>
     ensures { IfOk result (λ m. (v : List ℕ) → IsMarked tree.now m v ↔ (IsNode tree.now v × IsUnder (join_of join) (IsMarked tree.now marks.now) v)) }
 {
@@ -146,7 +146,7 @@ fn chosen(tree: &NumberedTree, compounds: &[Compound], marks: &Marks) -> Result<
     tree.in_both(&fit, marks)
 }
 
-// The same, where there are compounds.
+// The same; all marked nodes, where there are no compounds.
 fn narrowed(tree: &NumberedTree, compounds: &[Compound], marks: &Marks) -> Result<Marks, NoMemory>
     ensures { IfOk result (λ m. (v : List ℕ) → IsMarked tree.now m v ↔ (MayFit tree.now (atoms_of compounds.now) v × IsMarked tree.now marks.now v)) }
 {
@@ -154,7 +154,7 @@ fn narrowed(tree: &NumberedTree, compounds: &[Compound], marks: &Marks) -> Resul
     tree.in_both(&may, marks)
 }
 
-/// The nodes that one of the compounds fits; every node, where there are none.
+/// The nodes that one of the compounds fits; every node, where there are none. The cost is that of `fitting`.
 pub fn may_fit(tree: &NumberedTree, compounds: &[Compound]) -> Result<Marks, NoMemory>
     ensures { IfOk result (λ m. (v : List ℕ) → IsMarked tree.now m v ↔ MayFit tree.now (atoms_of compounds.now) v) }
 {
@@ -164,7 +164,7 @@ pub fn may_fit(tree: &NumberedTree, compounds: &[Compound]) -> Result<Marks, NoM
     fitting(tree, compounds)
 }
 
-/// The nodes that one of the compounds fits.
+/// The nodes that one of the compounds fits. A few steps for each node and each compound and its atoms.
 pub fn fitting(tree: &NumberedTree, compounds: &[Compound]) -> Result<Marks, NoMemory>
     ensures { IfOk result (λ m. (v : List ℕ) → IsMarked tree.now m v ↔ FitsOne tree.now (atoms_of compounds.now) v) }
 {

@@ -1,4 +1,4 @@
-//! The calls of a chain that `end` takes nothing back of.
+//! The calls of a chain that no `end` takes back.
 ghost use Rattle.std.specs.Prelude.{◌≡◌, [], map, IfOk};
 ghost use Rattle.jq_sem.specs.Statements as spec;
 ghost use Rattle.jq_sem.specs.Standing.{after, last_first};
@@ -8,8 +8,8 @@ use jq_stmts::Call;
 use std::alloc::Global;
 use tp_base::NoMemory;
 
-/// Whether an `end` takes back more than there is, so that nothing is left of the root, and the calls that stand,
-/// from the first one on. Linear in the calls.
+/// The calls that no `end` takes back, in their order. The first answer is true where an `end` takes back the root, too.
+/// Linear in the calls.
 pub fn standing<'a>(alloc: Global, calls: &'a [Call]) -> Result<(bool, Vec<&'a Call>), NoMemory>
     ensures { IfOk result (λ s. (root : spec.Root) → spec.stands root (map call_of calls.now) ≡ (after s.0 root, last_first s.1.items [])) }
 {

@@ -1,12 +1,12 @@
--- Statements some of whose calls are sharper than what is judged in their place.
---     ExactStatement     what a statement of a script says
+-- Statements with sharp calls. A sharp call selects less than the wide call by which it is judged.
+--     ExactStatement     a statement as it stands in the script
 --     wide_of            the statement that is judged in its place
 use Rattle.std.specs.Prelude.{ℕ, Bool, true, false, ◌||◌, List, [], ◌∷◌, map}
 use Rattle.tp_base.specs.declared.places.Place.{Place}
 use Rattle.tree_sem.specs.declared.actions.Action.{Action}
 use Rattle.jq_stmts.specs.Statements.{Root, Call, around, near, filter, Chain, Statement}
 
--- a call that is judged as it is, or one of those that aren't: from each node upward the nearest that fits, the siblings, the first node
+-- a call that is judged as it stands, or a sharp one: upward from each node the nearest that fits, the siblings, or the first node
 pub data ExactCall : Type 0 where
   plain : Call → ExactCall
   closest : List (List ℕ) → ExactCall
@@ -23,7 +23,7 @@ pub record ExactStatement : Type 0 where
   pub action : Action
   pub place : Place
 
--- the call that is judged in the place of one; every node has all atoms of a compound without atoms
+-- the call by which a call is judged; a compound without atoms fits every node
 abbrev pub wide_call : ExactCall → Call
 wide_call (plain c) = c
 wide_call (closest cs) = around cs
@@ -39,14 +39,14 @@ wide_of s = record { handlers = map wide_chain s.handlers; chain = wide_chain s.
 abbrev pub wides : List ExactStatement → List Statement
 wides ss = map wide_of ss
 
--- a chain, and a statement, of calls that are judged as they are
+-- a chain, and a statement, without sharp calls
 abbrev pub exactly : Chain → ExactChain
 exactly c = record { root = c.root; calls = map plain c.calls }
 
 abbrev pub exact_statement : Statement → ExactStatement
 exact_statement s = record { handlers = map exactly s.handlers; chain = exactly s.chain; action = s.action; place = s.place }
 
--- whether a call, a chain, a statement isn't judged as it is
+-- whether a call is sharp, and whether calls, chains or a statement have a sharp call
 abbrev pub is_sharp : ExactCall → Bool
 is_sharp (plain c) = false
 is_sharp c = true

@@ -1,6 +1,6 @@
--- What statements with marks are to the definitions.
---     kind_at      what is kept of the set of a call
---     exact_of     the statement
+-- The abstraction function of statements with marks.
+--     kind_at      the kind of the first mark at a call
+--     exact_of     the statement as it stands in the script
 use Rattle.std.specs.Prelude.{ℕ, suc, ◌==◌, ◌&&◌, Bool, true, false, if◌then◌else◌, List, [], ◌∷◌, map, Option, Some, None}
 use Rattle.jq_stmts.specs.declared.sharp.Sharp.{Sharp}
 use Rattle.jq_stmts.specs.declared.sharp.SharpKind.{SharpKind}
@@ -18,12 +18,12 @@ is_same h g = false
 abbrev pub is_at : Sharp → Option ℕ → ℕ → Bool
 is_at s h i = (s.call == i) && is_same s.handler h
 
--- what is kept of the set of the i-th call of a handler's chain, or of the statement's own
+-- the kind of the first mark at the i-th call of a handler's chain or, without a handler, of the statement's own chain
 abbrev pub kind_at : List Sharp → Option ℕ → ℕ → Option SharpKind
 kind_at [] h i = None
 kind_at (s ∷ sharp) h i = if is_at s h i then Some s.kind else kind_at sharp h i
 
--- a call of which some is kept; at a call that isn't of its kind a mark says nothing
+-- a wide call with the kind of its mark; a mark at a call that its kind doesn't fit has no effect
 abbrev pub with_kind : Call → Option SharpKind → ExactCall
 with_kind c None = plain c
 with_kind (around cs) (Some Closest) = closest cs
@@ -33,7 +33,7 @@ with_kind c (Some Siblings) = plain c
 with_kind (filter ([] ∷ [])) (Some First) = first
 with_kind c (Some First) = plain c
 
--- calls from the i-th on
+-- calls of which the first has the index i
 abbrev pub exact_calls : List Sharp → Option ℕ → ℕ → List Call → List ExactCall
 exact_calls sharp h i [] = []
 exact_calls sharp h i (c ∷ calls) = with_kind c (kind_at sharp h i) ∷ exact_calls sharp h (suc i) calls
@@ -41,7 +41,7 @@ exact_calls sharp h i (c ∷ calls) = with_kind c (kind_at sharp h i) ∷ exact_
 abbrev pub exact_chain : List Sharp → Option ℕ → Chain → ExactChain
 exact_chain sharp h c = record { root = c.root; calls = exact_calls sharp h 0 c.calls }
 
--- handlers from the i-th on
+-- handlers of which the first has the index i
 abbrev pub exact_handlers : List Sharp → ℕ → List Chain → List ExactChain
 exact_handlers sharp i [] = []
 exact_handlers sharp i (c ∷ chains) = exact_chain sharp (Some i) c ∷ exact_handlers sharp (suc i) chains

@@ -1,15 +1,15 @@
--- What a statement of a script says.
+-- The syntax of a script's statements.
 use Rattle.std.specs.Prelude.{ℕ, zero, suc, List, [], ◌∷◌, reverse}
 use Rattle.tp_base.specs.declared.places.Place.{Place}
 use Rattle.tree_sem.specs.declared.actions.Action.{Action}
 use Rattle.sel_text.specs.Selectors.{Selector}
 
--- a set to begin with: what one of the selectors matches, or the node that `this` names
+-- the set that a chain begins with: the nodes that one of the selectors matches, or the node that `this` names
 pub data Root : Type 0 where
   matched : List Selector → Root
   this : Root
 
--- a call that makes a new set; a list of compounds, each as its atoms, narrows it, and an empty one doesn't where it may be left out
+-- a call that makes a new set; compounds, each as its atoms, filter it; without compounds, children, parent, parents and near keep every node
 pub data Call : Type 0 where
   find : List (List ℕ) → Call
   children : List (List ℕ) → Call
@@ -26,7 +26,7 @@ pub record Chain : Type 0 where
   pub root : Root
   pub calls : List Call
 
--- The handlers, outermost first, the chain of the call that acts, what it does, and where its name stands.
+-- The chains of the handlers, outermost first, the chain of the call that acts, its action, and the place of its name.
 pub record Statement : Type 0 where
   pub handlers : List Chain
   pub chain : Chain
@@ -42,6 +42,6 @@ set_before (suc n) root [] = (matched [], [])
 set_before zero root (c ∷ earlier) = let s = set_before zero root earlier in (s.0, c ∷ s.1)
 set_before zero root [] = (root, [])
 
--- what makes the set of a chain with this root and these calls, the first one first
+-- the root and the calls, in their order, that are left when each back has taken back the call before it
 abbrev pub stands : Root → List Call → Root × List Call
 stands root calls = set_before zero root (reverse calls)

@@ -1,4 +1,4 @@
--- Statements and selectors whose atoms are of a table of n.
+-- Statements and selectors whose atoms stand in a table of n names.
 use Rattle.std.specs.Prelude.{ℕ, ◌<◌, List, [], ◌∷◌, All}
 use Rattle.tree_sem.specs.Trees.{LabelTree}
 use Rattle.tree_sem.specs.declared.actions.Action.{Action}

@@ -1,4 +1,4 @@
--- What the statements of the code are to the definitions.
+-- The abstraction function of statements.
 use Rattle.std.specs.Prelude.{ℕ, List, map}
 use Rattle.sel_text.specs.declared.selectors.Compound.{Compound}
 use Rattle.sel_text.specs.Views.{selector_of}

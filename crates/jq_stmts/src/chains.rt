@@ -1,4 +1,4 @@
-//! Chains of calls, each of which makes a set of nodes of the one before.
+//! Chains of method calls. Each call makes a set of nodes from the set before it.
 ghost use Rattle.std.specs.Prelude.{◌≡◌, map, IfOk};
 ghost use Rattle.sel_text.specs.Views.{selector_of};
 ghost use Rattle.jq_stmts.specs.Views.{root_of, call_of, chain_of};
@@ -7,23 +7,23 @@ use sel_text::{Compound, Selector};
 use std::marker::Model;
 use tp_base::{NoMemory, Shared};
 
-/// Selectors, one after another, which several chains may share. A contract sees the list of them.
+/// A list of selectors, which several chains may share. A contract sees the list.
 pub type Selectors = Shared<Selector>;
 
-/// Compounds, of which one is to fit, which several chains may share. A contract sees the list of them.
+/// A list of compounds, which several chains may share. A node fits the list where it fits one of them. A contract sees the list.
 pub type SharedCompounds = Shared<Compound>;
 
 /// The set that a chain begins with.
 #[derive(Drop)]
 pub enum Root {
-    /// What one of the selectors matches.
+    /// The nodes that one of the selectors matches.
     List(Selectors),
     /// The node that `this` names in a handler.
     This,
 }
 
 impl Root {
-    /// The same root once more. Constant: both share the selectors.
+    /// A copy of the root. Constant: both share the selectors.
     pub fn copy(&self) -> Result<Root, NoMemory>
         ensures { IfOk result (λ r. root_of r ≡ root_of self.now) }
     {
@@ -34,8 +34,8 @@ impl Root {
     }
 }
 
-/// A call that makes a set of the one before. A list of compounds narrows it; without compounds `Children`,
-/// `Parent`, `Parents` and `Near` take every node.
+/// A call that makes a new set from the set before it. A list of compounds filters the new set. Without compounds,
+/// `Children`, `Parent`, `Parents` and `Near` keep every node.
 #[derive(Drop)]
 pub enum Call {
     Find(SharedCompounds),
@@ -44,16 +44,16 @@ pub enum Call {
     Parents(SharedCompounds),
     Filter(SharedCompounds),
     Has(SharedCompounds),
-    /// The nodes that have a node of the set at them or below.
+    /// The nodes of the set and all their ancestors.
     Around(SharedCompounds),
-    /// The nodes whose parent has a child in the set.
+    /// The nodes of the set and all their siblings.
     Near(SharedCompounds),
     Add(Selectors),
     End,
 }
 
 impl Call {
-    /// The same call once more. Constant: both share the compounds or selectors.
+    /// A copy of the call. Constant: both share the compounds or selectors.
     pub fn copy(&self) -> Result<Call, NoMemory>
         ensures { IfOk result (λ c. call_of c ≡ call_of self.now) }
     {
@@ -72,7 +72,7 @@ impl Call {
     }
 }
 
-/// Calls, from the first one on. A contract sees the list of them.
+/// The calls of a chain, in their order. A contract sees the list of them.
 #[derive(Drop)]
 pub struct Calls {
     items: Vec<Call>,
@@ -88,21 +88,21 @@ impl Model for Calls {
 }
 
 impl Calls {
-    /// These calls. Constant.
+    /// A chain's calls from a vector of them. Constant.
     pub fn new(items: Vec<Call>) -> Self
         ensures { result ≡ items.items }
     {
         Calls { items }
     }
 
-    /// The calls. Constant.
+    /// The calls as a slice. Constant.
     pub fn items(&self) -> &[Call]
         ensures { result.now ≡ self.now }
     {
         &self.items
     }
 
-    /// The same calls once more. Linear in them.
+    /// A copy of the calls. Linear in their number.
     pub fn copy(&self) -> Result<Calls, NoMemory>
         ensures { IfOk result (λ cs. map call_of cs ≡ map call_of self.now) }
     {
@@ -114,7 +114,7 @@ impl Calls {
     }
 }
 
-/// A set to begin with, and the calls after it.
+/// The set that a chain begins with, and the calls behind it.
 #[derive(Drop)]
 pub struct Chain {
     pub root: Root,
@@ -122,7 +122,7 @@ pub struct Chain {
 }
 
 impl Chain {
-    /// The same chain once more. Linear in its calls.
+    /// A copy of the chain. Linear in the number of its calls.
     pub fn copy(&self) -> Result<Chain, NoMemory>
         ensures { IfOk result (λ c. chain_of c ≡ chain_of self.now) }
     {

@@ -1,28 +1,28 @@
-//! Statements some of whose calls are sharper than what is judged in their place.
+//! Statements with sharp calls. A sharp call selects less than the wide call by which it is judged.
 ghost use Rattle.std.specs.Prelude.{◌≡◌};
 ghost use Rattle.jq_stmts.specs.SharpViews as spec;
 
 use crate::stmts::Stmt;
 use tp_base::Items;
 
-/// What is kept of the set of a wide call.
+/// Which part of a wide call's set a sharp call keeps.
 #[derive(Clone, Copy, Debug, PartialEq, Eq)]
 pub enum SharpKind {
-    /// Of `Around`, from each node of the set before upward the first that fits.
+    /// For `Around`: upward from each node of the set before, the first node that fits.
     Closest,
-    /// Of `Near`, what has another child of its parent in the set before.
+    /// For `Near`: the nodes that have a sibling in the set before.
     Siblings,
-    /// Of `Filter`, the first node in the order of the document.
+    /// For `Filter`: the first node in document order.
     First,
 }
 
-/// A call of a statement that is sharper than the one that stands there: `Around`, `Near`, or `Filter` of one compound
-/// without atoms, by its kind. At any other call a mark says nothing.
+/// A mark at a wide call: the script has a sharp call there. By its kind a mark stands at `Around`, at `Near`, or at `Filter` of one
+/// compound without atoms. At any other call it has no effect.
 #[derive(Clone, Copy, Debug, PartialEq, Eq)]
 pub struct Sharp {
-    /// The handler of the chain, counted from the outermost; none for the statement's own chain.
+    /// The index of the chain's handler, where the outermost has 0; none for the statement's own chain.
     pub handler: Option<u32>,
-    /// The call, counted from the first of the chain.
+    /// The index of the call in its chain, from 0 on.
     pub call: u32,
     pub kind: SharpKind,
 }
@@ -35,7 +35,7 @@ impl Sharp {
     }
 }
 
-// Whether it is the same handler, or none.
+// Whether both are the same handler, or both are none.
 fn is_same(handler: Option<u32>, other: Option<usize>) -> bool
     ensures { result ≡ spec.is_same handler other }
 {
@@ -49,8 +49,8 @@ fn is_same(handler: Option<u32>, other: Option<usize>) -> bool
 /// The marks of a statement's sharp calls. A contract sees the list of them.
 pub type Sharps = Items<Sharp>;
 
-/// What is kept of the set of a call of a handler's chain, or of the statement's own, where the call is marked; the first mark
-/// counts. Linear in the marks, which are few.
+/// The kind of the first mark at a call, if the call is marked. It is a call of a handler's chain or, without a handler, of the
+/// statement's own chain. Linear in the marks, which are few.
 pub fn kind_at(sharp: &[Sharp], handler: Option<usize>, call: usize) -> Option<SharpKind>
     ensures { result ≡ spec.kind_at sharp.now handler call }
 {
@@ -64,7 +64,7 @@ pub fn kind_at(sharp: &[Sharp], handler: Option<usize>, call: usize) -> Option<S
     None
 }
 
-/// A statement, wide as it is judged, and the marks of its sharp calls.
+/// The wide statement, by which a statement is judged, and the marks of its sharp calls.
 #[derive(Drop)]
 pub struct ExactStmt {
     pub wide: Stmt,

@@ -1,4 +1,4 @@
-//! Statements: the nodes that a script names, and what it does there.
+//! Statements: the nodes that a script selects, and the action that it does at each of them.
 ghost use Rattle.std.specs.Prelude.{◌≡◌, map, IfOk};
 ghost use Rattle.jq_stmts.specs.Views.{chain_of};
 
@@ -7,7 +7,7 @@ use std::marker::Model;
 use tp_base::{NoMemory, Place};
 use tree_sem::Action;
 
-/// Chains, one after another. A contract sees the list of them.
+/// A list of chains. A contract sees the list.
 #[derive(Drop)]
 pub struct Chains {
     items: Vec<Chain>,
@@ -23,21 +23,21 @@ impl Model for Chains {
 }
 
 impl Chains {
-    /// These chains. Constant.
+    /// A list of chains from a vector of them. Constant.
     pub fn new(items: Vec<Chain>) -> Self
         ensures { result ≡ items.items }
     {
         Chains { items }
     }
 
-    /// The chains. Constant.
+    /// The chains as a slice. Constant.
     pub fn items(&self) -> &[Chain]
         ensures { result.now ≡ self.now }
     {
         &self.items
     }
 
-    /// The same chains once more. Linear in them.
+    /// A copy of the chains. Linear in the number of their calls.
     pub fn copy(&self) -> Result<Chains, NoMemory>
         ensures { IfOk result (λ cs. map chain_of cs ≡ map chain_of self.now) }
     {
@@ -49,8 +49,8 @@ impl Chains {
     }
 }
 
-/// A statement of a script: where the name of its action stands, the chains of the handlers that it stands
-/// in, outermost first, the chain of the nodes that it acts on, and what it does there.
+/// A statement of a script. Its place is that of its action's name. It stands in the handlers, outermost first, and does its action
+/// at the nodes of its chain.
 #[derive(Drop)]
 pub struct Stmt {
     pub place: Place,

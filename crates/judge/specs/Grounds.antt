@@ -1,8 +1,8 @@
--- What is asked, and what a ground is to be, so that answers can be read from it.
+-- Questions, and the grounds from which their answers are read.
 --     MayBeAsked s page limits      proofs over the system can be made for the page, within these limits
---     IsAnswerable question         and for that of the question
---     AreAnswersTo question plain   right answers to it, by a table of pairs or by diagrams
---     IsSaidOn ground a answer      a right answer for an atom, by what the ground has closed
+--     IsAnswerable question         proofs can be made for the question's system, page and limits
+--     AreAnswersTo question plain   right answers to the question, by a table of pairs or by diagrams
+--     IsSaidOn ground a answer      a right answer for an atom, by the closed page of the ground
 --     IsReady .. ground             proofs can be made on the ground
 use Rattle.std.specs.Prelude.{◌≡◌, ℕ, ◌≤◌, Bool, List}
 use Rattle.tree_sem.specs.Trees.{LabelTree}
@@ -35,7 +35,7 @@ AreAnswersTo question plain answers = AreBySeen plain question.made.now.system q
 abbrev pub IsSaidOn : Ground → ℕ → Answer → Type 0
 IsSaidOn ground a answer = IsSaid ground.system.now ground.page.now ground.limits.now ground.closed.now.labels.label a answer
 
--- the page is closed by its system, and the summaries were made for that system and know what the page asks
+-- the page is closed by its system, and the summaries were made for that system and know the pairs that the page asks
 pub record IsReady (system : System) (known : Pair → Type 0) (ground : Ground) : Type 0 where
   pub made : system ≡ ground.system.now
   pub asked : (q : Pair) → Asked ground.system.now ground.page.now q → known q

@@ -1,7 +1,7 @@
--- What right answers come to.
+-- Laws of right answers.
 --     HasOneAnswer     a goal has one right answer
---     HasOneForGuard   an answer that is right for a goal is right for each other one that the same guard stands for
---     EnginesAgree     where summaries are held, and how much room they have, changes nothing that is said
+--     HasOneForGuard   an answer that is right for a goal is right for each other goal with the same guard
+--     EnginesAgree     the answers depend neither on the engine nor on its budget
 use Rattle.std.specs.Prelude.{◌≡◌, ℕ, List, map}
 use Rattle.tree_sem.specs.Trees.{LabelTree}
 use Rattle.jq_stmts.specs.Statements.{Statement}
@@ -21,8 +21,8 @@ abbrev pub HasOneForGuard : Type 0
 HasOneForGuard = (stmts : List Statement) (guards : List Guard) (n : ℕ) (page : LabelTree) (limits : Limits) (g h : Goal) → goal_guard g ≡ goal_guard h
     → (a : Answer) → IsAnswerFor stmts guards n page limits g a → IsAnswerFor stmts guards n page limits h a
 
--- Both sets of limits have the same for a proof and for a list. Whether they ask for a table or for diagrams, and how much room these have, may
--- differ, where each has enough: an answer that is spent is right for no goal.
+-- Both limits have the same bounds on a proof and on a list. The engines and their budgets may differ, where each budget suffices: an
+-- answer `spent` is right for no goal.
 abbrev pub EnginesAgree : Type 0
 EnginesAgree = (stmts : List Statement) (items : List Item) (extra : List Guard) (n : ℕ) (page : LabelTree) (limits other : Limits)
     → limits.entries ≡ other.entries → limits.list ≡ other.list → (answers others : List Answer)

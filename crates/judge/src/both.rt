@@ -3,10 +3,10 @@ use simple_core::System;
 use tp_base::Items;
 use usage_report::Answer;
 
-/// Answers, one after another. A contract sees the list of them.
+/// A list of answers. A contract sees the list.
 pub type Answers = Items<Answer>;
 
-/// An answer for each item of a sheet, one for each further guard, both in order, and the system over which their proofs stand.
+/// An answer for each item of a sheet and for each further guard, both in order, and the system of their proofs.
 #[derive(Drop)]
 pub struct Both {
     pub items: Answers,

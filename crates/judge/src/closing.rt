@@ -12,7 +12,7 @@ use std::alloc::Global;
 use tp_base::NoMemory;
 use tree_sem::Tree;
 
-/// Closes the page by a table that has no pair yet, where no more are needed than its limit. It costs what `close_page` costs over
+/// Closes the page by an empty table of pairs, where no more pairs are needed than its limit. The cost is that of `close_page` over
 /// the table.
 pub(crate) fn close_by_table(
     alloc: Global,
@@ -33,7 +33,7 @@ pub(crate) fn close_by_table(
     close_page(alloc, page, system, sums)
 }
 
-/// Closes the page by diagrams. It costs what `close_page` costs over them.
+/// Closes the page by diagrams. The cost is that of `close_page` over them.
 pub(crate) fn close_by_diagrams(
     alloc: Global,
     page: &Tree,
@@ -49,7 +49,7 @@ pub(crate) fn close_by_diagrams(
     match close_page(alloc, page, system, sums) {
         Ok(closed) => Ok(closed),
         Err(GainFault::Memory) => Err(NoMemory),
-        // Diagrams are never spent once they are built.
+        // Only building diagrams can use up a budget.
         Err(GainFault::Spent) => unreachable!(),
     }
 }

@@ -1,4 +1,4 @@
-//! Answers once more.
+//! Copies of answers.
 ghost use Rattle.std.specs.Prelude.{◌≡◌, IfOk};
 ghost use Rattle.usage_report.specs.Answers.{used, maybe};
 ghost use Rattle.usage_report.specs.Views.{answer_of};
@@ -89,7 +89,7 @@ fn copy_shown(alloc: Global, shown: &Option<Unfolded>) -> Result<Option<Unfolded
     }
 }
 
-/// The same answer once more. Linear in its proof and its steps.
+/// A copy of the answer. Linear in its proof and its steps.
 pub(crate) fn copy_answer(alloc: Global, answer: &Answer) -> Result<Answer, NoMemory>
     ensures { IfOk result (λ a. answer_of a ≡ answer_of answer.now) }
 {

@@ -1,5 +1,5 @@
-//! The answers to a question, by a table of pairs or by diagrams. Each function owns one large value, which is freed as soon as its
-//! answers are there.
+//! The answers to a question, by a table of pairs or by diagrams. Each function owns one large value and frees it when its answers
+//! are ready.
 ghost use Rattle.std.specs.Prelude.{◌≡◌, [], true, false, None, map, IfOk};
 ghost use Rattle.usage_report.specs.Views.{answer_of};
 ghost use Rattle.simple_core.specs.Pairs.{Pair, Asked};
@@ -18,7 +18,7 @@ use simple_core::{AllGivers, GainFault, Summaries};
 use tp_base::NoMemory;
 use usage_report::Answer;
 
-// The answers by a closed page, whose pairs the summaries know, and by proofs, for which the rules are looked up by what they give.
+// The answers by a closed page and by proofs. The summaries know the page's pairs. Proofs look up rules by the atoms that they give.
 fn by_proofs<S: Summaries>(
     question: &Question<'_>,
     closed: &Closed,
@@ -42,7 +42,7 @@ fn by_proofs<S: Summaries>(
     all_answers(&ground, sums, question.made.seen.items())
 }
 
-// The answers by a closed page, whose pairs the summaries know. Where its root has none of the atoms, no rule is looked up.
+// The answers by a closed page. The summaries know its pairs. Without a seen atom at its root, the rules get no index.
 fn by_closed_page<S: Summaries>(
     question: &Question<'_>,
     closed: &Closed,
@@ -62,7 +62,7 @@ fn by_closed_page<S: Summaries>(
     }
 }
 
-// The answers by a table without pairs, in which those that the page asks stand from then on.
+// The answers by an empty table, which gets the pairs that the page asks.
 fn by_empty_table(
     question: &Question<'_>,
     sums: &mut PlainSummaries,
@@ -100,7 +100,7 @@ fn by_table(question: &Question<'_>) -> Result<Vec<Answer>, NoMemory>
     by_empty_table(question, &mut sums)
 }
 
-// The answers by diagrams that were built.
+// The answers by diagrams after they are built.
 fn by_built_diagrams(
     question: &Question<'_>,
     sums: &mut SharedSummaries,
@@ -130,8 +130,8 @@ fn by_diagrams(question: &Question<'_>) -> Result<Vec<Answer>, NoMemory>
     }
 }
 
-/// The answers, by a table of pairs where `limits.plain` says so, else by diagrams. Diagrams are built once, before the page is
-/// looked at, and a table grows with what the page asks.
+/// The answers, by a table of pairs where `limits.plain` is true, else by diagrams. Diagrams are built once, before the page is
+/// read. A table grows by the pairs that the page asks.
 pub(crate) fn answers_to(question: &Question<'_>) -> Result<Vec<Answer>, NoMemory>
     requires answerable { IsAnswerable question.now }
     ensures { IfOk result (λ v. AreAnswersTo question.now question.now.limits.now.plain (map answer_of v.items)) }

@@ -1,4 +1,4 @@
-//! What is asked, and the ground that its answers are read from.
+//! The question, and the ground from which its answers are read.
 use class_adding::Closed;
 use guard_simplify::Simplified;
 use limits::Limits;
@@ -6,7 +6,7 @@ use simple_core::{AllGivers, System};
 use std::alloc::Global;
 use tree_sem::Tree;
 
-/// What is asked: which of the seen atoms a system brings to the root of a page, within limits, and by which proofs.
+/// The question which of the seen atoms a system brings to the root of a page, within limits, and by which proofs.
 #[derive(Clone, Copy)]
 pub(crate) struct Question<'a> {
     pub(crate) alloc: Global,
@@ -15,7 +15,7 @@ pub(crate) struct Question<'a> {
     pub(crate) limits: &'a Limits,
 }
 
-/// What all answers are read from: a page, a system with its rules looked up, and the page that it closes.
+/// The ground of all answers: a page, a system with an index of its rules, and the page closed by the system.
 #[derive(Clone, Copy)]
 pub(crate) struct Ground<'a> {
     pub(crate) alloc: Global,

@@ -1,4 +1,4 @@
-//! What is said of each selector of a sheet, and of further guards.
+//! Answers for the selectors of a sheet and for further guards.
 ghost use Rattle.std.specs.Prelude.{◌≡◌, ◌≤◌, [], length, map, IfOk, IfErr, OnOk};
 ghost use Rattle.limits.specs.declared.budgets.TheConstants.{MOST_BRANCHES};
 ghost use Rattle.jq_stmts.specs.Views.{statements_of};
@@ -71,15 +71,15 @@ fn judged_by(
     Ok(both)
 }
 
-/// An answer for each item of the sheet and for each further guard, in order, of what the statements make of the page. A selector
-/// is unused where no legal steps lead to a node that it matches, however many they are, and a guard where none lead to a node
-/// where it holds. Either is used with the one canonical proof of its atom, whose steps are legal and end at such a node; they are
-/// shown where they are at most `limits.list`. Where that proof has more than `limits.entries` entries, it is used unshown. Each
-/// selector that is judged and each guard is spent where there isn't room enough: for `limits.pairs` pairs where `limits.plain`
-/// asks for a table of them, else for `limits.nodes` branches of diagrams. A caller can unfold a longer proof by `unfold`.
+/// An answer for each item of the sheet and for each further guard, in order. A selector is unused where no legal steps, however
+/// many, lead from the page to a node that it matches. A guard is unused where none lead to a node where it holds. Either is used
+/// with the one canonical proof of its atom, whose steps are legal and end at such a node. They are shown where they are at most
+/// `limits.list`. Where that proof has more than `limits.entries` entries, the goal is used unshown. All selectors that are judged
+/// and all guards are spent where a budget runs out: `limits.pairs` pairs where `limits.plain` asks for a table of them, else
+/// `limits.nodes` branches of diagrams. A caller can unfold a longer proof by `unfold`.
 ///
-/// Each statement and each selector is translated once, and the page is closed once; then a look-up answers what is unused, one
-/// proof the first of the goals that are used and read alike, and a copy each further one.
+/// Each statement and each selector is translated once, and the page is closed once. Then an unused goal costs a look-up. Of the
+/// used goals with the same guard, the first costs a proof, and each further one a copy.
 pub fn judge_more(
     alloc: Global,
     page: &Tree,

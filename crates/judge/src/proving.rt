@@ -1,4 +1,4 @@
-//! What is said of an atom that the page's root has: its proof, how many steps it has, and the steps if they are few.
+//! The answer for an atom that the closed root has: its proof, the number of the proof's steps, and the steps if they are few.
 ghost use Rattle.std.specs.Prelude.{◌≤◌, [], length, IfOk};
 ghost use Rattle.tree_sem.specs.Nodes.{HasAtom};
 ghost use Rattle.simple_core.specs.Systems.{IsSound};
@@ -19,7 +19,7 @@ use simple_core::Summaries;
 use tp_base::{Atom, NoMemory};
 use usage_report::Answer;
 
-// What the proof unfolds to, where it has no more steps than are listed.
+// The unfolded steps of the proof, where they are no more than the limit of a list.
 fn listed(ground: &Ground<'_>, proof: &Proof, atom: Atom) -> Result<Option<Unfolded>, NoMemory>
     requires sound { IsSound ground.now.system.now }
     requires list { ground.now.limits.now.list ≤ MOST_LISTED }
@@ -34,7 +34,7 @@ fn listed(ground: &Ground<'_>, proof: &Proof, atom: Atom) -> Result<Option<Unfol
     }
 }
 
-// The answer by a proof of the atom.
+// The answer `used`, with a proof of the atom.
 fn used_by(ground: &Ground<'_>, proof: Proof, atom: Atom) -> Result<Answer, NoMemory>
     requires sound { IsSound ground.now.system.now }
     requires list { ground.now.limits.now.list ≤ MOST_LISTED }
@@ -52,7 +52,7 @@ fn used_by(ground: &Ground<'_>, proof: Proof, atom: Atom) -> Result<Answer, NoMe
     })
 }
 
-/// The answer for an atom that the closed root has. It costs what `prove_next` and `unfold` cost.
+/// The answer for an atom that the closed root has. The cost is that of `prove_next` and `unfold`.
 pub(crate) fn proved<S: Summaries>(
     ground: &Ground<'_>,
     sums: &S,

@@ -1,5 +1,5 @@
 -- The items of a page that were passed, by the numbers of their nodes.
---     seen_in nodes here v    those at the node of the path v
+--     seen_in nodes here v    the items at the node at the path v
 use Rattle.std.specs.Prelude.{ℕ, List, [], ◌∷◌, ◌++◌, length, option_map, unwrap_or}
 use Rattle.simple_core.specs.declared.system.System.{System}
 use Rattle.tree_sem.specs.Trees.{LabelTree, children_at}
@@ -16,12 +16,12 @@ use Rattle.proof_check.specs.Unfolding.{Progress, Passed, unfold_item, unfold_en
 abbrev pub seen_in : NodePaths → List NodePass → List ℕ → List Passed
 seen_in nodes here v = unwrap_or (option_map (λ n. seen_at here n v) (number_in nodes v)) []
 
--- what an item of the page does, where `passed` is seen at the nodes
+-- the unfolding of an item of the page, where `passed` gives the items that were passed at each node
 abbrev pub item_seen : System → List Entry → LabelTree → PageItem → (List ℕ → List Passed) → Progress → Progress × Passed
 item_seen s es page i passed done =
     unfold_item s (unfold_entry s es (length es)) i.item (unwrap_or (children_at i.at page) 0) i.at (passed i.at) (λ k. passed (i.at ++ k ∷ [])) done
 
--- what an item does at a node
+-- the unfolding of an item at a node
 abbrev pub unfold_at : System → List Entry → ProofItem → PageNode → Progress → Progress × Passed
 unfold_at s es item node done =
     unfold_item s (unfold_entry s es (length es)) item node.base node.at.now (seen_at node.here.now node.number node.at.now) (λ k. seen_in node.nodes.now node.here.now (node.at.now ++ k ∷ [])) done

@@ -1,5 +1,5 @@
 -- Items that were passed at one node.
---     seen v here        as the unfolding sees them, at the node v
+--     seen v here        the items at the node v, as the unfolding sees them
 use Rattle.std.specs.Prelude.{ℕ, ◌==◌, List, [], ◌++◌, map, find, reverse, option_map, option_and_then, unwrap_or}
 use Rattle.proof_core.specs.declared.passes.Pass.{Pass}
 use Rattle.proof_check.specs.Unfolding.{Passed}
@@ -10,7 +10,7 @@ passed_of v p = record { atom = p.atom; child = p.child; end = v ++ reverse p.wa
 abbrev pub seen : List ℕ → List Pass → List Passed
 seen v here = map (passed_of v) here
 
--- of the first item with the atom: its way, and the child that it names
+-- the way of the first item with the atom, and the child that this item names
 abbrev pub way_for : ℕ → List Pass → List ℕ
 way_for a here = unwrap_or (option_map (λ (p : Pass). p.way.items) (find (λ p. p.atom == a) here)) []
 

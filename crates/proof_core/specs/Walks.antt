@@ -1,6 +1,6 @@
 -- Walks through the entries of a proof, where the levels above wait on a stack.
---     rest_of s es v walk done    what is left of a walk that began at the node v, and what it has made in the end
---     walk_work s es walk         how many turns it takes at most
+--     rest_of s es v walk done    the result of the rest of a walk that began at the node v
+--     walk_work s es walk         an upper bound on the turns of the walk
 use Rattle.std.specs.Prelude.{◌≡◌, ℕ, zero, suc, ◌+◌, ◌-◌, List, [], ◌∷◌, ◌++◌, length, map, drop, Some, option_map, unwrap_or, slice_get}
 use Rattle.simple_core.specs.declared.system.System.{System}
 use Rattle.proof_core.specs.Passes.{seen}
@@ -14,7 +14,7 @@ use Rattle.proof_core.specs.declared.walks.Level.{Level}
 use Rattle.proof_core.specs.declared.walks.Walk.{Walk}
 use Rattle.proof_check.specs.Unfolding.{Progress, Passed, end_for, forest_children, unfold_items, unfold_entry}
 
--- the items of the entry e, where n levels of entries may follow
+-- the items of the entry e, where n levels of entries may be below it
 abbrev pub level_items : List Entry → ℕ → ℕ → List ProofItem
 level_items es zero e = []
 level_items es (suc n) e = unwrap_or (option_map (λ (entry : Entry). entry.items) (slice_get es e)) []
@@ -22,20 +22,20 @@ level_items es (suc n) e = unwrap_or (option_map (λ (entry : Entry). entry.item
 abbrev pub Outcome : Type 0
 Outcome = Progress × List Passed
 
--- how many children a node of the entry's kind had before all steps
+-- the number of children that a node of the entry's kind had before all steps
 abbrev pub level_base : System → List Entry → ℕ → ℕ
 level_base s es e = unwrap_or (option_map (λ (entry : Entry). forest_children s entry.kind) (slice_get es e)) 0
 
--- the item at which a frame waits, when the level above it has passed `inside`
+-- the item at which a frame waits, once the level for which it waits has passed `inside`
 abbrev pub frame_pass : Frame → List ℕ → List Passed → Passed
 frame_pass f v inside = record { atom = f.atom; child = Some f.child; end = end_for f.from inside (v ++ f.child ∷ []) }
 
--- the node at which a walk stands that began at v
+-- the present node of a walk that began at v
 abbrev pub node_of : List ℕ → List Frame → List ℕ
 node_of v fs = v ++ map (λ (f : Frame). f.child) fs
 
 module _ (s : System) (es : List Entry) where
-  -- the items of a level from the n-th on, where `here` was passed before them
+  -- the unfolding of the items of a level from the n-th on; `here` was passed before them
   abbrev pub on_from : Level → ℕ → List ℕ → List Passed → Progress → Outcome
   on_from level n v here done = unfold_items s (unfold_entry s es (level.depth - 1)) (drop n (level_items es level.depth level.entry)) (level_base s es level.entry) v here done
 
@@ -45,7 +45,7 @@ module _ (s : System) (es : List Entry) where
   abbrev pub frame_rest : Frame → List ℕ → Outcome → Outcome
   frame_rest f v inside = on_from f.level (suc (length f.level.here)) v (seen v f.level.here ++ frame_pass f v inside.1 ∷ []) inside.0
 
-  -- the frames, the lowest first, above which `top` goes on at its node
+  -- the unfolding of the rest of the frames, the outermost first, with `top` for the present level
   abbrev pub frames_rest : List Frame → List ℕ → (List ℕ → Outcome) → Outcome
   frames_rest [] v top = top v
   frames_rest (f ∷ fs) v top = frame_rest f v (frames_rest fs (v ++ f.child ∷ []) top)
@@ -53,7 +53,7 @@ module _ (s : System) (es : List Entry) where
   abbrev pub rest_of : List ℕ → Walk → Progress → Outcome
   rest_of v walk done = frames_rest walk.stack.items v (λ w. level_rest walk.level w done)
 
-  -- a walk goes on to the next, wherever it began
+  -- the new walk has the same result as the old one, whatever node that one began at
   abbrev pub GoesOn : Walk → Progress → Walk → Progress → Type 0
   GoesOn old before new after = (v : List ℕ) → old.at ≡ node_of v old.stack.items → (new.at ≡ node_of v new.stack.items) × (rest_of v new after ≡ rest_of v old before)
 

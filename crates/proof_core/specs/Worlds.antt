@@ -1,5 +1,5 @@
--- How many children the nodes of each kind have from their forests.
---     HasFewSiblings kinds       what is true of the kinds of a sound system
+-- The number of children that the nodes of each kind have from their forests.
+--     HasFewSiblings kinds       the condition on siblings, which the kinds of each sound system meet
 use Rattle.std.specs.Prelude.{◌≡◌, ◌<◌, ◌≤◌, ℕ, ◌==◌, Bool, false, if◌then◌else◌, List, All, find, Option, Some, None, option_map, unwrap_or}
 use Rattle.indexmap.specs.IndexMap.{get_by}
 use Rattle.simple_core.specs.declared.rules.Kind.{Kind}

@@ -1,4 +1,4 @@
-//! Lists in which the first item with a key is found at once.
+//! Lists with a look-up of the first item with a key.
 ghost use Rattle.std.specs.Prelude.{◌≡◌, ◌<◌, ◌∷◌, ◌++◌, [], Some, length, find, slice_get, OnOk};
 ghost use Rattle.std.specs.Option.{option_copied};
 ghost use Rattle.proof_core.specs.KeyedLists.{first_place, has_key};
@@ -9,7 +9,7 @@ use std::hash::Hash;
 use std::marker::Model;
 use tp_base::NoMemory;
 
-/// What has a key.
+/// Items that have a key.
 pub trait Keyed {
     type Key: Copy + Eq + Hash + Drop;
 
@@ -39,7 +39,7 @@ impl<T: Keyed> Model for KeyedList<T> {
 }
 
 impl<T: Keyed + Drop> KeyedList<T> {
-    /// No items yet. Constant.
+    /// An empty list. Constant.
     pub fn new(alloc: Global) -> Self
         ensures { result ≡ [] }
     {
@@ -54,21 +54,21 @@ impl<T: Keyed + Drop> KeyedList<T> {
         *self.items.allocator()
     }
 
-    /// How many there are. Constant.
+    /// The number of items. Constant.
     pub fn len(&self) -> usize
         ensures { result ≡ length self.now }
     {
         self.items.len()
     }
 
-    /// The items, lent. Constant.
+    /// The items as a slice. Constant.
     pub fn items(&self) -> &[T]
         ensures { result.now ≡ self.now }
     {
         &self.items
     }
 
-    /// The place of the first item with the key. Constant on average.
+    /// The index of the first item with the key. Constant on average.
     pub fn place_of(&self, key: T::Key) -> Option<usize>
         ensures { result ≡ first_place (has_key T.Key.eq T.key_of key) self.now }
     {
@@ -85,7 +85,7 @@ impl<T: Keyed + Drop> KeyedList<T> {
         }
     }
 
-    /// The first item with the key. It lets the others go. Linear in them.
+    /// The first item with the key, by value. The others are dropped. Linear in their number.
     pub fn into_first(self, key: T::Key) -> Option<T>
         ensures { result ≡ find (has_key T.Key.eq T.key_of key) self }
     {

@@ -1,4 +1,4 @@
-//! What valid proofs show, for those that rest on one.
+//! Laws: what a valid proof shows.
 ghost use Rattle.std.specs.Prelude.{[], List};
 ghost use Rattle.tree_sem.specs.Nodes.{HasAtom};
 ghost use Rattle.simple_core.specs.SimpleSteps.{SimpleStep, AreLegal, end_of};
@@ -11,14 +11,14 @@ use std::marker::Brand;
 use tp_base::Atom;
 use tree_sem::Tree;
 
-/// A valid proof shows its target: after some legal list of simple steps from the page, it is at the root.
+/// A valid proof shows its target: some legal list of simple steps from the page ends in a tree whose root has the target atom.
 pub fn valid_shows(proof: &Proof, system: &System, page: &Tree, target: Atom)
     requires valid { IsValid system.now page.now proof.now target }
     ensures { (steps : List SimpleStep) × AreLegal system.now page.now steps × HasAtom (end_of system.now page.now steps) [] target }
 {}
 
-/// A meaning for the atoms and kinds of a system: the tree that the forest of each kind has at its node, which steps of statements are legal
-/// in a tree and what they make of it, what an atom says of a node, and what is looked for.
+/// A meaning for the atoms and kinds of a system. It gives each kind the subtree at its node in its forest. It says which steps are
+/// legal in a tree, and which tree they lead to. It says of which nodes an atom is true, and which nodes the target looks for.
 pub trait Reading {
     ghost use Rattle.std.specs.Prelude.{ℕ, List};
     ghost use Rattle.tree_sem.specs.declared.actions.Step.{Step};
@@ -51,8 +51,8 @@ impl Reading for Brand {
     ghost found = { λ t v. ⊥ };
 }
 
-/// The steps that a valid proof unfolds to are legal from the page, one after another, and end at a tree where what is looked for is at the node that the
-/// proof unfolds to: for any meaning about which the rules of the system are right.
+/// The steps that a valid proof unfolds to are legal from the page, one after another. In the tree at their end, the proof's node is
+/// one that the target looks for. This holds for each meaning for which the rules of the system are sound.
 pub fn unfolding_is_right<R: Reading>(proof: &Proof, system: &System, page: &Tree, target: Atom)
     requires reading { IsReading (read_by system.now R.kind_tree R.legal R.after R.means target R.found) page.now }
     requires valid { IsValid system.now page.now proof.now target }

@@ -1,4 +1,4 @@
-//! The items of the page that were passed, and where the walk for a match goes from each of them.
+//! The items of the page that were passed, and the walk from each of them to a match.
 ghost use Rattle.std.specs.Prelude.{◌≡◌, ◌≤◌, ◌++◌, ℕ, List, Some, None, nat_lt, if◌then◌else◌, option_and_then, reverse, IfOk, OnOk};
 ghost use Rattle.proof_core.specs.NodePasses.{Seen, seen_one, all_seen, way_on, passed_to, seen_at, turns};
 ghost use Rattle.proof_core.specs.Passes.{passed_of};
@@ -9,7 +9,7 @@ use crate::passes::{Pass, plain};
 use std::alloc::Global;
 use tp_base::{Atom, NoMemory, Path};
 
-/// An item that was passed at the node of this number. Where its own way ends, the walk goes on as from the item `on`, which was
+/// An item that was passed at the node with this number. Where its own way ends, the walk goes on from the item `on`, which was
 /// passed before it.
 #[derive(Drop)]
 pub struct NodePass {
@@ -18,7 +18,7 @@ pub struct NodePass {
     pub on: Option<usize>,
 }
 
-/// An atom at the node of this number.
+/// An atom at the node with this number.
 #[derive(Clone, Copy, Debug, PartialEq, Eq, Hash)]
 pub struct NodeAtom {
     pub node: usize,
@@ -38,7 +38,7 @@ impl Keyed for NodePass {
     }
 }
 
-/// Passed items of the page, in their order, found by their atoms and nodes.
+/// The passed items of the page, in their order, with a look-up by atom and node.
 pub type NodePasses = KeyedList<NodePass>;
 
 /// The child that the first item with the atom at the node names. Constant on average.
@@ -51,7 +51,7 @@ pub fn child_for(here: &NodePasses, at: NodeAtom) -> u32
     }
 }
 
-/// The way of the walk from an item. Linear in its length and in the items on it.
+/// The path to the end of the walk from an item. Linear in its length and in the items on it.
 pub fn walk_from(items: &[NodePass], from: Option<usize>, alloc: Global) -> Result<Path, NoMemory>
     ensures { IfOk result (λ p. p ≡ way_on (all_seen items.now) from) }
 {
@@ -103,7 +103,7 @@ fn go_down(path: &mut Path, way: &[u32], alloc: Global) -> Result<(), NoMemory>
     Ok(())
 }
 
-/// An item that names no child, at the node of this number.
+/// An item that names no child, at the node with this number. Constant.
 pub fn stays(node: usize, atom: Atom, alloc: Global) -> NodePass
     ensures node { result.node ≡ node }
     ensures pass { (before : List Seen) (v : List ℕ) → passed_to v (seen_one before result) ≡ record { atom = atom; child = None; end = v } }
@@ -116,7 +116,7 @@ pub fn stays(node: usize, atom: Atom, alloc: Global) -> NodePass
     }
 }
 
-/// An item that goes its own way alone.
+/// An item whose walk ends with its own way. Constant.
 pub fn alone(node: usize, pass: Pass) -> NodePass
     ensures node { result.node ≡ node }
     ensures pass { (before : List Seen) (v : List ℕ) → passed_to v (seen_one before result) ≡ passed_of v pass }

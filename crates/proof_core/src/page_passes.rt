@@ -1,4 +1,4 @@
-//! The steps that the items of a page say.
+//! The steps of the items of a page.
 ghost use Rattle.std.specs.Prelude.{◌≡◌, ◌∷◌, ◌++◌, ◌≤◌, ℕ, List, [], Some, true, is_some, length, unwrap_or, if◌then◌else◌, bytes_eq, IfOk, OnOk};
 ghost use Rattle.tree_sem.specs.Trees.{children_at};
 ghost use Rattle.tree_sem.specs.declared.tree_fault.TheConstants.{MOST_NODES};
@@ -26,7 +26,7 @@ pub struct NumberedPage<'a> {
     pub nodes: &'a Nodes,
 }
 
-/// A node of the page, with its number and how many children it has, and what was passed before.
+/// A node of the page with its number, the number of its children, and the items that were passed before.
 #[derive(Clone, Copy)]
 pub struct PageNode<'a> {
     pub at: &'a Path,
@@ -55,7 +55,7 @@ pub fn page_passed(
     Ok(here)
 }
 
-// One item of the page more.
+// Passes one more item of the page.
 fn item_passed_at(
     item: &PageItem,
     page: &NumberedPage<'_>,
@@ -95,7 +95,7 @@ fn number_of(nodes: &Nodes, path: &[u32]) -> usize
     }
 }
 
-// How many children a node has. They are fewer than the nodes of the tree.
+// The number of a node's children. It is less than the number of the tree's nodes.
 fn base_of(page: &Tree, at: &Path) -> u32
     ensures base { result ≡ unwrap_or (children_at at.now page.now) 0 }
     ensures few { result ≤ MOST_NODES }
@@ -138,7 +138,7 @@ fn item_passed(
     }
 }
 
-// An item for this atom by a link from the atom `from` at the page's child k.
+// Passes an item for this atom. Its reason is a link from the atom `from` at the node's child k.
 fn child_passed(
     atom: Atom,
     k: u32,
@@ -199,7 +199,7 @@ fn child_at(at: &Path, k: u32) -> Result<Path, NoMemory>
     Ok(child)
 }
 
-/// The place of the first item with the atom at the node of a path. Linear in the path's length, on average.
+/// The index of the first item with the atom at the node at a path. Linear in the path's length, on average.
 pub fn place_at(nodes: &Nodes, here: &NodePasses, path: &[u32], atom: Atom) -> Option<usize>
     ensures { end_for atom (seen_in nodes.now here.now path.now) path.now ≡ path.now ++ way_on (all_seen here.now) result }
 {

@@ -6,8 +6,8 @@ use crate::keyed_list::{Keyed, KeyedList};
 use std::alloc::Global;
 use tp_base::{Atom, NoMemory};
 
-/// An item that was passed: its atom, the child that it names, if it names one, and the way down from its node to the one where
-/// the walk for a match ends, last step first.
+/// An item that was passed: its atom, the child that it names, if it names one, and a way. The way leads down from its node to the
+/// node where the walk for a match ends, last step first.
 #[derive(Drop)]
 pub struct Pass {
     pub atom: Atom,
@@ -25,7 +25,7 @@ impl Keyed for Pass {
     }
 }
 
-/// Passed items, in their order, found by their atoms.
+/// Passed items, in their order, with a look-up by atom.
 pub type Passes = KeyedList<Pass>;
 
 /// The child that the first item with the atom names. Constant on average.
@@ -38,7 +38,7 @@ pub fn child_for(here: &Passes, atom: Atom) -> u32
     }
 }
 
-/// The way of the first item with the atom, or the one that stays where it is. It lets the items go.
+/// The way of the first item with the atom, or the empty way without one. The items are dropped. Linear in their number.
 pub fn way_from(here: Passes, atom: Atom) -> Vec<u32>
     ensures { result.items ≡ way_for atom here }
 {
@@ -49,7 +49,7 @@ pub fn way_from(here: Passes, atom: Atom) -> Vec<u32>
     }
 }
 
-/// An item that names no child.
+/// An item that names no child. Constant.
 pub fn plain(alloc: Global, atom: Atom) -> Pass
     ensures atom { result.atom ≡ atom }
     ensures child { result.child ≡ None }
@@ -62,7 +62,7 @@ pub fn plain(alloc: Global, atom: Atom) -> Pass
     }
 }
 
-/// An item whose child has the number k, from which the way goes on.
+/// An item that names the child k. Its way goes to this child and then on by `way`. Constant on average.
 pub fn down(atom: Atom, k: u32, way: Vec<u32>) -> Result<Pass, NoMemory>
     ensures atom { IfOk result (λ p. p.atom ≡ atom) }
     ensures child { IfOk result (λ p. p.child ≡ Some k) }

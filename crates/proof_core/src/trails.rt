@@ -13,7 +13,7 @@ use std::alloc::Global;
 use tp_base::{NoMemory, Path};
 use tree_sem::Step;
 
-/// The steps so far, and how many children they have added to each node.
+/// The steps so far, and the number of children that they have added to each node.
 #[derive(Drop)]
 pub struct Trail {
     steps: Vec<Step>,
@@ -24,7 +24,7 @@ pub struct Trail {
 impl Trail {
     ghost use Rattle.proof_core.specs.Trails.{progress_of, grown_at, no_progress, step_of_forest, number_for, with_forest_of};
 
-    /// No steps yet. Constant.
+    /// An empty trail. Constant.
     pub fn new(alloc: Global) -> Trail
         ensures { progress_of result ≡ no_progress }
     {
@@ -34,12 +34,12 @@ impl Trail {
         }
     }
 
-    /// The allocator that its memory comes from.
+    /// The allocator that its memory comes from. Constant.
     pub fn allocator(&self) -> Global {
         *self.steps.allocator()
     }
 
-    /// The steps, without the trail. Constant.
+    /// The steps, by value. Constant.
     pub fn into_steps(self) -> Vec<Step>
         ensures { result.items ≡ (progress_of self).steps }
     {
@@ -55,7 +55,7 @@ impl Trail {
         Ok(())
     }
 
-    // The step of a kind's forest, at the node or for a `beside` kind at its child of this number.
+    // Adds the step that brings a kind's forest: at the node or, for a `beside` kind, at the node's child with this number.
     fn push_forest(&mut self, kind: &Kind, at: &Path, child: u32) -> Result<(), NoMemory>
         ensures { OnOk result (progress_of self.new ≡ step_of_forest kind.now at.now child (progress_of self.old)) }
     {
@@ -79,7 +79,7 @@ impl Trail {
         Ok(())
     }
 
-    // How many children were added at the path. Linear in its length, on average.
+    // The number of children that were added at the path. Linear in its length, on average.
     fn added(&self, path: &[u32]) -> u64
         ensures { result ≡ (progress_of self.now).added path.now }
     {
@@ -89,8 +89,9 @@ impl Trail {
         }
     }
 
-    /// The number of the new node of a kind among the children of a node, which had `base` children before all steps. Where the kind is a top
-    /// one, the step is added that brings it, for a `beside` kind at the child of the number `child`. Linear in the path's length, on average.
+    /// The number of the new node of a kind among the children of a node. That node had `base` children before all steps. For the top
+    /// node of a forest, the step that brings the forest is added: at the node or, for a `beside` kind, at the node's child `child`.
+    /// Linear in the path's length, on average.
     pub fn bring(&mut self, kind: &Kind, base: u32, at: &Path, child: u32) -> Result<u32, NoMemory>
         requires number { kind.now.number < MOST_KINDS }
         requires siblings { kind.now.siblings ≤ MOST_KINDS }

@@ -1,4 +1,4 @@
-//! The steps of a proof, and the node that they lead to.
+//! The unfolding of a proof: its steps, and the node to which they lead.
 ghost use Rattle.std.specs.Prelude.{◌≡◌, ◌↔◌, ◌≤◌, ◌<◌, [], length, min, IsTrue, IfOk, IsErrOf};
 ghost use Rattle.proof_core.specs.PagePasses.{seen_in};
 ghost use Rattle.proof_check.specs.Unfolding.{end_for, unfolded};
@@ -17,10 +17,10 @@ use thiserror::Error;
 use tp_base::{Atom, NoMemory, Path};
 use tree_sem::Tree;
 
-/// How many steps can be listed at most.
+/// The most steps that can be listed.
 pub const MOST_LISTED: u32 = 1_000_000;
 
-/// Why a proof wasn't unfolded.
+/// The reason why a proof wasn't unfolded.
 #[derive(Clone, Copy, Debug, PartialEq, Eq, Error)]
 pub enum UnfoldFault {
     #[error("more steps than the limit")]
@@ -39,9 +39,9 @@ impl From<NoMemory> for UnfoldFault {
     }
 }
 
-/// The steps that a valid proof says, where they are no more than the limit, and the node of the match. The condition on siblings is
-/// one of those that a sound system meets. Linear in the items that are passed, each as often as it is named, and in the lengths of
-/// the paths of the steps and of the page's items, on average.
+/// The steps of a valid proof, where they are at most the limit, and the node of the match. Each sound system meets the condition on
+/// siblings. Linear, on average, in the items that are passed and in the lengths of the paths of the steps and of the page's items.
+/// An item counts as often as it is named.
 pub fn unfold(
     alloc: Global,
     proof: &Proof,
@@ -66,7 +66,7 @@ pub fn unfold(
     }
 }
 
-// How many steps it has.
+// The number of the proof's steps.
 fn count_of(proof: &Proof, system: &System, page: &Tree, target: Atom) -> u64
     requires valid { IsValid system.now page.now proof.now target }
     ensures { result ≡ min (length (unfolded system.now proof.now page.now target).0) MOST_STEPS }
@@ -74,7 +74,7 @@ fn count_of(proof: &Proof, system: &System, page: &Tree, target: Atom) -> u64
     steps(proof, system)
 }
 
-// Whether the proof has more steps than this.
+// Whether the proof has more steps than the limit.
 fn is_over(proof: &Proof, system: &System, page: &Tree, target: Atom, limit: u64) -> bool
     requires valid { IsValid system.now page.now proof.now target }
     requires in_limit { limit ≤ MOST_LISTED }
@@ -114,7 +114,7 @@ fn unfold_all(
     Ok(Unfolded { steps, at })
 }
 
-// Where the walk for the target ends that begins at the root.
+// The end of the walk for the target from the root.
 fn match_of(nodes: &Nodes, here: &NodePasses, target: Atom, alloc: Global) -> Result<Path, NoMemory>
     ensures { IfOk result (λ p. p ≡ end_for target (seen_in nodes.now here.now []) []) }
 {

@@ -1,5 +1,5 @@
-//! The steps of an entry at a node, with those of the entries that it names. The levels above wait on a stack, so that a
-//! chain of entries may be as long as memory lets it.
+//! The steps of an entry at a node, with the steps of the entries that it names. The levels above wait on a stack, so only
+//! memory limits the length of a chain of entries.
 ghost use Rattle.std.specs.Prelude.{◌≡◌, ◌<◌, ◌≤◌, ◌-◌, ◌∷◌, ◌++◌, ℕ, List, [], IsTrue, IfOk, OnOk, Some, None, false, length, slice_get};
 ghost use Rattle.simple_core.specs.declared.system.TheConstants.{MOST_KINDS};
 ghost use Rattle.proof_core.specs.Trails.{progress_of};
@@ -16,7 +16,7 @@ use std::alloc::Global;
 use std::mem;
 use tp_base::{Atom, NoMemory, Path};
 
-/// The items of an entry as far as they were passed. Below it `depth - 1` levels of entries may follow.
+/// A level: the items of an entry that were passed so far. Below it may be `depth - 1` further levels.
 #[derive(Drop)]
 pub struct Level {
     pub entry: u32,
@@ -24,7 +24,7 @@ pub struct Level {
     pub here: Passes,
 }
 
-/// A level that waits for the entry at its child, by an item for this atom and a link from the atom `from`.
+/// A level that waits for the entry at its child. Its present item is for this atom, by a link from the atom `from`.
 #[derive(Drop)]
 pub struct Frame {
     pub level: Level,
@@ -41,7 +41,7 @@ pub struct Walk {
     pub stack: Vec<Frame>,
 }
 
-/// The items of an entry at a node. Linear in the items that are passed and in the lengths of the steps' paths, on average.
+/// Passes the items of an entry at a node. Linear in the items that are passed and in the lengths of the steps' paths, on average.
 pub fn entry_passed(
     entry: u32,
     at: Path,
@@ -62,7 +62,7 @@ pub fn entry_passed(
     }
 }
 
-// How many children a node of the entry's kind had before all steps.
+// The number of children that a node of the entry's kind had before all steps.
 fn base_of(entry: u32, world: &World<'_>) -> u32
     ensures base { result ≡ level_base world.now.system.now world.now.entries.now entry }
     ensures few { result ≤ MOST_KINDS }
@@ -74,7 +74,7 @@ fn base_of(entry: u32, world: &World<'_>) -> u32
 }
 
 impl Level {
-    // The next item.
+    // The next item of the present level.
     fn next(&self, world: &World<'_>) -> Option<ProofItem>
         ensures { result ≡ slice_get (level_items world.now.entries.now self.now.depth self.now.entry) (length self.now.here) }
     {
@@ -88,7 +88,7 @@ impl Level {
 }
 
 impl Walk {
-    // At an entry's node, with none of its items passed.
+    // The walk at an entry's node, before its first item.
     fn of(entry: u32, at: Path, world: &World<'_>, alloc: Global) -> Walk
         ensures stands { result.at ≡ node_of at result.stack.items }
         ensures whole { (done : Progress) → rest_of world.now.system.now world.now.entries.now at result done
@@ -140,7 +140,7 @@ impl Walk {
                 after_local(world.system, l, &self.at, trail)?;
                 self.level.here.push(plain(alloc, item.atom))
             }
-            // In an entry no child is one of the page.
+            // An entry's node is an added one, so none of its children is a node of the page.
             Reason::Down(_, Below::Real(k)) => {
                 let pass = down(item.atom, k, Vec::new(alloc))?;
                 self.level.here.push(pass)
@@ -152,7 +152,7 @@ impl Walk {
         }
     }
 
-    // An item whose child a spawn rule adds.
+    // Passes an item whose child a spawn rule adds.
     fn pass_grown(
         &mut self,
         item: ProofItem,
@@ -179,7 +179,7 @@ impl Walk {
         }
     }
 
-    // Goes on with an entry at the child of this number, for an item of this atom and a link from the atom `from`.
+    // Goes on with an entry at the child with this number. The item for it is of this atom, by a link from the atom `from`.
     fn enter(
         &mut self,
         entry: u32,
@@ -208,7 +208,7 @@ impl Walk {
         Ok(())
     }
 
-    // Goes back to the level above, where the present one has no more items.
+    // Goes back to the level above. The present level has no more items.
     fn leave(&mut self, world: &World<'_>) -> Result<bool, NoMemory>
         requires none { slice_get (level_items world.now.entries.now self.old.level.depth self.old.level.entry) (length self.old.level.here) ≡ None }
         ensures on { (done : Progress) → OnOk result (GoesOn world.now.system.now world.now.entries.now self.old done self.new done) }

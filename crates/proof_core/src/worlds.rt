@@ -1,4 +1,4 @@
-//! The system and the entries of a proof, as they are looked up while it is unfolded.
+//! The system and the entries of a proof, for look-ups while it is unfolded.
 ghost use Rattle.std.specs.Prelude.{◌≡◌, ◌==◌, ℕ, OnOk, IfOk, Some, false, unwrap_or, slice_get};
 ghost use Rattle.std.specs.Option.{option_copied, option_or};
 ghost use Rattle.std.proofs.Props.{props};
@@ -13,14 +13,14 @@ use simple_core::{Kind, System};
 use std::alloc::Global;
 use tp_base::{Atom, NoMemory, Path};
 
-/// How many children a grown node of each kind has from its forest.
+/// For each kind, the number of children that an added node has from its forest.
 #[derive(Drop)]
 pub struct ChildCounts {
     children: IndexMap<u32, u32>,
 }
 
-/// The system and the entries of a proof, with the child counts of the system's kinds. The condition on siblings is one of those
-/// that a sound system meets.
+/// The system and the entries of a proof, with the child counts of the system's kinds. Each sound system meets the condition on
+/// siblings.
 #[derive(Clone, Copy)]
 pub struct World<'a> {
     pub system: &'a System,
@@ -30,7 +30,7 @@ pub struct World<'a> {
     ghost known: { KnowsCounts counts.now system.now.kinds } by { Prim.hlevel props },
 }
 
-/// A child that a spawn rule adds: the `down` link from it, the rule, and the entry whose node it is.
+/// A child that a spawn rule adds: the `down` link from it, the spawn rule, and the entry of the child.
 #[derive(Clone, Copy)]
 pub struct GrownChild {
     pub link: u64,
@@ -39,7 +39,7 @@ pub struct GrownChild {
 }
 
 impl ChildCounts {
-    /// Those of the kinds of a system. Linear in the kinds, on average.
+    /// The child counts of the kinds of a system. Linear in the kinds, on average.
     pub fn of(alloc: Global, kinds: &[Kind]) -> Result<ChildCounts, NoMemory>
         ensures { IfOk result (λ counts. KnowsCounts counts kinds.now) }
     {
@@ -52,7 +52,7 @@ impl ChildCounts {
         Ok(counts)
     }
 
-    /// How many children a node of the kind has from its forest. Constant on average.
+    /// The number of children that a node of the kind has from its forest. Constant on average.
     pub fn children_of(&self, kind: u32) -> u32
         ensures { result ≡ unwrap_or (known_in self.now kind) 0 }
     {
@@ -62,7 +62,7 @@ impl ChildCounts {
         }
     }
 
-    // The first kind below another tells how many there are.
+    // The first kind below another one has the number of siblings.
     fn note(&mut self, kind: &Kind) -> Result<(), NoMemory>
         ensures { OnOk result ((j : ℕ) → known_in self.new j ≡ option_or (known_in self.old j) (siblings_below j kind.now)) }
     {
@@ -83,7 +83,7 @@ impl ChildCounts {
     }
 }
 
-/// The step of a local rule, if it has one.
+/// Adds the step of a local rule, if it has one. Linear in the path's length.
 pub fn after_local(system: &System, rule: u64, at: &Path, trail: &mut Trail) -> Result<(), NoMemory>
     ensures { OnOk result (progress_of trail.new ≡ spec.after_local system.now (slice_get system.now.local rule) at.now (progress_of trail.old)) }
 {
@@ -96,7 +96,7 @@ pub fn after_local(system: &System, rule: u64, at: &Path, trail: &mut Trail) -> 
     }
 }
 
-/// The kind of a spawn rule.
+/// The kind of a spawn rule. Constant.
 pub fn spawned(system: &System, spawn: u64) -> Option<&Kind>
     ensures { option_copied result ≡ spec.spawned system.now spawn }
 {
@@ -104,7 +104,7 @@ pub fn spawned(system: &System, spawn: u64) -> Option<&Kind>
     system.kinds.items().get(spawn.kind as usize)
 }
 
-/// The atom that a spawn rule needs.
+/// The atom that a spawn rule needs. Constant.
 pub fn needed_by(system: &System, spawn: u64) -> Atom
     ensures { result ≡ spec.needed_by system.now spawn }
 {
@@ -114,7 +114,7 @@ pub fn needed_by(system: &System, spawn: u64) -> Atom
     }
 }
 
-/// The left side of a `down` link.
+/// The left side of a `down` link. Constant.
 pub fn from_of(system: &System, link: u64) -> Atom
     ensures { result ≡ spec.from_of (slice_get system.now.down link) }
 {

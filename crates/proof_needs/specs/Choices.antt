@@ -1,4 +1,4 @@
--- The reason that a proof gives for an atom: the first one all of whose premises stand in the round before the atom's first round.
+-- The reason that a proof gives for an atom: the first one whose premises are all there one round before the atom's first round.
 --     Setting                the labels of a page's nodes, or of one added node, round by round
 --     chosen s set v a r     the reason, where the first round is r
 use Rattle.std.specs.Prelude.{ℕ, zero, suc, ◌==◌, ◌&&◌, Bool, false, List, [], ◌∷◌, ◌++◌, map, find, length, option_map, unwrap_or, slice_get}

@@ -1,5 +1,5 @@
--- The items of each spot, in their order, from the worklist.
---     IsDealt P Tie xs       the wants whose spots are such, by first round and then as Tie says
+-- The wants of the worklist, dealt out to their spots in order.
+--     IsDealt P Tie xs       the wants whose spots have P, sorted by first round and then by Tie
 use Rattle.std.specs.Prelude.{◌≡◌, ◌⊎◌, ℕ, ◌<◌, List, [], Contains, Some, unwrap_or, slice_get}
 use Rattle.tree_sem.specs.Order.{Before}
 use Rattle.proof_needs.specs.declared.spots.Spot.{Spot}

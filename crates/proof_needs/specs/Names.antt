@@ -1,7 +1,7 @@
 -- The triples that items name, from the drafts of their wants.
 --     named_at drafts i            the triple that the want i names, if it names one
---     named_all drafts wants       those that a list of wants names, in their order
---     names_in drafts orders n     those that the items of the triple n name
+--     named_all drafts wants       the triples that a list of wants names, in their order
+--     names_in drafts orders n     the triples that the items of the triple n name
 use Rattle.std.specs.Prelude.{ℕ, List, [], option_map, option_and_then, unwrap_or, slice_get}
 use Rattle.std.specs.List.{flat_map}
 use Rattle.std.specs.Option.{option_to_list}

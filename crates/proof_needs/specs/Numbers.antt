@@ -1,10 +1,10 @@
--- A walk through numbers that name others: each is put behind those that it names, these in their order, and once.
---     Tour names ts w out      from what was entered and numbered before, the walk through ts leads to what is afterwards
---     Tours names roots order  the whole walk through the roots numbers these, in this order
+-- A depth-first walk through numbers that name others. It puts each number once, behind those that it names, and these in their order.
+--     Tour names ts w out      the walk through ts leads from the state w to the state out
+--     Tours names roots order  the whole walk through the roots puts these numbers in this order
 --     number_in order t        the number of t: its place in the order
---     IsTaken names task ..    what one task does to those that wait, the next of them last, and to what was walked
---     Left names tasks w out   what waits, the next task first, leads there
---     room lists k entered     how many tasks are still to come for the lists that aren't entered, of which the first has the number k
+--     IsTaken names task ..    the effect of one task on the waiting ones, of which the next is last, and on the state of the walk
+--     Left names tasks w out   the waiting tasks, the next one first, lead from the state w to the state out
+--     room lists k entered     the number of tasks still to come for the lists that aren't entered; the first list has the number k
 use Rattle.std.specs.Prelude.{◌≡◌, ◌⊎◌, ℕ, suc, ◌+◌, ◌<◌, eqb, List, [], ◌∷◌, ◌++◌, if◌then◌else◌, length, map, reverse, All, Contains, position, option_map, unwrap_or, slice_get, Vec}
 use Rattle.std.specs.List.{list_any}
 use Rattle.std.specs.Global.{Global}

@@ -1,6 +1,6 @@
--- Worklists whose wants can be put into their order, and those that were.
+-- Worklists that can be sorted, and sorted ones.
 --     IsSortable n      each want is looked at, and no want and no node of the page stands twice
---     IsRank, IsBefore  what a want is sorted by, and the order of two such
+--     IsRank, IsBefore  the sort key of a want, and the order of two keys
 --     AreSorted n rs    the ranks of all wants, in their order
 --     AreFrom           orders of the wants in a list, each at its spot
 --     AreDealt n o      the orders have the wants of the page and of each triple

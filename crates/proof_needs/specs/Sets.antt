@@ -1,7 +1,7 @@
 -- Lists without repeats that grow at their ends.
---     AreDistinct xs      nothing stands twice
---     IsMore old new      what stands in the old list stands in the new one at the same place
---     IsWith old P new    the new list has besides what is such, and nothing else
+--     AreDistinct xs      no element stands twice in xs
+--     IsMore old new      each element of the old list stands in the new one at the same index
+--     IsWith old P new    the new list has the elements of the old one, those with P, and no others
 use Rattle.std.specs.Prelude.{◌≡◌, ◌⊎◌, ℕ, List, Contains, Some, slice_get}
 
 abbrev pub AreDistinct : {X : Type 0} → List X → Type 0

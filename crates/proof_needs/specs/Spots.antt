@@ -1,6 +1,6 @@
 -- Spots and triples by their numbers.
---     spot_in nodes triples spot     the spot of this number
---     IsSpot nodes triples spot      there is one
+--     spot_in nodes triples spot     the spot with this number
+--     IsSpot nodes triples spot      there is a spot with this number
 use Rattle.std.specs.Prelude.{ℕ, ◌<◌, List, [], length, map, unwrap_or, slice_get, Vec}
 use Rattle.std.specs.Global.{Global}
 use Rattle.proof_needs.specs.declared.spots.Spot.{Spot}

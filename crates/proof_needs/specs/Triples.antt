@@ -1,4 +1,4 @@
--- Where the proof of an atom needs others.
+-- The nodes at which a proof needs atoms.
 --     Triple                      an atom of an added node, which has an entry of its own
 --     Spot                        a node of the page, or the added node of a triple
 use Rattle.std.specs.Prelude.{ℕ, List}

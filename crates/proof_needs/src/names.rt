@@ -1,4 +1,4 @@
-//! The triples that the items of each triple name.
+//! For each triple, the triples that its items name.
 ghost use Rattle.std.specs.Prelude.{◌≡◌, ◌<◌, ℕ, Some, length, map, slice_get, option_and_then, IfOk};
 ghost use Rattle.proof_needs.specs.declared.needs.Draft.{Draft};
 ghost use Rattle.proof_needs.specs.declared.orders.Order.{Order};

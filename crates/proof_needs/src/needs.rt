@@ -1,4 +1,4 @@
-//! What the proof of an atom needs, and how the premises of a reason are followed.
+//! The worklist of a proof: the premises of each reason are put on it, each once.
 ghost use Rattle.std.specs.Prelude.{◌≡◌, ◌<◌, ◌++◌, ◌∷◌, [], ℕ, List, Option, Some, length, slice_get, unwrap_or, option_map, IsSomeAnd, OnOk};
 ghost use Rattle.tree_sem.specs.Paths.{parent_of};
 ghost use Rattle.proof_needs.specs.Choices.{needs_of};

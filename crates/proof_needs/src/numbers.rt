@@ -1,4 +1,4 @@
-//! The numbers of entries: a triple stands after those that its items name.
+//! The numbers of entries, in topological order: a triple comes after those that its items name.
 ghost use Rattle.std.specs.Prelude.{◌≡◌, ◌<◌, ◌^◌, ◌++◌, List, ℕ, All, length, map, reverse, IfOk, OnOk};
 ghost use Rattle.proof_needs.specs.declared.numbers.Task.TheVariants.{Visit};
 ghost use Rattle.proof_needs.specs.Numbers.{Tours, number_in, names_at, AreBelow, IsTaskBelow, IsVisited, IsTaken};

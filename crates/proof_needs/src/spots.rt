@@ -1,4 +1,4 @@
-//! Where atoms are needed: at nodes of the page and at added nodes, by their numbers.
+//! The spots where atoms are needed, by their numbers: nodes of the page and added nodes.
 ghost use Rattle.std.specs.Prelude.{◌≡◌, ◌++◌, if◌then◌else◌, suc, length, Some, slice_get, IfOk, OnOk, OnErr, nat_eq};
 ghost use Rattle.std.specs.Cmp.Lexicographic.{pointwise};
 ghost use Rattle.std.specs.Cmp.Rules.{comparing};

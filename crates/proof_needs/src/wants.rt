@@ -1,4 +1,4 @@
-//! What is needed, each atom at each spot once.
+//! The wanted atoms: each atom at each spot once.
 ghost use Rattle.std.specs.Prelude.{◌≡◌, OnOk, OnErr};
 ghost use Rattle.proof_needs.specs.Sets.{IsWith};
 ghost use Rattle.proof_needs.specs.Wants.{IsOfEach, IsAtEach};

@@ -36,7 +36,7 @@ fn main(rt: HostRuntime) -> ExitCode {
     exit_code(status)
 }
 
-// The report goes to `out`, and what else is said to `err`.
+// The report goes to `out`, and messages go to `err`.
 fn run<F: Files, O: Sink, E: Sink>(
     alloc: Global,
     words: &[String],
@@ -70,15 +70,14 @@ fn no_words(err: &mut HostSink<Stderr>) -> Status
     Status::NoMemory
 }
 
-// The status that the process ends with.
+// The exit code of the process.
 fn exit_code(status: Status) -> ExitCode
     ensures { exit_status result ≡ code_of status }
 {
     ExitCode::from(status.code())
 }
 
-// The words after the program's name, of the arguments that the system gave. A word that isn't UTF-8 names no file, so that there
-// are no words then.
+// The arguments after the program's name. An argument that isn't UTF-8 names no file, and then there are no words.
 fn words(alloc: Global, given: io::Result<env::Args>) -> io::Result<Vec<String>>
     ensures words { IfOk given (λ args. IfOk result (λ words. words.items ≡ drop 1 (into_iter_items args))) }
     ensures only_memory { IfOk given (λ _. IfErr result (λ e. error_kind e ≡ ErrorKind.OutOfMemory)) }

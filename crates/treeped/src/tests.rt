@@ -1,4 +1,4 @@
-//! Runs over the system's files and streams, each with the status that the process would end with.
+//! Runs on the system's files and streams, each compared with its exit status.
 use crate::{exit_code, run};
 use std::alloc::{AllocError, Global};
 use std::process::ExitCode;

@@ -1,10 +1,10 @@
--- What loading, reading and judging come to, part by part. No public contract cites it: each is what one function beneath hands on, over
--- its answer or the stop, and `Runs` says what they come to together.
---     OneLoaded ..       what loading one file comes to
---     AllLoaded ..       what loading several comes to, up to the first that is refused
---     IsRead ..          what reading the texts of a page comes to
---     IsSaying ..        what reading and judging them comes to
---     Written ..         what reading, judging and writing come to on one page
+-- The results of loading, reading and judging, part by part. No public contract cites this file: each definition is the contract of one
+-- inner function, over its answer or its reason to stop. `Runs` puts them together.
+--     OneLoaded ..       the result of loading one file
+--     AllLoaded ..       the result of loading several files, up to the first that is refused
+--     IsRead ..          the result of reading the texts of a page
+--     IsSaying ..        the result of reading and judging them
+--     Written ..         the result of reading, judging and writing on one page
 use Rattle.std.specs.Prelude.{◌≡◌, ◌⊎◌, ℕ, ◌≤◌, List, [], ◌∷◌, ◌++◌, length, All, Option, None, Result, Ok, Err, Vec}
 use Rattle.std.specs.declared.alloc.Global.{Global}
 use Rattle.tp_base.specs.Names.{Named}
@@ -43,7 +43,7 @@ abbrev pub loaded_three : Result (Vec ℕ Global × Vec ℕ Global × Vec ℕ Gl
 loaded_three (Ok x) = Ok (x.0.items ∷ x.1.items ∷ x.2.items ∷ [])
 loaded_three (Err e) = Err e
 
--- What loading one file comes to, with the list of loads before and after.
+-- The result of loading one file, with the list of loads before and after.
 abbrev pub OneLoaded : Told → List ℕ → Part → List Load → List Load → Result (List ℕ) Stop → Type 0
 OneLoaded told name p before after (Ok text) = (after ≡ before ++ succeeded name ∷ []) × Holds told name text × (length text ≤ MOST_BYTES)
 OneLoaded told name p before after (Err (TooLarge q)) = (q ≡ p) × (after ≡ before ++ succeeded name ∷ []) × Exceeds told name
@@ -73,7 +73,7 @@ pub record AreSome (ws : List Wanted) (start end : List Load) : Type 0 where
   pub order : loads_of ws ≡ front ++ behind
   pub loads : end ≡ start ++ front
 
--- What loading files one after another comes to.
+-- The result of loading files one after another.
 abbrev pub AllLoaded : Told → List Wanted → List Load → List Load → Result (List (List ℕ)) Stop → Type 0
 AllLoaded told ws start end (Ok xs) = (end ≡ start ++ loads_of ws) × AreHeldBy told ws xs
 AllLoaded told ws start end (Err (TooLarge p)) = (w : Wanted) × (w.part ≡ p) × IsLastOf told ws w start end (succeeded w.name) × Exceeds told w.name
@@ -83,14 +83,14 @@ AllLoaded told ws start end (Err e) = ⊥
 
 -- ---- reading
 
--- what was read of one text, seen by the view, and the names then, or why the run stops at it, unless memory ran out
+-- the view of a text that was read, with the names after it, or the reason to stop; nothing is said where memory ran out
 abbrev pub IsOpened : {X Y : Type 0} → (X → Y) → Result (Y × List Named) Stop → Result X Stop → List Named → Type 0
 IsOpened view read (Ok x) names = read ≡ Ok (view x, names)
 IsOpened view read (Err (Unread refusal)) names = read ≡ Err (Unread refusal)
 IsOpened view read (Err NoMemory) names = Unit {0}
 IsOpened view read (Err e) names = ⊥
 
--- what was read of all three, or why the run stops, unless memory ran out
+-- the inputs that were read from all three texts, or the reason to stop; nothing is said where memory ran out
 abbrev pub IsRead : Result modes.Inputs Stop → Result Inputs Stop → Type 0
 IsRead read (Ok i) = read ≡ Ok (inputs_of i)
 IsRead read (Err (Unread refusal)) = read ≡ Err (Unread refusal)
@@ -99,29 +99,29 @@ IsRead read (Err e) = ⊥
 
 -- ---- judging
 
--- what was read may be judged: its atoms are of the table, and its statements are few enough
+-- the inputs may be judged: their atoms are of the table, and their statements are few enough
 abbrev pub AreInputs : modes.Inputs → Type 0
 AreInputs i = AreGiven i.stmts i.sheet.items [] (length i.names) i.tree
 
--- why a run stops where there are no answers
+-- the reason to stop where there are no answers
 abbrev pub judging_stop : SimplifyFault → Stop
 judging_stop judge.TooManyAtoms = Judging refused.TooManyAtoms
 judging_stop judge.TooManyVisible = Judging refused.TooManyVisible
 judging_stop judge.Memory = NoMemory
 
--- why there are no answers; memory may want at any time
+-- there are no answers for this reason; memory may run out at any time
 abbrev pub IsUnanswered : Mode → modes.Inputs → Stop → Type 0
 IsUnanswered m i (Judging f) = IsRefusedBy m i f
 IsUnanswered m i NoMemory = Unit {0}
 IsUnanswered m i e = ⊥
 
--- what is said of texts that were read
+-- the results for texts that were read
 pub record IsSaidOf (m : Mode) (limits : Limits) (page : Option ℕ) (s : modes.Said) : Type 0 where
   pub read : read_inputs m page s.texts ≡ Ok s.inputs
   pub answers : modes.AreAnswersOf m limits s.inputs s.items s.others
   pub traces : modes.HasTraces m s
 
--- the same, or why there is nothing to say of them
+-- the same, or the reason why there are no results
 abbrev pub IsSaying : Mode → Limits → Option ℕ → modes.Texts → Result Said Stop → Type 0
 IsSaying m limits page x (Ok s) = IsSaidOf m limits page (said_of x s)
 IsSaying m limits page x (Err (Unread refusal)) = read_inputs m page x ≡ Err (Unread refusal)
@@ -131,11 +131,11 @@ IsSaying m limits page x (Err e) = ⊥
 
 -- ---- writing
 
--- what is said can be written: it was read, and is right, within some limits
+-- the results can be written: their texts were read, and the answers are right, within some limits
 abbrev pub IsWritable : Mode → modes.Said → Type 0
 IsWritable m s = (limits : Limits) × (page : Option ℕ) × IsSaidOf m limits page s
 
--- What reading, judging and writing come to, where this text is written of what is said.
+-- The result of reading, judging and writing, where this text is written for the results.
 abbrev pub Written : Mode → Limits → modes.Texts → (modes.Said → List ℕ) → Put → Result Status Stop → Type 0
 Written m limits x text out (Ok s) = (said : modes.Said) × (said.texts ≡ x) × IsSaidOf m limits None said × Adds out.held out.held' (text said) × (s ≡ modes.status_on m said)
 Written m limits x text out (Err WriteFault) = (said : modes.Said) × (said.texts ≡ x) × IsSaidOf m limits None said × AddsPrefix out.held out.held' (text said) × Rose out.faults out.faults'

@@ -1,10 +1,10 @@
--- What right answers come to, of statements and of sites, and by which engine.
---     EnginesAgree       two runs that ask the same of the same texts write the same, by diagrams or by a table, where each has room
---     PlainIsRight       of a script without sharp calls each answer is that for the statements that are judged
---     DeadIsRight        what `--dead` writes of each statement is so, where nothing is spent
---     DeadDoesNothing    without statements that are said to be dead a script does the same
---     SiteIsRight        an item is unused on a site exactly where it is on every page
---     PruneIsRight       what is left of a sheet does at each node of a page what the sheet does, and so on each page of a site
+-- Laws of right answers, on statements, on sites and by both engines.
+--     EnginesAgree       two runs of the same mode on the same texts write the same, by diagrams or by a table, where no budget runs out
+--     PlainIsRight       for a script without sharp calls, each answer is right for the statements that are judged
+--     DeadIsRight        the line of `--dead` on each statement is right, where no answer is `spent`
+--     DeadDoesNothing    a script does the same without statements whose lines say `dead`
+--     SiteIsRight        an item is unused on a site exactly where it is unused on every page
+--     PruneIsRight       a pruned sheet does the same as the whole sheet at each node of a page, and on each page of a site
 use Rattle.std.specs.Prelude.{◌≡◌, ◌↔◌, ℕ, Bool, false, List, [], ◌∷◌, map, Contains, Some, slice_get, Ok}
 use Rattle.std.specs.List.{list_any}
 use Rattle.tp_base.specs.Names.{Named}
@@ -29,13 +29,13 @@ use Rattle.treeped_app.specs.Modes.{Inputs, Said, AreJudgedOf, AreAnswersOf, sit
 use Rattle.treeped_app.specs.Runs.{Run, IsWhole}
 use Rattle.treeped_app.specs.Tasks.{Task}
 
--- there was room enough to find out all that is said of a page
+-- no budget ran out for the answers on a page
 pub record HasRoom (s : Said) : Type 0 where
   pub items : ¬ Contains s.items spent
   pub others : ¬ Contains s.others spent
 
--- Two whole runs ask the same of the same texts: by the same source, in the same mode, with the same limits of a proof and of a list. What
--- they calculate by, and how much room it has, may differ, where each has enough.
+-- Two complete runs have the same texts from the same source, the same mode, and the same limits of a proof and of a list. Their engines and
+-- budgets may differ, where no budget runs out.
 pub record AskTheSame (r r' : Run) (t t' : Task) (said said' : List Said) : Type 0 where
   pub whole : IsWhole r t said
   pub whole' : IsWhole r' t' said'
@@ -55,13 +55,13 @@ EnginesAgree = (r r' : Run) (t t' : Task) (said said' : List Said) → AskTheSam
 abbrev pub PlainIsRight : Type 0
 PlainIsRight = (m : Mode) (limits : Limits) (i : Inputs) (items others : List Answer) → AreAnswersOf m limits i items others → list_any is_sharp_statement i.exact ≡ false → AreJudgedOf m limits i items others
 
--- Of answers that are right, none of them spent: a statement is dead exactly where no legal steps from the page end in a tree in which it
--- selects a node, and the handler that is named is the first that never has an element.
+-- Let the answers be right, and none `spent`. Then a statement is dead exactly where no legal steps from the page end in a tree in which it
+-- selects a node. The handler that its line names is the first that never has an element.
 abbrev pub DeadIsRight : Type 0
 DeadIsRight = (limits : Limits) (i : Inputs) (items others : List Answer) → AreAnswersOf Dead limits i items others → ¬ Contains others spent → AreRightVerdicts i.tree i.stmts i.stmts (verdicts i.stmts others)
 
--- Without some of the statements that are said to be dead the same selectors are reached from the page, whatever is lost, and so the
--- same ones are unused.
+-- Without some of the statements whose lines say `dead`, a script reaches the same selectors from the page, with whatever losses. So the
+-- same selectors are unused.
 abbrev pub DeadDoesNothing : Type 0
 DeadDoesNothing = (limits : Limits) (i : Inputs) (items others : List Answer) → AreAnswersOf Dead limits i items others → ¬ Contains others spent
     → (left : List Statement) → AreWithoutDead i.stmts (verdicts i.stmts others) left → DoTheSame i.tree i.stmts left
@@ -70,17 +70,17 @@ DeadDoesNothing = (limits : Limits) (i : Inputs) (items others : List Answer) �
 abbrev pub IsNeverReached : Said → ℕ → Type 0
 IsNeverReached s k = (item : Item) × (u : Selector) × (slice_get s.inputs.sheet.items k ≡ Some item) × (item.outcome ≡ judged u) × (¬ ReachesWithLosses s.inputs.tree s.inputs.stmts u)
 
--- what the best answer for the k-th item says of each page, by its own script
+-- the best answer for the k-th item is right on each page, by the page's own script
 pub record IsOfEachPage (said : List Said) (k : ℕ) (b : Best) : Type 0 where
   pub unused_on_each : (b.answer ≡ unused) ↔ ((s : Said) → Contains said s → slice_get s.items k ≡ Some unused)
   pub never_reached : b.answer ≡ unused → (s : Said) → Contains said s → IsNeverReached s k
 
--- of the pages of a whole run
+-- the law for the pages of a complete run
 abbrev pub SiteIsRight : Type 0
 SiteIsRight = (r : Run) (t : Task) (said : List Said) → IsWhole r t said → (k : ℕ) (b : Best) → slice_get (site_on said).items k ≡ Some b → IsOfEachPage said k b
 
--- What is left of the sheet is read again with the names that were known when the sheet was read for this page; and it does at each node
--- of each tree that comes of the page, by legal steps and losses, what the sheet does there: the same selectors match, in the same order,
+-- The pruned sheet is read again with the names that were known when the whole sheet was read for this page. At each node of each tree
+-- that legal steps and losses make of the page, it does the same as the whole sheet. The same selectors match, in the same order,
 -- each with its block and the at-rules round it.
 pub record DoesTheSame (s : Said) (left : List ℕ) : Type 0 where
   pub reads : (names later : List Named) → read_sheet s.texts.sheet names ≡ (later, Ok s.inputs.sheet) → (again : Sheet) × (read_sheet left later ≡ (later, Ok again))
@@ -88,10 +88,10 @@ pub record DoesTheSame (s : Said) (left : List ℕ) : Type 0 where
       → (events : List Event) → AreLegalEvents s.inputs.tree s.inputs.stmts events → (v : List ℕ) (test : Selector → Bool) → Tells (end_of_events s.inputs.tree s.inputs.stmts events) v test
       → effect test left again ≡ effect test s.texts.sheet s.inputs.sheet
 
--- of a whole run on one page
+-- the law for a complete run on one page
 abbrev pub PruneIsRight : Type 0
 PruneIsRight = (r : Run) (t : Task) (s : Said) → IsWhole r t (s ∷ []) → DoesTheSame s (text_on Prune s)
 
--- and on each page of a site
+-- the law for each page of a site
 abbrev pub SitePruneIsRight : Type 0
 SitePruneIsRight = (r : Run) (t : Task) (said : List Said) → IsWhole r t said → (s : Said) → Contains said s → DoesTheSame s (text_by SitePrune said)

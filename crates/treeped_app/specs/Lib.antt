@@ -10,7 +10,7 @@ pub mod Modes
 pub mod Readings
 pub mod Runs
 pub mod Tasks
--- What the functions beneath come to, part by part, as they hand it on; and how definitions see what they hold.
+-- The results of inner functions, part by part, and the abstraction functions of their types.
 pub mod Inputs
 pub mod Sites
 pub mod Verdicts

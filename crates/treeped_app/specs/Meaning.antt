@@ -1,13 +1,13 @@
--- What a run promises where it comes with a report, for whoever knows pages, sheets and scripts, and no prover. The words of the command
--- line order a mode; the files that they name are read as a page, a sheet and the statements of a script; and each line that is written is
--- so. What follows is the whole of it: one record a mode, one field a sentence. `(x : A) × B` says that there is an x of A for which B
--- holds. How the three files are read (`read_inputs`), how a line is spelled (`report`) and which of the three statuses comes
--- (`Modes`) is said elsewhere. Of the inputs `exact` are the statements as they stand in the script, and `stmts` are those that are
--- judged in their place: the same, but for calls of `closest`, `siblings` and `first`, in whose place stand calls that select more.
+-- The promise of a run that ends with a report, for readers who know pages, sheets and scripts, and no prover. The words of the command
+-- line order a mode. The files that they name are read as a page, a sheet and the statements of a script. Each line that is written is
+-- true. This file is the whole promise: one record a mode, one field a sentence. `(x : A) × B` says that there is an x of A for which B
+-- holds. Other files say how the three files are read (`read_inputs`), how a line is spelled (`report`) and which of the three statuses
+-- comes (`Modes`). Of the inputs, `exact` are the statements as they stand in the script, and `stmts` are those that are judged in their
+-- place. They differ only in calls of `closest`, `siblings` and `first`: in place of these, `stmts` have calls that select more.
 --     NeverMatches i s       no steps and losses from the page lead to a node that the selector matches
 --     LeadsTo i s x          the steps of x are the script's own, and at their end the selector matches the node of x
---     MeansLine i item line  what a line says of an item of the sheet
---     MeansReport, MeansPruned, MeansDead, MeansRuns, MeansSite, MeansSitePruned, MeansRing      what each mode writes
+--     MeansLine i item line  the meaning of a line for an item of the sheet
+--     MeansReport, MeansPruned, MeansDead, MeansRuns, MeansSite, MeansSitePruned, MeansRing      the meaning of each mode's text
 --     Means                  a status of a report comes only with such a text
 use Rattle.std.specs.Prelude.{◌≡◌, ◌⊎◌, ◌↔◌, ℕ, ◌+◌, ◌-◌, ◌<◌, min, Bool, true, false, List, [], ◌∷◌, ◌++◌, length, map, Contains, Option, Some, None, slice_get, Ok}
 use Rattle.tp_base.specs.Names.{Named}
@@ -43,13 +43,13 @@ use Rattle.run_ends.specs.declared.status.Status.TheVariants as status
 use Rattle.treeped_app.specs.Readings.{Texts, Inputs, places_of, read_inputs, Told, AreHeld, ring_texts}
 use Rattle.treeped_app.specs.Tasks.{Source, one, several, ring, Task, command}
 
--- Each of the first has one of the second, in the same order, and there are no others.
+-- Both lists have the same length, and the relation holds for their elements in pairs, in order.
 abbrev pub Each : {A B : Type 0} → (A → B → Type 0) → List A → List B → Type 0
 Each R [] [] = Unit {0}
 Each R (a ∷ others) (b ∷ bs) = R a b × Each R others bs
 Each R _ _ = ⊥
 
--- ---- what is said of a selector
+-- ---- lines for selectors
 
 -- The page after these steps; and after steps with losses between them. A step does what its call does, at one node.
 abbrev pub tree_by : Inputs → List Step → LabelTree
@@ -58,8 +58,8 @@ tree_by i steps = end_of i.tree (wides i.exact) steps
 abbrev pub tree_after : Inputs → List Event → LabelTree
 tree_after i events = end_of_events i.tree (wides i.exact) events
 
--- Start from the page, and let the script's calls act, in any order and any number of times, each on a node that it selects at that moment;
--- between them any atoms of a node (a class, an id, an attribute) and any nodes may go away. No node ever matches.
+-- Start from the page, and let the script's calls act, in any order and any number of times. Each acts on a node that it selects at that
+-- moment. Between them any atoms of a node (a class, an id, an attribute) and any nodes may go away. No node ever matches.
 abbrev pub NeverMatches : Inputs → Selector → Type 0
 NeverMatches i s = (events : List Event) → AreLegalExactEvents i.tree i.exact events → (v : List ℕ) → ¬ Matches (tree_after i events) v s
 
@@ -77,23 +77,23 @@ pub record MayLeadTo (i : Inputs) (s : Selector) (x : Shown) : Type 0 where
 abbrev pub IsCountOf : List Step → ℕ → Type 0
 IsCountOf steps count = count ≡ min (length steps) MOST_COUNT
 
--- What a line says of its item, which is one selector of a list in the sheet. It is about this page with this script. Of a line that isn't
--- named here nothing is promised.
+-- The meaning of a line for its item, which is one selector of a list in the sheet. It is about this page with this script. A line that
+-- isn't named here promises nothing.
 pub record MeansLine (i : Inputs) (item : sheets.Item) (line : Line) : Type 0 where
   -- `unused`: on no tree that the script makes of the page does the selector match a node, even where classes and nodes were lost.
   pub unused : (s : Selector) → item.outcome ≡ sheets.judged s → line ≡ unused → NeverMatches i s
-  -- `used`: so many steps of the script lead to a node that it matches.
+  -- `used`: this number of steps of the script leads to a node that it matches.
   pub counted : (s : Selector) (count : ℕ) (shown : Option Shown) → item.outcome ≡ sheets.judged s → line ≡ used count shown → (x : Shown) × LeadsTo i s x × IsCountOf x.steps count
   -- Steps that are listed lead to the node on the line `match`. There may be other steps, and fewer.
   pub listed : (s : Selector) (count : ℕ) (x : Shown) → item.outcome ≡ sheets.judged s → line ≡ used count (Some x) → LeadsTo i s x × IsCountOf x.steps count
-  -- `maybe`: so many steps lead there by calls that may select more than the script's own.
+  -- `maybe`: this number of steps leads there by calls that may select more than the script's own.
   pub doubted : (s : Selector) (count : ℕ) (shown : Option Shown) (broken : Option ℕ) → item.outcome ≡ sheets.judged s → line ≡ maybe count shown broken → (x : Shown) × MayLeadTo i s x × IsCountOf x.steps count
-  -- And of those that are listed the one that is named is the first that the script doesn't take.
+  -- Of the steps that are listed, the line names the first one that the script doesn't take.
   pub broken : (s : Selector) (count : ℕ) (x : Shown) (k : ℕ) → item.outcome ≡ sheets.judged s → line ≡ maybe count (Some x) (Some k) → MayLeadTo i s x × IsBrokenAt i.tree i.exact x.steps k
   -- `used-unshown`: some steps lead there by such calls.
   pub unshown : (s : Selector) → item.outcome ≡ sheets.judged s → line ≡ used_unshown → (x : Shown) × MayLeadTo i s x
-  -- `skipped`: the item isn't read as a selector that is judged, for this cause; and each such item is skipped. Whether it
-  -- matches isn't said.
+  -- `skipped`: for this cause, the item isn't read as a selector that is judged. Each such item is skipped. The line doesn't say
+  -- whether it matches.
   pub left_out : (cause : Skip) (at : ℕ) → (line ≡ skipped cause at) ↔ (item.outcome ≡ sheets.skipped cause at)
 
 -- ---- one page
@@ -104,8 +104,8 @@ pub record MeansReport (x : Texts) (i : Inputs) (text : List ℕ) : Type 0 where
   pub written : text ≡ report x.sheet i.names (places_of i) i.sheet lines
   pub each : Each (MeansLine i) i.sheet.items lines
 
--- What is left of a sheet is read, and does at each node of each tree that the script makes of the page, even where classes and nodes were
--- lost, what the whole sheet does: the same selectors match, in the same order, each with its block and the at-rules round it.
+-- The pruned sheet can be read. At each node of each tree that the script makes of the page, even where classes and nodes were lost, it
+-- does the same as the whole sheet. The same selectors match, in the same order, each with its block and the at-rules round it.
 pub record DoesTheSame (x : Texts) (i : Inputs) (left : List ℕ) : Type 0 where
   pub names : List Named
   pub later : List Named
@@ -118,18 +118,18 @@ abbrev pub is_unused : Line → Bool
 is_unused unused = true
 is_unused _ = false
 
--- `--prune`: the sheet without the selectors that are unused, and what is left does the same.
+-- `--prune`: the text is the sheet without its unused selectors, and it does the same as the sheet.
 pub record MeansPruned (x : Texts) (i : Inputs) (text : List ℕ) : Type 0 where
   pub lines : List Line
   pub each : Each (MeansLine i) i.sheet.items lines
   pub written : text ≡ pruned x.sheet i.sheet (map is_unused lines)
   pub same : DoesTheSame x i text
 
--- What a line says of a statement.
+-- The meaning of a line for a statement.
 pub record MeansStatement (i : Inputs) (s : Statement) (v : Verdict) : Type 0 where
   -- `dead`: on no tree that the script makes of the page does the statement select a node, even where classes and nodes were lost.
   pub dead : is_dead v ≡ true → ¬ statement.LiveWithLosses i.tree i.stmts s
-  -- `at handler`: the handler that is named never runs, and those round it do.
+  -- `at handler`: the handler with this number never runs, and each handler round it runs after some steps.
   pub at_handler : (k : ℕ) → v ≡ dead_at_handler k → (j : ℕ) × (k ≡ j + 1) × statement.IsFirstDead i.tree i.stmts s j
   -- `live`: some steps lead to a node that it selects.
   pub lives : (count : ℕ) (shown : Option Shown) → v ≡ live count shown → statement.Live i.tree i.stmts s
@@ -146,8 +146,8 @@ pub record MeansDead (x : Texts) (i : Inputs) (text : List ℕ) : Type 0 where
   pub written : text ≡ front ++ verdict_lines i.stmts verdicts
   pub each : Each (MeansStatement i) i.stmts verdicts
 
--- `--runs`: the report, in which whole runs stand in the place of steps: those of the steps' statements, one after another, and the first
--- node that the selector matches then; or the run after which the page is too large.
+-- `--runs`: the report, with whole runs in the place of steps. They are runs of the steps' statements, one after another, and then comes
+-- the first node that the selector matches, or the run after which the page is too large.
 pub record MeansRuns (x : Texts) (i : Inputs) (text : List ℕ) : Type 0 where
   pub lines : List Line
   pub traces : List (Option RunTrace)
@@ -164,11 +164,11 @@ MeansPage _ x i text = MeansReport x i text
 
 -- ---- several pages
 
--- a page's texts, and what is read of them
+-- a page's texts, and the inputs that are read from them
 abbrev pub Page : Type 0
 Page = Texts × Inputs
 
--- What a line says of the k-th item of a sheet that several pages use.
+-- The meaning of a line for the k-th item of a sheet that several pages use.
 pub record MeansBest (pages : List Page) (k : ℕ) (b : Best) : Type 0 where
   -- `unused`: on no page does its selector ever match a node.
   pub unused : b.line ≡ unused → (p : Page) → Contains pages p → (item : sheets.Item) × (s : Selector) × (slice_get p.1.sheet.items k ≡ Some item) × (item.outcome ≡ sheets.judged s) × NeverMatches p.1 s
@@ -193,7 +193,7 @@ pub record MeansSite (pages : List Page) (text : List ℕ) : Type 0 where
   pub one_each : length bests ≡ length last.1.sheet.items
   pub each : (k : ℕ) (b : Best) → slice_get bests k ≡ Some b → MeansBest pages k b
 
--- `--site --prune`: the sheet without what no page uses, and what is left does the same on each page.
+-- `--site --prune`: the text is the sheet without the selectors that no page uses, and it does the same as the sheet on each page.
 pub record MeansSitePruned (pages : List Page) (text : List ℕ) : Type 0 where
   pub bests : List Best
   pub last : Page
@@ -209,7 +209,7 @@ MeansPages _ pages text = MeansSite pages text
 
 -- ---- a ring of boxes
 
--- `--gen`: one line, which counts such lines for the sheet of a ring of k boxes.
+-- `--gen`: the text is one line, which counts the answers for the sheet of a ring of k boxes.
 pub record MeansRing (k : ℕ) (i : Inputs) (text : List ℕ) : Type 0 where
   pub lines : List Line
   pub written : text ≡ summary k lines
@@ -217,7 +217,7 @@ pub record MeansRing (k : ℕ) (i : Inputs) (text : List ℕ) : Type 0 where
 
 -- ---- a run
 
--- the texts of the page of this number are those that the three names hold, and are read as these inputs
+-- the three names hold the texts of the page with this number, and the texts are read as these inputs
 pub record IsPage (told : Told) (m : Mode) (number : Option ℕ) (page sheet script : List ℕ) (p : Page) : Type 0 where
   pub held : AreHeld told (record { page = page; sheet = sheet; script = script }) p.0
   pub read : read_inputs m number p.0 ≡ Ok p.1
@@ -228,7 +228,7 @@ ArePages told m sheet k [] [] = Unit {0}
 ArePages told m sheet k ((page, script) ∷ pairs) (p ∷ pages) = IsPage told m (Some k) page sheet script p × ArePages told m sheet (k + 1) pairs pages
 ArePages told m sheet k _ _ = ⊥
 
--- what is written, by where the texts come from
+-- the meaning of the text, by the source of the run
 abbrev pub MeansFrom : Told → Source → Mode → List ℕ → Type 0
 MeansFrom told (one n) m text = (p : Page) × IsPage told m None n.page n.sheet n.script p × MeansPage m p.0 p.1 text
 MeansFrom told (several sheet pairs) m text = (pages : List Page) × ArePages told m sheet 1 pairs pages × MeansPages m pages text
@@ -238,6 +238,6 @@ MeansFrom told (ring k) m text = (i : Inputs) × (read_inputs m None (ring_texts
 abbrev pub Reports : Status → Type 0
 Reports s = (s ≡ status.Complete) ⊎ (s ≡ status.Unused) ⊎ (s ≡ status.Budget)
 
--- With such a status the words order a task, and exactly such a text was added to what standard output held.
+-- With such a status, the words order a task, and a text with its meaning, and nothing else, was appended to standard output.
 abbrev pub Means : Told → (words : List (List ℕ)) → (held held' : Option (List ℕ)) → Status → Type 0
 Means told words held held' s = Reports s → (t : Task) × (command words ≡ Some t) × (text : List ℕ) × Adds held held' text × MeansFrom told t.source t.mode text

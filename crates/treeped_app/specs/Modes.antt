@@ -1,11 +1,11 @@
--- What each mode promises: what it asks besides the selectors of a sheet, what it writes of the answers, and the status that they give.
---     Said                 what was read of a page, and what is said of it
---     goals_in m i         the goals that are asked besides the sheet's selectors
+-- The modes: which goals each one asks besides the selectors of a sheet, which text it writes, and which status the answers give.
+--     Said                 the inputs and the results of a page
+--     goals_in m i         the further goals of the mode, besides the sheet's selectors
 --     IsOverBudget m l i   a budget doesn't suffice for each line
---     AreJudgedOf          right answers for the sheet's items and for those goals, of the statements that are judged
---     AreAnswersOf         those answers, settled by the statements as they stand in the script
+--     AreJudgedOf          right answers for the sheet's items and the further goals, by the statements that are judged
+--     AreAnswersOf         the same answers, settled by the statements as they stand in the script
 --     HasTraces m s        where the mode asks for whole runs, each answer that shows steps has the trace of their runs
---     text_of t said       what is written
+--     text_of t said       the text that is written
 --     status_of t said     the status: 7 where a line is open, else 1 where a line is unused or dead, else 0
 use Rattle.std.specs.Prelude.{◌≡◌, ℕ, Bool, true, false, ◌||◌, if◌then◌else◌, List, [], ◌∷◌, ◌++◌, length, map, Option}
 use Rattle.std.specs.List.{list_any}
@@ -34,8 +34,8 @@ use Rattle.usage_report.specs.Summary.{summary}
 use Rattle.treeped_app.specs.Tasks.{Source, ring, Task}
 pub use Rattle.treeped_app.specs.Readings.{Texts, Inputs, places_of, reads_exactly}
 
--- a page's texts, what was read of them, an answer for each item of the sheet, one for each other goal, and for whole runs a trace
--- for each item or none
+-- A page's texts, the inputs that were read from them, and an answer for each item of the sheet and for each further goal. For whole
+-- runs each item has a trace or none.
 pub record Said : Type 0 where
   pub texts : Texts
   pub inputs : Inputs
@@ -43,14 +43,14 @@ pub record Said : Type 0 where
   pub others : List Answer
   pub traces : List (Option RunTrace)
 
--- ---- what is asked
+-- ---- goals
 
--- whether each handler of each statement ever runs, and the statement itself
+-- the goals that ask whether each handler of each statement ever runs, and whether the statement itself ever selects a node
 abbrev pub goals_in : Mode → Inputs → List Goal
 goals_in Dead i = map selecting (all_probes i.stmts)
 goals_in _ i = []
 
--- those of them on which a line hangs: whether the statement itself ever selects a node
+-- the goals among them that decide a line: whether the statement itself ever selects a node
 abbrev pub last_goals_in : Mode → Inputs → List Goal
 last_goals_in Dead i = map selecting (map last_probe i.stmts)
 last_goals_in _ i = []
@@ -84,28 +84,28 @@ AreTracesIn _ i items traces = traces ≡ []
 abbrev pub HasTraces : Mode → Said → Type 0
 HasTraces m s = AreTracesIn m s.inputs s.items s.traces
 
--- a budget doesn't suffice for each line; whether a handler's proof is too long is no matter
+-- a budget doesn't suffice for a line; the length of a handler's proof doesn't count
 abbrev pub IsOverBudget : Mode → Limits → Inputs → Type 0
 IsOverBudget m limits i = IsPastBudget i.tree i.stmts (guards_in m i) (length i.names) limits (map matching (judged_in i.sheet.items) ++ last_goals_in m i)
 
--- ---- what is written
+-- ---- texts
 
 abbrev pub is_unused : Answer → Bool
 is_unused unused = true
 is_unused _ = false
 
--- it may be used
+-- the answer is `maybe`
 abbrev pub is_maybe : Answer → Bool
 is_maybe (maybe proof steps shown broken) = true
 is_maybe _ = false
 
--- a budget didn't suffice
+-- a budget left the answer open
 abbrev pub is_undecided : Answer → Bool
 is_undecided used_unshown = true
 is_undecided spent = true
 is_undecided _ = false
 
--- something is left open: the steps, or whether there are any
+-- a budget or a sharp call left the answer open
 abbrev pub is_open : Answer → Bool
 is_open (maybe proof steps shown broken) = true
 is_open used_unshown = true
@@ -119,7 +119,7 @@ report_on s = report s.texts.sheet s.inputs.names (places_of s.inputs) s.inputs.
 abbrev pub pruned_by : Said → List Answer → List ℕ
 pruned_by s answers = pruned s.texts.sheet s.inputs.sheet (map is_unused answers)
 
--- of one page: the report; the sheet that is left; the report, and then the statements; or the report with runs in the place of steps
+-- the text for one page: the report; the pruned sheet; the report, and then the statements; or the report with runs in the place of steps
 abbrev pub text_on : Mode → Said → List ℕ
 text_on Prune s = pruned_by s s.items
 text_on Dead s = report_on s ++ dead.dead_text s.inputs.stmts s.others
@@ -133,12 +133,12 @@ site_on said = sites.site_of (map (λ (s : Said). s.items) said)
 abbrev pub best_in : List Said → List Answer
 best_in said = map (λ (b : sites.Best). b.answer) (site_on said).items
 
--- of several: the sheet that is left; or the report, by the sheet and the names of this page
+-- the text for several pages: the pruned sheet; or the report, by the sheet and the names of this page
 abbrev pub site_by : Mode → List Said → Said → List ℕ
 site_by SitePrune said s = pruned_by s (best_in said)
 site_by _ said s = site_report s.texts.sheet s.inputs.names (map (λ (x : Said). places_of x.inputs) said) s.inputs.sheet (site_on said)
 
--- of the last page, if there is one
+-- the text for the last page, if there is one
 abbrev pub of_last : (Said → List ℕ) → List Said → List ℕ
 of_last f [] = []
 of_last f (s ∷ []) = f s
@@ -147,7 +147,7 @@ of_last f (s ∷ x ∷ said) = of_last f (x ∷ said)
 abbrev pub text_by : Mode → List Said → List ℕ
 text_by m said = of_last (if takes_pages m then site_by m said else text_on m) said
 
--- on a ring there is one line that counts the answers
+-- the text by the source; for a ring it is one line that counts the answers
 abbrev pub text_from : Source → Mode → List Said → List ℕ
 text_from (ring k) m said = of_last (λ s. summary k s.items) said
 text_from _ m said = text_by m said
@@ -169,7 +169,7 @@ abbrev pub verdicts_in : Mode → List Said → List dead.Verdict
 verdicts_in Dead (s ∷ said) = dead.verdicts s.inputs.stmts s.others
 verdicts_in _ said = []
 
--- whether something is left open, and whether something is unused or dead
+-- the status, by whether a line is open, and whether a line is unused or dead
 abbrev pub status_by : Bool → Bool → Status
 status_by true b = status.Budget
 status_by false true = status.Unused

@@ -1,9 +1,9 @@
--- What a run reads: the texts that names hold, and what is made of a page's three texts.
+-- The texts that a run reads, and the inputs that it makes of a page's three texts.
 --     Told                       the bytes that each name holds, where they are told
 --     AreFrom told origin x      the texts are those of the three names, or of a ring
---     reads_exactly m            whether calls may stand in a script that are sharper than what is judged in their place
---     statements_in m text       what reading a script gives
---     read_inputs m k x          what reading a page's three texts gives
+--     reads_exactly m            whether the mode allows sharp calls in a script
+--     statements_in m text       the statements of a script, or the reason to stop
+--     read_inputs m k x          the inputs of a page's three texts, or the reason to stop
 use Rattle.std.specs.Prelude.{◌≡◌, ℕ, ◌≤◌, Bool, true, false, if◌then◌else◌, List, [], length, map, Option, IfSome, Result, Ok, Err}
 use Rattle.tp_base.specs.Names.{Named}
 pub use Rattle.tp_base.specs.Outcomes.{◌>>=◌}
@@ -32,7 +32,7 @@ pub record Texts : Type 0 where
   pub sheet : List ℕ
   pub script : List ℕ
 
--- what is read: the page's tree, the sheet, the script's statements as they are judged and as they stand in it, and all names
+-- the inputs of a page: its tree, the sheet, the script's statements as they are judged and as they stand in it, and all names
 pub record Inputs : Type 0 where
   pub tree : LabelTree
   pub sheet : Sheet
@@ -45,13 +45,13 @@ places_of i = map (λ (s : Statement). s.place) i.stmts
 
 -- ---- reading
 
--- statements that may be dead, and whole runs, are those that are judged
+-- `--dead` and `--runs` allow no sharp calls: they speak of the statements that are judged
 abbrev pub reads_exactly : Mode → Bool
 reads_exactly Dead = false
 reads_exactly Runs = false
 reads_exactly _ = true
 
--- what was read of a text, with the names then, or why the run stops at it
+-- the value that was read from a text, with the names after it, or the reason to stop
 abbrev pub read_as : {A E : Type 0} → (E → Stop) → List Named × Result A E → Result (A × List Named) Stop
 read_as stop (names, Ok x) = Ok (x, names)
 read_as stop (names, Err e) = Err (stop e)
@@ -87,7 +87,7 @@ Told = List ℕ → Option (List ℕ)
 abbrev pub Holds : Told → List ℕ → List ℕ → Type 0
 Holds told name text = IfSome (told name) (λ bytes. text ≡ bytes)
 
--- none is past the limit
+-- no text is past the limit on bytes
 pub record Fit (x : Texts) : Type 0 where
   pub page : length x.page ≤ MOST_BYTES
   pub sheet : length x.sheet ≤ MOST_BYTES
@@ -102,7 +102,7 @@ pub record AreHeld (told : Told) (n : Names) (x : Texts) : Type 0 where
 abbrev pub ring_texts : ℕ → Texts
 ring_texts k = record { page = rings.page k; sheet = rings.sheet k; script = rings.script k }
 
--- the texts come from there
+-- the texts come from this origin
 abbrev pub AreFrom : Told → Origin → Texts → Type 0
 AreFrom told (named n) x = AreHeld told n x
 AreFrom told (generated k) x = x ≡ ring_texts k

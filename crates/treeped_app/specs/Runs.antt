@@ -1,8 +1,8 @@
--- What a run of the command comes to, and why.
---     IsSaid told t v s          a visit was loaded and read, and what is said of it is right
---     IsWhole r t said           all visits were
---     IsAt r t .. v              the visits before this one were
---     Ends r end                 what the run comes to: what its mode writes, with its status, or why there is nothing
+-- The ends of a run of the command, with their causes.
+--     IsSaid told t v s          a visit was loaded and read, and its results are right
+--     IsWhole r t said           all visits were loaded and read, and their results are right
+--     IsAt r t .. v              the same for the visits before this one
+--     Ends r end                 the end of the run: the mode's text with its status, or the reason why there is none
 use Rattle.std.specs.Prelude.{◌≡◌, ◌⊎◌, ℕ, ◌<◌, ◌≤◌, List, [], ◌∷◌, ◌++◌, length, take, All, Contains, Some, None, IfSome, Result, Ok, Err}
 use Rattle.tp_io.specs.Files.{Load}
 use Rattle.tp_io.specs.Sinks.{Adds, AddsPrefix, Rose}
@@ -27,7 +27,7 @@ use Rattle.treeped_app.specs.Tasks.{Wanted, Visit, visits, succeeded, failed, lo
 
 -- ---- reading
 
--- the sheet was read of this text, whatever names were there before
+-- the sheet was read from this text, with any names before
 abbrev pub IsSheetOf : List ℕ → Sheet → Type 0
 IsSheetOf text sheet = (names : List Named) × (later : List Named) × (read_sheet text names ≡ (later, Ok sheet))
 
@@ -40,7 +40,7 @@ Fits told name = IfSome (told name) (λ bytes. length bytes ≤ MOST_BYTES)
 abbrev pub Exceeds : Told → List ℕ → Type 0
 Exceeds told name = IfSome (told name) (λ bytes. MOST_BYTES < length bytes)
 
--- and none is past the limit
+-- the visit's files hold these texts, and none is past the limit on bytes
 pub record AreTexts (told : Told) (v : Visit) (x : Texts) : Type 0 where
   pub from : AreFrom told v.origin x
   pub fit : Fit x
@@ -51,7 +51,7 @@ abbrev pub fault_of : JudgeRefusal → SimplifyFault
 fault_of refused.TooManyAtoms = fault.TooManyAtoms
 fault_of refused.TooManyVisible = fault.TooManyVisible
 
--- why there are no answers: the system is past one of its limits
+-- there are no answers for this reason: the system is past one of its limits
 abbrev pub IsRefusedBy : Mode → Inputs → JudgeRefusal → Type 0
 IsRefusedBy m i f = IsFault i.stmts i.sheet.items (extra_in m i) (length i.names) (fault_of f)
 
@@ -59,7 +59,7 @@ IsRefusedBy m i f = IsFault i.stmts i.sheet.items (extra_in m i) (length i.names
 abbrev pub IsJudgeable : Mode → Inputs → Type 0
 IsJudgeable m i = IsWithin i.stmts i.sheet.items (extra_in m i) (length i.names)
 
--- the visit's texts were had and read, and what is said of them is right
+-- the visit's texts were loaded and read, and the results for them are right
 pub record IsSaid (told : Told) (t : Task) (v : Visit) (s : Said) : Type 0 where
   pub texts : AreTexts told v s.texts
   pub read : read_inputs t.mode v.number s.texts ≡ Ok s.inputs
@@ -72,9 +72,9 @@ AreSaid told t [] (s ∷ said) = ⊥
 AreSaid told t (v ∷ vs) [] = ⊥
 AreSaid told t (v ∷ vs) (s ∷ said) = IsSaid told t v s × AreSaid told t vs said
 
--- ---- what a run comes to
+-- ---- the end of a run
 
--- What is seen of a run: the bytes that are told of the names' files, the words, the loads before and after, and the sink of
+-- The observable parts of a run: the told bytes of the named files, the words, the loads before and after, and the sink of
 -- the report.
 pub record Run : Type 0 where
   pub told : Told
@@ -86,14 +86,14 @@ pub record Run : Type 0 where
 abbrev pub run_of : Told → List (List ℕ) → List Load → List Load → Put → Run
 run_of told words loads loads' out = record { told = told; words = words; loads = loads; loads' = loads'; out = out }
 
--- the words are this task, and every visit was loaded, read and judged, with one sheet for all
+-- the words order this task, and every visit was loaded, read and judged, with one sheet for all
 pub record IsWhole (r : Run) (t : Task) (said : List Said) : Type 0 where
   pub task : command r.words ≡ Some t
   pub loads : r.loads' ≡ r.loads ++ all_loads (visits t.source)
   pub all : AreSaid r.told t (visits t.source) said
   pub one_sheet : (a b : Said) → Contains said a → Contains said b → a.texts.sheet ≡ b.texts.sheet
 
--- the words are this task, and the visits before this one were
+-- the words order this task, and the visits before this one were loaded, read and judged
 pub record IsAt (r : Run) (t : Task) (done : List Visit) (v : Visit) : Type 0 where
   pub task : command r.words ≡ Some t
   pub later : List Visit
@@ -101,7 +101,7 @@ pub record IsAt (r : Run) (t : Task) (done : List Visit) (v : Visit) : Type 0 wh
   pub said : List Said
   pub all : AreSaid r.told t done said
 
--- The load of this file of the visit was the last; those before it were within the limit on bytes.
+-- The load of this file of the visit was the last. The files before it were within the limit on bytes.
 pub record IsLast (r : Run) (done : List Visit) (v : Visit) (w : Wanted) (last : Load) : Type 0 where
   pub before : List Wanted
   pub after : List Wanted
@@ -109,7 +109,7 @@ pub record IsLast (r : Run) (done : List Visit) (v : Visit) (w : Wanted) (last :
   pub loads : r.loads' ≡ r.loads ++ all_loads done ++ loads_of before ++ last ∷ []
   pub fit : All (λ (b : Wanted). Fits r.told b.name) before
 
--- the visit's texts were had
+-- the visit's texts were loaded
 pub record IsLoaded (r : Run) (done : List Visit) (v : Visit) (x : Texts) : Type 0 where
   pub loads : r.loads' ≡ r.loads ++ all_loads (done ++ v ∷ [])
   pub texts : AreTexts r.told v x
@@ -118,8 +118,8 @@ pub record IsLoaded (r : Run) (done : List Visit) (v : Visit) (x : Texts) : Type
 abbrev pub IsSilent : Run → Type 0
 IsSilent r = r.out.held' ≡ r.out.held
 
--- What is written, with its status; or the words are none, a file is too large, wasn't loaded or isn't read, the judging refuses; or the
--- sink took no more, or there was no memory.
+-- The text is written, with its status. Or the words order no task, a file is too large, can't be loaded or can't be read, or the
+-- judging is refused. Or the sink failed, or there was no memory.
 abbrev pub Ends : Run → Result Status Stop → Type 0
 Ends r (Ok s) = (t : Task) × (said : List Said) × IsWhole r t said × Adds r.out.held r.out.held' (text_of t said) × (s ≡ status_of t said)
 Ends r (Err Words) = (command r.words ≡ None) × (r.loads' ≡ r.loads) × IsSilent r

@@ -1,9 +1,9 @@
--- What is known of a site behind some of its pages, and what further pages come to. No public contract cites it: it is what the functions
--- beneath hand on, page by page.
---     IsBegun ..        what the first page comes to
---     PageAdded ..      what one page more comes to
---     MorePages ..      what the pages behind it come to
---     Finished ..       what writing comes to
+-- The results for a site, page by page. No public contract cites this file: its definitions are the contracts of inner
+-- functions.
+--     IsBegun ..        the result of the first page
+--     PageAdded ..      the result of one more page
+--     MorePages ..      the result of all further pages
+--     Finished ..       the result of writing
 use Rattle.std.specs.Prelude.{◌≡◌, ◌⊎◌, ℕ, ◌+◌, List, [], ◌∷◌, ◌++◌, length, map, Option, Some, Result, Ok, Err, Vec}
 use Rattle.std.specs.declared.alloc.Global.{Global}
 use Rattle.std.specs.List.{list_any}
@@ -36,7 +36,7 @@ use Rattle.treeped_app.specs.Views.{inputs_of}
 abbrev pub all_places : Seen → List (List Place)
 all_places seen = map (λ (ps : Vec Place Global). ps.items) seen.places.items
 
--- what the first page comes to, or why there is nothing
+-- the state after the first page
 pub record HasFirst (s : Said) (seen : Seen) : Type 0 where
   pub site : seen.site ≡ sites.first_page s.items
   pub places : all_places seen ≡ places_of s.inputs ∷ []
@@ -46,7 +46,7 @@ abbrev pub IsBegun : Mode → Limits → Texts → Result Seen Stop → Type 0
 IsBegun m limits x (Ok seen) = (s : Said) × (s.texts ≡ x) × IsSaidOf m limits (Some 1) s × HasFirst s seen
 IsBegun m limits x (Err e) = IsSaying m limits (Some 1) x (Err e)
 
--- what was read last was read of this sheet, there is an answer for each of its items, and they can be reported on it
+-- the last inputs were read with this sheet, each of its items has an answer, and a report on the sheet can be written from the answers
 pub record IsKept (sheet : List ℕ) (seen : Seen) : Type 0 where
   pub mode : Mode
   pub page : Option ℕ
@@ -62,7 +62,7 @@ pub record HasNext (s : Said) (old new : Seen) : Type 0 where
   pub places : all_places new ≡ all_places old ++ places_of s.inputs ∷ []
   pub last : inputs_of new.last ≡ s.inputs
 
--- as the code has it
+-- the same for the results as the code has them
 abbrev pub IsFirst : code.Said → Seen → Type 0
 IsFirst s seen = (seen.site ≡ sites.first_page (map answer_of s.items.items)) × (all_places seen ≡ places_of (inputs_of s.inputs) ∷ [])
 
@@ -72,7 +72,7 @@ IsAdded s old new = (new.site ≡ sites.with_page old.site (map answer_of s.item
 abbrev pub page_wanted : ℕ → List ℕ × List ℕ → List Wanted
 page_wanted k pair = wanted_as (Page (Some k)) pair.0 ∷ wanted_as (Script (Some k)) pair.1 ∷ []
 
--- What one page more comes to, of this number and with these names.
+-- The result of one more page, with this number and these names.
 abbrev pub PageAdded : {U : Type 0} → Told → Mode → Limits → List ℕ → ℕ → List ℕ × List ℕ → List Load → List Load → Seen → Seen → Result U Stop → Type 0
 PageAdded told m limits sheet k pair start end old new (Ok u) =
     (s : Said) × (s.texts.sheet ≡ sheet) × AllLoaded told (page_wanted k pair) start end (Ok (s.texts.page ∷ s.texts.script ∷ [])) × IsSaidOf m limits (Some k) s × HasNext s old new
@@ -80,7 +80,7 @@ PageAdded told m limits sheet k pair start end old new (Err e) =
     AllLoaded told (page_wanted k pair) start end (Err e)
     ⊎ ((x : Texts) × (x.sheet ≡ sheet) × AllLoaded told (page_wanted k pair) start end (Ok (x.page ∷ x.script ∷ [])) × IsSaying m limits (Some k) x (Err e))
 
--- What the pages of these names come to, from this number on, up to the first that is refused.
+-- The result of the pages with these names, from this number on, up to the first that is refused.
 abbrev pub MorePages : {U : Type 0} → Told → Mode → Limits → List ℕ → ℕ → List (List ℕ × List ℕ) → List Load → List Load → Seen → Seen → Result U Stop → Type 0
 MorePages told m limits sheet k [] start end old new (Ok u) = (end ≡ start) × (new ≡ old)
 MorePages told m limits sheet k [] start end old new (Err e) = ⊥
@@ -100,7 +100,7 @@ abbrev pub text_of_site : Mode → List ℕ → Seen → List ℕ
 text_of_site SitePrune sheet seen = pruned sheet (inputs_of seen.last).sheet (map is_unused (best_answers seen.site))
 text_of_site _ sheet seen = site_report sheet (inputs_of seen.last).names (all_places seen) (inputs_of seen.last).sheet seen.site
 
--- What writing what the mode says of all pages comes to.
+-- The result of writing the mode's text for all pages.
 abbrev pub Finished : Mode → List ℕ → Seen → Put → Result Status Stop → Type 0
 Finished m sheet seen out (Ok s) = Adds out.held out.held' (text_of_site m sheet seen) × (s ≡ site_status seen.site)
 Finished m sheet seen out (Err e) = (f : ReportFault) × (e ≡ stop_of f) × AddsPrefix out.held out.held' (text_of_site m sheet seen) × (f ≡ report_fault.Write → Rose out.faults out.faults')

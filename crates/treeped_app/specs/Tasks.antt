@@ -1,8 +1,8 @@
--- What the words of the command line ask for.
---     Source            where texts come from: three files; a sheet and several pages, each with its script; or a ring of boxes
+-- The tasks that the words of the command line order.
+--     Source            the source of the texts: three files; a sheet and several pages, each with its script; or a ring of boxes
 --     Visit             a page with its script and the sheet, and the files that are loaded before it is read
 --     visits source     the visits, one after another
---     command words     the source, what is written, and the limits, where the words are of the command's form
+--     command words     the source, the mode and the limits, where the words have the command's form
 use Rattle.std.specs.Prelude.{◌≡◌, ℕ, ◌+◌, ◌≤◌, true, false, if◌then◌else◌, List, [], ◌∷◌, length, map, Option, Some, None, option_map, option_and_then}
 use Rattle.std.specs.List.{flat_map}
 use Rattle.tp_io.specs.Files.{Load}
@@ -28,9 +28,9 @@ pub data Source : Type 0 where
   several : (sheet : List ℕ) → List (List ℕ × List ℕ) → Source
   ring : ℕ → Source
 
--- ---- what is loaded, and in which order
+-- ---- the files that are loaded, in their order
 
--- a file that is loaded: what it is to the run, and its name
+-- a file to load: its part in the run, and its name
 pub record Wanted : Type 0 where
   pub part : Part
   pub name : List ℕ
@@ -39,7 +39,7 @@ pub data Origin : Type 0 where
   named : Names → Origin
   generated : ℕ → Origin
 
--- The page's number, where there are several, from 1; where its texts come from; and what is loaded for it, behind what was loaded before.
+-- The page's number, from 1, where there are several pages; the origin of its texts; and the files that are loaded for it.
 pub record Visit : Type 0 where
   pub number : Option ℕ
   pub origin : Origin
@@ -76,7 +76,7 @@ succeeded name = record { name = name; failed = false }
 abbrev pub failed : List ℕ → Load
 failed name = record { name = name; failed = true }
 
--- loads of all that is wanted, none of which failed
+-- the loads of all wanted files, none of which failed
 abbrev pub loads_of : List Wanted → List Load
 loads_of wanted = map (λ w. succeeded w.name) wanted
 
@@ -102,11 +102,11 @@ abbrev pub page_of : List (List ℕ) → Option Source
 page_of (page ∷ sheet ∷ script ∷ []) = Some (one (record { page = page; sheet = sheet; script = script }))
 page_of _ = None
 
--- the names of a mode
+-- the source that a mode makes of the names
 abbrev pub files_of : Mode → List (List ℕ) → Option Source
 files_of m names = if takes_pages m then site_of names else page_of names
 
--- an order has either names or a size, which the report alone takes
+-- an order has either names or a size; only the report takes a size
 abbrev pub source_by : Mode → List (List ℕ) → Option ℕ → Option Source
 source_by m names (Some k) = if is_report m then Some (ring k) else None
 source_by m names None = files_of m names
@@ -120,13 +120,13 @@ task_of o = option_map (λ s. task_by s o.mode o.limits) (source_by o.mode o.nam
 abbrev pub command : List (List ℕ) → Option Task
 command words = option_and_then task_of (order_of words)
 
--- a ring is no larger than one that can be generated, and a site has no more pages than one may have
+-- a ring is small enough to be generated, and a site has at most the allowed number of pages
 abbrev pub IsFew : Source → Type 0
 IsFew (one n) = Unit {0}
 IsFew (several sheet pairs) = length pairs ≤ MOST_PAGES
 IsFew (ring k) = k ≤ MOST_BOXES
 
--- several pages are those of a site; else there is one
+-- a mode of sites has several pages, and each other mode has one
 abbrev pub IsOfMode : Mode → Source → Type 0
 IsOfMode m (several sheet pairs) = takes_pages m ≡ true
 IsOfMode m _ = takes_pages m ≡ false

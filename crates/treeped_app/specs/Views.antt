@@ -1,4 +1,4 @@
--- How the definitions see what the program holds.
+-- The abstraction functions of the program's types.
 use Rattle.std.specs.Prelude.{[], ◌∷◌, map, option_map}
 use Rattle.usage_report.specs.Answers.{spent}
 use Rattle.usage_report.specs.Views.{answer_of, trace_of}
@@ -33,6 +33,6 @@ texts_of x = record { page = x.page.now; sheet = x.sheet.now; script = x.script.
 abbrev pub inputs_of : Inputs → modes.Inputs
 inputs_of i = record { tree = i.page; sheet = sheet_of i.sheet; stmts = statements_of i.script.stmts.items; exact = exact_in i.script; names = i.atoms }
 
--- with the texts of which it is said
+-- the results, with the texts from which they come
 abbrev pub said_of : modes.Texts → Said → modes.Said
 said_of x s = record { texts = x; inputs = inputs_of s.inputs; items = map answer_of s.items.items; others = by_number spent (map answer_of s.by_guard.items) s.numbers.items; traces = map (option_map trace_of) s.traces.items }

@@ -14,7 +14,7 @@ use std::alloc::Global;
 use tp_base::NoMemory;
 use usage_report::Answer;
 
-/// The status of a site, whose sheet has so many items. Linear in them.
+/// The status of a site, whose sheet has `count` items. Linear in the items.
 pub(crate) fn status_of_site(site: &Site, count: usize) -> Status
     requires many { count ≡ length site.now.items }
     ensures { result ≡ spec.site_status site.now }
@@ -24,7 +24,7 @@ pub(crate) fn status_of_site(site: &Site, count: usize) -> Status
     status_by(unsure, unused)
 }
 
-// Whether it is so of one of the best answers.
+// Whether one of the best answers meets the question.
 fn any_best(question: Question, site: &Site, count: usize) -> bool
     requires many { count ≡ length site.now.items }
     ensures { result ≡ list_any (is_answer_so question) (spec.best_answers site.now) }
@@ -37,7 +37,7 @@ fn any_best(question: Question, site: &Site, count: usize) -> bool
     false
 }
 
-/// For each best answer whether it is unused. Linear in them.
+/// Says for each best answer whether it is `unused`. Linear in the answers.
 pub(crate) fn unused_on_site(
     alloc: Global,
     site: &Site,
@@ -53,7 +53,7 @@ pub(crate) fn unused_on_site(
     Ok(flags)
 }
 
-// Whether it is so of the best answer for an item.
+// Whether the best answer for an item meets the question.
 fn best_meets(question: Question, site: &Site, item: usize) -> bool
     ensures { (b : sites.Best) → slice_get site.now.items item ≡ Some b → result ≡ is_answer_so question b.answer }
 {
@@ -63,7 +63,7 @@ fn best_meets(question: Question, site: &Site, item: usize) -> bool
     }
 }
 
-// Whether it is so of an answer.
+// Whether an answer meets the question.
 fn meets(question: Question, answer: &Answer) -> bool
     ensures { result ≡ is_answer_so question (answer_of answer.now) }
 {

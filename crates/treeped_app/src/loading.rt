@@ -1,4 +1,4 @@
-//! Files that are loaded, one after another.
+//! Loading of files, one after another.
 ghost use Rattle.std.specs.Prelude.{◌≡◌, [], ◌∷◌};
 ghost use Rattle.treeped_app.specs.Inputs.{OneLoaded, AllLoaded, loaded_text, loaded_two, loaded_three};
 ghost use Rattle.treeped_app.specs.Views.{wanted_of};
@@ -7,7 +7,7 @@ use run_ends::{Part, Stop};
 use std::alloc::Global;
 use tp_io::{Files, LoadFault};
 
-/// A file that is loaded: what it is to the run, and its name.
+/// A file to load: its part in the run, and its name.
 #[derive(Clone, Copy)]
 pub(crate) struct Wanted<'a> {
     pub(crate) part: Part,
@@ -28,7 +28,7 @@ fn load<F: Files>(alloc: Global, name: &str, part: Part, files: &mut F) -> Resul
     }
 }
 
-/// Loads one file and then another.
+/// Loads two files, in this order.
 pub(crate) fn load_two<F: Files>(
     alloc: Global,
     first: &Wanted<'_>,

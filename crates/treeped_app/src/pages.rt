@@ -23,7 +23,7 @@ use tp_io::{Files, Sink};
 use triple_gen::generate;
 use usage_report::write_summary;
 
-/// Loads, reads and judges a page with its sheet and its script, and writes what the mode says of it.
+/// Loads, reads and judges a page with its sheet and its script, and writes the text of the mode.
 pub(crate) fn run_page<F: Files, O: Sink>(
     alloc: Global,
     names: &Names<'_>,
@@ -56,7 +56,7 @@ pub(crate) fn run_page<F: Files, O: Sink>(
     answer(alloc, request, &texts, out)
 }
 
-// Reads and judges the texts of a page, and writes what the mode says of it.
+// Reads and judges the texts of a page, and writes the text of the mode.
 fn answer<O: Sink>(
     alloc: Global,
     request: &Request<'_>,

@@ -17,7 +17,7 @@ use tp_base::NoMemory;
 use tp_io::{Sink, put_all};
 use usage_report::{Answer, ReportFault};
 
-/// For each answer whether it is unused.
+/// Says for each answer whether it is `unused`. Linear in the answers.
 pub(crate) fn unused_in(alloc: Global, answers: &[Answer]) -> Result<Vec<bool>, NoMemory>
     ensures { IfOk result (λ v. v.items ≡ map (λ a. spec.is_unused (answer_of a)) answers.now) }
 {
@@ -28,7 +28,7 @@ pub(crate) fn unused_in(alloc: Global, answers: &[Answer]) -> Result<Vec<bool>, 
     Ok(flags)
 }
 
-/// Writes what is left of a sheet of this text without the selectors that are flagged, in one piece. It costs what `prune` costs.
+/// Writes the sheet with this text without the selectors that are flagged, in one piece. The cost is that of `prune`.
 pub(crate) fn write_pruned<O: Sink>(
     alloc: Global,
     sheet: &Sheet,

@@ -1,4 +1,4 @@
-//! The texts of a page, and what is read of them.
+//! Reading of the three texts of a page.
 ghost use Rattle.std.specs.Prelude.{◌≡◌, ◌≤◌, ◌+◌, length, IfOk};
 ghost use Rattle.tp_base.specs.declared.places.TheConstants.{MOST_BYTES};
 ghost use Rattle.treeped_app.specs.Runs as spec;
@@ -41,7 +41,7 @@ pub(crate) struct Texts<'a> {
     pub(crate) script: &'a [u8],
 }
 
-/// What was read of them, with their names.
+/// The page, the sheet and the script that were read, with their names.
 #[derive(Drop)]
 pub(crate) struct Inputs {
     pub(crate) page: Tree,
@@ -50,7 +50,8 @@ pub(crate) struct Inputs {
     pub(crate) atoms: AtomTable,
 }
 
-/// Reads the page, the sheet and the script, in this order, with one table of names. The page has a number where there are several.
+/// Reads the page, the sheet and the script, in this order, with one table of names. `page` is the page's number where there are
+/// several pages.
 #[tactic(auto, unfolding(crate::specs::Readings::read_inputs))]
 pub(crate) fn read_all(
     alloc: Global,
@@ -76,7 +77,7 @@ pub(crate) fn read_all(
     })
 }
 
-// What was read of a page, or why the run stops at it.
+// The tree of a page, or the reason to stop.
 fn open_page(alloc: Global, part: Part, text: &[u8], atoms: &mut AtomTable) -> Result<Tree, Stop>
     requires { length text.now ≤ MOST_BYTES }
     ensures opened { IsOpened (λ t. t) (spec.read_as (page_stop part text.now) (html.read_page text.now atoms.old)) result atoms.new }
@@ -89,7 +90,7 @@ fn open_page(alloc: Global, part: Part, text: &[u8], atoms: &mut AtomTable) -> R
     }
 }
 
-// What was read of a sheet, or why the run stops at it.
+// The sheet, or the reason to stop.
 fn open_sheet(alloc: Global, text: &[u8], atoms: &mut AtomTable) -> Result<Sheet, Stop>
     requires { length text.now ≤ MOST_BYTES }
     ensures opened { IsOpened sheet_of (spec.read_as (sheet_stop text.now) (css.read_sheet text.now atoms.old)) result atoms.new }
@@ -103,7 +104,7 @@ fn open_sheet(alloc: Global, text: &[u8], atoms: &mut AtomTable) -> Result<Sheet
     }
 }
 
-// The statements of a script, or why the run stops at it.
+// The statements of a script, or the reason to stop.
 fn open_script(
     alloc: Global,
     mode: Mode,
@@ -125,14 +126,14 @@ fn open_script(
     }
 }
 
-// Whether sharp calls may stand in a script. Whole runs, and statements that may be dead, are those that are judged.
+// Whether a mode allows sharp calls in a script. `--runs` and `--dead` don't: they speak of the statements that are judged.
 fn reads_exactly(mode: Mode) -> bool
     ensures { result ≡ modes.reads_exactly mode }
 {
     !matches!(mode, Mode::Dead | Mode::Runs)
 }
 
-// The statements of a script in which sharp calls may stand.
+// The statements of a script that may have sharp calls.
 #[tactic(auto, using(crate::proofs::ReadingLemmas::not_opened))]
 fn open_exact(alloc: Global, part: Part, text: &[u8], atoms: &mut AtomTable) -> Result<Script, Stop>
     requires { length text.now ≤ MOST_BYTES }
@@ -151,7 +152,7 @@ fn open_exact(alloc: Global, part: Part, text: &[u8], atoms: &mut AtomTable) -> 
     }
 }
 
-// Those of a script in which none may.
+// The statements of a script without sharp calls.
 #[tactic(auto, using(crate::proofs::ReadingLemmas::not_opened))]
 fn open_plain(alloc: Global, part: Part, text: &[u8], atoms: &mut AtomTable) -> Result<Script, Stop>
     requires { length text.now ≤ MOST_BYTES }

@@ -16,10 +16,10 @@ use std::alloc::Global;
 use tp_io::{Files, Sink};
 
 /// Runs the command with the words after the program's name. It loads and reads the page, the sheet and the script that they
-/// name, or a sheet and then each page with its script, judges the sheet's selectors within the limits that they ask for, and
-/// writes to `out` what they ask for: the report, what of the script is dead besides, the report with whole runs, or the sheet
+/// name, or a sheet and then each page with its script. It judges the sheet's selectors within the limits of the words. Then it
+/// writes to `out`, by its mode: the report, the report with the dead statements, the report with whole runs, or the sheet
 /// without its unused selectors. With a size it judges a ring of boxes, loads nothing and writes one line that counts the
-/// answers. Where nothing is written, or not the whole, it says why on `err`.
+/// answers. Where nothing is written, or not everything, it writes the reason to `err`.
 pub fn treeped<F: Files, O: Sink, E: Sink>(
     alloc: Global,
     words: &[String],
@@ -49,7 +49,7 @@ pub fn treeped<F: Files, O: Sink, E: Sink>(
     }
 }
 
-// Reads the words, and does what they ask for.
+// Reads the words, and does their task.
 fn run<F: Files, O: Sink>(
     alloc: Global,
     words: &[String],

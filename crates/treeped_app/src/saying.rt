@@ -1,4 +1,4 @@
-//! What is said of a page: the answers, and the traces that a mode asks for.
+//! The results for a page: the answers, and the traces that a mode asks for.
 ghost use Rattle.std.specs.Prelude.{◌≡◌, All, length, map, option_map, IfOk, IfErr};
 ghost use Rattle.css_read.specs.Places.{ArePlaced};
 ghost use Rattle.usage_report.specs.Answers.{spent};
@@ -26,8 +26,8 @@ use std::alloc::Global;
 use tp_base::NoMemory;
 use usage_report::{Answer, RunTrace};
 
-/// What was read of a page, an answer for each item of its sheet, one for each guard that is asked besides, for each further goal the
-/// number of its answer among these, and for whole runs a trace for each item that shows steps.
+/// The results for a page. They are its inputs, an answer for each item of its sheet, and an answer for each further guard. For each
+/// further goal they have the number of its answer among the latter. For whole runs each item that shows steps has a trace.
 #[derive(Drop)]
 pub(crate) struct Said {
     pub(crate) inputs: Inputs,
@@ -37,7 +37,7 @@ pub(crate) struct Said {
     pub(crate) traces: Vec<Option<RunTrace>>,
 }
 
-// The guards of what a mode asks besides the sheet's selectors, each once, and for each goal the number of its guard.
+// The guards of a mode's further goals, besides the sheet's selectors, and for each goal the number of its guard.
 fn extra_guards(alloc: Global, mode: Mode, inputs: &Inputs) -> Result<Asked, NoMemory>
     ensures { IfOk result (λ a. AreAsked (extra_in mode (inputs_of inputs.now)) a.guards.items a.numbers.items) }
 {
@@ -50,7 +50,7 @@ fn extra_guards(alloc: Global, mode: Mode, inputs: &Inputs) -> Result<Asked, NoM
     }
 }
 
-// Why a run stops where there are no answers.
+// The reason to stop where there are no answers.
 fn judging_stop(fault: JudgeFault) -> Stop
     ensures { result ≡ spec.judging_stop fault }
 {
@@ -61,15 +61,15 @@ fn judging_stop(fault: JudgeFault) -> Stop
     }
 }
 
-// The answers for the items of a sheet and for the guards that are asked besides, and for each further goal the number of its answer
-// among the latter.
+// The answers for the items of a sheet and for the further guards, and for each further goal the number of its answer among the
+// latter.
 #[derive(Drop)]
 struct Answered {
     both: Both,
     numbers: Vec<usize>,
 }
 
-// The answers, of what the statements that are judged make of the page. It costs what `judge_more` costs.
+// The answers by the statements that are judged. The cost is that of `judge_more`.
 fn answers_of(alloc: Global, request: &Request<'_>, inputs: &Inputs) -> Result<Answered, Stop>
     requires given { AreInputs (inputs_of inputs.now) }
     ensures answers { IfOk result (λ a. AreJudgedOf request.now.mode request.now.limits.now (inputs_of inputs.now) (map answer_of a.both.items) (by_number spent (map answer_of a.both.extra) a.numbers.items)) }
@@ -110,7 +110,7 @@ fn traces_of(
     }
 }
 
-// What is said of a page by its answers, without traces.
+// The results for a page by its answers, without traces.
 fn said_by(alloc: Global, inputs: Inputs, answered: Answered) -> Result<Said, NoMemory>
     requires room { HasRoom (inputs_of inputs).tree (inputs_of inputs).exact }
     requires unfolded { All (λ a. IsUnfolded (inputs_of inputs).tree answered.both.system (answer_of a)) answered.both.items }
@@ -140,7 +140,8 @@ fn said_by(alloc: Global, inputs: Inputs, answered: Answered) -> Result<Said, No
     })
 }
 
-/// Reads a page's texts and judges its selectors and what the mode asks besides. The page has a number where there are several.
+/// Reads a page's texts, and judges the sheet's selectors and the further goals of the mode. `page` is the page's number where there
+/// are several pages.
 pub(crate) fn say(
     alloc: Global,
     request: &Request<'_>,

@@ -19,7 +19,7 @@ pub(crate) struct Settled {
     pub(crate) items: Vec<Answer>,
 }
 
-/// The answers, settled where a call is sharper than what was judged in its place. It costs what `settle` costs, and next to nothing
+/// The answers, settled by an exact replay where the script has sharp calls. The cost is that of `settle`. It is next to nothing
 /// for a script without sharp calls.
 pub(crate) fn settle_all(
     alloc: Global,

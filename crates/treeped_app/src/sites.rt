@@ -27,8 +27,8 @@ use tp_base::{NoMemory, Place};
 use tp_io::{Files, Sink};
 use usage_report::ReportFault;
 
-/// What is known of a site behind some of its pages: their best answers, the places of each one's statements, and what was read of
-/// the last one.
+/// The results for the first pages of a site: their best answers, the places of each page's statements, and the inputs of the last
+/// page.
 #[derive(Drop)]
 pub(crate) struct Seen {
     pub(crate) site: Site,
@@ -36,7 +36,7 @@ pub(crate) struct Seen {
     pub(crate) last: Inputs,
 }
 
-/// What all pages share.
+/// The values that all pages share.
 #[derive(Clone, Copy)]
 pub(crate) struct Shared<'a> {
     pub(crate) sheet: &'a [u8],
@@ -51,7 +51,7 @@ pub(crate) struct Page<'a> {
     pub(crate) script: &'a str,
 }
 
-/// Loads the sheet, and then loads, reads and judges each page with its script, and writes what the mode says of all of them.
+/// Loads the sheet. Then it loads, reads and judges each page with its script, and writes the text of the mode for all pages.
 pub(crate) fn run_site<F: Files, O: Sink>(
     alloc: Global,
     pages: &Pages<'_>,
@@ -91,7 +91,7 @@ pub(crate) fn run_site<F: Files, O: Sink>(
     finished(alloc, request.mode, &loaded.0, &seen, out)
 }
 
-// What is known of a site behind its first page.
+// Reads and judges the first page of a site.
 fn begun(alloc: Global, request: &Request<'_>, texts: &Texts<'_>) -> Result<Seen, Stop>
     requires fit { Fit (texts_of texts.now) }
     ensures begun { IsBegun request.now.mode request.now.limits.now (texts_of texts.now) result }
@@ -103,7 +103,7 @@ fn begun(alloc: Global, request: &Request<'_>, texts: &Texts<'_>) -> Result<Seen
     Ok(seen)
 }
 
-// What is known of a site by what is said of its first page.
+// The results for a site after its first page.
 fn seen_first(alloc: Global, said: Said) -> Result<Seen, NoMemory>
     ensures first { IfOk result (λ s. IsFirst said s) }
     ensures last { IfOk result (λ s. s.last ≡ said.inputs) }
@@ -119,7 +119,7 @@ fn seen_first(alloc: Global, said: Said) -> Result<Seen, NoMemory>
     })
 }
 
-// Loads, reads and judges the pages of these names, each with its script, from this number on.
+// Loads, reads and judges the pages with these names, each with its script. The first of them has this number.
 fn more_pages<F: Files>(
     alloc: Global,
     number: u32,
@@ -186,7 +186,7 @@ fn next_page<F: Files>(
     Ok(())
 }
 
-// Adds what is said of a page.
+// Adds the results for a page.
 fn add(alloc: Global, said: Said, seen: &mut Seen) -> Result<(), NoMemory>
     requires one_length { length said.items.items ≡ length seen.old.site.items }
     requires room { seen.old.site.pages < MOST_PAGES }
@@ -200,7 +200,7 @@ fn add(alloc: Global, said: Said, seen: &mut Seen) -> Result<(), NoMemory>
     Ok(())
 }
 
-// Writes what the mode says of all pages.
+// Writes the text of the mode for all pages.
 fn finished<O: Sink>(
     alloc: Global,
     mode: Mode,

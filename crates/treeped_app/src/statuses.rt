@@ -16,14 +16,14 @@ use jq_stmts::Stmt;
 use run_ends::Status;
 use usage_report::Answer;
 
-/// What is asked of a statement's verdict.
+/// The two tests of an answer or a verdict that decide the status.
 #[derive(Clone, Copy)]
 pub(crate) enum Question {
     Open,
     Dead,
 }
 
-/// The status of what a mode says of a page.
+/// The status of the results for a page, in a mode.
 #[tactic(auto, using(usage_report::proofs::SeenLemmas::any_seen))]
 pub(crate) fn status_of(mode: Mode, said: &Said) -> Status
     ensures { (x : spec.Texts) → result ≡ spec.status_on mode (said_of x said.now) }
@@ -33,7 +33,7 @@ pub(crate) fn status_of(mode: Mode, said: &Said) -> Status
     status_by(unsure, unused)
 }
 
-/// The status, by whether something is left open, and whether something is unused or dead.
+/// The status of a run. `unsure` says that a line is open, and `unused` that a line says `unused` or `dead`.
 pub(crate) fn status_by(unsure: bool, unused: bool) -> Status
     ensures { result ≡ spec.status_by unsure unused }
 {
@@ -46,14 +46,14 @@ pub(crate) fn status_by(unsure: bool, unused: bool) -> Status
     }
 }
 
-// Whether an answer leaves something open. Linear in them.
+// Whether one of the answers is open. Linear in them.
 fn any_open(answers: &[Answer]) -> bool
     ensures { result ≡ list_any (λ a. spec.is_open (answer_of a)) answers.now }
 {
     answers.iter().any(|a| is_open(a))
 }
 
-/// Whether something is left open: the steps, or whether there are any.
+/// Whether a budget or a sharp call left the answer open.
 pub(crate) fn is_open(answer: &Answer) -> bool
     ensures { result ≡ spec.is_open (answer_of answer.now) }
 {
@@ -63,21 +63,21 @@ pub(crate) fn is_open(answer: &Answer) -> bool
     )
 }
 
-// Whether an answer is unused. Linear in them.
+// Whether one of the answers is `unused`. Linear in them.
 fn any_unused(answers: &[Answer]) -> bool
     ensures { result ≡ list_any (λ a. spec.is_unused (answer_of a)) answers.now }
 {
     answers.iter().any(|a| is_unused(a))
 }
 
-/// Whether there are no steps.
+/// Whether the answer is `unused`.
 pub(crate) fn is_unused(answer: &Answer) -> bool
     ensures { result ≡ spec.is_unused (answer_of answer.now) }
 {
     matches!(answer, Answer::Unused)
 }
 
-// Whether it is so of a statement's verdict, in a mode that has verdicts.
+// Whether a statement's verdict meets the question, in a mode with verdicts.
 fn any_meets(mode: Mode, question: Question, said: &Said) -> bool
     ensures { (x : spec.Texts) → result ≡ list_any (verdict.is_so question) (spec.verdicts_in mode (said_of x said.now ∷ [])) }
 {
@@ -92,8 +92,8 @@ fn any_meets(mode: Mode, question: Question, said: &Said) -> bool
     }
 }
 
-// Whether it is so of one of the verdicts of the statements, by the number of an answer for each of their probes. Linear in the
-// statements.
+// Whether one of the statements' verdicts meets the question. `numbers` has for each of their probes the number of its answer. Linear
+// in the statements.
 fn any_verdict(question: Question, stmts: &[Stmt], answers: &[Answer], numbers: &[usize]) -> bool
     ensures { result ≡ list_any (verdict.is_so question) (dead.verdicts (statements_of stmts.now) (by_number spent (map answer_of answers.now) numbers.now)) }
 {
@@ -108,7 +108,7 @@ fn any_verdict(question: Question, stmts: &[Stmt], answers: &[Answer], numbers: 
     false
 }
 
-// The numbers behind those of a statement with so many handlers.
+// The numbers behind those of a statement with `handlers` handlers.
 fn behind(numbers: &[usize], handlers: usize) -> &[usize]
     ensures { result.now ≡ drop (handlers + 1) numbers.now }
 {
@@ -119,7 +119,7 @@ fn behind(numbers: &[usize], handlers: usize) -> &[usize]
     }
 }
 
-// Whether it is so of a statement whose own number is at that place; without one it is open.
+// Whether the verdict on a statement meets the question, where its own number has the index `at`. Without a number it is open.
 fn own_answer_meets(question: Question, answers: &[Answer], numbers: &[usize], at: usize) -> bool
     ensures { result ≡ verdict.is_so_of question (slice_get (by_number spent (map answer_of answers.now) numbers.now) at) }
 {
@@ -129,7 +129,8 @@ fn own_answer_meets(question: Question, answers: &[Answer], numbers: &[usize], a
     }
 }
 
-// Whether it is so of a statement whose own answer has this number: it is dead where that is unused, and open where that is.
+// Whether the verdict on a statement meets the question, where its own answer has the number `at`. The statement is dead where this
+// answer is `unused`, and open where the answer is open or missing.
 fn answer_meets(question: Question, answers: &[Answer], at: usize) -> bool
     ensures { result ≡ verdict.is_so_of question (option_map answer_of (slice_get answers.now at)) }
 {

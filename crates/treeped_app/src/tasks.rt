@@ -1,4 +1,4 @@
-//! What a run is asked for, and where its texts come from.
+//! The request of a run, and the source of its texts.
 ghost use Rattle.std.specs.Prelude.{◌≡◌, ◌≤◌, ◌+◌, ◌*◌, Some, true, false, is_some, length, IfSome};
 ghost use Rattle.limits.specs.Budgets.{IsInRange};
 ghost use Rattle.limits.specs.declared.pages.TheConstants.{MOST_PAGES};
@@ -11,7 +11,7 @@ ghost use Rattle.treeped_app.specs.Views.{source_of};
 use command_words::{Mode, Order, Word};
 use limits::Limits;
 
-/// What is written of a page or a site, and the limits within which it is judged.
+/// The mode of a run on a page or a site, and the limits within which it is judged.
 #[derive(Clone, Copy)]
 pub(crate) struct Request<'a> {
     pub(crate) mode: Mode,
@@ -34,7 +34,7 @@ pub(crate) struct Pages<'a> {
     pub(crate) later: &'a [Word],
 }
 
-/// A page; several that use one sheet; or a ring of so many boxes, which is generated.
+/// The source of a run's texts: a page; several pages that use one sheet; or a ring of boxes, which is generated.
 #[derive(Clone, Copy)]
 pub(crate) enum Source<'a> {
     One(Names<'a>),
@@ -75,7 +75,7 @@ fn page_of(names: &[Word]) -> Source<'_>
     }
 }
 
-// Those of a sheet, and of pages with their scripts.
+// The names of a sheet, and of pages with their scripts.
 fn site_of(names: &[Word]) -> Source<'_>
     requires long { 3 ≤ length names.now }
     requires short { length names.now ≤ 2 * MOST_PAGES + 1 }

@@ -1,4 +1,4 @@
-//! What a mode writes of a page.
+//! The text that a mode writes of a page.
 ghost use Rattle.std.specs.Prelude.{◌≡◌, ◌≤◌, length, map, IfOk, OnOk, OnErr};
 ghost use Rattle.tp_base.specs.declared.places.TheConstants.{MOST_BYTES};
 ghost use Rattle.tp_io.specs.Sinks.{Adds, AddsPrefix, Rose};
@@ -33,7 +33,7 @@ pub(crate) fn places_of(alloc: Global, stmts: &[Stmt]) -> Result<Vec<Place>, NoM
     Ok(places)
 }
 
-/// Writes what a mode says of a page.
+/// Writes the text of a mode for a page.
 pub(crate) fn write_one<O: Sink>(
     alloc: Global,
     mode: Mode,
