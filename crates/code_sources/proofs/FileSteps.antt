@@ -1,5 +1,5 @@
 -- The last part of a path, one byte after the other.
-use Rattle.std.proofs.Common.{◌≡◌, ℕ, nat_eq, Bool, true, false, if◌then◌else◌, List, [], ◌∷◌, length, refl, sym, ap, ◌∙◌, arith, eq-eqb}
+use Rattle.std.proofs.Common.{◌≡◌, ℕ, Bool, true, false, if◌then◌else◌, List, [], ◌∷◌, length, refl, sym, arith, eq-eqb}
 use Rattle.std.proofs.lemmas.Bool.{ne_eqb}
 use Rattle.code_sources.specs.Scripts.{has_slash, last_part}
 
@@ -25,13 +25,12 @@ unfolding last_of last_part
 slash found b bs is = rw (eq-eqb b 47 is) (sym (by (has_slash bs) bs refl))
 
 pub other : (found : List ℕ) (b : ℕ) (bs : List ℕ) → (b ≡ 47 → ⊥) → last_of found (b ∷ bs) ≡ last_of found bs
-unfolding last_of
-other found b bs no = rw (ne_eqb b 47 no) (step (has_slash bs) refl)
+unfolding last_of last_part
+other found b bs differs = rw (ne_eqb b 47 differs) (twice (has_slash bs))
   where
-    step : (test : Bool) → has_slash bs ≡ test → (if test then last_part (b ∷ bs) else found) ≡ (if test then last_part bs else found)
-    unfolding last_part
-    step true is = rw (ne_eqb b 47 no, is) refl
-    step false is = refl
+    twice : (test : Bool) → (if test then (if test then last_part bs else b ∷ bs) else found) ≡ (if test then last_part bs else found)
+    twice true = refl
+    twice false = refl
 
 pub ends : (found bs : List ℕ) → length bs ≡ 0 → last_of found bs ≡ found
 unfolding last_of

@@ -8,7 +8,7 @@ use Rattle.code_sources.specs.declared.sources.Kind.{Kind}
 use Rattle.code_sources.specs.declared.sources.Kind.TheVariants.{Value, Holed}
 use Rattle.code_sources.specs.declared.sources.Source.{Source}
 use Rattle.code_sources.specs.Bytes.{hole, has_hole, behind_spelled}
-use Rattle.code_sources.specs.References.{Said, read_value}
+use Rattle.code_sources.specs.References.{read_value}
 use Rattle.code_sources.specs.Tags.{Placed}
 
 -- ---- the attributes of events

@@ -32,7 +32,7 @@ windows_1252 =
 unfoldable pub character : ℕ → ℕ
 character code =
     if code == 0 then 0xFFFD
-    else if is_in_range 0x80 0x9F code then get_or windows_1252 (code - 0x80) 0xFFFD
+    else if is_in_range 0x80 0x9F code then get_or windows_1252 (code - 0x80) 0
     else if scalar code then code
     else 0xFFFD
 

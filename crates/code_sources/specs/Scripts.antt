@@ -14,8 +14,8 @@ use Rattle.code_sources.specs.declared.sources.Kind.{Kind}
 use Rattle.code_sources.specs.declared.sources.Kind.TheVariants.{Script, Template, Unseen}
 use Rattle.code_sources.specs.declared.sources.Source.{Source}
 use Rattle.code_sources.specs.Bytes.{past_blanks}
-use Rattle.code_sources.specs.References.{Said, read_value}
-use Rattle.code_sources.specs.Tags.{Tag, is_named, value}
+use Rattle.code_sources.specs.References.{read_value}
+use Rattle.code_sources.specs.Tags.{Tag, value}
 
 -- ---- its text
 
@@ -32,9 +32,12 @@ in_type b = not (is_blank b || b == byte ";")
 unfoldable pub type_word : List ℕ → List ℕ
 type_word text = let word = past_blanks text in take (prefix_len in_type word) word
 
+unfoldable pub is_run_type : List ℕ → Bool
+is_run_type word = is_among run_types word
+
 abbrev pub is_run : Option (List ℕ) → Bool
 is_run None = true
-is_run (Some text) = is_among run_types (lowered (type_word text))
+is_run (Some text) = is_run_type (lowered (type_word text))
 
 -- what makes a `<` before it the beginning of markup, or of a mark of templates
 abbrev pub opens_markup : List ℕ → Bool

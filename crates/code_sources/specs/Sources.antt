@@ -1,5 +1,5 @@
 -- The sources of a page and of markup, in the order of their places.
-use Rattle.std.specs.Prelude.{ℕ, if◌then◌else◌, List, [], ◌++◌, flat_map, codes}
+use Rattle.std.specs.Prelude.{ℕ, if◌then◌else◌, List, ◌++◌, flat_map, codes}
 use Rattle.code_sources.specs.declared.sources.Source.{Source}
 use Rattle.code_sources.specs.Attributes.{sources_in_attribute}
 use Rattle.code_sources.specs.Scripts.{sources_in_script, unseen}

@@ -1,12 +1,12 @@
 -- The start tags of a text, with their attributes and the places of the values.
 --     tags_in    those of a text
-use Rattle.std.specs.Prelude.{ℕ, zero, suc, ◌+◌, ◌-◌, ◌==◌, ◌&&◌, Bool, false, if◌then◌else◌, List, [], ◌∷◌, ◌++◌, map, length, take, drop, Option, Some, None}
+use Rattle.std.specs.Prelude.{ℕ, zero, suc, ◌-◌, ◌==◌, ◌&&◌, Bool, false, if◌then◌else◌, List, [], ◌∷◌, ◌++◌, map, length, take, drop, Option, Some, None}
 use Rattle.std.specs.Char.{is_ascii_alphabetic}
 use Rattle.std.specs.List.{prefix_len}
 use Rattle.std.specs.Str.{byte, bytes_eq}
 use Rattle.html_tokens.specs.Bytes.{is_filler, in_tag_name, lowered}
 use Rattle.html_tokens.specs.Attributes.{Read, Attribute, attribute, behind_equals, is_quote, value_of}
-use Rattle.html_tokens.specs.Tokens.{Front, front}
+use Rattle.html_tokens.specs.Tokens.{front}
 
 -- an attribute as it is written, and the offset of its value's first byte
 pub record Placed : Type 0 where

@@ -1,5 +1,6 @@
 //! The files that a page's scripts are in.
 ghost use Rattle.std.specs.Prelude.{◌≡◌, ◌≤◌, length, map};
+ghost use Rattle.std.specs.List.{prefix_len};
 ghost use Rattle.code_sources.specs.Scripts as spec;
 
 fn in_path(b: u8) -> bool
@@ -8,11 +9,18 @@ fn in_path(b: u8) -> bool
     !(b == b'?' || b == b'#')
 }
 
+// Linear in it.
+fn path_len(address: &[u8]) -> usize
+    ensures gives { result ≡ prefix_len spec.in_path address.now }
+    ensures within { result ≤ length address.now }
+{
+    address.iter().take_while(|b| in_path(**b)).count()
+}
+
 fn path_of(address: &[u8]) -> &[u8]
     ensures { result.now ≡ spec.path_of address.now }
 {
-    let len = address.iter().take_while(|b| in_path(**b)).count();
-    address.split_at(len).0
+    address.split_at(path_len(address)).0
 }
 
 // Linear in the text.
@@ -37,6 +45,14 @@ fn is_between_words(b: u8) -> bool
     b == b'.' || b == b'-' || b.is_ascii_digit()
 }
 
+// How many dots, hyphens and digits a text begins with. Linear in them.
+fn between_len(text: &[u8]) -> usize
+    ensures gives { result ≡ prefix_len spec.is_between_words text.now }
+    ensures within { result ≤ length text.now }
+{
+    text.iter().take_while(|b| is_between_words(**b)).count()
+}
+
 #[tactic(auto, unfolding(crate::specs::Scripts::behind_word))]
 fn behind_word<'a>(word: &[u8], text: &'a [u8]) -> &'a [u8]
     ensures { result.now ≡ spec.behind_word word.now text.now }
@@ -45,8 +61,7 @@ fn behind_word<'a>(word: &[u8], text: &'a [u8]) -> &'a [u8]
         return text;
     }
     let rest = text.split_at(word.len()).1;
-    let len = rest.iter().take_while(|b| is_between_words(**b)).count();
-    rest.split_at(len).1
+    rest.split_at(between_len(rest)).1
 }
 
 #[tactic(auto, unfolding(crate::specs::Scripts::is_jquery))]
@@ -55,7 +70,8 @@ fn is_jquery(file: &[u8]) -> bool
 {
     file.starts_with(b"jquery")
         && file.ends_with(b".js")
-        && behind_word(b"min", behind_word(b"slim", behind_word(b"jquery", file))) == b"js".as_slice()
+        && behind_word(b"min", behind_word(b"slim", behind_word(b"jquery", file)))
+            == b"js".as_slice()
 }
 
 fn is_handed_in(scripts: &[&[u8]], file: &[u8]) -> bool

@@ -1,5 +1,5 @@
 //! Character references in a value.
-ghost use Rattle.std.specs.Prelude.{◌≡◌, ◌≤◌, ◌<◌, ◌++◌, ◌&&◌, zero, length, map, IfSome, IfOk, OnOk};
+ghost use Rattle.std.specs.Prelude.{◌≡◌, ◌≤◌, ◌<◌, ◌++◌, ◌&&◌, ◌-◌, zero, length, map, get_or, IfSome, IfOk, OnOk};
 ghost use Rattle.std.specs.Option.{option_map};
 ghost use Rattle.text_bytes.specs.Rests.{IsRest};
 ghost use Rattle.code_sources.specs.References as spec;
@@ -78,6 +78,15 @@ fn number(base: u32, text: &[u8]) -> (u32, &[u8])
     (code, rest)
 }
 
+#[tactic(auto, using(crate::proofs::ReferenceSteps::windows_at))]
+fn of_windows(code: u32) -> char
+    requires least { 128 ≤ code }
+    requires most { code ≤ 159 }
+    ensures { result ≡ get_or spec.windows_1252 (code - 128) 0 }
+{
+    WINDOWS_1252[(code - 0x80) as usize]
+}
+
 #[tactic(auto, unfolding(crate::specs::References::character))]
 fn character(code: u32) -> char
     ensures { result ≡ spec.character code }
@@ -85,7 +94,7 @@ fn character(code: u32) -> char
     if code == 0 {
         '\u{FFFD}'
     } else if matches!(code, 0x80..=0x9F) {
-        WINDOWS_1252[(code - 0x80) as usize]
+        of_windows(code)
     } else {
         char::from_u32(code).unwrap_or('\u{FFFD}')
     }

@@ -1,5 +1,7 @@
 //! The elements `script` of a page.
-ghost use Rattle.std.specs.Prelude.{◌≡◌, ◌++◌, map, OnOk};
+ghost use Rattle.std.specs.Prelude.{◌≡◌, ◌≤◌, ◌++◌, length, map, OnOk};
+ghost use Rattle.std.specs.List.{prefix_len};
+ghost use Rattle.html_tokens.specs.Bytes.{lowered};
 ghost use Rattle.html_tokens.specs.Views.{bytes_of};
 ghost use Rattle.code_sources.specs.Scripts as spec;
 ghost use Rattle.code_sources.specs.Views.{tag_of};
@@ -40,23 +42,36 @@ fn in_type(b: u8) -> bool
     !(is_blank(b) || b == b';')
 }
 
+// Linear in it.
+fn type_len(text: &[u8]) -> usize
+    ensures gives { result ≡ prefix_len spec.in_type text.now }
+    ensures within { result ≤ length text.now }
+{
+    text.iter().take_while(|b| in_type(**b)).count()
+}
+
 #[tactic(auto, unfolding(crate::specs::Scripts::type_word))]
 fn type_word(text: &[u8]) -> &[u8]
     ensures { result.now ≡ spec.type_word text.now }
 {
     let word = past_blanks(text);
-    let len = word.iter().take_while(|b| in_type(**b)).count();
-    word.split_at(len).0
+    word.split_at(type_len(word)).0
+}
+
+#[tactic(auto, unfolding(crate::specs::Scripts::is_run_type), using(crate::proofs::ScriptSteps::run_types_are))]
+fn is_run_type(word: &[u8]) -> bool
+    ensures { result ≡ spec.is_run_type (lowered word.now) }
+{
+    is_among(&RUN_TYPES, word)
 }
 
 // Whether a script of this type is run.
-#[tactic(auto, using(crate::proofs::ScriptSteps::run_types_are))]
 fn is_run(kind: Option<&[u8]>) -> bool
     ensures { result ≡ spec.is_run (bytes_of kind.entry) }
 {
     match kind {
         None => true,
-        Some(text) => is_among(&RUN_TYPES, type_word(text)),
+        Some(text) => is_run_type(type_word(text)),
     }
 }
 

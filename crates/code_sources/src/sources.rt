@@ -58,6 +58,24 @@ fn add_tag(found: &mut Vec<Source>, scripts: &[&[u8]], tag: &Tag<'_>) -> Result<
     Ok(())
 }
 
+fn add_tags(found: &mut Vec<Source>, scripts: &[&[u8]], tags: &[Tag<'_>]) -> Result<(), NoMemory>
+    ensures { OnOk result (found.new.items ≡ found.old.items ++ flat_map (spec.sources_in_tag (map (λ s. s.now) scripts.now)) (map tag_of tags.now)) }
+{
+    'tags: for tag in tags {
+        add_tag(found, scripts, tag)?;
+    }
+    Ok(())
+}
+
+fn add_all_attributes(found: &mut Vec<Source>, tags: &[Tag<'_>]) -> Result<(), NoMemory>
+    ensures { OnOk result (found.new.items ≡ found.old.items ++ flat_map spec.sources_in_attributes (map tag_of tags.now)) }
+{
+    'tags: for tag in tags {
+        add_attributes(found, tag.attributes.items())?;
+    }
+    Ok(())
+}
+
 /// The sources of a page, where the names of the scripts that are handed in are given. Linear in the page, and in those names for each script that
 /// has a file.
 #[tactic(auto, unfolding(crate::specs::Sources::sources_in_page))]
@@ -70,9 +88,7 @@ pub fn sources_in_page(
 {
     let tags = tags_in(alloc, page)?;
     let mut found = Vec::new(alloc);
-    'tags: for tag in tags.items() {
-        add_tag(&mut found, scripts, tag)?;
-    }
+    add_tags(&mut found, scripts, tags.items())?;
     Ok(Items::new(found))
 }
 
@@ -83,8 +99,6 @@ pub fn sources_in_markup(alloc: Global, text: &[u8]) -> Result<Items<Source>, No
 {
     let tags = tags_in(alloc, text)?;
     let mut found = Vec::new(alloc);
-    'tags: for tag in tags.items() {
-        add_attributes(&mut found, tag.attributes.items())?;
-    }
+    add_all_attributes(&mut found, tags.items())?;
     Ok(Items::new(found))
 }

@@ -1,4 +1,4 @@
-use Rattle.std.proofs.Common.{◌∙◌, refl, sym, arith}
+use Rattle.std.proofs.Common.{◌∙◌, sym, arith}
 use Rattle.code_sources.proofs.TagSteps.{adds_one}
 use Rattle.code_sources.proofs.tags.read_attributes.Goals as goal
 

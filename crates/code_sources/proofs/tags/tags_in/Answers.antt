@@ -1,5 +1,6 @@
-use Rattle.std.proofs.Common.{◌≡◌, ◌<◌, ◌∙◌, sym, length, arith}
+use Rattle.std.proofs.Common.{◌≡◌, ◌<◌, ◌∙◌, sym, ap, map, length, arith}
 use Rattle.std.proofs.lemmas.Grind.{common_steps}
+use Rattle.code_sources.specs.Views.{tag_of}
 use Rattle.code_sources.proofs.TagSteps.{goes_on, all_found}
 use Rattle.code_sources.proofs.tags.tags_in.Goals as goal
 
@@ -16,4 +17,4 @@ tokens-preserved c =
 pub returns : goal.returns
 returns c =
     let none : length c.tokens.rest.now ≡ 0 = grind (arith, common_steps) in
-    all_found _ _ (length c.args.text.now) _ none c.tokens.invariant.found
+    ap (λ ts. map tag_of ts) c.new.ensures ∙ all_found _ _ (length c.args.text.now) _ none c.tokens.invariant.found
