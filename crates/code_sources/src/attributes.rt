@@ -4,7 +4,7 @@ ghost use Rattle.std.specs.Option.{option_map};
 ghost use Rattle.code_sources.specs.Attributes as spec;
 ghost use Rattle.code_sources.specs.Views.{placed_of};
 
-use crate::bytes::{behind_spelled, has_hole};
+use crate::bytes::{HOLE, behind_spelled, has_hole};
 use crate::references::{Said, read_value};
 use crate::sources::{Kind, Source};
 use crate::tags::Placed;
@@ -13,7 +13,7 @@ use tp_base::{Items, NoMemory};
 fn is_hole(byte: u8) -> bool
     ensures { result ≡ spec.is_hole byte }
 {
-    byte == 255
+    byte == HOLE
 }
 
 fn begins_letter_or_hole(text: &[u8]) -> bool

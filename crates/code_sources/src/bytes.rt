@@ -47,7 +47,7 @@ pub(crate) fn past_blanks(text: &[u8]) -> &[u8]
 pub(crate) fn has_hole(text: &[u8]) -> bool
     ensures { result ≡ spec.has_hole text.now }
 {
-    text.contains(&255)
+    text.contains(&HOLE)
 }
 
 /// Whether a word is one of these, without regard to ASCII case. Linear in the word, for each of them.

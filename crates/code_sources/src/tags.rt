@@ -34,7 +34,8 @@ pub struct Tag<'a> {
 }
 
 impl<'a> Tag<'a> {
-    pub(crate) fn is_named(&self, name: &[u8]) -> bool
+    /// Whether its name is this one, without regard to ASCII case.
+    pub fn is_named(&self, name: &[u8]) -> bool
         ensures { result ≡ spec.is_named (lowered name.now) (tag_of self.now) }
     {
         is_same_name(self.name, name)
