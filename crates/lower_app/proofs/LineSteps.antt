@@ -13,9 +13,3 @@ three line a b c = simp append_assoc
 
 pub five : (line a b c d e : List ℕ) → ((((line ++ a) ++ b) ++ c) ++ d) ++ e ≡ line ++ (a ++ b ++ c ++ d ++ e)
 five line a b c d e = simp append_assoc
-
-pub six : (a b c d e f : List ℕ) → ((((a ++ b) ++ c) ++ d) ++ e) ++ f ≡ a ++ b ++ c ++ d ++ e ++ f
-six a b c d e f = simp append_assoc
-
-pub seven : (a b c d e f g : List ℕ) → (((((a ++ b) ++ c) ++ d) ++ e) ++ f) ++ g ≡ a ++ b ++ c ++ d ++ e ++ f ++ g
-seven a b c d e f g = simp append_assoc

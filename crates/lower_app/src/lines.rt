@@ -88,7 +88,7 @@ fn push_detail(line: &mut Vec<u8>, rest: &[u8]) -> Result<(), NoMemory>
 }
 
 /// The line of an assumption, in a file with this word, at a place where these bytes begin. Linear in them up to the end of their line.
-#[tactic(auto, unfolding(crate::specs::Lines::assumption_line), using(crate::proofs::LineSteps::seven))]
+#[tactic(auto, unfolding(crate::specs::Lines::assumption_line))]
 pub fn assumption_line(
     alloc: Global,
     word: &[u8],
@@ -143,7 +143,7 @@ fn push_name_note(line: &mut Vec<u8>, is_any_name: bool) -> Result<(), NoMemory>
 }
 
 /// The line of a statement, from a place in a file with this word. Linear in it.
-#[tactic(auto, unfolding(crate::specs::Lines::statement_line), using(crate::proofs::LineSteps::six))]
+#[tactic(auto, unfolding(crate::specs::Lines::statement_line))]
 pub fn statement_line(
     alloc: Global,
     word: &[u8],
