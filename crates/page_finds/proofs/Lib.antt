@@ -1,3 +1,4 @@
+pub mod LeftSteps
 pub mod PageSteps
 pub mod TagLists
 pub mod TagSteps

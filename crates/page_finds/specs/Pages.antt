@@ -1,6 +1,6 @@
 -- The findings of a page.
 --     is_standard      whether a browser reads it by the standard, and not in quirks mode
---     page_findings    all that are found, in the order of their places
+--     page_findings    all that are found
 use Rattle.std.specs.Prelude.{ℕ, zero, suc, ◌-◌, ◌&&◌, ◌||◌, not, nat_eq, Bool, false, if◌then◌else◌, List, [], ◌∷◌, ◌++◌, length, take, drop, flat_map, codes}
 use Rattle.std.specs.List.{prefix_len}
 use Rattle.text_bytes.specs.Blanks.{is_blank}
@@ -12,7 +12,6 @@ use Rattle.html_tokens.specs.Markup.{behind_angle, behind_arrow}
 use Rattle.premise_finds.specs.declared.findings.Finding.{Finding}
 use Rattle.premise_finds.specs.declared.names.Name.TheVariants as name
 use Rattle.premise_finds.specs.Findings.{when, finding}
-use Rattle.premise_finds.specs.Merging.{merged}
 use Rattle.page_finds.specs.Trees.{tree_findings}
 use Rattle.page_finds.specs.Tags.{tags_at, tags_of}
 use Rattle.page_finds.specs.TagNames.{found_at_tag}
@@ -78,4 +77,4 @@ token_findings text = found_at_front text ++ flat_map found_at_tag (tags_of text
 
 -- with those of the tree
 unfoldable pub page_findings : List ℕ → List Finding
-page_findings text = merged (token_findings text) (tree_findings text)
+page_findings text = token_findings text ++ tree_findings text

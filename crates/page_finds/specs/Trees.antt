@@ -1,8 +1,9 @@
 -- What is found of a page's tree, over the open elements as the table has them. Here the outermost is listed first.
 --     after            the elements that are open behind a token
 --     found_in_tree    what is found at a token
+--     found_closed     which of the elements that a token closes are left open
 --     tree_findings    in a page
-use Rattle.std.specs.Prelude.{ℕ, zero, suc, ◌+◌, ◌-◌, ◌&&◌, ◌||◌, not, nat_lt, Bool, false, if◌then◌else◌, List, [], ◌∷◌, ◌++◌, length, take, drop, map, reverse, slice_get, codes, Option, Some, None}
+use Rattle.std.specs.Prelude.{ℕ, zero, suc, ◌+◌, ◌-◌, ◌&&◌, ◌||◌, not, nat_lt, Bool, true, false, if◌then◌else◌, List, [], ◌∷◌, ◌++◌, length, take, drop, map, reverse, replicate, slice_get, unwrap_or, codes, Option, Some, None}
 use Rattle.std.specs.List.{list_any}
 use Rattle.std.specs.Option.{option_map}
 use Rattle.std.specs.Str.{str_eq_ignore_ascii_case}
@@ -22,6 +23,7 @@ use Rattle.html_table.specs.Views.{counted}
 use Rattle.premise_finds.specs.declared.findings.Finding.{Finding}
 use Rattle.premise_finds.specs.declared.names.Name.TheVariants as name
 use Rattle.premise_finds.specs.Findings.{when, finding}
+use Rattle.page_finds.specs.declared.left.Opened.{Opened}
 use Rattle.page_finds.specs.Tags.{Tag, tag_at}
 use Rattle.page_finds.specs.TagNames.{is_named, has, value}
 use Rattle.premise_finds.specs.Texts.{is_seen}
@@ -198,6 +200,54 @@ is_across q es = not (is_raw q) && crosses (ending (element q) (reverse es)) es
 unfoldable pub is_text_in_a_table : List ℕ → List Element → Bool
 is_text_in_a_table bytes es = is_seen bytes && is_between_cells es
 
+-- ---- elements that are left open
+
+-- how many of the open elements stay open
+abbrev pub kept_at_start : Option (ℕ × List (List ℕ)) → List Element → ℕ
+kept_at_start None es = length es
+kept_at_start (Some p) es = p.0
+
+abbrev pub kept_by_ending : Ending → List Element → ℕ
+kept_by_ending does.Nothing es = length es
+kept_by_ending does.Paragraph es = unwrap_or (left_of_paragraph es) (length es)
+kept_by_ending (does.Leaves n) es = n
+
+abbrev pub kept : Option Token → List Element → ℕ
+kept None es = length es
+kept (Some (text bytes)) es = length es
+kept (Some (start t)) es = if is_root (kind_of t.name) then length es else kept_at_start (place_in (kind_of t.name) es) es
+kept (Some (stop q at)) es = kept_by_ending (ending (element q) (reverse es)) es
+
+abbrev pub is_stop : Option Token → Bool
+is_stop (Some (stop q at)) = true
+is_stop t = false
+
+-- the first element that is closed by something else than its own end tag, of so many that are open
+abbrev pub first_left : Bool → ℕ → ℕ → ℕ
+first_left by_stop kept count = if by_stop && nat_lt kept count then kept + 1 else kept
+
+-- an element with its tag that something else closes; the file's end leaves no form open for a form behind it
+unfoldable pub found_left_at : Bool → Element → Opened → List Finding
+found_left_at by_end e o =
+    when (not (is_among omitted_names e.name)) (finding name.LeftOpen o.from o.to)
+    ++ when (not by_end && has_name (codes "form") e) (finding name.FormLeftOpen o.from o.to)
+
+unfoldable pub found_left : Bool → List Element → List Opened → List Finding
+found_left by_end [] os = []
+found_left by_end (e ∷ es) [] = []
+found_left by_end (e ∷ es) (o ∷ os) = found_left_at by_end e o ++ found_left by_end es os
+
+abbrev pub left_from : Bool → ℕ → List Element → List Opened → List Finding
+left_from by_end n es os = found_left by_end (drop n es) (drop n os)
+
+-- of the elements that a token closes
+unfoldable pub found_closed : Option Token → List Element → List Opened → List Finding
+found_closed t es os = left_from false (first_left (is_stop t) (kept t es) (length es)) es os
+
+-- the tags of the open elements: of those that stay open the same, and of the others that of the token
+unfoldable pub tags_after : Opened → ℕ → ℕ → List Opened → List Opened
+tags_after tag kept count os = take kept os ++ replicate (count - length (take kept os)) tag
+
 -- ---- in a page
 
 -- at the token that begins the bytes, in a file of `size` bytes
@@ -207,12 +257,19 @@ found_in_tree size es bs (Some (text t), rest) = when (is_text_in_a_table t es) 
 found_in_tree size es bs (Some (start t), rest) = found_at_start (tag_at size bs rest) es
 found_in_tree size es bs (Some (stop q at), rest) = when (is_across q es) (finding name.TagAcrossAnother (size - length bs) (size - length rest))
 
--- in the last bytes of a file, where some elements are open; `skip` bytes are left of what was read last
-unfoldable pub tree_from : ℕ → List Element → ℕ → List ℕ → List Finding
-tree_from size es skip [] = []
-tree_from size es (suc skip) (b ∷ bs) = tree_from size es skip bs
-tree_from size es zero (b ∷ bs) =
-    let f = front (size - length (b ∷ bs)) (b ∷ bs) in found_in_tree size es (b ∷ bs) f ++ tree_from size (after f.0 es) (length bs - length f.1) bs
+-- from a token's first byte to behind its last one
+abbrev pub opened_at : ℕ → List ℕ → List ℕ → Opened
+opened_at size bs rest = record { from = size - length bs; to = size - length rest }
+
+-- in the last bytes of a file, where some elements are open, with their tags; `skip` bytes are left of what was read last
+unfoldable pub tree_from : ℕ → List Element → List Opened → ℕ → List ℕ → List Finding
+tree_from size es os skip [] = left_from true 0 es os
+tree_from size es os (suc skip) (b ∷ bs) = tree_from size es os skip bs
+tree_from size es os zero (b ∷ bs) =
+    let f = front (size - length (b ∷ bs)) (b ∷ bs) in
+    let more = after f.0 es in
+    (found_in_tree size es (b ∷ bs) f ++ found_closed f.0 es os)
+    ++ tree_from size more (tags_after (opened_at size (b ∷ bs) f.1) (kept f.0 es) (length more) os) (length bs - length f.1) bs
 
 unfoldable pub tree_findings : List ℕ → List Finding
-tree_findings page = tree_from (length page) [] 0 (behind_order_mark page)
+tree_findings page = tree_from (length page) [] [] 0 (behind_order_mark page)

@@ -1,6 +1,7 @@
 //! Places of a page at which a browser does more than the model.
 #![tactic(auto)]
 
+mod left;
 mod pages;
 mod tag_names;
 mod tags;

@@ -5,6 +5,7 @@ ghost use Rattle.html_tokens.specs.Bytes.{in_bare_value};
 ghost use Rattle.text_bytes.specs.Rests.{IsRest};
 ghost use Rattle.std.specs.Option.{option_map};
 ghost use Rattle.html_tokens.specs.Views.{token_of};
+ghost use Rattle.premise_finds.specs.Orders.{AreInOrder};
 ghost use Rattle.page_finds.specs.Pages as spec;
 
 use crate::tag_names::add_tag;
@@ -12,7 +13,7 @@ use crate::tags::read_tag;
 use crate::trees::tree_findings;
 use html_tokens::{Token, is_same_name, next};
 use premise_finds::{
-    Finding, Findings, Name, add_when, begins_word, has_somewhere, merged, past_blanks,
+    Finding, Findings, Name, add_when, begins_word, has_somewhere, past_blanks, sort_findings,
 };
 use std::alloc::{AllocError, Global};
 use text_bytes::{behind_mark, behind_order_mark, is_blank};
@@ -158,12 +159,14 @@ fn token_findings(alloc: Global, text: &[u8]) -> Result<Vec<Finding>, NoMemory>
     Ok(found)
 }
 
-/// The findings of a page, of which a byte order mark at the front is passed over. Linear in the page, in time and in memory.
+/// The findings of a page in their order. A byte order mark at the front is passed over. Linear in the page, in time and in
+/// memory, but for the order.
 #[tactic(auto, unfolding(crate::specs::Pages::page_findings))]
 pub fn findings_in_page(alloc: Global, text: &[u8]) -> Result<Findings, NoMemory>
-    ensures { IfOk result (λ f. f ≡ spec.page_findings text.now) }
+    ensures { IfOk result (λ f. AreInOrder (spec.page_findings text.now) f) }
 {
-    let found = token_findings(alloc, text)?;
-    let others = tree_findings(alloc, text)?;
-    Ok(Findings::new(merged(alloc, &found, &others)?))
+    let mut found = token_findings(alloc, text)?;
+    found.extend_from_slice(&tree_findings(alloc, text)?)?;
+    sort_findings(&mut found)?;
+    Ok(Findings::new(found))
 }

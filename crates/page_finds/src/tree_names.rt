@@ -2,6 +2,7 @@
 ghost use Rattle.std.specs.Prelude.{◌≡◌, ◌+◌, ◌++◌, ◌||◌, not, nat_lt, map, length, slice_get, IfOk, OnOk};
 ghost use Rattle.std.specs.Option.{option_map};
 ghost use Rattle.html_tokens.specs.Bytes.{lowered};
+ghost use Rattle.html_tokens.specs.Names.{is_among};
 ghost use Rattle.html_table.specs.TreeTable.{is_in_table};
 ghost use Rattle.html_table.specs.Views.{element_of};
 ghost use Rattle.html_tokens.specs.Views.{bytes_of};
@@ -304,49 +305,27 @@ pub(crate) fn add_start(
 {
     let from = tag.from;
     let to = tag.to;
-    add_when(
-        found,
-        is_raw_in_svg(tag, elements)?,
-        Name::RawInSvg,
-        from,
-        to,
-    )?;
-    add_when(
-        found,
-        is_html_in_svg(tag, elements)?,
-        Name::HtmlInSvg,
-        from,
-        to,
-    )?;
-    add_when(
-        found,
-        is_in_itself(tag, elements)?,
-        Name::InItself,
-        from,
-        to,
-    )?;
-    add_when(
-        found,
-        is_tag_in_a_table(tag, elements),
-        Name::InATable,
-        from,
-        to,
-    )?;
-    add_when(
-        found,
-        is_in_a_select(tag, elements)?,
-        Name::InASelect,
-        from,
-        to,
-    )?;
-    add_when(
-        found,
-        is_item_in_a_block(tag, elements),
-        Name::ItemInABlock,
-        from,
-        to,
-    )?;
+    let is = is_raw_in_svg(tag, elements)?;
+    add_when(found, is, Name::RawInSvg, from, to)?;
+    let is = is_html_in_svg(tag, elements)?;
+    add_when(found, is, Name::HtmlInSvg, from, to)?;
+    let is = is_in_itself(tag, elements)?;
+    add_when(found, is, Name::InItself, from, to)?;
+    let is = is_tag_in_a_table(tag, elements);
+    add_when(found, is, Name::InATable, from, to)?;
+    let is = is_in_a_select(tag, elements)?;
+    add_when(found, is, Name::InASelect, from, to)?;
+    let is = is_item_in_a_block(tag, elements);
+    add_when(found, is, Name::ItemInABlock, from, to)?;
     Ok(())
+}
+
+/// Whether the end tags of elements of this name may be left out. Linear in the name.
+#[tactic(auto, using(crate::proofs::TreeLists::omitted_names_are))]
+pub(crate) fn may_be_omitted(name: &[u8]) -> bool
+    ensures { result ≡ is_among spec.omitted_names (lowered name.now) }
+{
+    is_among(&OMITTED_NAMES, name)
 }
 
 #[tactic(auto, using(crate::proofs::TreeLists::omitted_names_are))]

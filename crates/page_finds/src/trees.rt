@@ -1,5 +1,5 @@
 //! What is found of a page's tree, token by token.
-ghost use Rattle.std.specs.Prelude.{◌≡◌, ◌≤◌, ◌++◌, map, length, IfOk, OnOk};
+ghost use Rattle.std.specs.Prelude.{◌≡◌, ◌≤◌, ◌++◌, true, map, length, IfOk, OnOk};
 ghost use Rattle.std.specs.Option.{option_map};
 ghost use Rattle.html_tokens.specs.Bytes.{lowered};
 ghost use Rattle.html_tokens.specs.Views.{token_of, start_tag_of};
@@ -7,6 +7,7 @@ ghost use Rattle.html_table.specs.Elements.{element};
 ghost use Rattle.html_table.specs.Views.{implied_names};
 ghost use Rattle.page_finds.specs.Trees as spec;
 
+use crate::left::{Opened, add_closed, add_left, kept, open_tags};
 use crate::tags::read_tag;
 use crate::tree_names::{add_start, is_across, is_text_in_a_table};
 use html_table::{
@@ -80,11 +81,12 @@ fn go_past<'a>(elements: &mut OpenElements<'a>, token: Option<Token<'a>>) -> Res
     }
 }
 
-// What is found so far in a page of so many bytes, and the elements that are open.
+// What is found so far in a page of so many bytes, and the elements that are open, with their tags.
 #[derive(Drop)]
 struct Draft<'a> {
     found: Vec<Finding>,
     elements: OpenElements<'a>,
+    tags: Vec<Opened>,
     size: usize,
 }
 
@@ -101,6 +103,7 @@ impl<'a> Draft<'a> {
         requires rest { length rest.now ≤ length text.now }
         ensures found { OnOk result (self.new.found.items ≡ self.old.found.items ++ spec.found_in_tree self.old.size self.old.elements text.now (option_map token_of token.entry, rest.now)) }
         ensures elements { self.new.elements ≡ self.old.elements }
+        ensures tags { self.new.tags ≡ self.old.tags }
         ensures size { self.new.size ≡ self.old.size }
     {
         let from = self.size - text.len();
@@ -122,9 +125,35 @@ impl<'a> Draft<'a> {
         }
         Ok(())
     }
+    // Goes past a token, and adds what it leaves open.
+    fn go_on(&mut self, token: Option<Token<'a>>, text: &[u8], rest: &[u8]) -> Result<(), NoMemory>
+        requires within { length text.now ≤ self.old.size }
+        requires rest { length rest.now ≤ length text.now }
+        ensures found { OnOk result (self.new.found.items ≡ self.old.found.items ++ spec.found_closed (option_map token_of token.entry) self.old.elements self.old.tags.items) }
+        ensures elements { OnOk result (self.new.elements ≡ spec.after (option_map token_of token.entry) self.old.elements) }
+        ensures tags { OnOk result (self.new.tags.items ≡ spec.tags_after (spec.opened_at self.old.size text.now rest.now) (spec.kept (option_map token_of token.entry) self.old.elements) (length self.new.elements) self.old.tags.items) }
+        ensures size { self.new.size ≡ self.old.size }
+    {
+        let kept = kept(token, &self.elements)?;
+        add_closed(&mut self.found, &self.elements, &self.tags, token, kept)?;
+        go_past(&mut self.elements, token)?;
+        let tag = Opened {
+            from: self.size - text.len(),
+            to: self.size - rest.len(),
+        };
+        open_tags(&mut self.tags, tag, kept, self.elements.len())?;
+        Ok(())
+    }
+    // Adds what is left open at the file's end.
+    fn end(&mut self) -> Result<(), NoMemory>
+        ensures { OnOk result (self.new.found.items ≡ self.old.found.items ++ spec.left_from true 0 self.old.elements self.old.tags.items) }
+    {
+        add_left(&mut self.found, &self.elements, &self.tags, 0, true)?;
+        Ok(())
+    }
 }
 
-/// What is found of a page's tree, in the order of places. Linear in the page, in time and in memory.
+/// What is found of a page's tree. Linear in the page, in time and in memory.
 #[tactic(auto, using(crate::proofs::TreeSteps::goes_on, crate::proofs::TreeSteps::ends, crate::proofs::TreeSteps::begins, text_bytes::proofs::Rests::of_rest))]
 pub(crate) fn tree_findings(alloc: Global, text: &[u8]) -> Result<Vec<Finding>, NoMemory>
     ensures { IfOk result (λ f. f.items ≡ spec.tree_findings text.now) }
@@ -132,14 +161,16 @@ pub(crate) fn tree_findings(alloc: Global, text: &[u8]) -> Result<Vec<Finding>, 
     let mut draft = Draft {
         found: Vec::new(alloc),
         elements: OpenElements::new(alloc),
+        tags: Vec::new(alloc),
         size: text.len(),
     };
     let mut rest = behind_order_mark(text);
     'tokens: while !rest.is_empty() {
         let (token, behind) = next(text.len() - rest.len(), rest);
         draft.add_token(token, rest, behind)?;
-        go_past(&mut draft.elements, token)?;
+        draft.go_on(token, rest, behind)?;
         rest = behind;
     }
+    draft.end()?;
     Ok(draft.found)
 }

@@ -1,5 +1,5 @@
 pub mod ByteLemmas
-pub mod MergeSteps
+pub mod NameLists
 pub mod SetNames
 pub mod SelectorSteps
 pub mod SheetSteps

@@ -1,6 +1,6 @@
 -- What public contracts cite.
 pub mod Findings
-pub mod Merging
+pub mod Orders
 pub mod NameTexts
 pub mod Details
 pub mod Selectors

@@ -1,4 +1,4 @@
--- The findings of a sheet, in the order of their places.
+-- The findings of a sheet.
 --     found_in         in a part of the sheet that is of one region
 --     sheet_findings   in a sheet
 use Rattle.std.specs.Prelude.{ℕ, zero, suc, ◌+◌, ◌-◌, nat_lt, Bool, if◌then◌else◌, List, [], ◌∷◌, ◌++◌, length, take, drop, codes, Option, Some, None}
@@ -12,7 +12,6 @@ use Rattle.premise_finds.specs.declared.findings.Finding.{Finding}
 use Rattle.premise_finds.specs.declared.sheets.Region.{Region}
 use Rattle.premise_finds.specs.declared.sheets.Region.TheVariants.{Between, List as InList, Block}
 use Rattle.premise_finds.specs.Findings.{finding}
-use Rattle.premise_finds.specs.Merging.{merged}
 use Rattle.premise_finds.specs.Selectors.{selector_findings}
 use Rattle.premise_finds.specs.SheetNames.{is_at_rule, name_at}
 
@@ -65,4 +64,4 @@ text_findings text = let sheet = behind_order_mark text in findings_from (nat_lt
 
 -- with those of whole selectors
 unfoldable pub sheet_findings : List ℕ → List Finding
-sheet_findings text = merged (text_findings text) (selector_findings text)
+sheet_findings text = text_findings text ++ selector_findings text

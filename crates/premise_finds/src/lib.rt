@@ -4,8 +4,8 @@
 mod bytes;
 mod details;
 mod findings;
-mod merging;
 mod names;
+mod orders;
 mod selectors;
 mod sheet_names;
 mod sheets;
@@ -15,6 +15,6 @@ pub use bytes::{
 };
 pub use details::{MOST_SHOWN, shown_of};
 pub use findings::{Finding, Findings, add_when};
-pub use merging::merged;
 pub use names::Name;
+pub use orders::sort_findings;
 pub use sheets::findings_in_sheet;

@@ -1,12 +1,13 @@
 //! The findings of a sheet, in the order of their places.
 ghost use Rattle.std.specs.Prelude.{◌≡◌, ◌≤◌, ◌++◌, nat_lt, length, IfOk, OnOk};
 ghost use Rattle.css_read.specs.Fronts.{list_len};
+ghost use Rattle.premise_finds.specs.Orders.{AreInOrder};
 ghost use Rattle.premise_finds.specs.Sheets as spec;
 
 use crate::bytes::behind_byte;
 use crate::findings::{Finding, Findings};
-use crate::merging::merged;
 use crate::names::Name;
+use crate::orders::sort_findings;
 use crate::selectors::selector_findings;
 use crate::sheet_names::{is_at_rule, name_at};
 use css_read::{Front, behind_unit, depth_after, next_front};
@@ -148,13 +149,14 @@ fn text_findings(alloc: Global, text: &[u8]) -> Result<Vec<Finding>, NoMemory>
     Ok(draft.found)
 }
 
-/// The findings of a sheet, of which a byte order mark at the front is passed over. Linear in the sheet, in time and in
-/// memory.
+/// The findings of a sheet in their order. A byte order mark at the front is passed over. Linear in the sheet, in time and in
+/// memory, but for the order.
 #[tactic(auto, unfolding(crate::specs::Sheets::sheet_findings))]
 pub fn findings_in_sheet(alloc: Global, text: &[u8]) -> Result<Findings, NoMemory>
-    ensures { IfOk result (λ f. f ≡ spec.sheet_findings text.now) }
+    ensures { IfOk result (λ f. AreInOrder (spec.sheet_findings text.now) f) }
 {
-    let found = text_findings(alloc, text)?;
-    let others = selector_findings(alloc, text)?;
-    Ok(Findings::new(merged(alloc, &found, &others)?))
+    let mut found = text_findings(alloc, text)?;
+    found.extend_from_slice(&selector_findings(alloc, text)?)?;
+    sort_findings(&mut found)?;
+    Ok(Findings::new(found))
 }

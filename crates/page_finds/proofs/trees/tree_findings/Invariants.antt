@@ -6,7 +6,7 @@ abbrev pub invariant-tokens : goal.invariant-tokens
 invariant-tokens l = record {
   within : length l.rest ≤ length l.text;
   size : l.draft.size ≡ length l.text;
-  found : l.draft.found.items ++ tree_from (length l.text) l.draft.elements 0 l.rest ≡ tree_findings l.text;
+  found : l.draft.found.items ++ tree_from (length l.text) l.draft.elements l.draft.tags.items 0 l.rest ≡ tree_findings l.text;
 }
 
 abbrev pub decreases-tokens : goal.decreases-tokens
