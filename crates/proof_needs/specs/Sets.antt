@@ -2,6 +2,7 @@
 --     AreDistinct xs      nothing stands twice
 --     IsMore old new      what stands in the old list stands in the new one at the same place
 --     IsWith old P new    the new list has besides what is such, and nothing else
+--     IsWithSome          the same, but it may have some of what is such only
 use Rattle.std.specs.Prelude.{◌≡◌, ◌⊎◌, ℕ, List, Contains, Some, slice_get}
 
 abbrev pub AreDistinct : {X : Type 0} → List X → Type 0
@@ -14,4 +15,9 @@ pub record IsWith {X : Type 0} (old : List X) (P : X → Type 0) (new : List X) 
   pub more : IsMore old new
   pub within : (x : X) → Contains new x → Contains old x ⊎ P x
   pub all : (x : X) → P x → Contains new x
+  pub distinct : AreDistinct old → AreDistinct new
+
+pub record IsWithSome {X : Type 0} (old : List X) (P : X → Type 0) (new : List X) : Type 0 where
+  pub more : IsMore old new
+  pub within : (x : X) → Contains new x → Contains old x ⊎ P x
   pub distinct : AreDistinct old → AreDistinct new
