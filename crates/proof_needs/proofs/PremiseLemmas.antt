@@ -1,7 +1,7 @@
 -- What is wanted once a reason was followed, by places.
 --     has_set, has_same       a list in the ties of triples, once one tie is written
 --     premises_of             what `Follows` says, by places
-use Rattle.std.proofs.Common.{◌≡◌, ◌⊎◌, ◌↔◌, ℕ, zero, suc, ◌<◌, List, [], ◌∷◌, ◌++◌, length, Contains, Option, Some, None, unwrap_or, slice_get, slice_set, inl, inr, refl, sym, ap, ◌∙◌, subst, arith}
+use Rattle.std.proofs.Common.{◌≡◌, ◌⊎◌, ◌↔◌, ℕ, zero, suc, ◌<◌, List, [], ◌∷◌, ◌++◌, length, Contains, Option, Some, None, slice_get, slice_set, inl, inr, refl, sym, ap, ◌∙◌, subst, arith}
 use Rattle.std.proofs.lemmas.Option.{slice_get_within}
 use Rattle.std.proofs.lemmas.List.Elements.{Contains-append_cases, Contains-append_left, Contains-append_right}
 use Rattle.tp_base.proofs.ClassLemmas.{Contains-with_class}
@@ -293,8 +293,8 @@ module _ (s : System) (old new : Needs) (placed : ArePlaced old) where
       let here : place_of still u ≡ q = same_place more u there in
       let child : place_of still (Added n) ≡ added t.0 = rw t.1 refl in
       let asks : (a : ℕ) → AsksAbove old t.0 a → Contains tie.0.above a = λ a (e, (m, at_t, at_e), in_e).
-          let place : m ≡ n = placed.different m n t.0 at_t t.1 in
-          subst (λ (z : Tie). Contains z.above a) (one_at ties n e tie.0 (subst (λ z. slice_get ties z ≡ Some e) place at_e) tie.1) in_e in
+      let place : m ≡ n = placed.different m n t.0 at_t t.1 in
+      subst (λ (z : Tie). Contains z.above a) (one_at ties n e tie.0 (subst (λ z. slice_get ties z ≡ Some e) place at_e) tie.1) in_e in
       subst (λ o. WantsPremises s q (Spawn l c) o old still) (sym t.1) (record {
         wanted = wants_by (λ w. (w ≡ want_of u (spawn_needs s c)) ⊎ ((w ≡ want_of (Added n) (from_down s l)) ⊎ IsOfEach u tie.0.above w)) (IsPremise s old q (Spawn l c) (Some t.0)) more is.of_wants
             (λ w such. elim such [

@@ -12,8 +12,8 @@
 --     IsAbove                an added node needs one atom more of its parent, which is wanted at each spot that uses it
 --     IsUsed                 one spot more uses an added node
 --     Follows                the premises of a reason at a spot are wanted, and nothing else
---     IsAboveSome, IsUsedSome, FollowsSome   what there is after a want of memory: what there was stands where it stood, and some of the
---                            rest is there. Where it is an atom of a node, the node may have its number; else the tie is written first
+--     IsAboveSome, IsUsedSome   the same after a want of memory: before the tie is written, or with some of the atoms wanted
+--     FollowsSome            after a want of memory nothing is lost, and what is new is some of the premises, or a number for their node
 use Rattle.std.specs.Prelude.{◌≡◌, ◌⊎◌, ℕ, List, [], ◌∷◌, ◌++◌, suc, length, Option, Some, None, IsSomeAnd, slice_get, slice_set}
 use Rattle.tree_sem.specs.Paths.{parent_of}
 use Rattle.tp_base.specs.Classes.{with_class}
@@ -99,7 +99,7 @@ module _ (nodes nodes' : List (List ℕ)) (ties ties' : List Tie) (wants wants' 
   FollowsDownSome (Page n) k = (ties' ≡ ties) × (wants' ≡ wants) × IsWithSome nodes (IsChildOf nodes n k) nodes'
   FollowsDownSome (Added n) k = ⊥
 
-  -- what wants nothing is never refused
+  -- the start has no premise, and an added node no child in the page: neither is refused
   abbrev pub FollowsSome : System → Spot → Choice → Option ℕ → Type 0
   FollowsSome s spot Start named = ⊥
   FollowsSome s spot (Local l) named = (nodes' ≡ nodes) × (ties' ≡ ties) × IsWithSome wants (IsOfEach spot (needs_of s l)) wants'

@@ -52,19 +52,19 @@ module _ (n : Needs) where
 -- the premises of a reason at the place q, for which a spawn adds the node of the triple named
 module _ (s : System) (n : Needs) (q : Where) where
   -- the parent of a page's node, and each place that has the added node as a child
-  abbrev pub IsAbove : Where → Where → Type 0
-  IsAbove (page_node v) p = (u : List ℕ) × (parent_of v ≡ Some u) × (p ≡ page_node u)
-  IsAbove (added t) p = HasChild n p t
+  abbrev pub IsAtParent : Where → Where → Type 0
+  IsAtParent (page_node v) p = (u : List ℕ) × (parent_of v ≡ Some u) × (p ≡ page_node u)
+  IsAtParent (added t) p = HasChild n p t
 
-  abbrev pub IsBelow : Where → ℕ → Where → Type 0
-  IsBelow (page_node v) k p = p ≡ page_node (v ++ k ∷ [])
-  IsBelow (added t) k p = ⊥
+  abbrev pub IsAtChild : Where → ℕ → Where → Type 0
+  IsAtChild (page_node v) k p = p ≡ page_node (v ++ k ∷ [])
+  IsAtChild (added t) k p = ⊥
 
   abbrev pub IsPremise : Choice → Option Triple → Where → ℕ → Type 0
   IsPremise Start named p a = ⊥
   IsPremise (Local l) named p a = (p ≡ q) × Contains (needs_of s l) a
-  IsPremise (Up l) named p a = IsAbove q p × (a ≡ from_up s l)
-  IsPremise (Real l k) named p a = IsBelow q k p × (a ≡ from_down s l)
+  IsPremise (Up l) named p a = IsAtParent q p × (a ≡ from_up s l)
+  IsPremise (Real l k) named p a = IsAtChild q k p × (a ≡ from_down s l)
   IsPremise (Spawn l c) named p a = ((p ≡ q) × (a ≡ spawn_needs s c)) ⊎ IsSomeAnd named (λ t. ((p ≡ added t) × (a ≡ from_down s l)) ⊎ ((p ≡ q) × AsksAbove n t a))
 
   -- the added node of a spawn is a child of q

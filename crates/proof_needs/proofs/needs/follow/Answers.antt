@@ -1,7 +1,7 @@
 use Rattle.std.proofs.Common.{◌≡◌, option_map, unwrap_or, slice_get, refl, sym, ap, ◌∙◌, subst}
 use Rattle.simple_core.specs.declared.rules.Link.{Link}
 use Rattle.simple_core.specs.declared.rules.Spawn.{Spawn}
-use Rattle.proof_needs.specs.Choices.{from_up, from_down, needs_of, spawn_needs}
+use Rattle.proof_needs.specs.Choices.{from_up, from_down, spawn_needs}
 use Rattle.proof_needs.specs.Following.{IsUsed, IsUsedSome, FollowsUp, FollowsDown, Follows, FollowsSome}
 use Rattle.proof_needs.specs.Spots.{paths_in}
 use Rattle.proof_needs.proofs.TieLemmas.{on_ok, err_then}

@@ -19,5 +19,8 @@ pub returns-in_err-want_at-clause-err : goal.returns-in_err-want_at-clause-err
 returns-in_err-want_at-clause-err c =
     let nodes = paths_in c.args.nodes.now.keys in
     let last = last_step c.pop.result c.is_none.result (λ k. c.in_ok-above.above ≡ c.pop.new.self ++ k ∷ []) c.is_none.ensures c.if-is_none.false c.pop.ensures.last in
-    on_err _ c.from_residual-in_err-want_at.result (c.in_err-want_at.ensures.err.0, some_such (λ u. u ≡ c.pop.new.self) (IsParentOf nodes c.args.n) nodes (paths_in c.want_at.new.nodes.keys)
-    (is_parent nodes c.args.n c.in_ok-above.above c.pop.new.self last.0 c.in_ok-above.ensures last.1) c.in_err-want_at.ensures.err.1)
+    on_err _ c.from_residual-in_err-want_at.result (
+      c.in_err-want_at.ensures.err.0,
+      some_such (λ u. u ≡ c.pop.new.self) (IsParentOf nodes c.args.n) nodes (paths_in c.want_at.new.nodes.keys)
+          (is_parent nodes c.args.n c.in_ok-above.above c.pop.new.self last.0 c.in_ok-above.ensures last.1) c.in_err-want_at.ensures.err.1,
+    )
