@@ -5,3 +5,4 @@ pub mod OrderLemmas
 pub mod NumberLemmas
 pub mod NameLemmas
 pub mod TieLemmas
+pub mod PremiseLemmas

@@ -2,17 +2,18 @@
 --     with_itself, with_pushed    a list with what it has, and with one element more
 --     with_then                   two steps are one
 --     insert_with                 a key that is inserted, as what is seen of the keys
-use Rattle.std.proofs.Common.{◌≡◌, ◌⊎◌, ℕ, zero, suc, ◌+◌, ◌<◌, ◌≤◌, Bool, true, false, if◌then◌else◌, List, [], ◌∷◌, ◌++◌, length, map, take, Contains, Some, slice_get, get_or, inl, inr, refl, sym, ap, ◌∙◌, subst, arith}
+--     some_of, some_then          a list with some of what another one would have
+use Rattle.std.proofs.Common.{◌≡◌, ◌⊎◌, ℕ, zero, suc, ◌+◌, ◌<◌, ◌≤◌, Bool, true, false, if◌then◌else◌, List, [], ◌∷◌, ◌++◌, length, map, take, drop, Contains, Some, slice_get, get_or, inl, inr, refl, sym, ap, ◌∙◌, subst, arith}
 use Rattle.std.specs.List.{list_any}
 use Rattle.std.proofs.lemmas.Bool.{or_parts}
-use Rattle.std.proofs.lemmas.List.{map-append, take_more, take_all}
+use Rattle.std.proofs.lemmas.List.{map-append, take_more, take_all, take-append-drop}
 use Rattle.std.proofs.lemmas.List.Elements.{Contains-append_cases, Contains-append_left, Contains-append_right}
 use Rattle.std.proofs.lemmas.Option.{slice_get_within, get_or_from_slice_get}
 use Rattle.indexmap.specs.IndexSet.{insert_key}
 use Rattle.tree_sem.proofs.NodeLemmas.{Contains-map, map-Contains}
 use Rattle.tp_base.proofs.Rising.{Contains-none}
 use Rattle.tp_base.proofs.Lists.{Contains-at, at_Contains, any_Contains, Contains-only}
-use Rattle.proof_needs.specs.Sets.{AreDistinct, IsMore, IsWith}
+use Rattle.proof_needs.specs.Sets.{AreDistinct, IsMore, IsWith, IsWithSome}
 
 pub more_then : {X : Type 0} (a b c : List X) → IsMore a b → IsMore b c → IsMore a c
 more_then a b c first second i x at = second i x (first i x at)
@@ -92,6 +93,36 @@ with_same P Q a b to from is = record {
   distinct = is.distinct;
 }
 
+-- what has all of it has some of it
+pub some_of : {X : Type 0} (P : X → Type 0) (a b : List X) → IsWith a P b → IsWithSome a P b
+some_of P a b is = record { more = is.more; within = is.within; distinct = is.distinct }
+
+pub some_none : {X : Type 0} (P : X → Type 0) (a b : List X) → b ≡ a → IsWithSome a P b
+some_none {X} P a b same = subst (IsWithSome a P) (sym same) (record { more = λ i x at. at; within = λ x is. inl is; distinct = λ d. d })
+
+pub some_then : {X : Type 0} (P Q : X → Type 0) (a b c : List X) → IsWith a P b → IsWithSome b Q c → IsWithSome a (λ x. P x ⊎ Q x) c
+some_then P Q a b c first second = record {
+  more = more_then a b c first.more second.more;
+  within = λ x is. elim (second.within x is) [
+    | inl old ↦ elim (first.within x old) [
+      | inl there ↦ inl there
+      | inr p ↦ inr (inl p)
+    ]
+    | inr q ↦ inr (inr q)
+  ];
+  distinct = λ d. second.distinct (first.distinct d);
+}
+
+pub some_such : {X : Type 0} (P Q : X → Type 0) (a b : List X) → ((x : X) → P x → Q x) → IsWithSome a P b → IsWithSome a Q b
+some_such P Q a b to is = record {
+  more = is.more;
+  within = λ x there. elim (is.within x there) [
+    | inl old ↦ inl old
+    | inr p ↦ inr (to x p)
+  ];
+  distinct = is.distinct;
+}
+
 none_there : {X : Type 0} (p : X → Bool) (xs : List X) → list_any p xs ≡ false → (x : X) → Contains xs x → p x ≡ true → ⊥
 none_there p [] none x is pass = Contains-none x is
 none_there p (y ∷ xs) none x (zero, within, at) pass = let both : true ≡ false = sym pass ∙ ap p (sym at) ∙ (or_parts (p y) (list_any p xs) none).0 in cc
@@ -151,3 +182,9 @@ module _ {X Y : Type 0} (f : Y → X) (ys : List Y) (a : List X) where
 
   pub each_whole : (i : ℕ) (b : List X) → length ys ≤ i → IsWith a (IsOf (take i ys)) b → IsWith a (IsOf ys) b
   each_whole i b past is = subst (λ zs. IsWith a (IsOf zs) b) (take_all i ys past) is
+
+  -- the next of them wasn't added
+  pub each_some : (i : ℕ) (b c : List X) → IsWith a (IsOf (take i ys)) b → c ≡ b → IsWithSome a (IsOf ys) c
+  each_some i b c before same =
+      subst (IsWithSome a (IsOf ys)) (sym same) (some_such (IsOf (take i ys)) (IsOf ys) a b
+      (λ x of. (of.0, subst (λ zs. Contains zs of.0) (take-append-drop i ys) (Contains-append_left (take i ys) (drop i ys) of.0 of.1), of.2)) (some_of (IsOf (take i ys)) a b before))

@@ -12,6 +12,8 @@
 --     IsAbove                an added node needs one atom more of its parent, which is wanted at each spot that uses it
 --     IsUsed                 one spot more uses an added node
 --     Follows                the premises of a reason at a spot are wanted, and nothing else
+--     IsAboveSome, IsUsedSome   the same after a want of memory: before the tie is written, or with some of the atoms wanted
+--     FollowsSome            after a want of memory nothing is lost, and what is new is some of the premises, or a number for their node
 use Rattle.std.specs.Prelude.{◌≡◌, ◌⊎◌, ℕ, List, [], ◌∷◌, ◌++◌, suc, length, Option, Some, None, IsSomeAnd, slice_get, slice_set}
 use Rattle.tree_sem.specs.Paths.{parent_of}
 use Rattle.tp_base.specs.Classes.{with_class}
@@ -24,7 +26,7 @@ use Rattle.proof_needs.specs.declared.spots.Want.{Want}
 use Rattle.proof_needs.specs.declared.needs.Tie.{Tie}
 use Rattle.proof_needs.specs.Choices.{from_up, from_down, needs_of, spawn_needs, spawn_kind}
 use Rattle.proof_needs.specs.Triples.{Triple}
-use Rattle.proof_needs.specs.Sets.{IsWith}
+use Rattle.proof_needs.specs.Sets.{IsWith, IsWithSome}
 use Rattle.proof_needs.specs.Wants.{want_of, IsOfEach, IsAtEach}
 
 pub record IsAtNode (v : List ℕ) (from : ℕ) (nodes nodes' : List (List ℕ)) (wants wants' : List Want) : Type 0 where
@@ -49,6 +51,27 @@ pub record IsUsed (n from needs : ℕ) (spot : Spot) (tie : Tie) (ties ties' : L
   pub above : now.above ≡ tie.above
   pub of_wants : IsWith wants (λ w. (w ≡ want_of spot needs) ⊎ ((w ≡ want_of (Added n) from) ⊎ IsOfEach spot tie.above w)) wants'
 
+-- the added node n may need one atom more of its parent
+pub record IsAboveSome (n from : ℕ) (tie : Tie) (ties ties' : List Tie) (wants wants' : List Want) : Type 0 where
+  pub now : Tie
+  pub ties_is : ties' ≡ slice_set ties n now
+  pub users : now.users.items ≡ tie.users.items
+  pub cases : ((now.above ≡ tie.above) × (wants' ≡ wants)) ⊎ ((now.above ≡ with_class from tie.above) × IsWithSome wants (IsAtEach tie.users.items from) wants')
+
+-- the spot may have the added node n as a child
+pub record IsUsedSome (n from needs : ℕ) (spot : Spot) (tie : Tie) (ties ties' : List Tie) (wants wants' : List Want) : Type 0 where
+  pub now : Tie
+  pub ties_is : ties' ≡ slice_set ties n now
+  pub above : now.above ≡ tie.above
+  pub cases : ((now.users.items ≡ tie.users.items) × (wants' ≡ wants))
+      ⊎ ((now.users.items ≡ tie.users.items ++ spot ∷ []) × IsWithSome wants (λ w. (w ≡ want_of spot needs) ⊎ ((w ≡ want_of (Added n) from) ⊎ IsOfEach spot tie.above w)) wants')
+
+abbrev pub IsParentOf : List (List ℕ) → ℕ → List ℕ → Type 0
+IsParentOf nodes n u = (v : List ℕ) → slice_get nodes n ≡ Some v → parent_of v ≡ Some u
+
+abbrev pub IsChildOf : List (List ℕ) → ℕ → ℕ → List ℕ → Type 0
+IsChildOf nodes n k u = (v : List ℕ) → slice_get nodes n ≡ Some v → u ≡ v ++ k ∷ []
+
 module _ (nodes nodes' : List (List ℕ)) (ties ties' : List Tie) (wants wants' : List Want) where
   -- the root has no parent, at which nothing is wanted then
   abbrev pub FollowsUp : Spot → ℕ → Type 0
@@ -67,6 +90,22 @@ module _ (nodes nodes' : List (List ℕ)) (ties ties' : List Tie) (wants wants' 
   Follows s spot (Up l) named = FollowsUp spot (from_up s l)
   Follows s spot (Real l n) named = FollowsDown spot n (from_down s l)
   Follows s spot (Spawn l c) named = (nodes' ≡ nodes) × ((n : ℕ) (tie : Tie) → named ≡ Some n → slice_get ties n ≡ Some tie → IsUsed n (from_down s l) (spawn_needs s c) spot tie ties ties' wants wants')
+
+  abbrev pub FollowsUpSome : Spot → ℕ → Type 0
+  FollowsUpSome (Page n) from = (ties' ≡ ties) × (wants' ≡ wants) × IsWithSome nodes (IsParentOf nodes n) nodes'
+  FollowsUpSome (Added n) from = (nodes' ≡ nodes) × ((tie : Tie) → slice_get ties n ≡ Some tie → IsAboveSome n from tie ties ties' wants wants')
+
+  abbrev pub FollowsDownSome : Spot → ℕ → Type 0
+  FollowsDownSome (Page n) k = (ties' ≡ ties) × (wants' ≡ wants) × IsWithSome nodes (IsChildOf nodes n k) nodes'
+  FollowsDownSome (Added n) k = ⊥
+
+  -- the start has no premise, and an added node no child in the page: neither is refused
+  abbrev pub FollowsSome : System → Spot → Choice → Option ℕ → Type 0
+  FollowsSome s spot Start named = ⊥
+  FollowsSome s spot (Local l) named = (nodes' ≡ nodes) × (ties' ≡ ties) × IsWithSome wants (IsOfEach spot (needs_of s l)) wants'
+  FollowsSome s spot (Up l) named = FollowsUpSome spot (from_up s l)
+  FollowsSome s spot (Real l n) named = FollowsDownSome spot n
+  FollowsSome s spot (Spawn l c) named = (nodes' ≡ nodes) × ((n : ℕ) (tie : Tie) → named ≡ Some n → slice_get ties n ≡ Some tie → IsUsedSome n (from_down s l) (spawn_needs s c) spot tie ties ties' wants wants')
 
 -- the triple has a number, with a tie of its own
 pub record IsEntered (t : Triple) (triples triples' : List Triple) (ties ties' : List Tie) (number : ℕ) : Type 0 where

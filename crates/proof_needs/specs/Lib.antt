@@ -6,6 +6,7 @@ pub mod Following
 pub mod Names
 pub mod Numbers
 pub mod Orders
+pub mod Premises
 pub mod Sets
 pub mod Spots
 pub mod Ties

@@ -1,13 +1,14 @@
 //! The worklist of a proof: the premises of each reason are put on it, each once.
-ghost use Rattle.std.specs.Prelude.{◌≡◌, ◌<◌, ◌++◌, ◌∷◌, [], ℕ, List, Option, Some, length, slice_get, unwrap_or, option_map, IsSomeAnd, OnOk};
+ghost use Rattle.std.specs.Prelude.{◌≡◌, ◌<◌, ◌++◌, ◌∷◌, [], ℕ, List, Option, Some, length, slice_get, unwrap_or, option_map, IsSomeAnd, OnOk, OnErr};
 ghost use Rattle.tree_sem.specs.Paths.{parent_of};
 ghost use Rattle.proof_needs.specs.Choices.{needs_of};
-ghost use Rattle.proof_needs.specs.Sets.{IsWith};
+ghost use Rattle.proof_needs.specs.Sets.{IsWith, IsWithSome};
 ghost use Rattle.proof_needs.specs.Spots.{paths_in};
 ghost use Rattle.proof_needs.specs.Wants.{IsOfEach};
 ghost use Rattle.proof_needs.specs.Ties.{TieAt, IsTieIndex};
 ghost use Rattle.proof_needs.specs.declared.needs.Tie.{Tie};
-ghost use Rattle.proof_needs.specs.Following.{IsAtNode, IsAbove, IsUsed, FollowsUp, FollowsDown, Follows};
+ghost use Rattle.proof_needs.specs.Following.{IsAtNode, IsAbove, IsUsed, FollowsUp, FollowsDown, Follows, IsAboveSome, IsUsedSome, IsParentOf, IsChildOf, FollowsUpSome, FollowsDownSome, FollowsSome};
+ghost use Rattle.proof_needs.specs.Premises.{place_of, HasPlace, triple_named, ArePlaced, WantsPremises};
 
 use crate::spots::{Spot, TripleKey, Want, node_number, path_of};
 use crate::wants::{want, want_at_each, want_each};
@@ -54,7 +55,7 @@ pub struct Needs {
     pub drafts: Vec<Draft>,
 }
 
-/// Wants the premises of a reason at the spot, where a spawn has its number. After a refusal some of them may be wanted. It costs a step for each atom that is wanted, on average, the path of a page's node,
+/// Wants the premises of a reason at the spot, where a spawn has its number. After a refusal some of them may be wanted, and nothing that was there is lost. It costs a step for each atom that is wanted, on average, the path of a page's node,
 /// and where an added node needs one atom more of its parent, a look at those that it needs already.
 pub fn follow(
     alloc: Global,
@@ -66,6 +67,9 @@ pub fn follow(
     requires ties { IsTieIndex (length needs.old.ties.items) spot draft.now.choice draft.now.triple }
     ensures follows { OnOk result (Follows (paths_in needs.old.nodes.keys) (paths_in needs.new.nodes.keys) needs.old.ties.items needs.new.ties.items needs.old.wants.keys needs.new.wants.keys
         system.now spot draft.now.choice draft.now.triple) }
+    ensures err { OnErr result (FollowsSome (paths_in needs.old.nodes.keys) (paths_in needs.new.nodes.keys) needs.old.ties.items needs.new.ties.items needs.old.wants.keys needs.new.wants.keys
+        system.now spot draft.now.choice draft.now.triple) }
+    ensures premises { ArePlaced needs.old → HasPlace needs.old spot → OnOk result (WantsPremises system.now (place_of needs.old spot) draft.now.choice (triple_named needs.old draft.now.triple) needs.old needs.new) }
     ensures triples { needs.new.triples ≡ needs.old.triples }
     ensures drafts { needs.new.drafts ≡ needs.old.drafts }
     ensures target { needs.new.target ≡ needs.old.target }
@@ -117,7 +121,8 @@ fn want_needs(
     spot: Spot,
     rule: u64,
 ) -> Result<(), NoMemory>
-    ensures { OnOk result (IsWith wants.old.keys (IsOfEach spot (needs_of system.now rule)) wants.new.keys) }
+    ensures ok { OnOk result (IsWith wants.old.keys (IsOfEach spot (needs_of system.now rule)) wants.new.keys) }
+    ensures err { OnErr result (IsWithSome wants.old.keys (IsOfEach spot (needs_of system.now rule)) wants.new.keys) }
 {
     match system.local.items().get(rule as usize) {
         Some(rule) => want_each(wants, spot, &rule.needs),
@@ -129,6 +134,7 @@ fn want_needs(
 fn follow_up(alloc: Global, needs: &mut Needs, spot: Spot, from: Atom) -> Result<(), NoMemory>
     requires tie { TieAt (length needs.old.ties.items) spot }
     ensures follows { OnOk result (FollowsUp (paths_in needs.old.nodes.keys) (paths_in needs.new.nodes.keys) needs.old.ties.items needs.new.ties.items needs.old.wants.keys needs.new.wants.keys spot from) }
+    ensures err { OnErr result (FollowsUpSome (paths_in needs.old.nodes.keys) (paths_in needs.new.nodes.keys) needs.old.ties.items needs.new.ties.items needs.old.wants.keys needs.new.wants.keys spot from) }
     ensures triples { needs.new.triples ≡ needs.old.triples }
     ensures drafts { needs.new.drafts ≡ needs.old.drafts }
     ensures target { needs.new.target ≡ needs.old.target }
@@ -149,6 +155,7 @@ fn want_parent(
     ensures parent { OnOk result ((v p : List ℕ) → slice_get (paths_in nodes.old.keys) n ≡ Some v → parent_of v ≡ Some p
         → IsAtNode p from (paths_in nodes.old.keys) (paths_in nodes.new.keys) wants.old.keys wants.new.keys) }
     ensures root { OnOk result (slice_get (paths_in nodes.old.keys) n ≡ Some [] → (nodes.new ≡ nodes.old) × (wants.new ≡ wants.old)) }
+    ensures err { OnErr result ((wants.new.keys ≡ wants.old.keys) × IsWithSome (paths_in nodes.old.keys) (IsParentOf (paths_in nodes.old.keys) n) (paths_in nodes.new.keys)) }
 {
     let mut above = path_of(alloc, nodes, n)?;
     if above.pop().is_none() {
@@ -166,7 +173,8 @@ fn want_at(
     at: &Path,
     from: Atom,
 ) -> Result<(), NoMemory>
-    ensures { OnOk result (IsAtNode at.now from (paths_in nodes.old.keys) (paths_in nodes.new.keys) wants.old.keys wants.new.keys) }
+    ensures ok { OnOk result (IsAtNode at.now from (paths_in nodes.old.keys) (paths_in nodes.new.keys) wants.old.keys wants.new.keys) }
+    ensures err { OnErr result ((wants.new.keys ≡ wants.old.keys) × IsWithSome (paths_in nodes.old.keys) (λ v. v ≡ at.now) (paths_in nodes.new.keys)) }
 {
     let number = node_number(alloc, nodes, at)?;
     want(wants, Spot::Page(number), from)?;
@@ -180,7 +188,8 @@ fn want_above(
     from: Atom,
 ) -> Result<(), NoMemory>
     requires { n < length ties.old.items }
-    ensures { OnOk result ((tie : Tie) → slice_get ties.old.items n ≡ Some tie → IsAbove n from tie ties.old.items ties.new.items wants.old.keys wants.new.keys) }
+    ensures ok { OnOk result ((tie : Tie) → slice_get ties.old.items n ≡ Some tie → IsAbove n from tie ties.old.items ties.new.items wants.old.keys wants.new.keys) }
+    ensures err { OnErr result ((tie : Tie) → slice_get ties.old.items n ≡ Some tie → IsAboveSome n from tie ties.old.items ties.new.items wants.old.keys wants.new.keys) }
 {
     let tie = &mut ties[n];
     tie.above.add(from)?;
@@ -196,6 +205,7 @@ fn follow_down(
     from: Atom,
 ) -> Result<(), NoMemory>
     ensures follows { OnOk result (FollowsDown (paths_in needs.old.nodes.keys) (paths_in needs.new.nodes.keys) needs.old.ties.items needs.new.ties.items needs.old.wants.keys needs.new.wants.keys spot child from) }
+    ensures err { OnErr result (FollowsDownSome (paths_in needs.old.nodes.keys) (paths_in needs.new.nodes.keys) needs.old.ties.items needs.new.ties.items needs.old.wants.keys needs.new.wants.keys spot child) }
     ensures triples { needs.new.triples ≡ needs.old.triples }
     ensures drafts { needs.new.drafts ≡ needs.old.drafts }
     ensures target { needs.new.target ≡ needs.old.target }
@@ -214,8 +224,9 @@ fn want_child(
     child: u32,
     from: Atom,
 ) -> Result<(), NoMemory>
-    ensures { OnOk result ((v : List ℕ) → slice_get (paths_in nodes.old.keys) n ≡ Some v
+    ensures ok { OnOk result ((v : List ℕ) → slice_get (paths_in nodes.old.keys) n ≡ Some v
         → IsAtNode (v ++ child ∷ []) from (paths_in nodes.old.keys) (paths_in nodes.new.keys) wants.old.keys wants.new.keys) }
+    ensures err { OnErr result ((wants.new.keys ≡ wants.old.keys) × IsWithSome (paths_in nodes.old.keys) (IsChildOf (paths_in nodes.old.keys) n child) (paths_in nodes.new.keys)) }
 {
     let mut at = path_of(alloc, nodes, n)?;
     at.push(child)?;
@@ -235,6 +246,8 @@ fn follow_spawn(
     ensures nodes { needs.new.nodes ≡ needs.old.nodes }
     ensures follows { OnOk result ((n : ℕ) (tie : Tie) → triple ≡ Some n → slice_get needs.old.ties.items n ≡ Some tie
         → IsUsed n from spawner spot tie needs.old.ties.items needs.new.ties.items needs.old.wants.keys needs.new.wants.keys) }
+    ensures err { OnErr result ((n : ℕ) (tie : Tie) → triple ≡ Some n → slice_get needs.old.ties.items n ≡ Some tie
+        → IsUsedSome n from spawner spot tie needs.old.ties.items needs.new.ties.items needs.old.wants.keys needs.new.wants.keys) }
     ensures triples { needs.new.triples ≡ needs.old.triples }
     ensures drafts { needs.new.drafts ≡ needs.old.drafts }
     ensures target { needs.new.target ≡ needs.old.target }
@@ -256,7 +269,8 @@ fn want_added(
     spawner: Want,
 ) -> Result<(), NoMemory>
     requires { n < length ties.old.items }
-    ensures { OnOk result ((tie : Tie) → slice_get ties.old.items n ≡ Some tie → IsUsed n from spawner.atom spawner.spot tie ties.old.items ties.new.items wants.old.keys wants.new.keys) }
+    ensures ok { OnOk result ((tie : Tie) → slice_get ties.old.items n ≡ Some tie → IsUsed n from spawner.atom spawner.spot tie ties.old.items ties.new.items wants.old.keys wants.new.keys) }
+    ensures err { OnErr result ((tie : Tie) → slice_get ties.old.items n ≡ Some tie → IsUsedSome n from spawner.atom spawner.spot tie ties.old.items ties.new.items wants.old.keys wants.new.keys) }
 {
     let tie = &mut ties[n];
     tie.users.push(spawner.spot)?;

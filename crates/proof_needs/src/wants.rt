@@ -1,6 +1,6 @@
 //! The wanted atoms: each atom at each spot once.
 ghost use Rattle.std.specs.Prelude.{◌≡◌, OnOk, OnErr};
-ghost use Rattle.proof_needs.specs.Sets.{IsWith};
+ghost use Rattle.proof_needs.specs.Sets.{IsWith, IsWithSome};
 ghost use Rattle.proof_needs.specs.Wants.{IsOfEach, IsAtEach};
 
 use crate::spots::{Spot, Want};
@@ -16,13 +16,14 @@ pub fn want(wants: &mut IndexSet<Want>, spot: Spot, atom: Atom) -> Result<(), No
     Ok(())
 }
 
-/// Each of the atoms at the spot.
+/// Each of the atoms at the spot. After a refusal some of them may be wanted.
 pub(crate) fn want_each(
     wants: &mut IndexSet<Want>,
     spot: Spot,
     atoms: &ClassSet,
 ) -> Result<(), NoMemory>
-    ensures { OnOk result (IsWith wants.old.keys (IsOfEach spot atoms.now) wants.new.keys) }
+    ensures ok { OnOk result (IsWith wants.old.keys (IsOfEach spot atoms.now) wants.new.keys) }
+    ensures err { OnErr result (IsWithSome wants.old.keys (IsOfEach spot atoms.now) wants.new.keys) }
 {
     for i in 0..atoms.len() {
         want(wants, spot, atoms.at(i))?;
@@ -30,13 +31,14 @@ pub(crate) fn want_each(
     Ok(())
 }
 
-/// The atom at each of the spots.
+/// The atom at each of the spots. After a refusal it may be wanted at some of them.
 pub(crate) fn want_at_each(
     wants: &mut IndexSet<Want>,
     spots: &[Spot],
     atom: Atom,
 ) -> Result<(), NoMemory>
-    ensures { OnOk result (IsWith wants.old.keys (IsAtEach spots.now atom) wants.new.keys) }
+    ensures ok { OnOk result (IsWith wants.old.keys (IsAtEach spots.now atom) wants.new.keys) }
+    ensures err { OnErr result (IsWithSome wants.old.keys (IsAtEach spots.now atom) wants.new.keys) }
 {
     for spot in spots {
         want(wants, *spot, atom)?;
