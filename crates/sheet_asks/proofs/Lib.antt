@@ -1,0 +1,5 @@
+pub mod GatherSteps
+pub mod KnownSteps
+pub mod SetSteps
+pub mod Tables
+pub mod WordSteps

@@ -1,0 +1,17 @@
+-- The words of a text, one after the other.
+use Rattle.std.proofs.Common.{◌≡◌, ℕ, true, false, List, [], ◌∷◌, length, take, drop, refl, arith}
+use Rattle.text_bytes.specs.Blanks.{is_blank}
+use Rattle.html_tokens.specs.Words.{word_len, words_from}
+use Rattle.html_tokens.proofs.WordLemmas.{next_word}
+
+pub blank_first : (b : ℕ) (bs : List ℕ) → is_blank b ≡ true → words_from 0 (b ∷ bs) ≡ words_from 0 bs
+unfolding words_from
+blank_first b bs is = rw is refl
+
+pub word_first : (b : ℕ) (bs : List ℕ) → is_blank b ≡ false → words_from 0 (b ∷ bs) ≡ take (word_len (b ∷ bs)) (b ∷ bs) ∷ words_from 0 (drop (word_len (b ∷ bs)) (b ∷ bs))
+word_first b bs is = next_word b bs is
+
+pub no_words : (bs : List ℕ) → length bs ≡ 0 → words_from 0 bs ≡ []
+unfolding words_from
+no_words [] none = refl
+no_words (b ∷ bs) none = absurd (omega arith)

@@ -1,0 +1,72 @@
+//! Gathers what a sheet asks for.
+ghost use Rattle.std.specs.Prelude.{◌≡◌, map, OnOk};
+ghost use Rattle.css_read.specs.Views.{item_of, outcome_of};
+ghost use Rattle.sel_text.specs.Views.{selector_of};
+ghost use Rattle.sheet_asks.specs.Asked.{asked_names, atoms_of, judged_atoms, name_at, named};
+ghost use Rattle.sheet_asks.specs.Putting.{with_all_named};
+
+use crate::asked::Asked;
+use css_read::{Outcome, SheetItem};
+use sel_text::Selector;
+use tp_base::{Atom, AtomTable, NoMemory};
+
+/// What was gathered so far, and the table of the sheet's atoms.
+#[derive(Drop)]
+pub(crate) struct Gathering<'t> {
+    pub(crate) atoms: &'t AtomTable,
+    pub(crate) asked: Asked<'t>,
+}
+
+impl<'t> Gathering<'t> {
+    /// Adds what these selectors ask for, if they are judged. Linear in their atoms and these' names, on average.
+    pub(crate) fn put_items(&mut self, items: &[SheetItem]) -> Result<(), NoMemory>
+        ensures asked { OnOk result (self.new.asked ≡ with_all_named self.old.asked (asked_names self.old.atoms.now (map item_of items.now))) }
+        ensures atoms { self.new.atoms ≡ self.old.atoms }
+    {
+        'items: for item in items {
+            self.put_outcome(&item.outcome)?;
+        }
+        Ok(())
+    }
+
+    fn put_outcome(&mut self, outcome: &Outcome) -> Result<(), NoMemory>
+        ensures asked { OnOk result (self.new.asked ≡ with_all_named self.old.asked (named self.old.atoms.now (judged_atoms (outcome_of outcome.now)))) }
+        ensures atoms { self.new.atoms ≡ self.old.atoms }
+    {
+        match outcome {
+            Outcome::Judged(selector) => self.put_selector(selector),
+            Outcome::Skipped(_, _) => Ok(()),
+        }
+    }
+
+    fn put_selector(&mut self, selector: &Selector) -> Result<(), NoMemory>
+        ensures asked { OnOk result (self.new.asked ≡ with_all_named self.old.asked (named self.old.atoms.now (atoms_of (selector_of selector.now)))) }
+        ensures atoms { self.new.atoms ≡ self.old.atoms }
+    {
+        'parts: for part in selector.parts.items() {
+            self.put_atoms(part.atoms.items())?;
+        }
+        Ok(())
+    }
+
+    fn put_atoms(&mut self, atoms: &[Atom]) -> Result<(), NoMemory>
+        ensures asked { OnOk result (self.new.asked ≡ with_all_named self.old.asked (named self.old.atoms.now atoms.now)) }
+        ensures atoms { self.new.atoms ≡ self.old.atoms }
+    {
+        'atoms: for atom in atoms {
+            self.put_atom(*atom)?;
+        }
+        Ok(())
+    }
+
+    // An atom that the table lacks has no name.
+    fn put_atom(&mut self, atom: Atom) -> Result<(), NoMemory>
+        ensures asked { OnOk result (self.new.asked ≡ with_all_named self.old.asked (name_at self.old.atoms.now atom)) }
+        ensures atoms { self.new.atoms ≡ self.old.atoms }
+    {
+        match self.atoms.name_of(atom) {
+            None => Ok(()),
+            Some((kind, name)) => self.asked.put(kind, name),
+        }
+    }
+}
