@@ -1,3 +1,4 @@
+pub mod AttributeSteps
 pub mod GatherSteps
 pub mod KnownSteps
 pub mod SetSteps

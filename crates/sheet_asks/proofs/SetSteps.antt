@@ -3,7 +3,7 @@ use Rattle.std.proofs.Common.{◌≡◌, ℕ, Bool, true, false, ◌||◌, if◌
 use Rattle.std.proofs.lemmas.List.{map-append}
 use Rattle.std.specs.List.{list_any}
 use Rattle.std.specs.Str.{bytes_eq}
-use Rattle.tp_base.proofs.Lists.{bytes_eq-sym}
+use Rattle.tp_base.proofs.Lists.{bytes_eq-sym, same_bytes}
 use Rattle.sheet_asks.specs.Names.{is_among, with_name, with_all, once}
 
 or_if : (b c : Bool) → (b || c) ≡ (if b then true else c)
@@ -31,3 +31,37 @@ among_append (n ∷ ns) ms q = elim (bytes_eq n q) as (λ b. (if b then true els
   | true ↦ refl
   | false ↦ among_append ns ms q
 ]
+
+among_new : (ns : List (List ℕ)) (n q : List ℕ) → is_among (with_name ns n) q ≡ (if is_among ns q then true else is_among (n ∷ []) q)
+among_new ns n q = elim (is_among ns n) as (λ b. is_among ns n ≡ b → is_among (if b then ns else ns ++ n ∷ []) q ≡ (if is_among ns q then true else is_among (n ∷ []) q)) [
+  | true ↦ λ is. elim (bytes_eq n q) as (λ b. bytes_eq n q ≡ b → is_among ns q ≡ (if is_among ns q then true else (if b then true else false))) [
+    | true ↦ λ same. by_same (is_among ns q) (ap (is_among ns) (sym (same_bytes n q same)) ∙ is)
+    | false ↦ λ same. by_other (is_among ns q)
+  ] refl
+  | false ↦ λ is. among_append ns (n ∷ []) q
+] refl
+  where
+    by_same : (b : Bool) → b ≡ true → b ≡ (if b then true else true)
+    by_same b is = rw is refl
+
+    by_other : (b : Bool) → b ≡ (if b then true else false)
+    by_other true = refl
+    by_other false = refl
+
+among_all : (ns ms : List (List ℕ)) (q : List ℕ) → is_among (with_all ns ms) q ≡ (if is_among ns q then true else is_among ms q)
+among_all ns [] q = by (is_among ns q)
+  where
+    by : (b : Bool) → b ≡ (if b then true else false)
+    by true = refl
+    by false = refl
+among_all ns (m ∷ ms) q =
+    among_all (with_name ns m) ms q ∙ ap (λ b. if b then true else is_among ms q) (among_new ns m q) ∙ by (is_among ns q) (bytes_eq m q) (is_among ms q)
+  where
+    by : (a b c : Bool) → (if (if a then true else (if b then true else false)) then true else c) ≡ (if a then true else (if b then true else c))
+    by true b c = refl
+    by false true c = refl
+    by false false c = refl
+
+-- a name is among them, each once, where it is among them
+pub among_once : (ns : List (List ℕ)) (q : List ℕ) → is_among (once ns) q ≡ is_among ns q
+among_once ns q = among_all [] ns q

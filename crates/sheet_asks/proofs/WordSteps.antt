@@ -1,5 +1,5 @@
 -- The words of a text, one after the other.
-use Rattle.std.proofs.Common.{◌≡◌, ℕ, true, false, List, [], ◌∷◌, length, take, drop, refl, arith}
+use Rattle.std.proofs.Common.{◌≡◌, ℕ, Bool, true, false, if◌then◌else◌, List, [], ◌∷◌, ◌++◌, length, take, drop, filter, refl, arith}
 use Rattle.text_bytes.specs.Blanks.{is_blank}
 use Rattle.html_tokens.specs.Words.{word_len, words_from}
 use Rattle.html_tokens.proofs.WordLemmas.{next_word}
@@ -15,3 +15,11 @@ pub no_words : (bs : List ℕ) → length bs ≡ 0 → words_from 0 bs ≡ []
 unfolding words_from
 no_words [] none = refl
 no_words (b ∷ bs) none = absurd (omega arith)
+
+-- ---- words that are kept
+
+pub kept_first : (keeps : List ℕ → Bool) (w : List ℕ) (ws : List (List ℕ)) → filter keeps (w ∷ ws) ≡ filter keeps (w ∷ []) ++ filter keeps ws
+kept_first keeps w ws = elim (keeps w) as (λ b. (if b then w ∷ filter keeps ws else filter keeps ws) ≡ (if b then w ∷ [] else []) ++ filter keeps ws) [
+  | true ↦ refl
+  | false ↦ refl
+]

@@ -1,5 +1,7 @@
 //! What a sheet asks for, and questions about it.
-ghost use Rattle.std.specs.Prelude.{◌≡◌, [], ◌∷◌, map, filter, IfOk, OnOk};
+ghost use Rattle.std.specs.Prelude.{◌≡◌, [], ◌∷◌, map, filter, option_copied, IfOk, OnOk};
+ghost use Rattle.std.specs.Map.{lookup};
+ghost use Rattle.std.specs.Str.{bytes_eq};
 ghost use Rattle.css_read.specs.Views.{sheet_of};
 ghost use Rattle.sheet_asks.specs.Asked as spec;
 ghost use Rattle.sheet_asks.specs.Names.{is_among, with_all};
@@ -36,6 +38,7 @@ impl<'t> Model for Asked<'t> {
 impl<'t> Asked<'t> {
     /// What a sheet asks for whose atoms are of this table. Linear in its atoms and their names, on average.
 
+    #[tactic(auto, using(crate::proofs::GatherSteps::all_of))]
     pub fn new(alloc: Global, sheet: &Sheet, atoms: &'t AtomTable) -> Result<Self, NoMemory>
         ensures { IfOk result (λ a. a ≡ spec.asked_in atoms.now (sheet_of sheet.now)) }
     {
@@ -148,15 +151,15 @@ impl<'t> Asked<'t> {
         Ok(names)
     }
 
-    /// The values that are asked of an attribute.
-    pub fn values_of(&self, name: &[u8]) -> &[&'t [u8]]
-        ensures { map (λ v. v.now) result.now ≡ spec.values_at self.now.attributes name.now }
+    /// The values that are asked of an attribute, if it is asked for, by its name in lower case.
+    pub fn values_of(&self, name: &[u8]) -> Option<&NameSet<'t>>
+        ensures { option_copied result ≡ lookup (bytes_eq name.now) self.now.attributes }
     {
         self.attributes.values_of(name)
     }
 
     /// The words of a text that are classes asked for, each once. Linear in the text, on average.
-    #[tactic(auto, using(crate::proofs::WordSteps::blank_first, crate::proofs::WordSteps::word_first, crate::proofs::WordSteps::no_words))]
+    #[tactic(auto, using(crate::proofs::WordSteps::blank_first, crate::proofs::WordSteps::word_first, crate::proofs::WordSteps::no_words, crate::proofs::WordSteps::kept_first))]
     pub fn classes_in<'w>(&self, alloc: Global, text: &'w [u8]) -> Result<NameSet<'w>, NoMemory>
         ensures { IfOk result (λ f. f ≡ spec.classes_in self.now text.now) }
     {

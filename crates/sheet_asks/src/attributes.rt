@@ -1,5 +1,5 @@
 //! Attributes that are asked for, each with its values.
-ghost use Rattle.std.specs.Prelude.{◌≡◌, ◌≤◌, ◌∷◌, [], map, filter, length, is_some, option_map, option_to_list, IfOk, OnOk};
+ghost use Rattle.std.specs.Prelude.{◌≡◌, ◌≤◌, ◌∷◌, [], map, length, option_copied, option_map, option_to_list, IfOk, OnOk};
 ghost use Rattle.std.specs.Map.{lookup};
 ghost use Rattle.std.specs.Str.{bytes_eq};
 ghost use Rattle.sheet_asks.specs.Asked as spec;
@@ -56,34 +56,37 @@ impl<'t> Attributes<'t> {
         }
     }
 
+    /// The values that are asked of an attribute, if it is asked for. Linear in its name, on average.
+    #[tactic(auto, using(crate::proofs::AttributeSteps::seen_at))]
+    pub(crate) fn values_of(&self, name: &[u8]) -> Option<&NameSet<'t>>
+        ensures { option_copied result ≡ lookup (bytes_eq name.now) self.now }
+    {
+        self.sets.get(name)
+    }
+
     /// Whether an attribute is asked for. Linear in its name, on average.
+    #[tactic(auto, using(crate::proofs::AttributeSteps::there, crate::proofs::AttributeSteps::not_there))]
     pub(crate) fn has(&self, name: &[u8]) -> bool
         ensures { result ≡ is_among (map (λ a. a.0) self.now) name.now }
     {
-        self.sets.contains_key(name)
+        match self.values_of(name) {
+            None => false,
+            Some(_) => true,
+        }
     }
 
     /// Whether a value is asked of an attribute. Linear in both, on average.
     pub(crate) fn has_value(&self, name: &[u8], value: &[u8]) -> bool
         ensures { result ≡ is_among (spec.values_at self.now name.now) value.now }
     {
-        match self.sets.get(name) {
+        match self.values_of(name) {
             None => false,
             Some(values) => values.has(value),
         }
     }
 
-    /// The values that are asked of an attribute. Linear in its name, on average.
-    pub(crate) fn values_of(&self, name: &[u8]) -> &[&'t [u8]]
-        ensures { map (λ v. v.now) result.now ≡ spec.values_at self.now name.now }
-    {
-        match self.sets.get(name) {
-            None => &[],
-            Some(values) => values.names(),
-        }
-    }
-
     /// The names of all. Linear in their number.
+    #[tactic(auto, using(crate::proofs::AttributeSteps::seen_keys))]
     pub(crate) fn names(&self, alloc: Global) -> Result<Vec<&'t [u8]>, NoMemory>
         ensures { IfOk result (λ v. map (λ n. n.now) v.items ≡ map (λ a. a.0) self.now) }
     {

@@ -106,7 +106,7 @@ impl KnownCalls {
     }
 
     /// Whether a call of this name gives nothing. Linear in the name, on average.
-
+    #[tactic(auto, using(crate::proofs::SetSteps::among_once))]
     pub fn has(&self, name: &[u8]) -> bool
         ensures { result ≡ is_among known_calls name.now }
     {

@@ -39,6 +39,7 @@ impl<'t> Gathering<'t> {
         }
     }
 
+    #[tactic(auto, using(crate::proofs::GatherSteps::of_parts))]
     fn put_selector(&mut self, selector: &Selector) -> Result<(), NoMemory>
         ensures asked { OnOk result (self.new.asked ≡ with_all_named self.old.asked (named self.old.atoms.now (atoms_of (selector_of selector.now)))) }
         ensures atoms { self.new.atoms ≡ self.old.atoms }
