@@ -36,7 +36,7 @@ module _ {K : Type 0} (shown : K → List ℕ) where
 
 -- ---- as callers see them
 
-same_itself : (n : List ℕ) → bytes_eq n n ≡ true
+pub same_itself : (n : List ℕ) → bytes_eq n n ≡ true
 same_itself n = (bytes_eq-Decides n n).1 refl
 
 -- what is inserted again takes the place of what was
@@ -61,3 +61,11 @@ not_there all q is = sym (found all q) ∙ ap is_some is
 
 pub there : (all : List Valued) (q : List ℕ) (v : List (List ℕ)) → lookup (bytes_eq q) all ≡ Some v → is_among (map (λ a. a.0) all) q ≡ true
 there all q v is = sym (found all q) ∙ ap is_some is
+
+-- an attribute's values are taken, and put back with one more
+pub put_back : (old between inside new : List Valued) (text n : List ℕ) (before after given : List (List ℕ)) → between ≡ insert_entry bytes_eq old n [] → before ≡ values_at old n → after ≡ with_all before given
+    → n ≡ name_in text → given ≡ value_in text → inside ≡ between → new ≡ insert_entry bytes_eq inside n after → new ≡ with_attribute old text
+put_back old between inside new text n before after given left taken put name value same inserted =
+    inserted ∙ ap (λ es. insert_entry bytes_eq es n after) (same ∙ left) ∙ inserted_twice old n [] after
+    ∙ ap (insert_entry bytes_eq old n) (put ∙ ap (λ b. with_all b given) taken ∙ ap (with_all (values_at old n)) value)
+    ∙ ap (λ m. insert_entry bytes_eq old m (with_all (values_at old m) (value_in text))) name

@@ -25,7 +25,7 @@ module _ {K : Type 0} (shown : K → List ℕ) where
 
 -- ---- what is among the names, each once
 
-among_append : (ns ms : List (List ℕ)) (q : List ℕ) → is_among (ns ++ ms) q ≡ (if is_among ns q then true else is_among ms q)
+pub among_append : (ns ms : List (List ℕ)) (q : List ℕ) → is_among (ns ++ ms) q ≡ (if is_among ns q then true else is_among ms q)
 among_append [] ms q = refl
 among_append (n ∷ ns) ms q = elim (bytes_eq n q) as (λ b. (if b then true else is_among (ns ++ ms) q) ≡ (if (if b then true else is_among ns q) then true else is_among ms q)) [
   | true ↦ refl

@@ -3,7 +3,7 @@ ghost use Rattle.std.specs.Prelude.{◌≡◌, ◌≤◌, ◌∷◌, [], map, le
 ghost use Rattle.std.specs.Map.{lookup};
 ghost use Rattle.std.specs.Str.{bytes_eq};
 ghost use Rattle.sheet_asks.specs.Asked as spec;
-ghost use Rattle.sheet_asks.specs.Names.{is_among};
+ghost use Rattle.sheet_asks.specs.Names.{is_among, with_all};
 ghost use Rattle.indexmap.specs.IndexMap.{insert_entry};
 ghost use Rattle.sheet_asks.specs.Putting.{with_attribute};
 
@@ -43,6 +43,15 @@ fn parts_of(text: &[u8]) -> (&[u8], Option<&[u8]>)
     match behind.split_first() {
         None => (name, None),
         Some((_, value)) => (name, Some(value)),
+    }
+}
+
+fn put_value<'t>(values: &mut NameSet<'t>, value: Option<&'t [u8]>) -> Result<(), NoMemory>
+    ensures { OnOk result (values.new ≡ with_all values.old (option_to_list (option_map (λ v. v.now) value.entry))) }
+{
+    match value {
+        None => Ok(()),
+        Some(value) => values.put(value),
     }
 }
 
@@ -113,9 +122,7 @@ impl<'t> Attributes<'t> {
     {
         let (name, value) = parts_of(text);
         let mut values = self.taken(name)?;
-        if let Some(value) = value {
-            values.put(value)?;
-        }
+        put_value(&mut values, value)?;
         self.sets.insert(name, values)?;
         Ok(())
     }

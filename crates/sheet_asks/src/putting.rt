@@ -19,6 +19,7 @@ pub(crate) struct Gathering<'t> {
 
 impl<'t> Gathering<'t> {
     /// Adds what these selectors ask for, if they are judged. Linear in their atoms and these' names, on average.
+    #[tactic(auto, using(crate::proofs::GatherSteps::item_first))]
     pub(crate) fn put_items(&mut self, items: &[SheetItem]) -> Result<(), NoMemory>
         ensures asked { OnOk result (self.new.asked ≡ with_all_named self.old.asked (asked_names self.old.atoms.now (map item_of items.now))) }
         ensures atoms { self.new.atoms ≡ self.old.atoms }
@@ -39,7 +40,7 @@ impl<'t> Gathering<'t> {
         }
     }
 
-    #[tactic(auto, using(crate::proofs::GatherSteps::of_parts))]
+    #[tactic(auto, using(crate::proofs::GatherSteps::part_first, crate::proofs::GatherSteps::all_parts))]
     fn put_selector(&mut self, selector: &Selector) -> Result<(), NoMemory>
         ensures asked { OnOk result (self.new.asked ≡ with_all_named self.old.asked (named self.old.atoms.now (atoms_of (selector_of selector.now)))) }
         ensures atoms { self.new.atoms ≡ self.old.atoms }
@@ -50,6 +51,7 @@ impl<'t> Gathering<'t> {
         Ok(())
     }
 
+    #[tactic(auto, using(crate::proofs::GatherSteps::named_first))]
     fn put_atoms(&mut self, atoms: &[Atom]) -> Result<(), NoMemory>
         ensures asked { OnOk result (self.new.asked ≡ with_all_named self.old.asked (named self.old.atoms.now atoms.now)) }
         ensures atoms { self.new.atoms ≡ self.old.atoms }
