@@ -10,31 +10,31 @@ use Rattle.tp_base.specs.declared.atoms.AtomKind.TheVariants as kind
 use Rattle.tp_base.specs.Names.{Named}
 use Rattle.sel_text.specs.declared.selectors.Compound.{Compound}
 use Rattle.sel_text.specs.declared.selectors.Join.{Join}
+use Rattle.sel_text.specs.declared.selectors.Selector as code
+use Rattle.sel_text.specs.Views.{selector_of}
 use Rattle.sel_text.specs.Parts.{and_then, with_parts, selector_from}
 use Rattle.sel_text.specs.Selectors.{Selector, simple}
 use Rattle.css_read.specs.Sheets.{Item}
 use Rattle.sheet_asks.specs.Asked.{atoms_of, judged_atoms, asked_names, named, name_at, of_kind, attributes_of, Valued, Asked, asked_of}
 use Rattle.sheet_asks.specs.Names.{with_name, with_all, once}
-use Rattle.sheet_asks.specs.Putting.{with_named, with_all_named, nothing}
+use Rattle.sheet_asks.specs.Putting.{parts_atoms, with_named, with_all_named, nothing}
 use Rattle.sheet_asks.proofs.TableSteps.{one_more}
 
 -- ---- the atoms of a selector, part by part
 
-pub parts_atoms : List Compound → List ℕ
-parts_atoms parts = flat_map (λ (p : Compound). p.atoms) parts
-
 behind_parts : (s : Selector) (joins : List Join) (parts : List Compound) → length parts ≡ length joins → atoms_of (with_parts s joins parts) ≡ atoms_of s ++ parts_atoms parts
-unfolding parts_atoms
 behind_parts s [] [] same = sym (append-nil (atoms_of s))
 behind_parts s [] (c ∷ parts) same = absurd (omega arith)
 behind_parts s (j ∷ joins) [] same = absurd (omega arith)
 behind_parts s (j ∷ joins) (c ∷ parts) same =
     behind_parts (and_then s j c) joins parts (omega arith) ∙ append_assoc (atoms_of s) c.atoms (parts_atoms parts)
 
-pub all_parts : (parts : List Compound) (joins : List Join) → length parts ≡ length joins + 1 → atoms_of (selector_from parts joins) ≡ parts_atoms parts
-unfolding parts_atoms
+all_parts : (parts : List Compound) (joins : List Join) → length parts ≡ length joins + 1 → atoms_of (selector_from parts joins) ≡ parts_atoms parts
 all_parts [] joins same = refl
 all_parts (c ∷ parts) joins same = behind_parts (simple c.atoms) joins parts (omega arith)
+
+pub of_selector : (s : code.Selector) → parts_atoms s.parts ≡ atoms_of (selector_of s)
+of_selector s = sym (all_parts s.parts s.joins s.between)
 
 -- ---- the names of one kind
 
@@ -89,7 +89,6 @@ named_first names asked a atoms = sym (fold-append with_named asked (name_at nam
 
 pub part_first : (names : List Named) (asked : Asked) (c : Compound) (parts : List Compound)
     → with_all_named (with_all_named asked (named names c.atoms)) (named names (parts_atoms parts)) ≡ with_all_named asked (named names (parts_atoms (c ∷ parts)))
-unfolding parts_atoms
 part_first names asked c parts =
     sym (fold-append with_named asked (named names c.atoms) (named names (parts_atoms parts))) ∙ ap (with_all_named asked) (sym (flat_map-append (name_at names) c.atoms (parts_atoms parts)))
 

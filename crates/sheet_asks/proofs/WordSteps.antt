@@ -1,5 +1,6 @@
 -- The words of a text, one after the other.
-use Rattle.std.proofs.Common.{◌≡◌, ℕ, Bool, true, false, if◌then◌else◌, List, [], ◌∷◌, ◌++◌, length, take, drop, filter, refl, arith}
+use Rattle.std.proofs.Common.{◌≡◌, ℕ, Bool, true, false, if◌then◌else◌, List, [], ◌∷◌, ◌++◌, length, take, drop, filter, refl, sym, ap, ◌∙◌, arith}
+use Rattle.std.proofs.lemmas.List.{append_assoc}
 use Rattle.text_bytes.specs.Blanks.{is_blank}
 use Rattle.html_tokens.specs.Words.{word_len, words_from}
 use Rattle.html_tokens.proofs.WordLemmas.{next_word}
@@ -23,3 +24,6 @@ kept_first keeps w ws = elim (keeps w) as (λ b. (if b then w ∷ filter keeps w
   | true ↦ refl
   | false ↦ refl
 ]
+
+pub kept_next : (keeps : List ℕ → Bool) (found : List (List ℕ)) (w : List ℕ) (ws total : List (List ℕ)) → found ++ filter keeps (w ∷ ws) ≡ total → (found ++ filter keeps (w ∷ [])) ++ filter keeps ws ≡ total
+kept_next keeps found w ws total is = append_assoc found (filter keeps (w ∷ [])) (filter keeps ws) ∙ ap (λ vs. found ++ vs) (sym (kept_first keeps w ws)) ∙ is

@@ -5,78 +5,70 @@ use Rattle.html_tokens.specs.Words.{words}
 -- constructors, with or without `new`
 abbrev pub constructor_names : List (List ℕ)
 constructor_names =
-    codes "AbortController AggregateError Array ArrayBuffer BigInt Blob Boolean BroadcastChannel Callbacks Collator CustomEvent"
-    ∷ codes "DOMParser DOMPoint DOMRect DataView Date DateTimeFormat Deferred Error EvalError Event EventSource File FileReader"
-    ∷ codes "Float32Array Float64Array FocusEvent FormData Headers ImageData InputEvent Int16Array Int32Array Int8Array"
-    ∷ codes "IntersectionObserver KeyboardEvent ListFormat MessageChannel MouseEvent MutationObserver Number NumberFormat Object"
-    ∷ codes "Path2D PerformanceObserver PluralRules PointerEvent Promise Proxy RangeError ReferenceError RegExp RelativeTimeFormat"
-    ∷ codes "Request ResizeObserver Response Set String Symbol SyntaxError TextDecoder TextEncoder TypeError UIEvent URIError URL"
-    ∷ codes "URLSearchParams Uint16Array Uint32Array Uint8Array Uint8ClampedArray WeakMap WeakRef WeakSet WebSocket Worker"
-    ∷ codes "XMLHttpRequest XMLSerializer"
+    codes "AbortController Array ArrayBuffer BigInt Blob Boolean Callbacks CustomEvent DOMParser DOMRect DataView Date"
+    ∷ codes "DateTimeFormat Deferred Error Event EventSource File FileReader Float32Array FocusEvent FormData Headers ImageData"
+    ∷ codes "InputEvent IntersectionObserver KeyboardEvent MessageChannel MouseEvent MutationObserver Number NumberFormat Object"
+    ∷ codes "Path2D PluralRules PointerEvent Promise Proxy RangeError ReferenceError RegExp Request ResizeObserver Response Set"
+    ∷ codes "String Symbol SyntaxError TypeError UIEvent URL URLSearchParams Uint32Array Uint8Array WeakMap WeakSet WebSocket Worker"
+    ∷ codes "XMLHttpRequest"
     ∷ []
 
 -- texts and patterns
 abbrev pub text_names : List (List ℕ)
 text_names =
-    codes "at charAt charCodeAt codePointAt concat endsWith exec fromCharCode fromCodePoint includes indexOf isWellFormed"
-    ∷ codes "lastIndexOf localeCompare match matchAll normalize padEnd padStart repeat replace search slice split startsWith substr"
-    ∷ codes "substring test toLocaleLowerCase toLocaleUpperCase toLowerCase toString toUpperCase toWellFormed trim trimEnd trimLeft"
-    ∷ codes "trimRight trimStart valueOf"
+    codes "at charAt charCodeAt codePointAt concat endsWith exec fromCharCode fromCodePoint includes indexOf lastIndexOf"
+    ∷ codes "localeCompare match matchAll normalize padEnd padStart repeat replace search slice split startsWith substr substring"
+    ∷ codes "test toLocaleLowerCase toLocaleUpperCase toLowerCase toString toUpperCase trim trimEnd trimLeft trimRight trimStart"
+    ∷ codes "valueOf"
     ∷ []
 
 -- lists, sets and tables
 abbrev pub list_names : List (List ℕ)
 list_names =
-    codes "copyWithin delete difference entries every fill filter find findIndex findLast findLastIndex flat flatMap forEach from"
-    ∷ codes "fromAsync fromEntries get has intersection isArray isDisjointFrom isSubsetOf isSupersetOf join keys map of pop push"
-    ∷ codes "reduce reduceRight reverse shift some sort splice subarray symmetricDifference toReversed toSorted toSpliced union"
-    ∷ codes "unshift values"
+    codes "delete difference entries every fill filter find findIndex findLast findLastIndex flat flatMap forEach from fromEntries"
+    ∷ codes "get has intersection isArray join keys map of pop push reduce reduceRight reverse shift some sort splice subarray"
+    ∷ codes "toReversed toSorted toSpliced union unshift values"
     ∷ []
 
 -- numbers
 abbrev pub number_names : List (List ℕ)
 number_names =
-    codes "abs acos acosh asin asinh atan atan2 atanh cbrt ceil clz32 cos cosh exp expm1 floor fround hypot imul isFinite isInteger"
-    ∷ codes "isNaN isSafeInteger log10 log1p log2 max min parseFloat parseInt pow random round sign sin sinh sqrt tan tanh"
-    ∷ codes "toExponential toFixed toPrecision trunc"
+    codes "abs acos asin atan atan2 cbrt ceil cos exp floor hypot isFinite isInteger isNaN isSafeInteger log10 log2 max min"
+    ∷ codes "parseFloat parseInt pow random round sign sin sqrt tan toExponential toFixed toPrecision trunc"
     ∷ []
 
 -- dates and formats
 abbrev pub date_names : List (List ℕ)
 date_names =
-    codes "UTC formatRange formatRangeToParts formatToParts getDate getDay getFullYear getHours getMilliseconds getMinutes getMonth"
-    ∷ codes "getSeconds getTime getTimezoneOffset getUTCDate getUTCDay getUTCFullYear getUTCHours getUTCMilliseconds getUTCMinutes"
-    ∷ codes "getUTCMonth getUTCSeconds getYear now resolvedOptions setDate setFullYear setHours setMilliseconds setMinutes setMonth"
-    ∷ codes "setSeconds setTime setUTCDate setUTCFullYear setUTCHours setUTCMilliseconds setUTCMinutes setUTCMonth setUTCSeconds"
-    ∷ codes "setYear supportedValuesOf toDateString toGMTString toISOString toJSON toLocaleDateString toLocaleString"
-    ∷ codes "toLocaleTimeString toTimeString toUTCString"
+    codes "UTC formatToParts getDate getDay getFullYear getHours getMilliseconds getMinutes getMonth getSeconds getTime"
+    ∷ codes "getTimezoneOffset getUTCDate getUTCDay getUTCFullYear getUTCHours getUTCMinutes getUTCMonth getUTCSeconds now setDate"
+    ∷ codes "setFullYear setHours setMilliseconds setMinutes setMonth setSeconds setTime toDateString toISOString toLocaleDateString"
+    ∷ codes "toLocaleString toLocaleTimeString toTimeString toUTCString"
     ∷ []
 
 -- objects and functions
 abbrev pub object_names : List (List ℕ)
 object_names =
-    codes "apply assign bind call defineProperties defineProperty deleteProperty freeze getOwnPropertyDescriptor"
-    ∷ codes "getOwnPropertyDescriptors getOwnPropertyNames getOwnPropertySymbols getPrototypeOf hasOwn hasOwnProperty is isExtensible"
-    ∷ codes "isFrozen isPrototypeOf isSealed keyFor ownKeys parse preventExtensions propertyIsEnumerable revocable seal"
-    ∷ codes "setPrototypeOf stringify structuredClone"
+    codes "apply assign call defineProperties defineProperty freeze getOwnPropertyDescriptor getOwnPropertyDescriptors"
+    ∷ codes "getOwnPropertyNames getOwnPropertySymbols getPrototypeOf hasOwn hasOwnProperty is parse setPrototypeOf stringify"
+    ∷ codes "structuredClone"
     ∷ []
 
 -- promises, requests and files
 abbrev pub request_names : List (List ℕ)
 request_names =
-    codes "abort ajax ajaxComplete ajaxError ajaxPrefilter ajaxSend ajaxSetup ajaxStart ajaxStop ajaxSuccess ajaxTransport all"
-    ∷ codes "allSettled always any arrayBuffer blob canParse catch createObjectURL done fail fetch finally formData getAll"
-    ∷ codes "getAllResponseHeaders getJSON getResponseHeader json overrideMimeType param parseJSON parseXML pipe post postMessage"
-    ∷ codes "promise race readAsArrayBuffer readAsBinaryString readAsDataURL readAsText reject rejectWith resolve resolveWith"
-    ∷ codes "revokeObjectURL send sendBeacon serialize serializeArray serializeToString setRequestHeader statusCode terminate then"
-    ∷ codes "throwIfAborted when withResolvers"
+    codes "abort ajax ajaxComplete ajaxError ajaxPrefilter ajaxSend ajaxSetup ajaxStart ajaxStop ajaxSuccess all allSettled always"
+    ∷ codes "any arrayBuffer blob catch createObjectURL done fail fetch finally formData getAll getAllResponseHeaders getJSON"
+    ∷ codes "getResponseHeader json overrideMimeType param parseJSON parseXML pipe post postMessage promise race readAsArrayBuffer"
+    ∷ codes "readAsDataURL readAsText reject resolve revokeObjectURL send sendBeacon serialize serializeArray setRequestHeader"
+    ∷ codes "statusCode terminate then when"
     ∷ []
 
 -- texts as codes
 abbrev pub code_names : List (List ℕ)
 code_names =
-    codes "atob btoa decode decodeURI decodeURIComponent encode encodeInto encodeURI encodeURIComponent escape escapeSelector"
-    ∷ codes "getRandomValues randomUUID unescape"
+    codes "atob btoa decode decodeURI decodeURIComponent encode encodeURI encodeURIComponent escape escapeSelector getRandomValues"
+    ∷ codes "randomUUID unescape"
     ∷ []
 
 -- what runs later
@@ -89,84 +81,76 @@ time_names =
 -- events and observers
 abbrev pub event_names : List (List ℕ)
 event_names =
-    codes "addEventListener addListener blur change click composedPath contextmenu createEvent dblclick delegate die disconnect"
-    ∷ codes "dispatchEvent error focus focusin focusout getModifierState hasPointerCapture holdReady hover initCustomEvent initEvent"
-    ∷ codes "initKeyboardEvent initMouseEvent initUIEvent isDefaultPrevented isImmediatePropagationStopped isPropagationStopped"
-    ∷ codes "keydown keypress keyup live mousedown mouseenter mouseleave mousemove mouseout mouseover mouseup observe off on one"
-    ∷ codes "preventDefault proxy ready releasePointerCapture removeEventListener removeListener resize scroll select"
-    ∷ codes "setPointerCapture stopImmediatePropagation stopPropagation submit takeRecords trigger triggerHandler unbind undelegate"
-    ∷ codes "unload unobserve"
+    codes "addEventListener addListener bind blur change click composedPath contextmenu createEvent dblclick delegate die"
+    ∷ codes "disconnect dispatchEvent error focus focusin focusout getModifierState holdReady hover initCustomEvent initEvent"
+    ∷ codes "initKeyboardEvent initMouseEvent isDefaultPrevented isImmediatePropagationStopped isPropagationStopped keydown keypress"
+    ∷ codes "keyup live mousedown mouseenter mouseleave mousemove mouseout mouseover mouseup observe off on one preventDefault proxy"
+    ∷ codes "ready releasePointerCapture removeEventListener removeListener resize scroll select setPointerCapture"
+    ∷ codes "stopImmediatePropagation stopPropagation submit takeRecords trigger triggerHandler unbind undelegate unload unobserve"
     ∷ []
 
 -- what looks for elements and asks about them
 abbrev pub look_names : List (List ℕ)
 look_names =
-    codes "$ addBack andSelf children closest compareDocumentPosition contains contents createExpression createNSResolver"
-    ∷ codes "createNodeIterator createTreeWalker each elementFromPoint elementsFromPoint end eq evaluate even first getAttribute"
-    ∷ codes "getAttributeNS getAttributeNames getElementById getElementsByClassName getElementsByName getElementsByTagName"
-    ∷ codes "getElementsByTagNameNS getNamedItem getNamedItemNS getRootNode grep hasAttribute hasAttributeNS hasAttributes"
-    ∷ codes "hasChildNodes hasClass hasData hasFocus inArray index intersectsNode isDefaultNamespace isEqualNode isPointInRange"
-    ∷ codes "isSameNode item jQuery last lookupNamespaceURI lookupPrefix makeArray matches merge namedItem next nextAll nextNode"
-    ∷ codes "nextUntil not odd offsetParent parent parents parentsUntil prev prevAll prevUntil previousNode pushStack querySelector"
+    codes "$ addBack andSelf children closest contains contents createTreeWalker each elementFromPoint elementsFromPoint end eq"
+    ∷ codes "evaluate even first getAttribute getAttributeNS getAttributeNames getElementById getElementsByClassName"
+    ∷ codes "getElementsByName getElementsByTagName getElementsByTagNameNS getRootNode grep hasAttribute hasAttributes hasChildNodes"
+    ∷ codes "hasClass hasData hasFocus inArray index isEqualNode isSameNode item jQuery last makeArray matches merge namedItem next"
+    ∷ codes "nextAll nextNode nextUntil not odd offsetParent parent parents parentsUntil prev prevAll prevUntil querySelector"
     ∷ codes "querySelectorAll siblings size toArray unique uniqueSort"
     ∷ []
 
 -- what takes away, and what makes or changes texts
 abbrev pub taking_names : List (List ℕ)
 taking_names =
-    codes "createAttribute createAttributeNS createComment createDocumentFragment createTextNode data deleteCaption deleteCell"
-    ∷ codes "deleteContents deleteData deleteRow deleteTFoot deleteTHead detach empty insertAdjacentText insertData remove removeAttr"
-    ∷ codes "removeAttribute removeAttributeNS removeAttributeNode removeChild removeClass removeData removeNamedItem"
-    ∷ codes "removeNamedItemNS removeProp replaceData splitText substringData text"
+    codes "createAttribute createComment createDocumentFragment createTextNode data deleteCell deleteContents deleteRow deleteTFoot"
+    ∷ codes "deleteTHead detach empty insertAdjacentText remove removeAttr removeAttribute removeAttributeNS removeChild removeClass"
+    ∷ codes "removeData removeProp splitText text"
     ∷ []
 
 -- style, size and place
 abbrev pub shape_names : List (List ℕ)
 shape_names =
-    codes "addRule caretPositionFromPoint caretRangeFromPoint checkVisibility css deleteRule fadeIn fadeOut fadeTo fadeToggle"
-    ∷ codes "getAnimations getBBox getBoundingClientRect getCTM getClientRects getComputedStyle getPropertyPriority getPropertyValue"
-    ∷ codes "getScreenCTM height hide innerHeight innerWidth insertRule matchMedia offset outerHeight outerWidth position"
-    ∷ codes "removeProperty removeRule replaceSync scrollBy scrollIntoView scrollIntoViewIfNeeded scrollLeft scrollTo scrollTop"
-    ∷ codes "setProperty show slideDown slideToggle slideUp supports toggle width"
+    codes "css deleteRule fadeIn fadeOut fadeTo fadeToggle getBBox getBoundingClientRect getCTM getClientRects getComputedStyle"
+    ∷ codes "getPropertyValue getScreenCTM height hide innerHeight innerWidth insertRule matchMedia offset outerHeight outerWidth"
+    ∷ codes "position removeProperty scrollBy scrollIntoView scrollIntoViewIfNeeded scrollLeft scrollTo scrollTop setProperty show"
+    ∷ codes "slideDown slideToggle slideUp supports toggle width"
     ∷ []
 
 -- forms, selections and media
 abbrev pub form_names : List (List ℕ)
 form_names =
-    codes "addRange canPlayType checkValidity cloneRange collapseToEnd collapseToStart compareBoundaryPoints comparePoint"
-    ∷ codes "createRange exitFullscreen exitPictureInPicture exitPointerLock getRangeAt getSelection hidePopover pause play"
-    ∷ codes "removeAllRanges removeRange reportValidity requestFullscreen requestPointerLock requestSubmit reset selectAllChildren"
-    ∷ codes "selectNode selectNodeContents setBaseAndExtent setCustomValidity setEnd setEndAfter setEndBefore setRangeText"
-    ∷ codes "setSelectionRange setStart setStartAfter setStartBefore showModal showPicker showPopover stepDown stepUp togglePopover"
+    codes "addRange canPlayType checkValidity cloneRange collapseToEnd collapseToStart createRange exitFullscreen getRangeAt"
+    ∷ codes "getSelection hidePopover pause play removeAllRanges removeRange reportValidity requestFullscreen requestSubmit reset"
+    ∷ codes "selectNode selectNodeContents setCustomValidity setEnd setEndAfter setEndBefore setRangeText setSelectionRange setStart"
+    ∷ codes "setStartAfter setStartBefore showModal showPicker showPopover stepDown stepUp togglePopover"
     ∷ []
 
 -- the window, its history and its stores
 abbrev pub window_names : List (List ℕ)
 window_names =
-    codes "alert back clearData confirm forward getData getEntries getEntriesByName getEntriesByType getItem getUserMedia"
-    ∷ codes "javaEnabled key moveBy moveTo print prompt pushState readText reload removeItem replaceState requestPermission resizeBy"
-    ∷ codes "resizeTo setData setDragImage setItem vibrate writeText"
+    codes "alert back clearData confirm forward getData getItem key moveTo print prompt pushState readText reload removeItem"
+    ∷ codes "replaceState requestPermission setDragImage setItem writeText"
     ∷ []
 
 -- drawing
 abbrev pub canvas_names : List (List ℕ)
 canvas_names =
-    codes "addColorStop arc arcTo beginPath bezierCurveTo clearRect clip closePath createConicGradient createImageBitmap"
-    ∷ codes "createImageData createLinearGradient createPattern createRadialGradient drawImage ellipse fillRect fillText getContext"
-    ∷ codes "getImageData getLineDash isPointInPath isPointInStroke lineTo measureText putImageData quadraticCurveTo rect"
-    ∷ codes "resetTransform roundRect setLineDash setTransform stroke strokeRect strokeText toBlob toDataURL"
+    codes "addColorStop arc arcTo beginPath bezierCurveTo clearRect clip closePath createImageData createLinearGradient"
+    ∷ codes "createPattern createRadialGradient drawImage fillRect fillText getContext getImageData lineTo measureText putImageData"
+    ∷ codes "quadraticCurveTo resetTransform setLineDash setTransform stroke strokeRect strokeText toBlob toDataURL"
     ∷ []
 
 -- messages for whoever writes the script
 abbrev pub log_names : List (List ℕ)
 log_names =
-    codes "assert countReset debug dir dirxml groupCollapsed groupEnd log reportError time timeEnd timeLog timeStamp warn"
+    codes "assert debug dir groupCollapsed groupEnd log time timeEnd warn"
     ∷ []
 
 -- helpers of jQuery
 abbrev pub helper_names : List (List ℕ)
 helper_names =
-    codes "camelCase extend isEmptyObject isFunction isNumeric isPlainObject isWindow isXMLDoc noConflict nodeName noop type"
+    codes "extend isEmptyObject isFunction isNumeric isPlainObject isWindow isXMLDoc noConflict noop type"
     ∷ []
 
 abbrev pub known_texts : List (List ℕ)

@@ -1,11 +1,16 @@
 -- How what a sheet asks for is gathered, a name after the other. That it comes to what is asked for is a lemma.
-use Rattle.std.specs.Prelude.{ℕ, List, [], ◌∷◌, fold, Option, None, Some}
+use Rattle.std.specs.Prelude.{ℕ, List, [], ◌∷◌, flat_map, fold}
 use Rattle.std.specs.Str.{bytes_eq}
 use Rattle.indexmap.specs.IndexMap.{insert_entry}
 use Rattle.tp_base.specs.declared.atoms.AtomKind.TheVariants as kind
 use Rattle.tp_base.specs.Names.{Named}
+use Rattle.sel_text.specs.declared.selectors.Compound.{Compound}
 use Rattle.sheet_asks.specs.Asked.{Asked, Valued, name_in, value_in, values_at}
 use Rattle.sheet_asks.specs.Names.{with_name, with_all}
+
+-- the atoms of compounds that stand from left to right
+abbrev pub parts_atoms : List Compound → List ℕ
+parts_atoms parts = flat_map (λ (p : Compound). p.atoms) parts
 
 -- what an attribute asks for more
 abbrev pub with_values : List Valued → List ℕ → List (List ℕ) → List Valued

@@ -1,5 +1,5 @@
 //! What a sheet asks for, and questions about it.
-ghost use Rattle.std.specs.Prelude.{◌≡◌, [], ◌∷◌, map, filter, option_copied, IfOk, OnOk};
+ghost use Rattle.std.specs.Prelude.{◌≡◌, [], ◌∷◌, ◌++◌, map, filter, option_copied, IfOk, OnOk};
 ghost use Rattle.std.specs.Map.{lookup};
 ghost use Rattle.std.specs.Str.{bytes_eq};
 ghost use Rattle.css_read.specs.Views.{sheet_of};
@@ -16,6 +16,16 @@ use std::alloc::Global;
 use std::marker::Model;
 use text_bytes::is_blank;
 use tp_base::{AtomKind, AtomTable, NoMemory};
+
+// Adds a name that begins with `data-`.
+fn put_data<'t>(names: &mut Vec<&'t [u8]>, name: &'t [u8]) -> Result<(), NoMemory>
+    ensures { OnOk result (map (λ n. n.now) names.new.items ≡ map (λ n. n.now) names.old.items ++ filter spec.is_data_name (name.now ∷ [])) }
+{
+    if name.starts_with(b"data-") {
+        names.push(name)?;
+    }
+    Ok(())
+}
 
 /// What the judged selectors of a sheet ask for, in the order of the sheet, each once. A name of an element or an attribute, and a
 /// value, is asked for in lower case. Each question about one name is linear in it, on average.
@@ -138,15 +148,14 @@ impl<'t> Asked<'t> {
     }
 
     /// The names of all attributes that begin with `data-`. Linear in the number of all.
+    #[tactic(auto, using(crate::proofs::WordSteps::kept_next))]
     pub fn data_attributes(&self, alloc: Global) -> Result<Vec<&'t [u8]>, NoMemory>
         ensures { IfOk result (λ v. map (λ n. n.now) v.items ≡ spec.data_names self.now) }
     {
         let all = self.attributes.names(alloc)?;
         let mut names = Vec::new(alloc);
         'names: for name in &all {
-            if name.starts_with(b"data-") {
-                names.push(*name)?;
-            }
+            put_data(&mut names, name)?;
         }
         Ok(names)
     }

@@ -67,18 +67,18 @@ impl<'t> Attributes<'t> {
 
     /// The values that are asked of an attribute, if it is asked for. Linear in its name, on average.
     #[tactic(auto, using(crate::proofs::AttributeSteps::seen_at))]
-    pub(crate) fn values_of(&self, name: &[u8]) -> Option<&NameSet<'t>>
-        ensures { option_copied result ≡ lookup (bytes_eq name.now) self.now }
+    pub(crate) fn values_of(&self, attribute: &[u8]) -> Option<&NameSet<'t>>
+        ensures { option_copied result ≡ lookup (bytes_eq attribute.now) self.now }
     {
-        self.sets.get(name)
+        self.sets.get(attribute)
     }
 
     /// Whether an attribute is asked for. Linear in its name, on average.
     #[tactic(auto, using(crate::proofs::AttributeSteps::there, crate::proofs::AttributeSteps::not_there))]
-    pub(crate) fn has(&self, name: &[u8]) -> bool
-        ensures { result ≡ is_among (map (λ a. a.0) self.now) name.now }
+    pub(crate) fn has(&self, attribute: &[u8]) -> bool
+        ensures { result ≡ is_among (map (λ a. a.0) self.now) attribute.now }
     {
-        match self.values_of(name) {
+        match self.values_of(attribute) {
             None => false,
             Some(_) => true,
         }

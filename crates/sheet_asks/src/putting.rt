@@ -1,13 +1,12 @@
 //! Gathers what a sheet asks for.
 ghost use Rattle.std.specs.Prelude.{◌≡◌, map, OnOk};
 ghost use Rattle.css_read.specs.Views.{item_of, outcome_of};
-ghost use Rattle.sel_text.specs.Views.{selector_of};
-ghost use Rattle.sheet_asks.specs.Asked.{asked_names, atoms_of, judged_atoms, name_at, named};
-ghost use Rattle.sheet_asks.specs.Putting.{with_all_named};
+ghost use Rattle.sheet_asks.specs.Asked.{asked_names, judged_atoms, name_at, named};
+ghost use Rattle.sheet_asks.specs.Putting.{parts_atoms, with_all_named};
 
 use crate::asked::Asked;
 use css_read::{Outcome, SheetItem};
-use sel_text::Selector;
+use sel_text::Compound;
 use tp_base::{Atom, AtomTable, NoMemory};
 
 /// What was gathered so far, and the table of the sheet's atoms.
@@ -30,25 +29,33 @@ impl<'t> Gathering<'t> {
         Ok(())
     }
 
+    #[tactic(auto, using(crate::proofs::GatherSteps::of_selector))]
     fn put_outcome(&mut self, outcome: &Outcome) -> Result<(), NoMemory>
         ensures asked { OnOk result (self.new.asked ≡ with_all_named self.old.asked (named self.old.atoms.now (judged_atoms (outcome_of outcome.now)))) }
         ensures atoms { self.new.atoms ≡ self.old.atoms }
     {
         match outcome {
-            Outcome::Judged(selector) => self.put_selector(selector),
+            Outcome::Judged(selector) => self.put_parts(selector.parts.items()),
             Outcome::Skipped(_, _) => Ok(()),
         }
     }
 
-    #[tactic(auto, using(crate::proofs::GatherSteps::part_first, crate::proofs::GatherSteps::all_parts))]
-    fn put_selector(&mut self, selector: &Selector) -> Result<(), NoMemory>
-        ensures asked { OnOk result (self.new.asked ≡ with_all_named self.old.asked (named self.old.atoms.now (atoms_of (selector_of selector.now)))) }
+    #[tactic(auto, using(crate::proofs::GatherSteps::part_first))]
+    fn put_parts(&mut self, parts: &[Compound]) -> Result<(), NoMemory>
+        ensures asked { OnOk result (self.new.asked ≡ with_all_named self.old.asked (named self.old.atoms.now (parts_atoms parts.now))) }
         ensures atoms { self.new.atoms ≡ self.old.atoms }
     {
-        'parts: for part in selector.parts.items() {
-            self.put_atoms(part.atoms.items())?;
+        'parts: for part in parts {
+            self.put_part(part)?;
         }
         Ok(())
+    }
+
+    fn put_part(&mut self, part: &Compound) -> Result<(), NoMemory>
+        ensures asked { OnOk result (self.new.asked ≡ with_all_named self.old.asked (named self.old.atoms.now part.now.atoms)) }
+        ensures atoms { self.new.atoms ≡ self.old.atoms }
+    {
+        self.put_atoms(part.atoms.items())
     }
 
     #[tactic(auto, using(crate::proofs::GatherSteps::named_first))]
