@@ -1,8 +1,8 @@
 -- Examples.
-use Rattle.std.proofs.Common.{◌≡◌, ℕ, true, false, List, [], ◌∷◌, codes, refl}
+use Rattle.std.proofs.Common.{◌≡◌, true, false, [], ◌∷◌, codes, refl}
 use Rattle.tp_base.specs.declared.atoms.AtomKind.TheVariants as kind
 use Rattle.html_tokens.specs.Words.{words_from}
-use Rattle.sheet_asks.specs.Asked.{Asked, asked_of, attributes_of, attribute_names, classes_in, data_names, values_at}
+use Rattle.sheet_asks.specs.Asked.{Asked, asked_of, attributes_of, classes_in, data_names, values_at}
 use Rattle.sheet_asks.specs.Known.{known_calls}
 use Rattle.sheet_asks.specs.Names.{is_among}
 use Rattle.sheet_asks.specs.Properties.{attribute_of, is_switch, brings_code}

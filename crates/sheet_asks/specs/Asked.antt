@@ -2,7 +2,7 @@
 --     asked_names   the names of the atoms of all judged selectors, as they come
 --     asked_of      names by their kinds
 --     asked_in      what a sheet asks for
-use Rattle.std.specs.Prelude.{ℕ, ◌==◌, not, nat_eq, Bool, false, if◌then◌else◌, List, [], ◌∷◌, ◌++◌, map, filter, flat_map, take, drop, slice_get, codes, Option, None, Some, option_to_list, unwrap_or}
+use Rattle.std.specs.Prelude.{ℕ, ◌==◌, not, nat_eq, Bool, if◌then◌else◌, List, [], ◌∷◌, ◌++◌, map, filter, flat_map, take, drop, slice_get, codes, option_to_list, unwrap_or}
 use Rattle.std.specs.List.{starts_with, prefix_len}
 use Rattle.std.specs.Map.{lookup}
 use Rattle.std.specs.Str.{bytes_eq}

@@ -2,7 +2,7 @@
 --     attribute_of   the attribute that a property sets
 --     is_switch      whether jQuery gives an attribute its own name as the value
 --     brings_code    whether what an attribute holds is code, or lets a user write markup
-use Rattle.std.specs.Prelude.{ℕ, ◌&&◌, ◌||◌, nat_eq, Bool, true, false, if◌then◌else◌, List, [], ◌∷◌, ◌++◌, drop, codes, Option, None, Some, unwrap_or}
+use Rattle.std.specs.Prelude.{ℕ, ◌&&◌, ◌||◌, nat_eq, Bool, false, if◌then◌else◌, List, [], ◌∷◌, ◌++◌, drop, codes, unwrap_or}
 use Rattle.std.specs.Char.{is_ascii_alphabetic, is_ascii_uppercase}
 use Rattle.std.specs.List.{starts_with}
 use Rattle.std.specs.Map.{lookup}

@@ -1,5 +1,5 @@
 -- How what a sheet asks for is gathered, a name after the other. That it comes to what is asked for is a lemma.
-use Rattle.std.specs.Prelude.{ℕ, List, [], ◌∷◌, flat_map, fold}
+use Rattle.std.specs.Prelude.{ℕ, List, [], flat_map, fold}
 use Rattle.std.specs.Str.{bytes_eq}
 use Rattle.indexmap.specs.IndexMap.{insert_entry}
 use Rattle.tp_base.specs.declared.atoms.AtomKind.TheVariants as kind
