@@ -47,7 +47,6 @@ impl<'t> Model for Asked<'t> {
 
 impl<'t> Asked<'t> {
     /// What a sheet asks for whose atoms are of this table. Linear in its atoms and their names, on average.
-
     #[tactic(auto, using(crate::proofs::GatherSteps::all_of))]
     pub fn new(alloc: Global, sheet: &Sheet, atoms: &'t AtomTable) -> Result<Self, NoMemory>
         ensures { IfOk result (λ a. a ≡ spec.asked_in atoms.now (sheet_of sheet.now)) }

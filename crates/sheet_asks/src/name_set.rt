@@ -1,5 +1,5 @@
 //! Names, each once.
-ghost use Rattle.std.specs.Prelude.{◌≡◌, [], map, OnOk};
+ghost use Rattle.std.specs.Prelude.{◌≡◌, [], map, OnOk, OnErr};
 ghost use Rattle.html_tokens.specs.Words.{words};
 ghost use Rattle.sheet_asks.specs.Names.{is_among, with_name, with_all};
 
@@ -52,7 +52,8 @@ impl<'t> NameSet<'t> {
     /// Adds a name that is new. Linear in it, on average.
     #[tactic(auto, using(crate::proofs::SetSteps::entered))]
     pub fn put(&mut self, name: &'t [u8]) -> Result<(), NoMemory>
-        ensures { OnOk result (self.new ≡ with_name self.old name.now) }
+        ensures ok { OnOk result (self.new ≡ with_name self.old name.now) }
+        ensures err { OnErr result (self.new ≡ self.old) }
     {
         self.names.insert(name)?;
         Ok(())
@@ -60,7 +61,7 @@ impl<'t> NameSet<'t> {
 
     /// Adds the words of a text that are new. Linear in it, on average.
     #[tactic(auto, using(crate::proofs::WordSteps::blank_first, crate::proofs::WordSteps::word_first, crate::proofs::WordSteps::no_words))]
-    pub fn put_words(&mut self, text: &'t [u8]) -> Result<(), NoMemory>
+    pub(crate) fn put_words(&mut self, text: &'t [u8]) -> Result<(), NoMemory>
         ensures { OnOk result (self.new ≡ with_all self.old (words text.now)) }
     {
         let mut rest = text;
