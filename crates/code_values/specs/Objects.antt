@@ -1,12 +1,13 @@
 -- Objects that are written out.
-use Rattle.std.specs.Prelude.{ℕ, ◌+◌, ◌-◌, ◌==◌, ◌&&◌, Bool, false, if◌then◌else◌, List, [], ◌∷◌, get_or, Option, Some, None, codes}
+use Rattle.std.specs.Prelude.{ℕ, ◌+◌, ◌==◌, ◌&&◌, Bool, false, if◌then◌else◌, List, [], ◌∷◌, get_or, Option, Some, None, codes}
 use Rattle.code_scan.specs.declared.token.Token.{Token}
 use Rattle.code_scan.specs.Spellings.{is_written}
 use Rattle.code_tokens.specs.declared.code.Code.{Code}
 use Rattle.code_values.specs.declared.objects.Part.{Part}
 use Rattle.code_values.specs.declared.objects.Part.TheVariants.{Pair, Other}
 use Rattle.code_values.specs.declared.spans.Span.{Span}
-use Rattle.code_values.specs.Outer.{span, begins, from_at, tokens_in, parts}
+use Rattle.code_values.specs.Arguments.{arguments}
+use Rattle.code_values.specs.Outer.{span, begins, from_at, tokens_in}
 use Rattle.code_values.specs.Values.{is_word}
 
 -- whether the last token of a range is the bracket that belongs to its first one
@@ -32,6 +33,6 @@ unfoldable pub parts_at : List ℕ → Code → List Span → List Part
 parts_at text code [] = []
 parts_at text code (s ∷ ss) = part_at text code s ∷ parts_at text code ss
 
--- the parts of an object, none where the value isn't one
+-- the parts of an object, between the commas in its brackets; none where the value isn't one
 unfoldable pub object_parts : List ℕ → Code → Span → List Part
-object_parts text code s = if is_object text code s then parts_at text code (parts text code (span (s.from + 1) (s.to - 1))) else []
+object_parts text code s = if is_object text code s then parts_at text code (arguments text code s.from) else []

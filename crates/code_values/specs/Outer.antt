@@ -54,6 +54,7 @@ parts_from text code to from (at ∷ ats) =
 abbrev pub parts : List ℕ → Code → Span → List Span
 parts text code s = parts_from text code s.to s.from (outer code s)
 
-abbrev pub head_of : List ℕ → Option ℕ
-head_of [] = None
-head_of (at ∷ ats) = Some at
+-- tokens with the one before them, if there is one
+abbrev pub with_head : Option ℕ → List ℕ → List ℕ
+with_head None ats = ats
+with_head (Some at) ats = at ∷ ats

@@ -1,7 +1,7 @@
 //! Arguments of calls, and other lists between commas.
-ghost use Rattle.std.specs.Prelude.{◌≡◌, ◌++◌, ◌+◌, ◌<◌, OnOk, IfOk, codes};
+ghost use Rattle.std.specs.Prelude.{◌≡◌, ◌++◌, OnOk, IfOk};
 ghost use Rattle.code_values.specs.Arguments as spec;
-ghost use Rattle.code_values.specs.Outer.{part as part_between, is_comma as commas, parts as parts_in, span as span_of};
+ghost use Rattle.code_values.specs.Outer.{part as part_between, is_comma as commas, parts as parts_in};
 
 use crate::outside::{begins, from_at, other_at, outer};
 use crate::spans::Span;
@@ -26,6 +26,7 @@ fn push_part(parts: &mut Vec<Span>, from: usize, to: usize) -> Result<(), NoMemo
 }
 
 /// The parts of a range, split at the commas outside of its inner brackets, without empty ones. Linear in what stands outside of these.
+#[tactic(auto, using(crate::proofs::OuterSteps::comma, crate::proofs::OuterSteps::no_comma, crate::proofs::OuterSteps::last_part))]
 pub(crate) fn parts_of(
     alloc: Global,
     text: &[u8],

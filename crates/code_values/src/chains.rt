@@ -1,5 +1,6 @@
 //! Chains of calls, what they are on, and values that are new.
-ghost use Rattle.std.specs.Prelude.{◌≡◌, ◌++◌, ◌+◌, get_or, IfOk};
+ghost use Rattle.std.specs.Prelude.{◌≡◌, get_or, IfOk};
+ghost use Rattle.std.specs.List.{list_any};
 ghost use Rattle.code_scan.specs.Spellings.{words_of as words};
 ghost use Rattle.text_bytes.specs.Attributes.{is_among as stands_among};
 ghost use Rattle.code_values.specs.Chains as spec;
@@ -244,11 +245,17 @@ fn is_less(b: u8) -> bool
     b == b'<'
 }
 
+fn has_less(letters: &[u8]) -> bool
+    ensures { result ≡ list_any spec.is_less letters.now }
+{
+    letters.iter().any(|b| is_less(*b))
+}
+
 #[tactic(auto, unfolding(crate::specs::Chains::is_selector))]
 fn is_selector(letters: &[u8]) -> bool
     ensures { spec.is_selector letters.now ≡ result }
 {
-    !letters.iter().any(|b| is_less(*b)) && blank_len(letters) != letters.len()
+    !has_less(letters) && blank_len(letters) != letters.len()
 }
 
 #[tactic(auto, unfolding(crate::specs::Chains::begins_tag))]
@@ -489,6 +496,7 @@ fn next_chain(
 }
 
 /// For each token the chain of calls that ends with it. Linear in the code.
+#[tactic(auto, unfolding(crate::specs::Chains::chains_from))]
 pub fn chains_of(alloc: Global, text: &[u8], code: &Code) -> Result<Items<Chain>, NoMemory>
     ensures { IfOk result (λ v. v ≡ spec.chains text.now code.now) }
 {

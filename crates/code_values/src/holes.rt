@@ -1,5 +1,6 @@
 //! What template languages put values in.
 ghost use Rattle.std.specs.Prelude.{◌≡◌, ◌≤◌, length, drop, None, false, true};
+ghost use Rattle.std.specs.Char.{is_ascii_digit};
 ghost use Rattle.std.specs.List.{prefix_len};
 ghost use Rattle.std.specs.Option.{option_map};
 ghost use Rattle.code_values.specs.Closers.{AreLeft};
@@ -47,11 +48,23 @@ fn behind_left<'t>(is_left: bool, mark: &[u8], text: &'t [u8]) -> Option<&'t [u8
 
 // ---- braces
 
+fn is_closing_brace(b: u8) -> bool
+    ensures { result ≡ spec.is_closing_brace b }
+{
+    b == b'}'
+}
+
+fn brace_len(text: &[u8]) -> usize
+    ensures gives { result ≡ prefix_len spec.is_closing_brace text.now }
+    ensures within { result ≤ length text.now }
+{
+    text.iter().take_while(|b| is_closing_brace(**b)).count()
+}
+
 fn behind_braces(text: &[u8]) -> &[u8]
     ensures { result.now ≡ spec.behind_braces text.now }
 {
-    let closing = text.iter().take_while(|b| **b == b'}').count();
-    text.split_at(closing).1
+    text.split_at(brace_len(text)).1
 }
 
 fn past_braces(found: Option<&[u8]>) -> Option<&[u8]>
@@ -117,11 +130,23 @@ fn behind_round(text: &[u8]) -> &[u8]
     }
 }
 
+fn is_digit(b: u8) -> bool
+    ensures { result ≡ is_ascii_digit b }
+{
+    b.is_ascii_digit()
+}
+
+fn digit_len(text: &[u8]) -> usize
+    ensures gives { result ≡ prefix_len is_ascii_digit text.now }
+    ensures within { result ≤ length text.now }
+{
+    text.iter().take_while(|b| is_digit(**b)).count()
+}
+
 fn behind_digits(text: &[u8]) -> &[u8]
     ensures { result.now ≡ spec.behind_digits text.now }
 {
-    let digits = text.iter().take_while(|b| b.is_ascii_digit()).count();
-    text.split_at(digits).1
+    text.split_at(digit_len(text)).1
 }
 
 #[tactic(auto, unfolding(crate::specs::Holes::behind_dollar))]
@@ -248,8 +273,9 @@ impl Closers {
     }
 
     /// How many bytes the hole at the front has, 0 where none is. Linear in them, but for the first time that a mark doesn't come.
+    #[tactic(auto, using(crate::proofs::HoleSteps::left_later))]
     pub(crate) fn hole_len(&mut self, text: &[u8]) -> usize
-        requires { AreLeft self.old (drop 1 text.now) }
+        requires { AreLeft self.old text.now }
         ensures gives { result ≡ spec.hole_len text.now }
         ensures within { result ≤ length text.now }
         ensures left { AreLeft self.new (drop 1 text.now) }

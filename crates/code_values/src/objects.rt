@@ -1,8 +1,8 @@
 //! Objects that are written out.
-ghost use Rattle.std.specs.Prelude.{◌≡◌, IfOk};
+ghost use Rattle.std.specs.Prelude.{◌≡◌, ◌≤◌, length, true, IfOk};
 ghost use Rattle.code_values.specs.Objects as spec;
 
-use crate::calls::parts_of;
+use crate::calls::arguments;
 use crate::outside::{begins, from_at, other_at, tokens_in};
 use crate::spans::Span;
 use crate::values::is_word;
@@ -38,7 +38,8 @@ pub fn is_object(text: &[u8], code: &Code, span: Span) -> bool
 
 #[tactic(auto, unfolding(crate::specs::Objects::begins_pair))]
 fn begins_pair(text: &[u8], tokens: &[Token]) -> bool
-    ensures { spec.begins_pair text.now tokens.now ≡ result }
+    ensures gives { spec.begins_pair text.now tokens.now ≡ result }
+    ensures long { result ≡ true → 2 ≤ length tokens.now }
 {
     let Some((first, behind)) = tokens.split_first() else {
         return false;
@@ -64,6 +65,7 @@ fn part_at(text: &[u8], code: &Code, span: Span) -> Part
     }
 }
 
+#[tactic(auto, unfolding(crate::specs::Objects::parts_at))]
 fn parts_at(
     alloc: Global,
     text: &[u8],
@@ -94,10 +96,6 @@ pub fn object_parts(
     if !is_object(text, code, span) {
         return Ok(Items::new(Vec::new(alloc)));
     }
-    let inner = Span {
-        from: span.from + 1,
-        to: span.to - 1,
-    };
-    let spans = parts_of(alloc, text, code, inner)?;
-    Ok(Items::new(parts_at(alloc, text, code, &spans)?))
+    let spans = arguments(alloc, text, code, span.from)?;
+    Ok(Items::new(parts_at(alloc, text, code, spans.items())?))
 }

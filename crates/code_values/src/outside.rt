@@ -1,5 +1,5 @@
 //! What stands outside of inner brackets, and what stands at a place.
-ghost use Rattle.std.specs.Prelude.{◌≡◌, ◌<◌, ◌+◌, length, take, drop, get_or, None, IfSome};
+ghost use Rattle.std.specs.Prelude.{◌≡◌, ◌<◌, ◌+◌, ◌^◌, [], length, take, drop, get_or, None, IfSome};
 ghost use Rattle.code_values.specs.Outer as spec;
 
 use code_scan::{Token, is_written};
@@ -66,12 +66,15 @@ pub(crate) fn outer(code: &Code, span: Span) -> OuterTokens<'_>
 
 impl OuterTokens<'_> {
     /// The number of the next one. Constant.
+    #[tactic(auto, using(crate::proofs::OuterSteps::one_more, crate::proofs::OuterSteps::none_left))]
     pub(crate) fn next(&mut self) -> Option<usize>
-        ensures next { result ≡ spec.head_of self.old }
-        ensures rest { self.new ≡ drop 1 self.old }
+        ensures next { self.old ≡ spec.with_head result self.new }
+        ensures end { result ≡ None → self.new ≡ [] }
         ensures within { IfSome result (λ at. at + 1 < 2 ^ 64) }
     {
-        let (first, behind) = self.rest.split_first()?;
+        let Some((first, behind)) = self.rest.split_first() else {
+            return None;
+        };
         let at = self.size - self.rest.len();
         self.rest = others_from(behind, inner_count(at, *first));
         Some(at)
@@ -109,7 +112,8 @@ fn up_to(tokens: &[Token], to: usize) -> &[Token]
 
 /// The tokens of a range. Constant.
 pub(crate) fn tokens_in(code: &Code, span: Span) -> &[Token]
-    ensures { result.now ≡ spec.tokens_in code.now span }
+    ensures gives { result.now ≡ spec.tokens_in code.now span }
+    ensures within { 0 < length result.now → span.from + length result.now < 2 ^ 64 }
 {
     match up_to(code.tokens.items(), span.to).split_at_checked(span.from) {
         Some((_, behind)) => behind,

@@ -50,6 +50,7 @@ pub(crate) fn push_operand(pieces: &mut Vec<Piece>) -> Result<(), NoMemory>
 }
 
 /// Adds the pieces of a text. Linear in it.
+#[tactic(auto, using(crate::proofs::PieceSteps::a_letter, crate::proofs::PieceSteps::a_hole, crate::proofs::PieceSteps::last_letters, crate::proofs::HoleSteps::left_behind, crate::proofs::HoleSteps::left_past, crate::proofs::HoleSteps::left_later))]
 pub(crate) fn push_pieces(pieces: &mut Vec<Piece>, text: &[u8]) -> Result<(), NoMemory>
     ensures { OnOk result (pieces.new.items ≡ pieces.old.items ++ spec.pieces_of text.now) }
 {

@@ -1,10 +1,11 @@
 //! Texts that are joined by `+`, with what else is joined to them.
-ghost use Rattle.std.specs.Prelude.{◌≡◌, ◌<◌, ◌∷◌, ◌++◌, [], length, drop, OnOk, IfOk};
+ghost use Rattle.std.specs.Prelude.{◌≡◌, ◌<◌, ◌+◌, ◌^◌, ◌∷◌, ◌++◌, [], drop, OnOk, IfOk};
 ghost use Rattle.text_bytes.specs.Attributes.{is_among as stands_among};
+ghost use Rattle.code_values.specs.Outer.{outer as outer_of};
 ghost use Rattle.code_values.specs.Runs as spec;
 
 use crate::names::is_among;
-use crate::outside::{OuterTokens, from_at, outer};
+use crate::outside::{from_at, outer};
 use crate::pieces::{Piece, push_operand, push_pieces};
 use crate::spans::Span;
 use crate::texts::{is_plus, is_text, push_letters};
@@ -213,9 +214,11 @@ impl Draft {
         }
     }
 
-    fn pass_all(&mut self, text: &[u8], code: &Code, mut left: OuterTokens<'_>) -> Result<(), NoMemory>
-        ensures { OnOk result (spec.drawn text.now code.now left self.old ≡ self.new) }
+    #[tactic(auto, unfolding(crate::specs::Runs::drawn))]
+    fn pass_all(&mut self, text: &[u8], code: &Code, span: Span) -> Result<(), NoMemory>
+        ensures { OnOk result (spec.drawn text.now code.now (outer_of code.now span) self.old ≡ self.new) }
     {
+        let mut left = outer(code, span);
         'tokens: while let Some(at) = left.next() {
             if is_ended(self.mode) {
                 return Ok(());
@@ -259,7 +262,7 @@ fn draft_at(
     at: usize,
     token: &Token,
 ) -> Result<Draft, NoMemory>
-    requires { at < length code.now.others }
+    requires { at + 1 < 2 ^ 64 }
     ensures { IfOk result (λ d. spec.drawn_at text.now code.now at token.now ≡ d) }
 {
     let behind = Span {
@@ -267,7 +270,7 @@ fn draft_at(
         to: code.others.items().len(),
     };
     let mut draft = Draft::begun(alloc, token)?;
-    draft.pass_all(text, code, outer(code, behind))?;
+    draft.pass_all(text, code, behind)?;
     Ok(draft)
 }
 
@@ -334,6 +337,7 @@ fn push_run(
 }
 
 /// The runs of code, in the order of their places: each Text begins one, or belongs to one before. Linear in the code.
+#[tactic(auto, using(crate::proofs::RunSteps::joined, crate::proofs::RunSteps::begins, crate::proofs::RunSteps::passed, crate::proofs::RunSteps::ends))]
 pub fn runs_of(alloc: Global, text: &[u8], code: &Code) -> Result<Items<Run>, NoMemory>
     ensures { IfOk result (λ v. v ≡ spec.runs text.now code.now) }
 {

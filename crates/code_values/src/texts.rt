@@ -1,6 +1,6 @@
 //! Values that are texts.
 ghost use Rattle.std.specs.Prelude.{◌≡◌, ◌++◌, OnOk, IfOk};
-ghost use Rattle.code_tokens.specs.Members.{is_text as says_text, letters_of};
+ghost use Rattle.code_tokens.specs.Members.{is_text as says_text, letters_in as letters_said, letters_of};
 ghost use Rattle.code_values.specs.Texts as spec;
 
 use crate::outside::tokens_in;
@@ -30,6 +30,7 @@ pub(crate) fn is_plus(text: &[u8], token: &Token) -> bool
     is_written(text, b"+", token) || is_join(&token.kind)
 }
 
+#[tactic(auto, unfolding(crate::specs::Texts::are_texts))]
 fn are_texts(text: &[u8], tokens: &[Token]) -> bool
     ensures { spec.are_texts text.now tokens.now ≡ result }
 {
@@ -66,15 +67,22 @@ pub(crate) fn push_letters(letters: &mut Vec<u8>, kind: &TokenKind) -> Result<()
     Ok(())
 }
 
-/// What the Texts of a range say together. Linear in it.
-pub fn joined_texts(alloc: Global, code: &Code, span: Span) -> Result<Items<u8>, NoMemory>
-    ensures { IfOk result (λ v. v ≡ spec.joined_texts code.now span) }
+#[tactic(auto, using(crate::proofs::TextSteps::more_letters))]
+fn letters_in(alloc: Global, tokens: &[Token]) -> Result<Vec<u8>, NoMemory>
+    ensures { IfOk result (λ v. v.items ≡ letters_said tokens.now) }
 {
     let mut letters = Vec::new(alloc);
-    let mut rest = tokens_in(code, span);
+    let mut rest = tokens;
     'tokens: while let Some((first, others)) = rest.split_first() {
         push_letters(&mut letters, &first.kind)?;
         rest = others;
     }
-    Ok(Items::new(letters))
+    Ok(letters)
+}
+
+/// What the Texts of a range say together. Linear in it.
+pub fn joined_texts(alloc: Global, code: &Code, span: Span) -> Result<Items<u8>, NoMemory>
+    ensures { IfOk result (λ v. v ≡ spec.joined_texts code.now span) }
+{
+    Ok(Items::new(letters_in(alloc, tokens_in(code, span))?))
 }

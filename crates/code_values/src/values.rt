@@ -1,9 +1,10 @@
 //! Values behind `=` and behind `:`.
 ghost use Rattle.std.specs.Prelude.{◌≡◌};
 ghost use Rattle.code_tokens.specs.Pairs.{is_close as closing, is_closer as closes};
+ghost use Rattle.code_values.specs.Outer.{outer as outer_of};
 ghost use Rattle.code_values.specs.Values as spec;
 
-use crate::outside::{OuterTokens, from_at, outer};
+use crate::outside::{from_at, outer};
 use crate::spans::Span;
 use crate::texts::{is_plus, is_text};
 use code_scan::{Token, TokenKind, is_written};
@@ -87,9 +88,11 @@ fn ends_value(text: &[u8], code: &Code, at: usize) -> bool
     ends_before(text, from_at(code, at), from_at(code, at.saturating_sub(1)))
 }
 
-fn first_end(text: &[u8], code: &Code, mut left: OuterTokens<'_>) -> usize
-    ensures { spec.first_end text.now code.now left ≡ result }
+#[tactic(auto, unfolding(crate::specs::Values::first_end))]
+fn first_end(text: &[u8], code: &Code, span: Span) -> usize
+    ensures { spec.first_end text.now code.now (outer_of code.now span) ≡ result }
 {
+    let mut left = outer(code, span);
     'tokens: while let Some(at) = left.next() {
         if ends_value(text, code, at) {
             return at;
@@ -109,7 +112,7 @@ pub fn value_from(text: &[u8], code: &Code, at: usize) -> Span
     };
     Span {
         from: at,
-        to: first_end(text, code, outer(code, all)),
+        to: first_end(text, code, all),
     }
 }
 
@@ -155,9 +158,11 @@ fn begins_text(tokens: &[Token]) -> bool
     }
 }
 
-fn any_choice(text: &[u8], code: &Code, mut left: OuterTokens<'_>) -> bool
-    ensures { spec.any_choice text.now code.now left ≡ result }
+#[tactic(auto, unfolding(crate::specs::Values::any_choice))]
+fn any_choice(text: &[u8], code: &Code, span: Span) -> bool
+    ensures { spec.any_choice text.now code.now (outer_of code.now span) ≡ result }
 {
+    let mut left = outer(code, span);
     'tokens: while let Some(at) = left.next() {
         if chooses(text, from_at(code, at)) {
             return true;
@@ -166,9 +171,11 @@ fn any_choice(text: &[u8], code: &Code, mut left: OuterTokens<'_>) -> bool
     false
 }
 
-fn any_plus(text: &[u8], code: &Code, mut left: OuterTokens<'_>) -> bool
-    ensures { spec.any_plus text.now code.now left ≡ result }
+#[tactic(auto, unfolding(crate::specs::Values::any_plus))]
+fn any_plus(text: &[u8], code: &Code, span: Span) -> bool
+    ensures { spec.any_plus text.now code.now (outer_of code.now span) ≡ result }
 {
+    let mut left = outer(code, span);
     'tokens: while let Some(at) = left.next() {
         if begins_plus(text, from_at(code, at)) {
             return true;
@@ -177,9 +184,11 @@ fn any_plus(text: &[u8], code: &Code, mut left: OuterTokens<'_>) -> bool
     false
 }
 
-fn any_text(code: &Code, mut left: OuterTokens<'_>) -> bool
-    ensures { spec.any_text code.now left ≡ result }
+#[tactic(auto, unfolding(crate::specs::Values::any_text))]
+fn any_text(code: &Code, span: Span) -> bool
+    ensures { spec.any_text code.now (outer_of code.now span) ≡ result }
 {
+    let mut left = outer(code, span);
     'tokens: while let Some(at) = left.next() {
         if begins_text(from_at(code, at)) {
             return true;
@@ -192,14 +201,14 @@ fn any_text(code: &Code, mut left: OuterTokens<'_>) -> bool
 pub fn is_chosen(text: &[u8], code: &Code, span: Span) -> bool
     ensures { spec.is_chosen text.now code.now span ≡ result }
 {
-    any_choice(text, code, outer(code, span))
+    any_choice(text, code, span)
 }
 
 /// Whether a value is `x + y + ..` with a Text among them and without a choice, outside of its brackets. Linear in what stands there.
 pub fn is_sum(text: &[u8], code: &Code, span: Span) -> bool
     ensures { spec.is_sum text.now code.now span ≡ result }
 {
-    any_plus(text, code, outer(code, span))
-        && any_text(code, outer(code, span))
+    any_plus(text, code, span)
+        && any_text(code, span)
         && !is_chosen(text, code, span)
 }
