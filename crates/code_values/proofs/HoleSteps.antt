@@ -1,5 +1,5 @@
 -- Marks that don't come, further on in a text.
-use Rattle.std.proofs.Common.{◌≡◌, ℕ, zero, suc, ◌-◌, ◌==◌, Bool, true, false, if◌then◌else◌, List, [], ◌∷◌, length, drop, Option, Some, None, IsSome, refl, sym, ap, subst, ◌∙◌, arith}
+use Rattle.std.proofs.Common.{◌≡◌, ℕ, zero, suc, ◌-◌, ◌==◌, Bool, true, false, if◌then◌else◌, List, [], ◌∷◌, length, drop, Option, Some, None, IsSome, ⊥, true-eqb, refl, sym, ap, subst, ◌∙◌, arith}
 use Rattle.code_values.specs.declared.holes.Closers.{Closers}
 use Rattle.code_values.specs.Closers.{AreLeft}
 use Rattle.code_values.specs.Holes.{starts, behind_first}
@@ -34,3 +34,10 @@ past c (suc n) rest bs b is left some = subst (λ qs. AreLeft c (drop (suc n) qs
 
 pub left_past : (c : Closers) (n : ℕ) (rest bs : List ℕ) (b : ℕ) → rest ≡ b ∷ bs → AreLeft c (drop 1 rest) → (n == 0) ≡ false → AreLeft c (drop n rest)
 left_past c n rest bs b is left some = past c n rest bs b is (left_behind c rest bs b is left) some
+
+by_test : (n : ℕ) (test : Bool) → (n == 0) ≡ test → (n ≡ 0 → ⊥) → test ≡ false
+by_test n true is some = absurd (some (true-eqb n 0 (sym is)))
+by_test n false is some = refl
+
+pub not_zero : (n : ℕ) → (n ≡ 0 → ⊥) → (n == 0) ≡ false
+not_zero n some = by_test n (n == 0) refl some
