@@ -1,5 +1,5 @@
 -- Marks that don't come, further on in a text.
-use Rattle.std.proofs.Common.{◌≡◌, ℕ, zero, suc, ◌-◌, ◌==◌, Bool, true, false, if◌then◌else◌, List, [], ◌∷◌, length, drop, Option, Some, None, IsSome, ⊥, true-eqb, refl, sym, ap, subst, ◌∙◌, arith}
+use Rattle.std.proofs.Common.{◌≡◌, ℕ, zero, suc, ◌-◌, ◌==◌, Bool, true, false, if◌then◌else◌, List, [], ◌∷◌, length, drop, Option, Some, None, IsSome, true-eqb, refl, sym, ap, subst, ◌∙◌, arith}
 use Rattle.code_values.specs.declared.holes.Closers.{Closers}
 use Rattle.code_values.specs.Closers.{AreLeft}
 use Rattle.code_values.specs.Holes.{starts, behind_first}
