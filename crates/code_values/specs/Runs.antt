@@ -9,13 +9,13 @@ use Rattle.code_scan.specs.States.{is_mark}
 use Rattle.code_tokens.specs.declared.code.Code.{Code}
 use Rattle.code_tokens.specs.Members.{is_text, letters_of}
 use Rattle.code_tokens.specs.Pairs.{is_closer}
-use Rattle.code_values.specs.declared.pieces.Piece.{Piece}
-use Rattle.code_values.specs.declared.pieces.Piece.TheVariants.{Letters, Hole}
+use Rattle.text_pieces.specs.declared.pieces.Piece.{Piece}
+use Rattle.text_pieces.specs.declared.pieces.Piece.TheVariants.{Letters, Hole}
 use Rattle.code_values.specs.declared.runs.Run.{Run}
 use Rattle.code_values.specs.declared.runs.Mode.{Mode}
 use Rattle.code_values.specs.declared.runs.Mode.TheVariants.{Joined, Asked, Operand, Ended}
 use Rattle.code_values.specs.Outer.{span, outer, from_at}
-use Rattle.code_values.specs.Pieces.{pieces_of}
+use Rattle.text_pieces.specs.Pieces.{pieces_of}
 use Rattle.code_values.specs.Texts.{is_plus}
 
 -- ---- one run

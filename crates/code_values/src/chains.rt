@@ -297,9 +297,7 @@ fn goes_on(text: &[u8], tokens: &[Token]) -> bool
     match tokens.split_first() {
         None => false,
         Some((first, _)) => {
-            is_plus(text, first)
-                || is_written(text, b",", first)
-                || is_written(text, b")", first)
+            is_plus(text, first) || is_written(text, b",", first) || is_written(text, b")", first)
         }
     }
 }
@@ -405,9 +403,7 @@ fn has_two(text: &[u8], code: &Code, spans: &[Span]) -> bool
     };
     match behind.split_first() {
         None => is_object(text, code, *first),
-        Some((second, _)) => {
-            !(is_spread(text, code, *first) || is_spread(text, code, *second))
-        }
+        Some((second, _)) => { !(is_spread(text, code, *first) || is_spread(text, code, *second)) }
     }
 }
 

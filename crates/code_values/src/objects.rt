@@ -66,12 +66,7 @@ fn part_at(text: &[u8], code: &Code, span: Span) -> Part
 }
 
 #[tactic(auto, unfolding(crate::specs::Objects::parts_at))]
-fn parts_at(
-    alloc: Global,
-    text: &[u8],
-    code: &Code,
-    spans: &[Span],
-) -> Result<Vec<Part>, NoMemory>
+fn parts_at(alloc: Global, text: &[u8], code: &Code, spans: &[Span]) -> Result<Vec<Part>, NoMemory>
     ensures { IfOk result (λ v. v.items ≡ spec.parts_at text.now code.now spans.now) }
 {
     let mut parts = Vec::new(alloc);

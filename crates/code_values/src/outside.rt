@@ -2,11 +2,10 @@
 ghost use Rattle.std.specs.Prelude.{◌≡◌, ◌<◌, ◌+◌, ◌^◌, [], length, take, drop, get_or, None, IfSome};
 ghost use Rattle.code_values.specs.Outer as spec;
 
+use crate::spans::Span;
 use code_scan::{Token, is_written};
 use code_tokens::Code;
 use std::marker::Model;
-
-use crate::spans::Span;
 
 /// The tokens of a range that stand outside of its inner brackets. A contract sees the list of their numbers.
 #[derive(Drop)]

@@ -6,7 +6,6 @@ ghost use Rattle.code_values.specs.Runs as spec;
 
 use crate::names::is_among;
 use crate::outside::{from_at, outer};
-use crate::pieces::{Piece, push_operand, push_pieces};
 use crate::spans::Span;
 use crate::texts::{is_plus, is_text, push_letters};
 use crate::values::is_closer;
@@ -14,6 +13,7 @@ use code_scan::{Token, TokenKind, is_mark, spelling};
 use code_tokens::Code;
 use std::alloc::Global;
 use std::marker::Model;
+use text_pieces::{Piece, push_operand, push_pieces};
 use tp_base::{Items, NoMemory};
 
 // Marks that an operand ends before.

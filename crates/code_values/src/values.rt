@@ -13,7 +13,10 @@ use code_tokens::Code;
 pub(crate) fn is_word(kind: &TokenKind) -> bool
     ensures { result ≡ spec.is_word kind.now }
 {
-    matches!(kind, TokenKind::Name | TokenKind::Number | TokenKind::Text(_))
+    matches!(
+        kind,
+        TokenKind::Name | TokenKind::Number | TokenKind::Text(_)
+    )
 }
 
 fn is_member(kind: &TokenKind) -> bool
@@ -208,7 +211,5 @@ pub fn is_chosen(text: &[u8], code: &Code, span: Span) -> bool
 pub fn is_sum(text: &[u8], code: &Code, span: Span) -> bool
     ensures { spec.is_sum text.now code.now span ≡ result }
 {
-    any_plus(text, code, span)
-        && any_text(code, span)
-        && !is_chosen(text, code, span)
+    any_plus(text, code, span) && any_text(code, span) && !is_chosen(text, code, span)
 }

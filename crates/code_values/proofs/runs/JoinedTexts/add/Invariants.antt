@@ -1,5 +1,4 @@
 use Rattle.std.proofs.Common.{◌≡◌, ◌++◌, length}
-
 use Rattle.code_values.proofs.runs.JoinedTexts.add.Given as goal
 
 abbrev pub invariant-texts : goal.invariant-texts

@@ -1,7 +1,7 @@
 //! A text in pieces.
 ghost use Rattle.std.specs.Prelude.{◌≡◌, ◌++◌, ◌∷◌, [], OnOk, IfOk};
-ghost use Rattle.code_values.specs.declared.pieces.Piece.TheVariants.{Hole as hole_of};
-ghost use Rattle.code_values.specs.Pieces as spec;
+ghost use Rattle.text_pieces.specs.declared.pieces.Piece.TheVariants.{Hole as hole_of};
+ghost use Rattle.text_pieces.specs.Pieces as spec;
 
 use crate::holes::Closers;
 use std::alloc::Global;
@@ -43,7 +43,7 @@ fn push_both(pieces: &mut Vec<Piece>, letters: Vec<u8>, hole: &[u8]) -> Result<(
 }
 
 /// Adds an operand. Constant on average.
-pub(crate) fn push_operand(pieces: &mut Vec<Piece>) -> Result<(), NoMemory>
+pub fn push_operand(pieces: &mut Vec<Piece>) -> Result<(), NoMemory>
     ensures { OnOk result (pieces.new.items ≡ pieces.old.items ++ hole_of [] ∷ []) }
 {
     push_hole(pieces, &[])
@@ -51,7 +51,7 @@ pub(crate) fn push_operand(pieces: &mut Vec<Piece>) -> Result<(), NoMemory>
 
 /// Adds the pieces of a text. Linear in it.
 #[tactic(auto, using(crate::proofs::PieceSteps::a_letter, crate::proofs::PieceSteps::a_hole, crate::proofs::PieceSteps::last_letters, crate::proofs::HoleSteps::left_behind, crate::proofs::HoleSteps::left_past, crate::proofs::HoleSteps::left_later))]
-pub(crate) fn push_pieces(pieces: &mut Vec<Piece>, text: &[u8]) -> Result<(), NoMemory>
+pub fn push_pieces(pieces: &mut Vec<Piece>, text: &[u8]) -> Result<(), NoMemory>
     ensures { OnOk result (pieces.new.items ≡ pieces.old.items ++ spec.pieces_of text.now) }
 {
     let alloc = *pieces.allocator();

@@ -1,9 +1,9 @@
 -- Pieces of a text, one after the other, as loops do.
 use Rattle.std.proofs.Common.{◌≡◌, ℕ, zero, suc, ◌-◌, ◌==◌, true, false, List, [], ◌∷◌, ◌++◌, length, take, drop, Result, Ok, Err, OnOk, refl, sym, ap, subst, ◌∙◌, append_assoc, arith}
-use Rattle.code_values.specs.declared.pieces.Piece.{Piece}
-use Rattle.code_values.specs.declared.pieces.Piece.TheVariants.{Hole}
-use Rattle.code_values.specs.Holes.{hole_len}
-use Rattle.code_values.specs.Pieces.{piece_of, pieces_from}
+use Rattle.text_pieces.specs.declared.pieces.Piece.{Piece}
+use Rattle.text_pieces.specs.declared.pieces.Piece.TheVariants.{Hole}
+use Rattle.text_pieces.specs.Holes.{hole_len}
+use Rattle.text_pieces.specs.Pieces.{piece_of, pieces_from}
 
 skipped : (n : ℕ) (letters bs : List ℕ) → pieces_from n letters bs ≡ pieces_from 0 letters (drop n bs)
 unfolding pieces_from
@@ -32,7 +32,7 @@ pub a_hole : (letters rest bs : List ℕ) (b len : ℕ) (before total : List Pie
 a_hole letters rest bs b len before total is size some so_far =
     let size' : hole_len (b ∷ bs) ≡ len = sym (size ∙ ap hole_len is) in
     let step : pieces_from 0 letters rest ≡ (piece_of letters ++ Hole (take len rest) ∷ []) ++ pieces_from 0 [] (drop len rest) =
-      subst (λ qs. pieces_from 0 letters qs ≡ (piece_of letters ++ Hole (take len qs) ∷ []) ++ pieces_from 0 [] (drop len qs)) (sym is) (hole_step letters bs b len size' some)
+    subst (λ qs. pieces_from 0 letters qs ≡ (piece_of letters ++ Hole (take len qs) ∷ []) ++ pieces_from 0 [] (drop len qs)) (sym is) (hole_step letters bs b len size' some)
     in
     append_assoc before (piece_of letters ++ Hole (take len rest) ∷ []) (pieces_from 0 [] (drop len rest)) ∙ ap (λ ps. before ++ ps) (sym step) ∙ so_far
 

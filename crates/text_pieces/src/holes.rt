@@ -3,8 +3,8 @@ ghost use Rattle.std.specs.Prelude.{◌≡◌, ◌≤◌, length, drop, None, fa
 ghost use Rattle.std.specs.Char.{is_ascii_digit};
 ghost use Rattle.std.specs.List.{prefix_len};
 ghost use Rattle.std.specs.Option.{option_map};
-ghost use Rattle.code_values.specs.Closers.{AreLeft};
-ghost use Rattle.code_values.specs.Holes as spec;
+ghost use Rattle.text_pieces.specs.Closers.{AreLeft};
+ghost use Rattle.text_pieces.specs.Holes as spec;
 
 /// For each mark that ends a hole, whether it may still come. So a text is looked through once for a mark that doesn't.
 #[derive(Clone, Copy, Debug, PartialEq, Eq)]
@@ -104,13 +104,7 @@ fn behind_closing<'t>(text: &'t [u8], all: &'t [u8]) -> &'t [u8]
 {
     match text.split_first() {
         None => all,
-        Some((first, behind)) => {
-            if *first == b')' {
-                behind
-            } else {
-                all
-            }
-        }
+        Some((first, behind)) => { if *first == b')' { behind } else { all } }
     }
 }
 
@@ -155,13 +149,7 @@ fn behind_dollar(text: &[u8]) -> &[u8]
 {
     match text.split_first() {
         None => text,
-        Some((first, behind)) => {
-            if *first == b'$' {
-                behind
-            } else {
-                text
-            }
-        }
+        Some((first, behind)) => { if *first == b'$' { behind } else { text } }
     }
 }
 

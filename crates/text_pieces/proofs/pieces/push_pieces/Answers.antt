@@ -1,10 +1,10 @@
 use Rattle.std.proofs.Common.{◌≡◌, ◌∙◌, ◌++◌, ◌==◌, false, List, ℕ, [], length, sym, ap, subst}
-use Rattle.code_values.specs.declared.pieces.Piece.{Piece}
-use Rattle.code_values.specs.Closers.{AreLeft}
-use Rattle.code_values.specs.Pieces.{pieces_from}
-use Rattle.code_values.proofs.HoleSteps.{left_past, not_zero}
-use Rattle.code_values.proofs.PieceSteps.{hole_taken, last_pushed}
-use Rattle.code_values.proofs.pieces.push_pieces.Goals as goal
+use Rattle.text_pieces.specs.declared.pieces.Piece.{Piece}
+use Rattle.text_pieces.specs.Closers.{AreLeft}
+use Rattle.text_pieces.specs.Pieces.{pieces_from}
+use Rattle.text_pieces.proofs.HoleSteps.{left_past, not_zero}
+use Rattle.text_pieces.proofs.PieceSteps.{hole_taken, last_pushed}
+use Rattle.text_pieces.proofs.pieces.push_pieces.Goals as goal
 
 pub bytes-preserved : goal.bytes-preserved
 bytes-preserved c =

@@ -1,8 +1,8 @@
 -- Marks that don't come, further on in a text.
 use Rattle.std.proofs.Common.{◌≡◌, ℕ, zero, suc, ◌-◌, ◌==◌, Bool, true, false, if◌then◌else◌, List, [], ◌∷◌, length, drop, Option, Some, None, IsSome, true-eqb, refl, sym, ap, subst, ◌∙◌, arith}
-use Rattle.code_values.specs.declared.holes.Closers.{Closers}
-use Rattle.code_values.specs.Closers.{AreLeft}
-use Rattle.code_values.specs.Holes.{starts, behind_first}
+use Rattle.text_pieces.specs.declared.holes.Closers.{Closers}
+use Rattle.text_pieces.specs.Closers.{AreLeft}
+use Rattle.text_pieces.specs.Holes.{starts, behind_first}
 
 shorter : (mark bs : List ℕ) (b : ℕ) (test : Bool) → (if test then Some (drop (length mark) (b ∷ bs)) else behind_first mark bs) ≡ None → behind_first mark bs ≡ None
 shorter mark bs b true none = let never : IsSome {T = List ℕ} None = subst (λ (o : Option (List ℕ)). IsSome o) none refl in cc

@@ -1,7 +1,7 @@
 use Rattle.std.proofs.Common.{◌≡◌, ◌++◌, length}
-use Rattle.code_values.specs.Closers.{AreLeft}
-use Rattle.code_values.specs.Pieces.{pieces_from, pieces_of}
-use Rattle.code_values.proofs.pieces.push_pieces.Given as goal
+use Rattle.text_pieces.specs.Closers.{AreLeft}
+use Rattle.text_pieces.specs.Pieces.{pieces_from, pieces_of}
+use Rattle.text_pieces.proofs.pieces.push_pieces.Given as goal
 
 abbrev pub invariant-bytes : goal.invariant-bytes
 invariant-bytes l = record {

@@ -1,8 +1,8 @@
 -- A text in pieces.
 use Rattle.std.specs.Prelude.{ℕ, zero, suc, ◌-◌, ◌==◌, Bool, true, false, if◌then◌else◌, List, [], ◌∷◌, ◌++◌, take}
-use Rattle.code_values.specs.declared.pieces.Piece.{Piece}
-use Rattle.code_values.specs.declared.pieces.Piece.TheVariants.{Letters, Hole}
-use Rattle.code_values.specs.Holes.{hole_len}
+use Rattle.text_pieces.specs.declared.pieces.Piece.{Piece}
+use Rattle.text_pieces.specs.declared.pieces.Piece.TheVariants.{Letters, Hole}
+use Rattle.text_pieces.specs.Holes.{hole_len}
 
 -- letters as a piece, where there are any
 unfoldable pub piece_of : List ℕ → List Piece

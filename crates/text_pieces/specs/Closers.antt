@@ -1,7 +1,7 @@
 -- Which closing marks may still come.
 use Rattle.std.specs.Prelude.{◌≡◌, ℕ, false, List, None, codes}
-use Rattle.code_values.specs.declared.holes.Closers.{Closers}
-use Rattle.code_values.specs.Holes.{behind_first}
+use Rattle.text_pieces.specs.declared.holes.Closers.{Closers}
+use Rattle.text_pieces.specs.Holes.{behind_first}
 
 -- Where it is noted that a closing mark doesn't come, it doesn't.
 pub record AreLeft (c : Closers) (text : List ℕ) : Type 0 where
