@@ -1,0 +1,4 @@
+pub mod OuterSteps
+pub mod RunSteps
+pub mod TextSteps
+pub mod Words

@@ -1,0 +1,2 @@
+pub mod HoleSteps
+pub mod PieceSteps

@@ -1,0 +1,4 @@
+-- What public contracts cite.
+pub mod Closers
+pub mod Holes
+pub mod Pieces
