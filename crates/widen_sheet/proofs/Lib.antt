@@ -10,3 +10,6 @@ pub mod ItemSteps
 pub mod MarkSteps
 pub mod TokenSteps
 pub mod CombinatorLemmas
+pub mod PassedLemmas
+pub mod ChangedRules
+pub mod ChangedTexts

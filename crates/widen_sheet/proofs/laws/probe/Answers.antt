@@ -1,0 +1,1 @@
+use Rattle.widen_sheet.proofs.ChangedTexts.{list_pairs}
