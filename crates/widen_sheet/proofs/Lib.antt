@@ -13,3 +13,4 @@ pub mod CombinatorLemmas
 pub mod PassedLemmas
 pub mod ChangedRules
 pub mod ChangedTexts
+pub mod ChangedSheets
