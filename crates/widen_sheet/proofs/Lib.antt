@@ -14,3 +14,5 @@ pub mod PassedLemmas
 pub mod ChangedRules
 pub mod ChangedTexts
 pub mod ChangedSheets
+pub mod QuietTexts
+pub mod AttributeReads

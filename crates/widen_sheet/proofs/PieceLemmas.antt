@@ -138,7 +138,7 @@ not_close : (x : ℕ) (own r : List ℕ) → starts_with nat_eq (x ∷ own) (cod
 not_close x [] r none = and_false (nat_eq 42 x)
 not_close x (y ∷ own) r none = none
 
-close_found : (own r : List ℕ) → has (codes "*/") own ≡ false → behind_close (own ++ 126 ∷ 42 ∷ 47 ∷ r) ≡ r
+pub close_found : (own r : List ℕ) → has (codes "*/") own ≡ false → behind_close (own ++ 126 ∷ 42 ∷ 47 ∷ r) ≡ r
 unfolding behind_mark
 close_found [] r none = refl
 close_found (x ∷ own) r none = rw (not_close x own (42 ∷ 47 ∷ r) (has_here (codes "*/") x own none)) (close_found own r (has_later (codes "*/") x own none))

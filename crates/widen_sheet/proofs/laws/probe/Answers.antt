@@ -1,1 +1,1 @@
-use Rattle.widen_sheet.proofs.ChangedTexts.{list_pairs}
+use Rattle.widen_sheet.proofs.AttributeReads.{attribute_body}
