@@ -5,6 +5,7 @@ use Rattle.std.specs.List.{starts_with, list_all, prefix_len}
 use Rattle.std.proofs.lemmas.Bool.{cases_Bool, and_parts, eqb-true, eq-eqb, lt-ltb}
 use Rattle.std.proofs.lemmas.Bool.Decides.{nat_tests}
 use Rattle.std.proofs.lemmas.List.{drop_at}
+use Rattle.std.proofs.lemmas.Option.{same_Some}
 use Rattle.std.proofs.Math.Seq.{take-append_seam, drop-append_seam}
 use Rattle.text_bytes.specs.Attributes.{is_set_apart, with_value}
 use Rattle.text_bytes.specs.Blanks.{is_blank}
@@ -187,6 +188,21 @@ gap_to xs ys none at some = let gap = gap_of xs none in (gap.blanks, gap.all, by
 
 -- ---- the parts of an attribute part
 
+not_none : {A : Type 0} (x : A) → None ≡ Some x → ⊥
+not_none x is = cc
+
+abbrev pub named : List ℕ → List ℕ → Word × List ℕ
+named name rest = ((kind.Attr, name), rest)
+
+abbrev word : List ℕ → Word
+word name = (kind.Attr, name)
+
+abbrev found : List ℕ → List ℕ → Front (List ℕ)
+found v r = Some (v, r)
+
+pair_same : {X : Type 0} (a b : X) (r s : List ℕ) → ◌≡◌ {A = Option (X × List ℕ)} (Some (a, r)) (Some (b, s)) → (a ≡ b) × (r ≡ s)
+pair_same {X = X} a b r s is = let e = same_Some (a, r) (b, s) is in (ap (λ (p : X × List ℕ). p.0) e, ap (λ (p : X × List ℕ). p.1) e)
+
 end_by : (b : ℕ) (rest r : List ℕ) → (if b == 93 then Some rest else None) ≡ Some r → b ∷ rest ≡ 93 ∷ r
 end_by b rest r is = by (b == 93) refl is
   where
@@ -215,12 +231,9 @@ at_bracket : (g z : List ℕ) → list_all is_blank g ≡ true → behind_bracke
 unfolding behind_bracket
 at_bracket g z all = rw (gap_over g (93 ∷ z) all, no_gap true (93 ∷ z) (refl, refl, refl)) refl
 
-some_word : (name : List ℕ) (o : Option (List ℕ)) (w : Word) (r : List ℕ) → option_map (λ (rest : List ℕ). ((kind.Attr, name), rest)) o ≡ Some (w, r) → (w ≡ (kind.Attr, name)) × (o ≡ Some r)
-some_word name None w r is = absurd (none is)
-  where
-    none : None ≡ Some (w, r) → ⊥
-    none is = cc
-some_word name (Some rest) w r is = let first : (kind.Attr, name) ≡ w = cc in let second : rest ≡ r = cc in (sym first, ap Some second)
+some_word : (name : List ℕ) (o : Option (List ℕ)) (w : Word) (r : List ℕ) → option_map (named name) o ≡ Some (w, r) → (w ≡ word name) × (o ≡ Some r)
+some_word name None w r is = absurd (not_none (w, r) is)
+some_word name (Some rest) w r is = let both = pair_same (kind.Attr, name) w rest r is in (sym both.0, ap Some both.1)
 
 bracket_body : (name xs : List ℕ) (w : Word) (r : List ℕ) → has (codes "*/") xs ≡ false → ended_part name xs ≡ Some (w, r) → IsBody (ended_part name) xs w r
 unfolding behind_bracket
@@ -230,7 +243,7 @@ bracket_body name xs w r none is =
     record {
       body = gap.0;
       whole = gap.2;
-      again = λ z. ap (option_map (λ (rest : List ℕ). ((kind.Attr, name), rest))) (at_bracket gap.0 z gap.1) ∙ ap (λ (v : Word). Some (v, z)) (sym both.0);
+      again = λ z. ap (option_map (named name)) (at_bracket gap.0 z gap.1) ∙ ap (λ (v : Word). Some (v, z)) (sym both.0);
       calm = calm_blanks gap.0 gap.1;
     }
 
@@ -244,9 +257,6 @@ record IsValue (xs v r : List ℕ) : Type 0 where
   start : (z : List ℕ) → behind_gap true 0 (own ++ z) ≡ own ++ z
   calm : CalmText own
 
-not_none : {A : Type 0} (x : A) → None ≡ Some x → ⊥
-not_none x is = cc
-
 front_is : (bs v r : List ℕ) → name_front bs ≡ Some (v, r) → IsName v × (bs ≡ v ++ r)
 unfolding name_front
 front_is bs v r is = by (nat_lt 0 (name_len bs)) refl is
@@ -254,10 +264,11 @@ front_is bs v r is = by (nat_lt 0 (name_len bs)) refl is
     less : (n : ℕ) → nat_lt 0 n ≡ true → 0 < n
     less n e = grind (arith, nat_tests)
 
-    by : (t : Bool) → nat_lt 0 (name_len bs) ≡ t → (if t then Some (take (name_len bs) bs, drop (name_len bs) bs) else None) ≡ Some (v, r) → IsName v × (bs ≡ v ++ r)
+    by : (t : Bool) → nat_lt 0 (name_len bs) ≡ t → (if t then found (take (name_len bs) bs) (drop (name_len bs) bs) else None) ≡ Some (v, r) → IsName v × (bs ≡ v ++ r)
     by true e is =
-        let first : take (name_len bs) bs ≡ v = cc in
-        let second : drop (name_len bs) bs ≡ r = cc in
+        let both = pair_same (take (name_len bs) bs) v (drop (name_len bs) bs) r is in
+        let first : take (name_len bs) bs ≡ v = both.0 in
+        let second : drop (name_len bs) bs ≡ r = both.1 in
         (subst IsName first (lowered.name_front bs (less (name_len bs) e)), sym (take-append-drop (name_len bs) bs) ∙ rw (first, second) refl)
     by false e is = absurd (not_none (v, r) is)
 
@@ -312,8 +323,8 @@ before_is : (q : ℕ) (text at v r : List ℕ) → before_quote q text at ≡ So
 before_is q text [] v r is = absurd (not_none (v, r) is)
 before_is q text (b ∷ rest) v r is = by (b == q) refl is
   where
-    by : (t : Bool) → (b == q) ≡ t → (if t then Some (text, rest) else None) ≡ Some (v, r) → (text ≡ v) × (b ∷ rest ≡ q ∷ r)
-    by true e is = let first : text ≡ v = cc in let second : rest ≡ r = cc in let byte : b ≡ q = eqb-true b q e in (first, rw (byte, second) refl)
+    by : (t : Bool) → (b == q) ≡ t → (if t then found text rest else None) ≡ Some (v, r) → (text ≡ v) × (b ∷ rest ≡ q ∷ r)
+    by true e is = let both = pair_same text v rest r is in let first : text ≡ v = both.0 in let second : rest ≡ r = both.1 in let byte : b ≡ q = eqb-true b q e in (first, rw (byte, second) refl)
     by false e is = absurd (not_none (v, r) is)
 
 string_value : (q : ℕ) (bs v r : List ℕ) → is_quote q ≡ true → quoted q bs ≡ Some (v, r) → IsValue (q ∷ bs) v r
@@ -396,8 +407,8 @@ ends bs v r is = by (nat_lt 0 (name_len bs)) refl is
     less : (n : ℕ) → nat_lt 0 n ≡ true → 0 < n
     less n e = grind (arith, nat_tests)
 
-    by : (t : Bool) → nat_lt 0 (name_len bs) ≡ t → (if t then Some (take (name_len bs) bs, drop (name_len bs) bs) else None) ≡ Some (v, r) → IsEnd r
-    by true e is = let second : drop (name_len bs) bs ≡ r = cc in subst IsEnd second (len_ends bs (less (name_len bs) e))
+    by : (t : Bool) → nat_lt 0 (name_len bs) ≡ t → (if t then found (take (name_len bs) bs) (drop (name_len bs) bs) else None) ≡ Some (v, r) → IsEnd r
+    by true e is = let second : drop (name_len bs) bs ≡ r = (pair_same (take (name_len bs) bs) v (drop (name_len bs) bs) r is).1 in subst IsEnd second (len_ends bs (less (name_len bs) e))
     by false e is = absurd (not_none (v, r) is)
 
 -- whatever is behind the bracket
@@ -409,6 +420,11 @@ end_again (b ∷ body) all r z whole end = by (in_name b) refl (subst IsEnd whol
     by true e none = absurd (omega arith)
     by false e none = refl
 
+value_some : (at : List ℕ) (v : List ℕ × List ℕ) → value_at at ≡ Some v → 0 < length at
+unfolding value_at
+value_some [] v read = absurd (not_none v read)
+value_some (b ∷ bs) v read = omega arith
+
 equals_body : (name g rest : List ℕ) (w : Word) (r : List ℕ) → list_all is_blank g ≡ true → has (codes "*/") rest ≡ false → valued_part name (value_at (behind_gap true 0 rest)) ≡ Some (w, r)
     → IsBody (λ (bs : List ℕ). with_equals name (behind_gap true 0 bs)) (g ++ 61 ∷ rest) w r
 equals_body name g rest w r all none is = by (value_at (behind_gap true 0 rest)) refl is
@@ -417,7 +433,7 @@ equals_body name g rest w r all none is = by (value_at (behind_gap true 0 rest))
     by None read is = absurd (not_none (w, r) is)
     by (Some v) read is =
         let value = value_is (behind_gap true 0 rest) v.0 v.1 read in
-        let long : 0 < length (behind_gap true 0 rest) = some_left (behind_gap true 0 rest) v read in
+        let long : 0 < length (behind_gap true 0 rest) = value_some (behind_gap true 0 rest) v read in
         let gap = gap_to rest (behind_gap true 0 rest) none refl long in
         let inner : rest ≡ gap.0 ++ (value.own ++ v.1) = gap.2 ∙ ap (λ (x : List ℕ). gap.0 ++ x) value.whole in
         let behind : has (codes "*/") v.1 ≡ false = has_right (codes "*/") value.own v.1 (has_right (codes "*/") gap.0 (value.own ++ v.1) (subst (λ (x : List ℕ). has (codes "*/") x ≡ false) inner none)) in
@@ -432,16 +448,11 @@ equals_body name g rest w r all none is = by (value_at (behind_gap true 0 rest))
               ∙ ap (with_equals name) (gap_over g (61 ∷ (gap.0 ++ (value.own ++ (last.0 ++ 93 ∷ z)))) all ∙ no_gap true (61 ∷ (gap.0 ++ (value.own ++ (last.0 ++ 93 ∷ z)))) (refl, refl, refl))
               ∙ ap (λ (x : List ℕ). valued_part name (value_at x)) (gap_over gap.0 (value.own ++ (last.0 ++ 93 ∷ z)) gap.1 ∙ value.start (last.0 ++ 93 ∷ z))
               ∙ ap (valued_part name) (value.again (last.0 ++ 93 ∷ z) (end_of_body last.0 z last.1))
-              ∙ ap (option_map (λ (rest : List ℕ). ((kind.Attr, with_value name v.0), rest))) (at_bracket last.0 z last.1)
+              ∙ ap (option_map (named (with_value name v.0))) (at_bracket last.0 z last.1)
               ∙ ap (λ (u : Word). Some (u, z)) (sym both.0);
           calm = calm_append g _ (calm_blanks g all) (calm_append (61 ∷ []) _ (calm_bytes (61 ∷ []) refl) (calm_append gap.0 _ (calm_blanks gap.0 gap.1) (calm_append value.own last.0 value.calm (calm_blanks last.0 last.1))));
         }
       where
-        some_left : (at : List ℕ) (v : List ℕ × List ℕ) → value_at at ≡ Some v → 0 < length at
-        unfolding value_at
-        some_left [] v read = absurd (not_none v read)
-        some_left (b ∷ bs) v read = omega arith
-
         spread : (g h own l z : List ℕ) → g ++ 61 ∷ (h ++ (own ++ (l ++ z))) ≡ (g ++ (61 ∷ (h ++ (own ++ l)))) ++ z
         spread g h own l z =
             sym (append_assoc g (61 ∷ (h ++ (own ++ l))) z ∙ ap (λ (x : List ℕ). g ++ 61 ∷ x) (append_assoc h (own ++ l) z ∙ ap (λ (x : List ℕ). h ++ x) (append_assoc own l z)))
@@ -471,13 +482,16 @@ name_body name xs w r none is = by (behind_gap true 0 xs) refl is
             record {
               body = g ++ last.0;
               whole = whole ∙ ap (λ (x : List ℕ). g ++ x) last.2 ∙ sym (append_assoc g last.0 (93 ∷ r));
-              again = λ z. ap (with_equals name) (gap_over (g ++ last.0) (93 ∷ z) blanks ∙ no_gap true (93 ∷ z) (refl, refl, refl)) ∙ ap (option_map (λ (rest : List ℕ). ((kind.Attr, name), rest))) (at_bracket [] z refl) ∙ ap (λ (u : Word). Some (u, z)) (sym both.0);
+              again = λ z. ap (with_equals name) (gap_over (g ++ last.0) (93 ∷ z) blanks ∙ no_gap true (93 ∷ z) (refl, refl, refl)) ∙ ap (option_map (named name)) (at_bracket [] z refl) ∙ ap (λ (u : Word). Some (u, z)) (sym both.0);
               calm = calm_blanks (g ++ last.0) blanks;
             }
 
 apart_by : (t : Bool) (f : Front Word) (w : Word) (r : List ℕ) → (if t then None else f) ≡ Some (w, r) → (t ≡ false) × (f ≡ Some (w, r))
 apart_by true f w r is = absurd (not_none (w, r) is)
 apart_by false f w r is = (refl, is)
+
+not_apart : (name xs : List ℕ) (w : Word) (z : List ℕ) → is_set_apart name ≡ false → behind_name name xs ≡ Some (w, z) → unless_apart (Some (name, xs)) ≡ Some (w, z)
+not_apart name xs w z apart is = rw apart is
 
 -- no comment ends in it
 pub attribute_body : (xs : List ℕ) (w : Word) (r : List ℕ) → has (codes "*/") xs ≡ false → attribute_part xs ≡ Some (w, r) → IsBody attribute_part xs w r
@@ -507,6 +521,6 @@ attribute_body xs w r none is = by (name_front (behind_gap true 0 xs)) refl is
               ap (λ (x : List ℕ). unless_apart (name_front (behind_gap true 0 x))) (sym (spread (93 ∷ z)))
               ∙ ap (λ (x : List ℕ). unless_apart (name_front x)) (gap_over gap.0 (v.0 ++ (later.body ++ 93 ∷ z)) gap.1 ∙ no_gap true (v.0 ++ (later.body ++ 93 ∷ z)) (first_of_name v.0 (later.body ++ 93 ∷ z) (name_begins v.0 both.0).0))
               ∙ ap unless_apart (name_read v.0 (later.body ++ 93 ∷ z) both.0 (end_again later.body v.1 r z later.whole end))
-              ∙ rw apart.0 (later.again z);
+              ∙ not_apart v.0 (later.body ++ 93 ∷ z) w z apart.0 (later.again z);
           calm = calm_append gap.0 _ (calm_blanks gap.0 gap.1) (calm_append v.0 later.body (calm_name v.0 both.0) later.calm);
         }

@@ -16,3 +16,4 @@ pub mod ChangedTexts
 pub mod ChangedSheets
 pub mod QuietTexts
 pub mod AttributeReads
+pub mod TokenReads

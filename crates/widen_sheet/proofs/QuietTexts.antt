@@ -155,6 +155,9 @@ pub comment_lists : (inside : Bool) (os : _) → stops_at (list_ends inside) 47 
 comment_lists true os = refl
 comment_lists false os = refl
 
+pub not_empty : (own : List ℕ) → 42 ∷ (own ++ codes "~*/") ≡ [] → ⊥
+not_empty own e = cc
+
 -- a comment without its `*/`, up to the `~` before it
 abbrev pub mild_comment : (own : List ℕ) → has (codes "*/") own ≡ false → MildText (47 ∷ 42 ∷ (own ++ codes "~*/"))
 mild_comment own none =
@@ -166,11 +169,8 @@ mild_comment own none =
     record {
       chunks = c ∷ [];
       flat_is = ap (λ bs. 47 ∷ bs) (append-nil m);
-      are = (record { unit = units.0; calm = λ rest none slash. absurd (some none); after = comment_after; lists = comment_lists; commas = λ os. refl }, tt);
+      are = (record { unit = units.0; calm = λ rest none slash. absurd (not_empty own none); after = comment_after; lists = comment_lists; commas = λ os. refl }, tt);
     }
-  where
-    some : 42 ∷ (own ++ codes "~*/") ≡ [] → ⊥
-    some e = cc
 
 -- ---- texts that open and close their brackets
 
@@ -188,20 +188,26 @@ mild_quiet bs a = record {
   part = λ inside. record { passes = mild_lists inside [] a.chunks a.are; commas = mild_commas [] a.chunks a.are; closed = mild_after [] a.chunks a.are };
 }
 
-bracket_lists : (inside : Bool) → stops_at (list_ends inside) 91 [] ≡ false
+pub bracket_lists : (inside : Bool) → stops_at (list_ends inside) 91 [] ≡ false
 bracket_lists true = refl
 bracket_lists false = refl
 
-close_lists : (inside : Bool) (os : _) → stops_at (list_ends inside) 93 os ≡ false
+pub close_lists : (inside : Bool) (os : _) → stops_at (list_ends inside) 93 os ≡ false
 close_lists true os = refl
 close_lists false os = refl
 
-bracket_closed : after_byte 93 (after_byte 91 []) ≡ []
+pub bracket_closed : after_byte 93 (after_byte 91 []) ≡ []
 unfolding after_byte
 bracket_closed = refl
 
+pub not_slash_91 : ◌≡◌ {A = ℕ} 91 47 → ⊥
+not_slash_91 e = omega (arith, e)
+
+pub not_slash_93 : ◌≡◌ {A = ℕ} 93 47 → ⊥
+not_slash_93 e = omega (arith, e)
+
 -- what is in brackets
-pub in_brackets : (bs : List ℕ) → MildText bs → QuietText (91 ∷ (bs ++ 93 ∷ []))
+abbrev pub in_brackets : (bs : List ℕ) → MildText bs → QuietText (91 ∷ (bs ++ 93 ∷ []))
 in_brackets bs a =
     let open' : Chunk = record { first = 91; more = [] } in
     let close : Chunk = record { first = 93; more = [] } in
@@ -217,12 +223,6 @@ in_brackets bs a =
         closed = after_append inner cs (close ∷ []) ∙ ap (λ os. after_byte 93 os) (mild_after inner cs a.are) ∙ bracket_closed;
       };
     }
-  where
-    not_slash_91 : ◌≡◌ {A = ℕ} 91 47 → ⊥
-    not_slash_91 e = omega (arith, e)
-
-    not_slash_93 : ◌≡◌ {A = ℕ} 93 47 → ⊥
-    not_slash_93 e = omega (arith, e)
 
 pub part_both : (inside : Bool) (cs ds : List Chunk) → IsPart (list_ends inside) [] cs → IsPart (list_ends inside) [] ds → IsPart (list_ends inside) [] (cs ++ ds)
 part_both inside cs ds a b = record {
@@ -264,7 +264,7 @@ solid_more c (d ∷ ds) some = by (is_gap c)
     by true = refl
     by false = refl
 
-solids_some : (cs ds : List Chunk) → 0 < length ds → solids ds ≡ ds → solids (cs ++ ds) ≡ cs ++ ds
+pub solids_some : (cs ds : List Chunk) → 0 < length ds → solids ds ≡ ds → solids (cs ++ ds) ≡ cs ++ ds
 solids_some [] ds some ends = ends
 solids_some (c ∷ cs) ds some ends = ap (with_solid (is_gap c) c) (solids_some cs ds some ends) ∙ solid_more c (cs ++ ds) (omega (arith, some, length-append cs ds))
 

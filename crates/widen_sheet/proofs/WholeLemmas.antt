@@ -49,7 +49,7 @@ name_gets_on b bs = by_len (name_len (b ∷ bs))
     by_len zero = tt
     by_len (suc n) = let e : nat_lt 0 (suc n) ≡ true = grind (arith, nat_tests) in rw e (dropped (suc n) (b ∷ bs), omega (arith, drop_less n bs))
 
-brackets_rests : (bs closers : List ℕ) (n : ℕ) → Rests bs (behind_brackets closers n bs)
+pub brackets_rests : (bs closers : List ℕ) (n : ℕ) → Rests bs (behind_brackets closers n bs)
 unfolding behind_brackets
 brackets_rests [] closers n = tt
 brackets_rests (b ∷ bs) closers (suc n) = further (b ∷ bs) bs (behind_brackets closers n bs) (behind_first b bs) (brackets_rests bs closers n)

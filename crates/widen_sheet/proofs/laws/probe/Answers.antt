@@ -1,1 +1,1 @@
-use Rattle.widen_sheet.proofs.AttributeReads.{attribute_body}
+use Rattle.widen_sheet.proofs.TokenReads.{first_part_of}
