@@ -17,3 +17,4 @@ pub mod ChangedSheets
 pub mod QuietTexts
 pub mod AttributeReads
 pub mod TokenReads
+pub mod JoinReads

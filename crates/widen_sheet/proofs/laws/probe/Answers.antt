@@ -1,1 +1,1 @@
-use Rattle.widen_sheet.proofs.TokenReads.{first_part_of}
+use Rattle.widen_sheet.proofs.JoinReads.{tokens_are}
