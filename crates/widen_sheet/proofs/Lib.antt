@@ -18,3 +18,5 @@ pub mod QuietTexts
 pub mod AttributeReads
 pub mod TokenReads
 pub mod JoinReads
+pub mod SpelledReads
+pub mod SpelledSyntax

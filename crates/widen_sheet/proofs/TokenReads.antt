@@ -214,11 +214,11 @@ judged_first b bs start is none =
 
 -- ---- pseudo parts
 
-abbrev colons : Bool → List ℕ
+abbrev pub colons : Bool → List ℕ
 colons true = 58 ∷ []
 colons false = []
 
-abbrev is_dropped : Bool → List ℕ → Bool
+abbrev pub is_dropped : Bool → List ℕ → Bool
 is_dropped two name = is_dropped_element name || not two && is_dropped_class name
 
 word_read : (two : Bool) (name x : List ℕ) → IsName name → IsEnd x → behind_word two (name ++ x) ≡ (if is_dropped two name && not (begins_with 40 (behind_gap false 0 x)) then Some x else None)
@@ -246,7 +246,7 @@ pseudo_solid : (two : Bool) (name : List ℕ) → IsName name → Solid (58 ∷ 
 pseudo_solid true name is = solid_bytes 58 (58 ∷ name) (quiet_name name is) (dense_name name is) refl
 pseudo_solid false name is = solid_bytes 58 name (quiet_name name is) (dense_name name is) refl
 
-pseudo_is : (two : Bool) (name : List ℕ) → IsName name → is_dropped two name ≡ true → IsLater (58 ∷ (colons two ++ name)) None
+pub pseudo_is : (two : Bool) (name : List ℕ) → IsName name → is_dropped two name ≡ true → IsLater (58 ∷ (colons two ++ name)) None
 pseudo_is two name is dropped = record {
   sign = 58;
   more = colons two ++ name;

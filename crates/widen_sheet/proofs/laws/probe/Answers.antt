@@ -1,1 +1,1 @@
-use Rattle.widen_sheet.proofs.JoinReads.{tokens_are}
+use Rattle.widen_sheet.proofs.SpelledSyntax.{spelled_syntax}
