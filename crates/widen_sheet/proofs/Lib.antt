@@ -20,3 +20,7 @@ pub mod TokenReads
 pub mod JoinReads
 pub mod SpelledReads
 pub mod SpelledSyntax
+pub mod SpelledNames
+pub mod SpelledQuiet
+pub mod SpelledItems
+pub mod SameItems

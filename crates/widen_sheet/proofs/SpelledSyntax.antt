@@ -18,7 +18,7 @@ use Rattle.widen_sheet.proofs.SlotPieces.{words, has_left}
 use Rattle.widen_sheet.proofs.SpelledReads.{first_token, later_token, join_token, mark_read, kept_token, kept}
 use Rattle.widen_sheet.proofs.TokenReads.{is_sign}
 
-wrong : {A : Type 0} → true ≡ false → A
+pub wrong : {A : Type 0} → true ≡ false → A
 wrong e = absurd cc
 
 -- ---- what the text begins with
@@ -69,7 +69,7 @@ front_ok false (t ∷ ts) run are = front_by false t.kind t.text run (goes (kind
 
 -- ---- claims
 
-abbrev IsRun : Mark → Type 0
+abbrev pub IsRun : Mark → Type 0
 IsRun mark.Part = ⊥
 IsRun mark.Inside = Unit {0}
 IsRun mark.Child = Unit {0}
@@ -103,7 +103,7 @@ record AllOf (to : ℕ) (ts : Wide) : Type 0 where
 
 -- ---- marks that end
 
-abbrev IsApart : Mark → Option Mark → Type 0
+abbrev pub IsApart : Mark → Option Mark → Type 0
 IsApart m None = Unit {0}
 IsApart m (Some n) = (letter m == letter n) ≡ false
 
@@ -125,19 +125,19 @@ same_mark mark.Part = refl
 same_mark mark.Inside = refl
 same_mark mark.Child = refl
 
-run_apart : (m : Mark) → IsRun m → (letter m == 112) ≡ false
+pub run_apart : (m : Mark) → IsRun m → (letter m == 112) ≡ false
 run_apart mark.Part is = absurd is
 run_apart mark.Inside is = refl
 run_apart mark.Child is = refl
 
 -- a mark that goes on over a text
-goes_on : (m : Mark) (own x z : List ℕ) → opening m ++ (own ++ (between (Some m) (Some m) ++ (x ++ z))) ≡ opening m ++ ((own ++ x) ++ z)
+pub goes_on : (m : Mark) (own x z : List ℕ) → opening m ++ (own ++ (between (Some m) (Some m) ++ (x ++ z))) ≡ opening m ++ ((own ++ x) ++ z)
 goes_on m own x z = rw (same_mark m) (ap (λ (y : List ℕ). opening m ++ y) (sym (append_assoc own x z)))
 
-closes_at : (m : Mark) (own z : List ℕ) (mk : Option Mark) → IsApart m mk → opening m ++ (own ++ (between (Some m) mk ++ z)) ≡ opening m ++ (own ++ (closing m ++ (between None mk ++ z)))
+pub closes_at : (m : Mark) (own z : List ℕ) (mk : Option Mark) → IsApart m mk → opening m ++ (own ++ (between (Some m) mk ++ z)) ≡ opening m ++ (own ++ (closing m ++ (between None mk ++ z)))
 closes_at m own z mk apart = ap (λ (y : List ℕ). opening m ++ (own ++ y)) (closed_by m mk z apart)
 
-still : (own x y : List ℕ) → has (codes "*/") (own ++ (x ++ y)) ≡ false → has (codes "*/") ((own ++ x) ++ y) ≡ false
+pub still : (own x y : List ℕ) → has (codes "*/") (own ++ (x ++ y)) ≡ false → has (codes "*/") ((own ++ x) ++ y) ≡ false
 still own x y none = ap (has (codes "*/")) (append_assoc own x y) ∙ none
 
 -- ---- one token
@@ -230,7 +230,7 @@ run_by to Next x ts all here m is own false are n begun none gone few =
 run_by to Later x ts all here m is own false are n begun none gone few =
     ap (syntax_from true to n begun 0) (goes_on m own x (spelled_from (Some m) (slots_from m ts))) ∙ all.run m is (own ++ x) true are.1 n begun (still own x (words ts) none) (λ w. wrong w) (omega arith)
 
-at_end : (to n : ℕ) → syntax_from true to n true 0 [] ≡ nothing None
+pub at_end : (to n : ℕ) → syntax_from true to n true 0 [] ≡ nothing None
 unfolding syntax_from
 at_end to n = refl
 
