@@ -2,7 +2,7 @@
 use Rattle.std.proofs.Common.{◌≡◌, ℕ, zero, suc, ◌+◌, ◌-◌, ◌<◌, ◌==◌, ◌&&◌, ◌||◌, not, Bool, true, false, nat_eq, nat_lt, if◌then◌else◌, List, [], ◌∷◌, ◌++◌, length, take, drop, codes, Option, Some, None, option_map, refl, sym, ap, ◌∙◌, subst, arith, length-append, append_assoc, take-append-drop, inl, inr}
 use Rattle.std.specs.Prelude.{◌⊎◌}
 use Rattle.std.specs.List.{starts_with, list_all, prefix_len}
-use Rattle.std.proofs.lemmas.Bool.{cases_Bool, and_parts, eqb-true, eq-eqb, lt-ltb}
+use Rattle.std.proofs.lemmas.Bool.{cases_Bool, and_parts, eqb-true, eq-eqb}
 use Rattle.std.proofs.lemmas.Bool.Decides.{nat_tests}
 use Rattle.std.proofs.lemmas.List.{drop_at}
 use Rattle.std.proofs.lemmas.Option.{same_Some}
@@ -17,7 +17,7 @@ use Rattle.sel_text.specs.Grammar.{Front, Word, in_quotes, before_quote, quoted,
 use Rattle.sel_text.proofs.ByteRuns.{run_up_to, run_passes, all_by, all_of_run}
 use Rattle.sel_text.proofs.Gaps.{gap_skip, passes, stops}
 use Rattle.sel_text.proofs.Lowered as lowered
-use Rattle.sel_text.proofs.NameLemmas.{not_byte, IsStart, no_comment, no_gap, name_begins, first_of_name, IsEnd}
+use Rattle.sel_text.proofs.NameLemmas.{not_byte, IsStart, no_gap, name_begins, first_of_name, IsEnd}
 use Rattle.sel_text.proofs.AttributeText.{name_read}
 use Rattle.css_read.proofs.UnitLemmas.{ends_string, string_passed}
 use Rattle.widen_sheet.specs.Wide.{has, after_byte, behind_quoted, behind_brackets}

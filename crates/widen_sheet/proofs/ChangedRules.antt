@@ -1,12 +1,12 @@
 -- A rule of which some selectors are replaced by others is a rule with the same block.
-use Rattle.std.proofs.Common.{◌≡◌, ℕ, suc, ◌+◌, ◌-◌, ◌<◌, ◌==◌, ◌&&◌, Bool, true, false, if◌then◌else◌, nat_lt, List, [], ◌∷◌, ◌++◌, length, codes, refl, sym, ap, ◌∙◌, subst, arith, length-append, append_assoc, append-nil, inl, inr}
+use Rattle.std.proofs.Common.{◌≡◌, ℕ, suc, ◌-◌, ◌<◌, ◌==◌, ◌&&◌, Bool, true, false, nat_lt, List, [], ◌∷◌, ◌++◌, length, refl, sym, ap, ◌∙◌, subst, arith, length-append, append_assoc, inl, inr}
 use Rattle.std.proofs.lemmas.Bool.{and_parts, cases_Bool, not-true}
 use Rattle.std.proofs.lemmas.Bool.Decides.{nat_tests}
 use Rattle.std.proofs.lemmas.List.{append_cancel_right}
 use Rattle.text_bytes.specs.Blanks.{is_blank}
 use Rattle.css_read.specs.declared.fronts.Front.{Front}
 use Rattle.css_read.specs.declared.fronts.Front.TheVariants.{Styles}
-use Rattle.css_read.specs.Rules.{Begun, list_ends, behind_block, style_rule, next_front}
+use Rattle.css_read.specs.Rules.{list_ends, behind_block, style_rule, next_front}
 use Rattle.css_read.specs.Units.{begins_comment, begins_gap, behind_unit, after_byte, stops_at, from_first_in, from_first}
 use Rattle.css_read.proofs.Firsts.{found}
 use Rattle.css_read.proofs.FrontLemmas.{blank_unit, comment_stays, block_end}
@@ -15,8 +15,8 @@ use Rattle.css_read.proofs.PartLemmas.{comma, joined, IsPart, AreParts, PartsOf}
 use Rattle.css_read.proofs.ScanLemmas.{no_front}
 use Rattle.css_read.proofs.SpanLemmas.{Span, IsReadBefore}
 use Rattle.css_read.proofs.ThinLemmas.{lead, solid, trail, part_left, AreGaps, lead_gaps, end_gaps, split, lists_end, none_append, after_append, left_is}
-use Rattle.css_read.proofs.UnitLemmas.{Chunk, flat, is_gap, AreUnits, ArePassed, AreChunks, chunks, brackets_after, has_none, other_unit, strip, solids}
-use Rattle.widen_sheet.proofs.PassedLemmas.{gap_here, scan_passed, passed_units, passed_append, passed_front, passed_behind, SameNext, same_byte, passed_before, parts_passed}
+use Rattle.css_read.proofs.UnitLemmas.{Chunk, flat, AreUnits, ArePassed, chunks, brackets_after, has_none, other_unit, strip}
+use Rattle.widen_sheet.proofs.PassedLemmas.{gap_here, scan_passed, passed_units, passed_append, passed_front, passed_behind, same_byte, passed_before, parts_passed}
 
 -- ---- what a selector becomes
 

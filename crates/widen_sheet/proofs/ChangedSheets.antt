@@ -1,5 +1,5 @@
 -- A sheet in which other selectors stand has the same rules in the same at-rules, with these selectors.
-use Rattle.std.proofs.Common.{◌≡◌, ℕ, suc, ◌+◌, ◌-◌, ◌≤◌, ◌==◌, ◌&&◌, Bool, true, false, nat_eq, nat_lt, List, [], ◌∷◌, ◌++◌, length, take, drop, map, slice_range, codes, Ok, refl, sym, ap, ◌∙◌, subst, arith, length-append, append_assoc, append-nil, inl, inr}
+use Rattle.std.proofs.Common.{◌≡◌, ℕ, suc, ◌+◌, ◌&&◌, Bool, true, false, nat_eq, nat_lt, List, [], ◌∷◌, ◌++◌, length, drop, map, slice_range, Ok, refl, sym, ap, ◌∙◌, subst, arith, length-append, append_assoc, inl, inr}
 use Rattle.std.specs.List.{starts_with}
 use Rattle.std.proofs.lemmas.Bool.{cases_Bool, and_parts, eqb-true}
 use Rattle.std.proofs.lemmas.List.{drop_at}
@@ -12,14 +12,14 @@ use Rattle.css_read.specs.Effects.{Scope, scopes_of}
 use Rattle.css_read.specs.Holders.{Step, steps_from, steps_of, innermost, owners_from, owners_of}
 use Rattle.css_read.specs.Order.{AreApart, range_of}
 use Rattle.css_read.specs.Pieces.{pieces}
-use Rattle.css_read.specs.Reading.{pieces_of, add_rules, empty_sheet}
+use Rattle.css_read.specs.Reading.{add_rules, empty_sheet}
 use Rattle.css_read.specs.Rules.{Rule, list_ends, depth_after, rules_of}
 use Rattle.css_read.specs.Sheets.{Item, Sheet}
 use Rattle.css_read.proofs.CutLemmas.{size_of}
 use Rattle.css_read.proofs.ItemLemmas.{AreOf, AreItemsOf, ranges_of, sheet_of}
 use Rattle.css_read.proofs.PartLemmas.{joined, places, IsPart, AreParts}
 use Rattle.css_read.proofs.PieceOrder.{from_earlier}
-use Rattle.css_read.proofs.PrunedLemmas.{spans_of, mark_size, mark_of, steps_are, rules_steps}
+use Rattle.css_read.proofs.PrunedLemmas.{spans_of, mark_size, steps_are, rules_steps}
 use Rattle.css_read.proofs.RulePlans.{slice_at}
 use Rattle.css_read.proofs.ScopeLemmas.{stack_after, scope_at, scopes_in, scopes_are}
 use Rattle.css_read.proofs.SpanLemmas as fate

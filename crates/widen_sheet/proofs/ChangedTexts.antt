@@ -1,5 +1,5 @@
 -- The text of a list in which other selectors stand, and the places of these.
-use Rattle.std.proofs.Common.{◌≡◌, ℕ, suc, ◌+◌, ◌-◌, ◌≤◌, List, [], ◌∷◌, ◌++◌, length, take, drop, map, slice_range, codes, refl, sym, ap, ◌∙◌, subst, arith, length-append, append_assoc, append-nil}
+use Rattle.std.proofs.Common.{◌≡◌, ℕ, suc, ◌+◌, ◌-◌, ◌≤◌, List, [], ◌∷◌, ◌++◌, length, take, drop, map, slice_range, refl, sym, ap, ◌∙◌, subst, arith, length-append, append_assoc}
 use Rattle.std.proofs.Math.Seq.{take-add}
 use Rattle.std.proofs.lemmas.List.{drop-drop}
 use Rattle.std.proofs.lemmas.List.Folds.{drop_split}
@@ -13,9 +13,9 @@ use Rattle.css_read.proofs.PartLemmas.{comma, joined, place_at, places}
 use Rattle.css_read.proofs.PieceOrder.{from_earlier}
 use Rattle.css_read.proofs.RelistLemmas.{text_of, joined_size}
 use Rattle.css_read.proofs.RulePlans.{slice_at, part_text}
-use Rattle.css_read.proofs.ThinLemmas.{lead, solid, trail, part_left, lead_gaps, end_gaps, split, left_solid}
+use Rattle.css_read.proofs.ThinLemmas.{lead, solid, trail, lead_gaps, end_gaps, split, left_solid}
 use Rattle.css_read.proofs.UnitLemmas.{Chunk, flat, flat-append, strip}
-use Rattle.widen_sheet.proofs.ChangedRules.{Change, stays, becomes, IsChange, AreChanges, first_change, other_changes, changed_part, changed_parts, changed_list}
+use Rattle.widen_sheet.proofs.ChangedRules.{Change, stays, becomes, IsChange, AreChanges, changed_part, changed_parts, changed_list}
 
 -- ---- selectors and their new texts
 

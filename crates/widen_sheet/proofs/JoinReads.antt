@@ -1,5 +1,5 @@
 -- How the combinators of a wide selector read, and what its tokens are.
-use Rattle.std.proofs.Common.{◌≡◌, ℕ, zero, suc, ◌+◌, ◌-◌, ◌<◌, ◌==◌, ◌&&◌, ◌||◌, Bool, true, false, if◌then◌else◌, List, [], ◌∷◌, ◌++◌, length, take, drop, codes, Option, Some, None, IfSome, cond, Ok, option_map, refl, sym, ap, ◌∙◌, subst, arith, length-append, append_assoc, append-nil, take-append-drop, inl, inr}
+use Rattle.std.proofs.Common.{◌≡◌, ℕ, zero, suc, ◌+◌, ◌-◌, ◌<◌, ◌==◌, ◌||◌, Bool, true, false, if◌then◌else◌, List, [], ◌∷◌, ◌++◌, length, take, drop, codes, Option, Some, None, IfSome, cond, Ok, option_map, refl, sym, ap, ◌∙◌, subst, arith, append_assoc, append-nil, take-append-drop, inl, inr}
 use Rattle.std.specs.List.{list_all, prefix_len}
 use Rattle.std.proofs.lemmas.Bool.{cases_Bool, and_parts, eqb-true}
 use Rattle.std.proofs.lemmas.List.{append_cancel_right}
@@ -10,18 +10,18 @@ use Rattle.sel_text.specs.Bytes.{begins_with, in_name, behind_gap}
 use Rattle.sel_text.specs.declared.selectors.Join.{Join}
 use Rattle.sel_text.specs.declared.selectors.Join.TheVariants as code
 use Rattle.sel_text.specs.Grammar.{behind_child, behind_space, behind_near, join_at}
-use Rattle.sel_text.proofs.ByteRuns.{all_by, run_passes}
+use Rattle.sel_text.proofs.ByteRuns.{run_passes}
 use Rattle.sel_text.proofs.Gaps.{stops}
-use Rattle.sel_text.proofs.NameLemmas.{not_byte, IsStart, no_comment, no_gap, IsEnd}
+use Rattle.sel_text.proofs.NameLemmas.{not_byte, IsStart, no_comment, no_gap}
 use Rattle.widen_sheet.specs.declared.tokens.Kind.{Kind}
 use Rattle.widen_sheet.specs.declared.tokens.Kind.TheVariants.{Judged, Other, Inside, Child, Next, Later}
 use Rattle.widen_sheet.specs.Wide as spec
 use Rattle.widen_sheet.specs.Wide.{Front, Wide, Token, has, before, is_judged, kind_of_part, behind_part, behind_blanks, combinator, behind_combinator, begins_combinator, part_before, combinator_at, token_at, with_token, wide_from, is_combinator}
 use Rattle.widen_sheet.proofs.AttributeReads.{gap_over, calm_blanks}
-use Rattle.widen_sheet.proofs.PieceLemmas.{has_right, has_later}
+use Rattle.widen_sheet.proofs.PieceLemmas.{has_later}
 use Rattle.widen_sheet.proofs.QuietTexts.{QuietText, mild_quiet, mild_append, mild_bytes}
 use Rattle.widen_sheet.proofs.SlotPieces.{has_left}
-use Rattle.widen_sheet.proofs.TokenReads.{IsGood, IsFirst, IsLater, Some_first, Some_later, first_part_of, later_part, is_sign, sign_is}
+use Rattle.widen_sheet.proofs.TokenReads.{IsGood, Some_first, Some_later, first_part_of, later_part, is_sign}
 use Rattle.widen_sheet.proofs.WholeLemmas.{IsWhole, whole_token, first_gets_on, part_gets_on}
 
 -- ---- what may stand behind a part

@@ -24,3 +24,4 @@ pub mod SpelledNames
 pub mod SpelledQuiet
 pub mod SpelledItems
 pub mod SameItems
+pub mod SameSheets

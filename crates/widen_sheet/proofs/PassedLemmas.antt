@@ -1,11 +1,10 @@
 -- A list of selectors as chunks, each of which is passed over where it stands: also a string that a line end ends.
-use Rattle.std.proofs.Common.{◌≡◌, ℕ, suc, ◌+◌, ◌-◌, ◌==◌, ◌&&◌, ◌||◌, not, Bool, true, false, if◌then◌else◌, List, [], ◌∷◌, ◌++◌, length, drop, codes, refl, sym, ap, ◌∙◌, subst, arith, length-append, append_assoc, append-nil, inl, inr}
+use Rattle.std.proofs.Common.{◌≡◌, ℕ, ◌+◌, ◌-◌, ◌==◌, ◌&&◌, ◌||◌, not, Bool, true, false, if◌then◌else◌, List, [], ◌∷◌, ◌++◌, length, codes, refl, sym, ap, ◌∙◌, subst, arith, length-append, append_assoc, append-nil, inl, inr}
 use Rattle.std.proofs.lemmas.Bool.{and_parts, cases_Bool, not-true}
 use Rattle.std.proofs.lemmas.Bool.Decides.{nat_tests}
 use Rattle.std.proofs.lemmas.List.{take_at, drop_at, append_cancel_right}
 use Rattle.text_bytes.specs.Blanks.{is_blank}
-use Rattle.sel_text.specs.Bytes.{begins_with, behind_gap}
-use Rattle.css_read.specs.declared.sheets.Range.{Range}
+use Rattle.sel_text.specs.Bytes.{behind_gap}
 use Rattle.css_read.specs.Pieces.{with_unit, solid_len, piece_of, from_comma, first_piece, more_pieces, pieces}
 use Rattle.css_read.specs.Units.{is_quote, begins_comment, begins_gap, behind_string, behind_unit, after_byte, stops_at, from_first_in}
 use Rattle.css_read.proofs.Firsts.{skips}
@@ -13,7 +12,7 @@ use Rattle.css_read.proofs.FrontLemmas.{comment_unit}
 use Rattle.css_read.proofs.Lengths.{close_no_longer}
 use Rattle.css_read.proofs.PartLemmas.{comma, joined, IsPart, AreParts, PartsOf, one_comma, place_at, places, at_comma, more_step}
 use Rattle.css_read.proofs.ScanLemmas.{AreSameTo, unit_same, no_front}
-use Rattle.css_read.proofs.UnitLemmas.{Chunk, flat, flat-append, is_gap, IsUnit, AreUnits, ArePassed, brackets_after, has_none, other_unit, string_unit, gap_passed, gap_stops, strip, with_solid, solids, solid_step, ends_string, is_end, string_passed}
+use Rattle.css_read.proofs.UnitLemmas.{Chunk, flat, flat-append, is_gap, AreUnits, ArePassed, brackets_after, has_none, other_unit, string_unit, gap_passed, gap_stops, strip, with_solid, solids, solid_step, ends_string, is_end, string_passed}
 
 -- ---- one chunk
 

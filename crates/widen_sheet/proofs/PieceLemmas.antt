@@ -103,7 +103,7 @@ abbrev pub HasNoColon : List ℕ → Type 0
 HasNoColon [] = Unit {0}
 HasNoColon (c ∷ p) = (nat_eq c 58 ≡ false) × HasNoColon p
 
-same_front : (p : List ℕ) (ps : List Piece) → HasNoColon p → starts_with nat_eq (out_of ps) p ≡ true → starts_with nat_eq (text_of ps) p ≡ true
+pub same_front : (p : List ℕ) (ps : List Piece) → HasNoColon p → starts_with nat_eq (out_of ps) p ≡ true → starts_with nat_eq (text_of ps) p ≡ true
 same_front [] ps apart is = refl
 same_front (c ∷ p) [] apart is = absurd (true_not_false (sym is))
 same_front (c ∷ p) (byte b ∷ ps) apart is =

@@ -1,11 +1,11 @@
 -- Texts that are passed over by themselves wherever they stand: names, blanks, strings and marks.
-use Rattle.std.proofs.Common.{◌≡◌, ℕ, suc, ◌+◌, ◌<◌, ◌==◌, ◌&&◌, ◌||◌, not, Bool, true, false, List, [], ◌∷◌, ◌++◌, length, codes, refl, sym, ap, ◌∙◌, subst, arith, length-append, append_assoc, append-nil}
+use Rattle.std.proofs.Common.{◌≡◌, ℕ, ◌<◌, ◌==◌, ◌&&◌, ◌||◌, not, Bool, true, false, List, [], ◌∷◌, ◌++◌, length, codes, refl, sym, ap, ◌∙◌, arith, length-append, append_assoc, append-nil}
 use Rattle.std.specs.List.{list_all}
 use Rattle.std.proofs.lemmas.Bool.{and_parts}
 use Rattle.std.proofs.lemmas.Bool.Decides.{nat_tests}
 use Rattle.sel_text.proofs.NameLemmas.{not_byte}
 use Rattle.css_read.specs.Rules.{list_ends}
-use Rattle.css_read.specs.Units.{is_quote, begins_comment, behind_unit, after_byte, stops_at}
+use Rattle.css_read.specs.Units.{is_quote, behind_unit, after_byte, stops_at}
 use Rattle.css_read.proofs.FrontLemmas.{comment_unit}
 use Rattle.css_read.proofs.ListLemmas.{BeginsList}
 use Rattle.css_read.proofs.PartLemmas.{IsPart}

@@ -1,5 +1,5 @@
 -- The selectors of a widened sheet beside those of the sheet.
-use Rattle.std.proofs.Common.{◌≡◌, ℕ, ◌+◌, ◌-◌, ◌≤◌, ◌==◌, nat_le, Bool, true, false, if◌then◌else◌, List, [], ◌∷◌, ◌++◌, length, drop, map, slice_range, codes, Option, Some, None, Result, Ok, Err, refl, sym, ap, ◌∙◌, subst, arith, inl, inr}
+use Rattle.std.proofs.Common.{◌≡◌, ℕ, ◌+◌, ◌-◌, ◌≤◌, nat_le, Bool, true, false, List, [], ◌∷◌, length, drop, map, slice_range, codes, Option, Some, None, Result, Ok, Err, refl, sym, ap, ◌∙◌, subst, arith, inl, inr}
 use Rattle.std.proofs.lemmas.Bool.{cases_Bool}
 use Rattle.std.proofs.lemmas.Bool.Decides.{nat_tests}
 use Rattle.std.proofs.lemmas.List.{length-take-le, length-drop}
@@ -23,9 +23,9 @@ use Rattle.css_read.specs.Sheets.{Outcome, judged, skipped, Item}
 use Rattle.css_read.proofs.AgainLemmas.{IsKnownIn, AreKnownIn, IsReadAt, item_again}
 use Rattle.css_read.proofs.MovedLemmas.{OfNames, compounds_names}
 use Rattle.css_read.proofs.PieceOrder.{in_order}
-use Rattle.widen_sheet.specs.SameSheet.{atoms_in, if_few, wide_item, IsRead, IsLeft, IsSameItem, AreSameItems}
-use Rattle.widen_sheet.specs.Wide.{Wide, has, wide_of, kinds, compounds_left, widened_text, widens, bytes_at, widened_item, spelled, dropped}
-use Rattle.widen_sheet.proofs.ChangedRules.{Change, stays, becomes}
+use Rattle.widen_sheet.specs.SameSheet.{atoms_in, wide_item, IsRead, IsLeft, IsSameItem, AreSameItems}
+use Rattle.widen_sheet.specs.Wide.{Wide, has, wide_of, kinds, compounds_left, widens, bytes_at, widened_item, spelled, dropped}
+use Rattle.widen_sheet.proofs.ChangedRules.{stays, becomes}
 use Rattle.widen_sheet.proofs.ChangedTexts.{HasChange, IsPair, ArePairs}
 use Rattle.widen_sheet.proofs.JoinReads.{AreTokens, tokens_are}
 use Rattle.widen_sheet.proofs.SheetPieces.{widens_plain}

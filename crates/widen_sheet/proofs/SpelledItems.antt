@@ -1,14 +1,12 @@
 -- A selector of a widened sheet is read as what is left of the selector of the sheet.
-use Rattle.std.proofs.Common.{◌≡◌, ℕ, ◌-◌, ◌≤◌, Bool, true, false, if◌then◌else◌, List, [], ◌∷◌, ◌++◌, length, take, map, slice_range, codes, Option, Some, None, Ok, Err, refl, sym, ap, ◌∙◌, subst, arith, append-nil}
+use Rattle.std.proofs.Common.{◌≡◌, ℕ, ◌-◌, ◌≤◌, Bool, true, false, List, [], ◌∷◌, ◌++◌, length, take, slice_range, codes, Option, Some, None, Ok, Err, refl, sym, ap, ◌∙◌, subst, arith, append-nil}
 use Rattle.tp_base.specs.Names.{Named}
 use Rattle.sel_text.specs.declared.faults.SelFault.{SelFault}
 use Rattle.sel_text.specs.declared.faults.SelFault.TheVariants as sel
 use Rattle.sel_text.specs.declared.faults.TheConstants.{MOST_PARTS}
 use Rattle.sel_text.specs.declared.selectors.Compound.{Compound}
 use Rattle.sel_text.specs.Bytes.{behind_gap}
-use Rattle.sel_text.specs.Grammar as grammar
 use Rattle.sel_text.specs.Grammar.{Word}
-use Rattle.sel_text.specs.Parts.{selector_from}
 use Rattle.sel_text.specs.Reading as one
 use Rattle.sel_text.specs.Reading.{Ending, compounds_of, selector_or, read_syntax, read_piece, read_selector}
 use Rattle.sel_text.specs.Selectors.{Selector, simple}
@@ -17,14 +15,14 @@ use Rattle.sel_text.proofs.NameLemmas.{no_gap}
 use Rattle.widen_sheet.specs.declared.tokens.Kind.{Kind}
 use Rattle.widen_sheet.specs.declared.tokens.Kind.TheVariants.{Judged, Other, Inside, Child, Next, Later}
 use Rattle.widen_sheet.specs.SameSheet.{subject_of, atoms_in}
-use Rattle.widen_sheet.specs.Wide.{Wide, Token, has, is_combinator, goes, kinds, spelled, compounds_left, dropped}
+use Rattle.widen_sheet.specs.Wide.{Wide, has, is_combinator, goes, kinds, spelled, compounds_left, dropped}
 use Rattle.widen_sheet.specs.declared.marks.Mark.TheVariants as mark
 use Rattle.widen_sheet.proofs.JoinReads.{IsToken, AreTokens}
 use Rattle.widen_sheet.proofs.SlotPieces.{words}
 use Rattle.widen_sheet.proofs.SpelledNames.{number, IsKnown, AreKnown, AllKnown, compounds_known, compound_in, syntax_read, continued, words_in, HasWord, HaveWords, kept_left}
 use Rattle.widen_sheet.proofs.SpelledReads.{first_token, kept_token, kept}
 use Rattle.widen_sheet.proofs.SpelledSyntax.{whole_kept, spelled_syntax, front_ok, at_end}
-use Rattle.widen_sheet.proofs.TokenReads.{IsFirst, IsLater, good_none, later_first}
+use Rattle.widen_sheet.proofs.TokenReads.{IsFirst, good_none, later_first}
 
 -- ---- the atoms of a part
 

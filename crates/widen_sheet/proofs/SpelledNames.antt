@@ -1,18 +1,17 @@
 -- What a selector with its marks is read as: what is left of the selector.
-use Rattle.std.proofs.Common.{◌≡◌, ℕ, ◌+◌, ◌-◌, ◌≤◌, ◌&&◌, Bool, true, false, if◌then◌else◌, List, [], ◌∷◌, ◌++◌, length, take, map, reverse, slice_range, codes, Option, Some, None, Ok, Err, refl, sym, ap, ◌∙◌, subst, arith, length-append, append_assoc, append-nil, inl, inr}
+use Rattle.std.proofs.Common.{◌≡◌, ℕ, ◌≤◌, Bool, true, false, if◌then◌else◌, List, [], ◌∷◌, ◌++◌, length, map, reverse, Option, Some, None, Ok, Err, refl, sym, ap, ◌∙◌, subst, arith, append_assoc, append-nil}
 use Rattle.std.proofs.lemmas.List.{take_all, length-take, reverse-append}
 use Rattle.tp_base.specs.Names.{Named, with_name, IsFront}
 use Rattle.tp_base.proofs.Fronts.{front_itself, front_grown, front_of_front}
-use Rattle.sel_text.specs.declared.faults.SelFault.{SelFault}
 use Rattle.sel_text.specs.declared.faults.SelFault.TheVariants.{TooManyAtoms}
 use Rattle.sel_text.specs.declared.selectors.Compound.{Compound}
 use Rattle.sel_text.specs.declared.selectors.Join.{Join}
 use Rattle.sel_text.specs.declared.selectors.Join.TheVariants as code
 use Rattle.sel_text.specs.Grammar.{Outcome, Word}
-use Rattle.sel_text.specs.Parts.{join_of, and_then, with_parts, selector_from}
-use Rattle.sel_text.specs.Reading.{Ending, then_read, table_name, placed, atom_of, atoms_of, compounds_of, selector_or, read_syntax, read_piece, read_selector}
-use Rattle.sel_text.specs.Selectors.{Selector, Outer, simple, child, inside}
-use Rattle.sel_text.specs.Syntax.{Item, part, joined, Syntax, with_item, nothing}
+use Rattle.sel_text.specs.Parts.{join_of, with_parts, selector_from}
+use Rattle.sel_text.specs.Reading.{Ending, then_read, table_name, placed, atom_of, atoms_of, compounds_of, read_syntax}
+use Rattle.sel_text.specs.Selectors.{Selector, simple}
+use Rattle.sel_text.specs.Syntax.{part, joined, Syntax, with_item, nothing}
 use Rattle.widen_sheet.specs.declared.tokens.Kind.{Kind}
 use Rattle.widen_sheet.specs.declared.tokens.Kind.TheVariants.{Judged, Other, Inside, Child, Next, Later}
 use Rattle.widen_sheet.specs.Wide.{Wide, Token, is_combinator, goes, kinds, with_atoms, behind_join, dropped_at, dropped_back, dropped}

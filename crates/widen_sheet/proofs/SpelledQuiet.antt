@@ -1,18 +1,17 @@
 -- A selector with its marks is passed over by itself wherever it stands, and begins and ends with no gap.
-use Rattle.std.proofs.Common.{◌≡◌, ℕ, ◌+◌, ◌<◌, ◌==◌, Bool, true, false, List, [], ◌∷◌, ◌++◌, length, codes, Option, Some, None, refl, sym, ap, ◌∙◌, subst, arith, append_assoc, append-nil, inl, inr}
+use Rattle.std.proofs.Common.{◌≡◌, ℕ, ◌<◌, Bool, true, false, List, [], ◌∷◌, ◌++◌, length, codes, Some, None, refl, sym, ap, ◌∙◌, subst, arith, append-nil, inl, inr}
 use Rattle.std.proofs.lemmas.Bool.{cases_Bool}
 use Rattle.css_read.proofs.UnitLemmas.{Chunk, flat, strip, solids}
-use Rattle.css_read.proofs.ThinLemmas.{solid}
 use Rattle.css_read.proofs.ListLemmas.{BeginsList}
 use Rattle.widen_sheet.specs.declared.marks.Mark.{Mark}
 use Rattle.widen_sheet.specs.declared.marks.Mark.TheVariants as mark
 use Rattle.widen_sheet.specs.declared.tokens.Kind.{Kind}
 use Rattle.widen_sheet.specs.declared.tokens.Kind.TheVariants.{Judged, Other, Inside, Child, Next, Later}
-use Rattle.widen_sheet.specs.Wide.{Wide, Token, Slot, has, is_combinator, letter, opening, closing, goes, kinds, mark_of, slots_from, between, spelled_from, spelled}
+use Rattle.widen_sheet.specs.Wide.{Wide, has, opening, closing, goes, kinds, mark_of, slots_from, between, spelled_from, spelled}
 use Rattle.widen_sheet.proofs.ChangedRules.{IsQuiet}
-use Rattle.widen_sheet.proofs.JoinReads.{IsToken, AreTokens}
+use Rattle.widen_sheet.proofs.JoinReads.{AreTokens}
 use Rattle.widen_sheet.proofs.PieceLemmas.{has_right}
-use Rattle.widen_sheet.proofs.QuietTexts.{QuietText, TailText, part_then, front_then, join_then, nothing_behind, whole_mark, mark_is, mark_front, mark_solid}
+use Rattle.widen_sheet.proofs.QuietTexts.{TailText, part_then, front_then, join_then, nothing_behind, whole_mark, mark_is, mark_front, mark_solid}
 use Rattle.widen_sheet.proofs.SlotPieces.{words, has_left}
 use Rattle.widen_sheet.proofs.SpelledSyntax.{IsRun, IsApart, closes_at, goes_on, still, run_apart, wrong}
 

@@ -1,29 +1,23 @@
 -- What a selector with its marks reads as: the tokens that are judged, in the compounds that stay.
-use Rattle.std.proofs.Common.{◌≡◌, ℕ, zero, suc, ◌+◌, ◌-◌, ◌<◌, ◌==◌, ◌&&◌, ◌||◌, not, Bool, true, false, nat_lt, if◌then◌else◌, List, [], ◌∷◌, ◌++◌, length, drop, codes, Option, Some, None, Ok, refl, sym, ap, ◌∙◌, subst, arith, length-append, append_assoc, append-nil, inl, inr}
-use Rattle.std.specs.Option.{ok_or}
-use Rattle.std.proofs.lemmas.Bool.{cases_Bool, lt-ltb}
+use Rattle.std.proofs.Common.{◌≡◌, ℕ, zero, suc, ◌+◌, ◌-◌, ◌<◌, ◌==◌, Bool, true, false, if◌then◌else◌, List, [], ◌∷◌, ◌++◌, length, drop, codes, Option, Some, None, Ok, refl, sym, ap, ◌∙◌, arith, length-append, append_assoc}
+use Rattle.std.proofs.lemmas.Bool.{lt-ltb}
 use Rattle.std.proofs.lemmas.List.{drop_at}
-use Rattle.std.specs.List.{starts_with}
-use Rattle.text_bytes.specs.Blanks.{is_blank}
 use Rattle.sel_text.specs.declared.faults.TheConstants.{MOST_PARTS}
 use Rattle.sel_text.specs.declared.selectors.Join.{Join}
 use Rattle.sel_text.specs.declared.selectors.Join.TheVariants as code
 use Rattle.sel_text.specs.Bytes.{begins_with, begins_name, name_len, behind_close, behind_gap}
-use Rattle.sel_text.specs.Readable.{IsName}
 use Rattle.sel_text.specs.Grammar.{Word, Begun, is_dropped_element, is_dropped_class, any_part, first_part, part_of, behind_near, join_at}
-use Rattle.sel_text.specs.Syntax.{Item, part, joined, ended, whole_part, first_item, behind_join, later_item, item_at, finished_after, begun_after, Syntax, with_item, nothing, then_syntax, syntax_from}
+use Rattle.sel_text.specs.Syntax.{Item, part, joined, whole_part, first_item, later_item, item_at, finished_after, begun_after, Syntax, with_item, nothing, syntax_from}
 use Rattle.sel_text.proofs.Gaps.{gap_skip, stops}
 use Rattle.sel_text.proofs.NameLemmas.{IsStart, no_comment, no_gap}
 use Rattle.widen_sheet.specs.declared.marks.Mark.{Mark}
-use Rattle.widen_sheet.specs.declared.marks.Mark.TheVariants as mark
 use Rattle.widen_sheet.specs.declared.tokens.Kind.{Kind}
-use Rattle.widen_sheet.specs.declared.tokens.Kind.TheVariants.{Judged, Other, Inside, Child, Next, Later}
-use Rattle.widen_sheet.specs.Wide.{Wide, Token, Slot, has, is_combinator, is_sibling, letter, joint, opening, closing, goes, kinds, run_behind, mark_of, slots_from, between, spelled_from, spelled, joints, compounds_left}
-use Rattle.widen_sheet.proofs.JoinReads.{IsBehind, good_behind, IsJoin, inside_is, child_is, IsToken, AreTokens}
-use Rattle.widen_sheet.proofs.PieceLemmas.{close_found, has_right}
+use Rattle.widen_sheet.specs.declared.tokens.Kind.TheVariants.{Judged, Other, Inside, Child}
+use Rattle.widen_sheet.specs.Wide.{Wide, has, is_combinator, letter, joint, opening, closing, goes, kinds}
+use Rattle.widen_sheet.proofs.JoinReads.{IsJoin, IsToken, AreTokens}
+use Rattle.widen_sheet.proofs.PieceLemmas.{close_found}
 use Rattle.widen_sheet.proofs.QuietTexts.{whole_mark, mark_is, still_none}
-use Rattle.widen_sheet.proofs.SlotPieces.{words, has_left}
-use Rattle.widen_sheet.proofs.TokenReads.{IsGood, IsFirst, IsLater, Some_first, Some_later, pseudo_is, sign_is, is_sign, sign_start, later_first}
+use Rattle.widen_sheet.proofs.TokenReads.{IsGood, IsFirst, IsLater, pseudo_is, sign_start, later_first}
 
 -- ---- one item
 

@@ -1,21 +1,21 @@
 -- The syntax of a selector with its marks is that of what stays.
-use Rattle.std.proofs.Common.{◌≡◌, ℕ, suc, ◌+◌, ◌<◌, ◌≤◌, ◌==◌, ◌&&◌, ◌||◌, not, Bool, true, false, if◌then◌else◌, List, [], ◌∷◌, ◌++◌, length, codes, Option, Some, None, refl, sym, ap, ◌∙◌, subst, arith, append_assoc, append-nil, inl, inr}
+use Rattle.std.proofs.Common.{◌≡◌, ℕ, ◌+◌, ◌<◌, ◌≤◌, ◌==◌, ◌||◌, not, Bool, true, false, if◌then◌else◌, List, [], ◌∷◌, ◌++◌, codes, Option, Some, None, refl, sym, ap, ◌∙◌, subst, arith, append_assoc, append-nil, inl, inr}
 use Rattle.std.proofs.lemmas.Bool.{cases_Bool}
 use Rattle.text_bytes.specs.Blanks.{is_blank}
 use Rattle.sel_text.specs.declared.faults.TheConstants.{MOST_PARTS}
 use Rattle.sel_text.specs.declared.selectors.Join.{Join}
 use Rattle.sel_text.specs.declared.selectors.Join.TheVariants as code
-use Rattle.sel_text.specs.Syntax.{Item, part, joined, Syntax, with_item, nothing, syntax_from}
+use Rattle.sel_text.specs.Syntax.{part, joined, Syntax, with_item, nothing, syntax_from}
 use Rattle.sel_text.proofs.NameLemmas.{IsStart}
 use Rattle.widen_sheet.specs.declared.marks.Mark.{Mark}
 use Rattle.widen_sheet.specs.declared.marks.Mark.TheVariants as mark
 use Rattle.widen_sheet.specs.declared.tokens.Kind.{Kind}
 use Rattle.widen_sheet.specs.declared.tokens.Kind.TheVariants.{Judged, Other, Inside, Child, Next, Later}
-use Rattle.widen_sheet.specs.Wide.{Wide, Token, Slot, has, is_combinator, is_sibling, letter, joint, opening, closing, goes, kinds, run_behind, mark_of, slots_from, between, spelled_from, spelled, joints, compounds_left}
-use Rattle.widen_sheet.proofs.JoinReads.{is_behind, IsBehind, good_behind, IsJoin, inside_is, child_is, IsToken, AreTokens}
+use Rattle.widen_sheet.specs.Wide.{Wide, Slot, has, letter, opening, closing, goes, kinds, run_behind, mark_of, slots_from, between, spelled_from, spelled, joints, compounds_left}
+use Rattle.widen_sheet.proofs.JoinReads.{is_behind, IsBehind, good_behind, inside_is, child_is, IsToken, AreTokens}
 use Rattle.widen_sheet.proofs.PieceLemmas.{has_right}
 use Rattle.widen_sheet.proofs.SlotPieces.{words, has_left}
-use Rattle.widen_sheet.proofs.SpelledReads.{first_token, later_token, join_token, mark_read, kept_token, kept}
+use Rattle.widen_sheet.proofs.SpelledReads.{first_token, later_token, join_token, mark_read, kept}
 use Rattle.widen_sheet.proofs.TokenReads.{is_sign}
 
 pub wrong : {A : Type 0} → true ≡ false → A

@@ -1,6 +1,6 @@
 -- How the parts of a wide selector read that are judged, before what may stand behind them.
-use Rattle.std.proofs.Common.{◌≡◌, ℕ, suc, ◌+◌, ◌-◌, ◌<◌, ◌≤◌, ◌==◌, ◌&&◌, ◌||◌, not, Bool, true, false, nat_lt, if◌then◌else◌, List, [], ◌∷◌, ◌++◌, length, take, drop, slice_range, codes, Option, Some, None, IfSome, Ok, Err, option_map, option_and_then, refl, sym, ap, ◌∙◌, subst, arith, length-append, append_assoc, append-nil, take-append-drop, inl, inr}
-use Rattle.std.specs.List.{list_all, prefix_len}
+use Rattle.std.proofs.Common.{◌≡◌, ℕ, ◌-◌, ◌<◌, ◌≤◌, ◌==◌, ◌&&◌, ◌||◌, not, Bool, true, false, nat_lt, if◌then◌else◌, List, [], ◌∷◌, ◌++◌, length, take, drop, slice_range, codes, Option, Some, None, IfSome, Ok, option_map, option_and_then, refl, sym, ap, ◌∙◌, subst, arith, append_assoc, append-nil, take-append-drop, inl, inr}
+use Rattle.std.specs.List.{list_all}
 use Rattle.std.proofs.lemmas.Bool.{cases_Bool, and_parts, or_parts, eqb-true}
 use Rattle.std.proofs.lemmas.Bool.Decides.{nat_tests}
 use Rattle.std.proofs.lemmas.List.{append_cancel_right}
@@ -8,22 +8,21 @@ use Rattle.std.proofs.lemmas.Option.{same_Some}
 use Rattle.std.proofs.Math.Seq.{take-append_seam, drop-append_seam}
 use Rattle.text_bytes.specs.Blanks.{is_blank}
 use Rattle.text_bytes.specs.Rests.{IsRest}
-use Rattle.tp_base.specs.declared.atoms.AtomKind.{AtomKind}
 use Rattle.tp_base.specs.declared.atoms.AtomKind.TheVariants as kind
 use Rattle.sel_text.specs.Bytes.{begins_with, in_name, begins_name, name_len, behind_gap}
 use Rattle.sel_text.specs.Readable.{IsName}
-use Rattle.sel_text.specs.Grammar.{Outcome, Word, Begun, whole, wanting, given, is_dropped_element, is_dropped_class, behind_word, behind_dropped, attribute_part, any_part, first_part, name_at, part_of}
+use Rattle.sel_text.specs.Grammar.{Word, Begun, whole, wanting, given, is_dropped_element, is_dropped_class, behind_word, behind_dropped, attribute_part, any_part, first_part, part_of}
 use Rattle.sel_text.specs.Syntax.{first_item, item_at, syntax_from, syntax_of}
 use Rattle.sel_text.specs.Reading.{atoms_of, compounds_of, read_syntax, read_piece, read_selector}
 use Rattle.sel_text.proofs.ByteRuns.{all_by}
 use Rattle.sel_text.proofs.Lowered as lowered
-use Rattle.sel_text.proofs.NameLemmas.{not_byte, is_start, IsStart, start_of_byte, no_gap, name_begins, begins_more, first_of_name, IsEnd, name_len-append, reads_name}
+use Rattle.sel_text.proofs.NameLemmas.{not_byte, is_start, IsStart, no_gap, name_begins, begins_more, first_of_name, IsEnd, name_len-append, reads_name}
 use Rattle.css_read.specs.Units.{begins_comment, begins_gap}
 use Rattle.css_read.proofs.UnitLemmas.{Chunk, split_end, with_solid, solids}
 use Rattle.widen_sheet.specs.Wide as spec
 use Rattle.widen_sheet.specs.Wide.{has, before, is_ok, is_judged, behind_brackets, behind_call, behind_pseudo, behind_part}
 use Rattle.widen_sheet.proofs.AttributeReads.{attribute_body, IsBody, name_quiet, name_all, len_ends}
-use Rattle.widen_sheet.proofs.QuietTexts.{is_quiet, mild_bytes, mild_quiet, QuietText, FrontText, EndsSolid, solids_some, in_brackets}
+use Rattle.widen_sheet.proofs.QuietTexts.{is_quiet, mild_bytes, mild_quiet, FrontText, EndsSolid, solids_some, in_brackets}
 use Rattle.widen_sheet.proofs.WholeLemmas.{brackets_rests}
 
 -- ---- texts without gaps at their ends

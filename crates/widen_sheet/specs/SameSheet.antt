@@ -64,5 +64,4 @@ pub record IsSameSheet (names : List Named) (text wide : List ℕ) (s again : Sh
 
 -- a sheet that is widened, and what is read of it then, whatever names were in the table before
 abbrev pub HasSameSheet : List ℕ → Type 0
-HasSameSheet text =
-    (wide : List ℕ) (names later others last : List Named) (s again : Sheet) → widen text ≡ Ok wide → read_sheet text names ≡ (later, Ok s) → read_sheet wide others ≡ (last, Ok again) → IsSameSheet last text wide s again
+HasSameSheet text = (wide : List ℕ) (later others last : List Named) (s again : Sheet) → widen text ≡ Ok wide → read_sheet text [] ≡ (later, Ok s) → read_sheet wide others ≡ (last, Ok again) → IsSameSheet last text wide s again

@@ -1,1 +1,0 @@
-use Rattle.widen_sheet.proofs.SpelledSyntax.{spelled_syntax}
