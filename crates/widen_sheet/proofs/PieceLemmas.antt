@@ -103,7 +103,7 @@ abbrev pub HasNoColon : List ℕ → Type 0
 HasNoColon [] = Unit {0}
 HasNoColon (c ∷ p) = (nat_eq c 58 ≡ false) × HasNoColon p
 
-same_front : (p : List ℕ) (ps : List Piece) → HasNoColon p → starts_with nat_eq (out_of ps) p ≡ true → starts_with nat_eq (text_of ps) p ≡ true
+pub same_front : (p : List ℕ) (ps : List Piece) → HasNoColon p → starts_with nat_eq (out_of ps) p ≡ true → starts_with nat_eq (text_of ps) p ≡ true
 same_front [] ps apart is = refl
 same_front (c ∷ p) [] apart is = absurd (true_not_false (sym is))
 same_front (c ∷ p) (byte b ∷ ps) apart is =
@@ -138,7 +138,7 @@ not_close : (x : ℕ) (own r : List ℕ) → starts_with nat_eq (x ∷ own) (cod
 not_close x [] r none = and_false (nat_eq 42 x)
 not_close x (y ∷ own) r none = none
 
-close_found : (own r : List ℕ) → has (codes "*/") own ≡ false → behind_close (own ++ 126 ∷ 42 ∷ 47 ∷ r) ≡ r
+pub close_found : (own r : List ℕ) → has (codes "*/") own ≡ false → behind_close (own ++ 126 ∷ 42 ∷ 47 ∷ r) ≡ r
 unfolding behind_mark
 close_found [] r none = refl
 close_found (x ∷ own) r none = rw (not_close x own (42 ∷ 47 ∷ r) (has_here (codes "*/") x own none)) (close_found own r (has_later (codes "*/") x own none))

@@ -65,7 +65,7 @@ plain_parts : (bs : List ℕ) → is_plain bs ≡ true → has (codes "*/") bs �
 unfolding is_plain
 plain_parts bs is = not_so (has (codes "*/") bs) (and_parts (not (list_any (λ b. b == 92) bs)) (not (has (codes "*/") bs)) is).1
 
-widens_plain : (o : Outcome) (bs : List ℕ) → widens o bs ≡ true → has (codes "*/") bs ≡ false
+pub widens_plain : (o : Outcome) (bs : List ℕ) → widens o bs ≡ true → has (codes "*/") bs ≡ false
 widens_plain (judged s) bs is = cc
 widens_plain (skipped why at) bs is = plain_parts bs (and_parts (can_widen why) (is_plain bs) is).1
 
@@ -130,7 +130,7 @@ back_whole : (text out : List ℕ) → IsPieces out text → has (codes "/*~") t
 unfolding back
 back_whole text out is none = ap (back_from (length out) false 0) (sym is.spelt) ∙ goes_back (length out) false is.parts is.whole (rw is.stands none) ∙ ap Ok is.stands
 
-limited : (out wide : List ℕ) → within_limit out ≡ Ok wide → out ≡ wide
+pub limited : (out wide : List ℕ) → within_limit out ≡ Ok wide → out ≡ wide
 limited out wide is = elim (cases_Bool (nat_le (length out) MOST_BYTES)) [
   | inl yes' ↦ let e = rw yes' at is in let same : out ≡ wide = cc in same
   | inr other ↦ let e = rw other at is in cc

@@ -49,7 +49,7 @@ name_gets_on b bs = by_len (name_len (b ∷ bs))
     by_len zero = tt
     by_len (suc n) = let e : nat_lt 0 (suc n) ≡ true = grind (arith, nat_tests) in rw e (dropped (suc n) (b ∷ bs), omega (arith, drop_less n bs))
 
-brackets_rests : (bs closers : List ℕ) (n : ℕ) → Rests bs (behind_brackets closers n bs)
+pub brackets_rests : (bs closers : List ℕ) (n : ℕ) → Rests bs (behind_brackets closers n bs)
 unfolding behind_brackets
 brackets_rests [] closers n = tt
 brackets_rests (b ∷ bs) closers (suc n) = further (b ∷ bs) bs (behind_brackets closers n bs) (behind_first b bs) (brackets_rests bs closers n)
@@ -77,7 +77,7 @@ pseudo_rests : (bs : List ℕ) → Rests bs (behind_pseudo bs)
 unfolding behind_pseudo
 pseudo_rests bs = let at = if begins_with 58 bs then drop 1 bs else bs in called (behind_name at) bs (further bs at (behind_name at) (colon_rest bs) (name_rests at))
 
-part_gets_on : (bs : List ℕ) → GetsOn bs (behind_part bs)
+pub part_gets_on : (bs : List ℕ) → GetsOn bs (behind_part bs)
 unfolding behind_part
 part_gets_on [] = tt
 part_gets_on (b ∷ bs) =
@@ -85,7 +85,7 @@ part_gets_on (b ∷ bs) =
     (one_of (GetsOn (b ∷ bs)) (b == 58) (behind_pseudo bs) _ (deeper b bs _ (pseudo_rests bs))
     (one_of (GetsOn (b ∷ bs)) (b == 91) (behind_brackets (93 ∷ []) 0 bs) None (deeper b bs _ (brackets_rests bs (93 ∷ []) 0)) tt))
 
-first_gets_on : (bs : List ℕ) → GetsOn bs (spec.behind_first bs)
+pub first_gets_on : (bs : List ℕ) → GetsOn bs (spec.behind_first bs)
 unfolding spec.behind_first
 first_gets_on [] = tt
 first_gets_on (b ∷ bs) =

@@ -1,6 +1,7 @@
 -- What public contracts cite.
 pub mod Command
 pub mod Runs
+pub mod SameSheet
 pub mod Tells
 pub mod Wide
 -- What the code has is to the definitions.
