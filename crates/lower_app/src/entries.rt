@@ -75,12 +75,7 @@ fn push_subject(key: &mut Vec<u8>, name: &[u8], origin: Origin) -> Result<(), No
 
 /// An assumption at a place: of the function of this name, or, where there is none, of the place. Linear in the name.
 #[tactic(auto, unfolding(crate::specs::Entries::assumption))]
-pub fn assumption(
-    alloc: Global,
-    kind: Kind,
-    name: &[u8],
-    origin: Origin,
-) -> Result<Entry, NoMemory>
+pub fn assumption(alloc: Global, kind: Kind, name: &[u8], origin: Origin) -> Result<Entry, NoMemory>
     ensures { IfOk result (λ e. e ≡ spec.assumption kind name.now origin) }
 {
     let mut key = Vec::from_slice(alloc, kind_word(kind))?;

@@ -12,4 +12,4 @@ pub use entries::{assumption, statement};
 pub use files::Placed;
 pub use given::{Call, Entry, Form, Kind, Origin};
 pub use lines::{HEADER, assumption_line, statement_line};
-pub use output::{joined, lines_of};
+pub use output::{joined, line_in};

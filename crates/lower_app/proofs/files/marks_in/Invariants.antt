@@ -1,4 +1,4 @@
-use Rattle.std.proofs.Common.{◌≤◌, ◌-◌, ◌+◌, length, All}
+use Rattle.std.proofs.Common.{◌-◌, ◌+◌, length, All}
 use Rattle.tp_base.specs.Cursor.{IsAt}
 use Rattle.lower_app.proofs.files.marks_in.Given as goal
 
