@@ -19,14 +19,6 @@ pub enum Call {
     Tag(Items<u8>),
 }
 
-/// A statement. `is_any_name` says that all names are given that are asked for.
-#[derive(Debug, Drop)]
-pub struct Given {
-    pub call: Call,
-    pub origin: Origin,
-    pub is_any_name: bool,
-}
-
 /// Why an assumption is made.
 #[derive(Clone, Copy, Debug, PartialEq, Eq)]
 pub enum Kind {
@@ -50,9 +42,20 @@ pub enum Kind {
     Unread,
 }
 
-/// An assumption.
+/// What a line is.
 #[derive(Clone, Copy, Debug, PartialEq, Eq)]
-pub struct Assumed {
-    pub kind: Kind,
+pub enum Form {
+    /// An assumption.
+    Assumed(Kind),
+    /// A statement. It says whether all names are given that are asked for.
+    Given(bool),
+}
+
+/// A line, before it is written. The key of a statement is its call, and that of an assumption tells it from others: a line whose key has come isn't
+/// written.
+#[derive(Debug, Drop)]
+pub struct Entry {
+    pub form: Form,
+    pub key: Items<u8>,
     pub origin: Origin,
 }

@@ -5,8 +5,7 @@ ghost use Rattle.std.specs.List.{prefix_len};
 ghost use Rattle.premise_finds.specs.Details.{in_line};
 ghost use Rattle.lower_app.specs.Lines as spec;
 
-use crate::given::{Call, Given, Kind};
-use crate::quoting::push_quoted;
+use crate::given::Kind;
 use itoa::Buffer;
 use premise_finds::shown_of;
 use std::alloc::Global;
@@ -30,6 +29,15 @@ fn push_word(line: &mut Vec<u8>, word: &[u8]) -> Result<(), NoMemory>
     Ok(())
 }
 
+/// Puts a number behind a line.
+pub(crate) fn push_count(line: &mut Vec<u8>, number: usize) -> Result<(), NoMemory>
+    ensures { OnOk result (line.new.items ≡ line.old.items ++ decimal number) }
+{
+    let mut digits = Buffer::new();
+    line.extend_from_slice(digits.format(number).as_bytes())?;
+    Ok(())
+}
+
 fn push_number(line: &mut Vec<u8>, number: u32) -> Result<(), NoMemory>
     ensures { OnOk result (line.new.items ≡ line.old.items ++ decimal number) }
 {
@@ -50,7 +58,8 @@ fn push_origin(line: &mut Vec<u8>, word: &[u8], place: Place) -> Result<(), NoMe
     Ok(())
 }
 
-fn kind_word(kind: Kind) -> &'static [u8]
+/// The word of an assumption.
+pub(crate) fn kind_word(kind: Kind) -> &'static [u8]
     ensures { result.now ≡ spec.kind_word kind }
 {
     match kind {
@@ -108,30 +117,6 @@ pub fn assumption_line(
     Ok(line)
 }
 
-#[tactic(auto, using(crate::proofs::LineSteps::three, crate::proofs::LineSteps::five))]
-fn push_call(line: &mut Vec<u8>, call: &Call) -> Result<(), NoMemory>
-    ensures { OnOk result (line.new.items ≡ line.old.items ++ spec.call_text call.now) }
-{
-    match call {
-        Call::Classes(words) => {
-            line.extend_from_slice(b"addClass(")?;
-            push_quoted(line, words.items())?;
-        }
-        Call::Attribute(name, value) => {
-            line.extend_from_slice(b"attr(")?;
-            push_quoted(line, name.items())?;
-            line.extend_from_slice(b", ")?;
-            push_quoted(line, value.items())?;
-        }
-        Call::Tag(text) => {
-            line.extend_from_slice(b"append(")?;
-            push_quoted(line, text.items())?;
-        }
-    }
-    line.extend_from_slice(b")")?;
-    Ok(())
-}
-
 #[tactic(auto, using(crate::proofs::LineSteps::one))]
 fn push_name_note(line: &mut Vec<u8>, is_any_name: bool) -> Result<(), NoMemory>
     ensures { OnOk result (line.new.items ≡ line.old.items ++ spec.name_note is_any_name) }
@@ -142,21 +127,22 @@ fn push_name_note(line: &mut Vec<u8>, is_any_name: bool) -> Result<(), NoMemory>
     Ok(())
 }
 
-/// The line of a statement, from a place in a file with this word. Linear in it.
+/// The line of a statement with this call, from a place in a file with this word. Linear in it.
 #[tactic(auto, unfolding(crate::specs::Lines::statement_line))]
 pub fn statement_line(
     alloc: Global,
     word: &[u8],
     place: Place,
-    given: &Given,
+    call: &[u8],
+    is_any_name: bool,
 ) -> Result<Vec<u8>, NoMemory>
-    ensures { IfOk result (λ line. line.items ≡ spec.statement_line word.now place given.now.call given.now.is_any_name) }
+    ensures { IfOk result (λ line. line.items ≡ spec.statement_line word.now place call.now is_any_name) }
 {
     let mut line = Vec::from_slice(alloc, b"$('*').")?;
-    push_call(&mut line, &given.call)?;
+    line.extend_from_slice(call)?;
     line.extend_from_slice(b"; // ")?;
     push_origin(&mut line, word, place)?;
-    push_name_note(&mut line, given.is_any_name)?;
+    push_name_note(&mut line, is_any_name)?;
     line.extend_from_slice(b"\n")?;
     Ok(line)
 }
