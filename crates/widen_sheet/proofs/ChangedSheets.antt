@@ -286,8 +286,10 @@ pub record AreInPieces (text wide : List ℕ) (s again : Sheet) : Type 0 where
 behind_front : (at : ℕ) (front wide text : List ℕ) (left ss : List Span) (s again : Sheet) → length front ≡ at → wide ≡ front ++ bytes_of left → text ≡ front ++ bytes_of ss → steps_of wide ≡ steps_at at left → steps_of text ≡ steps_at at ss → IsTwinSheet at at left ss again.items s.items → AreInPieces text wide s again
 behind_front at front wide text left ss s again before wide_is text_is steps steps_text twin =
     let first = plain front in
+    let out_size : 0 + length (out_of first.parts) ≡ at = omega (arith, ap length first.spelt, before) in
+    let text_size : 0 + length (piece_text first.parts) ≡ at = omega (arith, ap length first.stands, before) in
     let here : (e f : ℕ) → Meets at at twin.parts e f → Meets 0 0 (first.parts ++ twin.parts) e f = λ e f meets.
-    meets_behind 0 0 first.parts twin.parts e f (subst (λ (n : ℕ). Meets n (length (piece_text first.parts)) twin.parts e f) (sym (ap length first.spelt ∙ before)) (subst (λ (n : ℕ). Meets at n twin.parts e f) (sym (ap length first.stands ∙ before)) meets))
+    meets_behind 0 0 first.parts twin.parts e f (subst (λ (n : ℕ). Meets n (0 + length (piece_text first.parts)) twin.parts e f) (sym out_size) (subst (λ (n : ℕ). Meets at n twin.parts e f) (sym text_size) meets))
     in
     record {
       parts = first.parts ++ twin.parts;

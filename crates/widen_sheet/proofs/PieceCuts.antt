@@ -91,6 +91,12 @@ twins_append M [] (t ∷ ts) qs us first second = absurd first
 twins_append M (r ∷ rs) [] qs us first second = absurd first
 twins_append M (r ∷ rs) (t ∷ ts) qs us first second = (first.0, first.1, twins_append M rs ts qs us first.2 second)
 
+pub and_same : (x y u v : Bool) → x ≡ y → u ≡ v → (x && u) ≡ (y && v)
+and_same x y u v first second = rw (first, second) refl
+
+or_same : (x y u v : Bool) → x ≡ y → u ≡ v → (x || u) ≡ (y || v)
+or_same x y u v first second = rw (first, second) refl
+
 pub twins_to : (M N : ℕ → ℕ → Type 0) (rs ts : List Range) → ((e f : ℕ) → M e f → N e f) → AreTwins M rs ts → AreTwins N rs ts
 twins_to M N [] [] more twins = tt
 twins_to M N [] (t ∷ ts) more twins = absurd twins
@@ -140,22 +146,22 @@ cut_same a c p ps (r ∷ rs) (t ∷ ts) k n twins low high low_text high_text =
     let later = cut_same a c p ps rs ts k n twins.2 low high low_text high_text in
     let from = same_side a c p r.from t.from k n (aside a c p ps r.from t.from twins.0) low high low_text high_text in
     let to = same_side a c p r.to t.to k n (aside a c p ps r.to t.to twins.1) low high low_text high_text in
-    (rw (from.le, to.lt, later.0) refl, rw (from.le_text, to.lt_text, later.1) refl)
+    (or_same (is_in k r) (is_in a r) _ _ (and_same _ _ _ _ from.le to.lt) later.0, or_same (is_in n t) (is_in a r) _ _ (and_same _ _ _ _ from.le_text to.lt_text) later.1)
 
 -- the same of the text with marks, also where the piece stands for nothing
 cut_out : (a c : ℕ) (p : Piece) (ps : List Piece) (rs ts : List Range) (k : ℕ) → AreTwins (Stands a c (p ∷ ps)) rs ts → a ≤ k → k < a + out_size p → IsCut rs k ≡ IsCut rs a
 cut_out a c p ps [] ts k twins low high = refl
 cut_out a c p ps (r ∷ rs) [] k twins low high = absurd twins
 cut_out a c p ps (r ∷ rs) (t ∷ ts) k twins low high =
-    rw (le_same (aside a c p ps r.from t.from twins.0), lt_same (aside a c p ps r.to t.to twins.1), cut_out a c p ps rs ts k twins.2 low high) refl
+    or_same (is_in k r) (is_in a r) _ _ (and_same _ _ _ _ (le_same r.from t.from (aside a c p ps r.from t.from twins.0)) (lt_same r.to t.to (aside a c p ps r.to t.to twins.1))) (cut_out a c p ps rs ts k twins.2 low high)
   where
-    le_same : {e f : ℕ} → IsAside a c p e f → nat_le e k ≡ nat_le e a
-    le_same {e} {f} (inl before) = le_here k e (omega (arith, before.0, low)) ∙ sym (le_here a e before.0)
-    le_same {e} {f} (inr behind) = le_not k e (omega (arith, behind.0, high)) ∙ sym (le_not a e (omega (arith, behind.0, high, low)))
+    le_same : (e f : ℕ) → IsAside a c p e f → nat_le e k ≡ nat_le e a
+    le_same e f (inl before) = le_here k e (omega (arith, before.0, low)) ∙ sym (le_here a e before.0)
+    le_same e f (inr behind) = le_not k e (omega (arith, behind.0, high)) ∙ sym (le_not a e (omega (arith, behind.0, high, low)))
 
-    lt_same : {e f : ℕ} → IsAside a c p e f → nat_lt k e ≡ nat_lt a e
-    lt_same {e} {f} (inl before) = lt_not k e (omega (arith, before.0, low)) ∙ sym (lt_not a e before.0)
-    lt_same {e} {f} (inr behind) = lt_here k e (omega (arith, behind.0, high)) ∙ sym (lt_here a e (omega (arith, behind.0, high, low)))
+    lt_same : (e f : ℕ) → IsAside a c p e f → nat_lt k e ≡ nat_lt a e
+    lt_same e f (inl before) = lt_not k e (omega (arith, before.0, low)) ∙ sym (lt_not a e before.0)
+    lt_same e f (inr behind) = lt_here k e (omega (arith, behind.0, high)) ∙ sym (lt_here a e (omega (arith, behind.0, high, low)))
 
 -- ---- the pieces that stay
 

@@ -8,6 +8,7 @@ use Rattle.css_read.specs.Reading.{read_sheet}
 use Rattle.css_read.specs.Rules.{Rule, rules_of}
 use Rattle.css_read.specs.Sheets.{Sheet}
 use Rattle.css_read.proofs.ItemLemmas.{ranges_of, sheet_of}
+use Rattle.css_read.proofs.KeptLemmas.{sheets_kept}
 use Rattle.css_read.proofs.PrunedLemmas.{steps_are, rules_steps}
 use Rattle.css_read.proofs.PrunedText.{accepted}
 use Rattle.css_read.proofs.SpanLemmas.{rules_in}
@@ -49,6 +50,7 @@ put_by text wide s again flags is twins none =
     ap (λ (bs : List ℕ). back_from (length bs) false 0 bs) out ∙ goes_back (length (out_of left)) false left (whole_kept 0 rs is.parts is.whole) (ap (has (codes "/*~")) (sym all) ∙ none) ∙ ap Ok (sym all)
 
 pub put_back_sheet : (text : List ℕ) → HasPutBack text
-put_back_sheet text wide later others last s again flags is read read_again count none =
+put_back_sheet text wide later others last s again flags is read read_again count =
     let same = sheet_same text wide later others last s again is read read_again in
-    put_by text wide s again flags same.pieces (twins_of text wide s again flags same.pieces (rules_of_sheet text [] later s read) (rules_of_sheet wide others last again read_again)) none
+    let left = sheets_kept wide others last again flags read_again count in
+    record { rest = left.0; stays = left.1; gives = put_by text wide s again flags same.pieces (twins_of text wide s again flags same.pieces (rules_of_sheet text [] later s read) (rules_of_sheet wide others last again read_again)) }

@@ -12,7 +12,7 @@ use Rattle.css_read.specs.Sheets.{Item}
 use Rattle.css_read.proofs.ItemLemmas.{ranges_of}
 use Rattle.css_read.proofs.SpanLemmas.{rules_in}
 use Rattle.widen_sheet.specs.Pruned.{lists_by}
-use Rattle.widen_sheet.proofs.PieceCuts.{AreTwins, twins_append}
+use Rattle.widen_sheet.proofs.PieceCuts.{AreTwins, twins_append, and_same}
 
 -- ---- steps of one kind, with the same places
 
@@ -78,12 +78,15 @@ twin_end M n e f [] [] here twins = here
 twin_end M n e f [] (t ∷ ts) here twins = absurd twins
 twin_end M n e f (s ∷ ss) [] here twins = absurd twins
 twin_end M n e f (s ∷ ss) (t ∷ ts) here twins =
-    rw (kind_ends s.front t.front n twins.0, kind_depth s.front t.front n twins.0) (by (ends_block n t.front) (twin_end M (depth_after n t.front) s.to t.to ss ts twins.2 twins.3))
+    by (ends_block n s.front) (ends_block n t.front) (kind_ends s.front t.front n twins.0)
+    (subst (λ (d : ℕ). M (last_end s.to (in_block (depth_after n s.front) ss)) (last_end t.to (in_block d ts))) (kind_depth s.front t.front n twins.0) (twin_end M (depth_after n s.front) s.to t.to ss ts twins.2 twins.3))
   where
-    by : (test : Bool) → M (last_end s.to (in_block (depth_after n t.front) ss)) (last_end t.to (in_block (depth_after n t.front) ts))
-        → M (last_end s.to (if test then [] else in_block (depth_after n t.front) ss)) (last_end t.to (if test then [] else in_block (depth_after n t.front) ts))
-    by true later = twins.2
-    by false later = later
+    by : (x y : Bool) → x ≡ y → M (last_end s.to (in_block (depth_after n s.front) ss)) (last_end t.to (in_block (depth_after n t.front) ts))
+        → M (last_end s.to (if x then [] else in_block (depth_after n s.front) ss)) (last_end t.to (if y then [] else in_block (depth_after n t.front) ts))
+    by true true same later = twins.2
+    by false false same later = later
+    by true false same later = cc
+    by false true same later = cc
 
 -- the ranges alone, whatever the text and the numbers of the open blocks are
 pub twin_holders : (M : ℕ → ℕ → Type 0) (wide text : List ℕ) (n m : ℕ) (outer inner : List ℕ) (ss ts : List Step) → AreTwinSteps M ss ts → AreTwins M (wholes (holders_from wide n outer ss)) (wholes (holders_from text m inner ts))
@@ -205,7 +208,7 @@ twin_all : (M : ℕ → ℕ → Type 0) (fs gs : List Flagged) → AreTwinFlags 
 twin_all M [] [] twins = refl
 twin_all M [] (g ∷ gs) twins = absurd twins
 twin_all M (f ∷ fs) [] twins = absurd twins
-twin_all M (f ∷ fs) (g ∷ gs) twins = rw (twins.1, twin_all M fs gs twins.2) refl
+twin_all M (f ∷ fs) (g ∷ gs) twins = and_same f.1 g.1 (list_all goes fs) (list_all goes gs) twins.1 (twin_all M fs gs twins.2)
 
 twin_last : (M : ℕ → ℕ → Type 0) (e h : ℕ) (fs gs : List Flagged) → M e h → AreTwinFlags M fs gs → M (end_of_last e fs) (end_of_last h gs)
 twin_last M e h [] [] here twins = here

@@ -45,37 +45,36 @@ twin_both a c out text later rest js is others more x y = record {
       (items_to (Meets (a + length out) (c + length text) y.parts) (Meets a c (x.parts ++ y.parts)) others more (behind a c x.parts y.parts out text x.spelt x.stands) y.items);
 }
 
--- a selector between two gaps
-twin_between : (a c : ℕ) (front last new old : List ℕ) (j i : Item) → IsPieces new old → j.from ≡ a + length front → j.to ≡ a + length front + length new → i.from ≡ c + length front → i.to ≡ c + length front + length old → j.rule ≡ i.rule
-    → IsTwinList a c (front ++ (new ++ last)) (front ++ (old ++ last)) (j ∷ []) (i ∷ [])
-twin_between a c front last new old j i is from to from_text to_text rule =
-    let lead = plain front in
-    let trail = plain last in
-    let rest = is.parts ++ trail.parts in
-    let a2 = a + length front in
-    let c2 = c + length front in
-    let inner = both new old last last is trail in
-    let whole = both front front (new ++ last) (old ++ last) lead inner in
+-- a selector before a gap
+twin_own : (a c : ℕ) (new old last : List ℕ) (j i : Item) → IsPieces new old → j.from ≡ a → j.to ≡ a + length new → i.from ≡ c → i.to ≡ c + length old → j.rule ≡ i.rule → IsTwinList a c (new ++ last) (old ++ last) (j ∷ []) (i ∷ [])
+twin_own a c new old last j i is from to from_text to_text rule =
+    let gap = plain last in
     record {
-      parts = lead.parts ++ rest;
-      spelt = whole.spelt;
-      stands = whole.stands;
-      whole = whole.whole;
+      parts = is.parts ++ gap.parts;
+      spelt = out_both is.parts gap.parts ∙ ap (λ (r : List ℕ). r ++ out_of gap.parts) is.spelt ∙ ap (λ (r : List ℕ). new ++ r) gap.spelt;
+      stands = text_both is.parts gap.parts ∙ ap (λ (r : List ℕ). r ++ text_of gap.parts) is.stands ∙ ap (λ (r : List ℕ). old ++ r) gap.stands;
+      whole = whole_both is.parts gap.parts is.whole gap.whole;
       items = (
         record {
-          from = behind a c lead.parts rest front front lead.spelt lead.stands j.from i.from (meets_start a2 c2 rest j.from i.from (sym from) (sym from_text));
-          to = behind a c lead.parts rest front front lead.spelt lead.stands j.to i.to (behind a2 c2 is.parts trail.parts new old is.spelt is.stands j.to i.to (meets_start (a2 + length new) (c2 + length old) trail.parts j.to i.to (sym to) (sym to_text)));
+          from = meets_start a c (is.parts ++ gap.parts) j.from i.from (sym from) (sym from_text);
+          to = behind a c is.parts gap.parts new old is.spelt is.stands j.to i.to (meets_start (a + length new) (c + length old) gap.parts j.to i.to (sym to) (sym to_text));
           rule = rule;
         },
         tt,
       );
     }
 
+-- and between two gaps
+twin_between : (a c : ℕ) (front last new old : List ℕ) (j i : Item) → IsPieces new old → j.from ≡ a + length front → j.to ≡ a + length front + length new → i.from ≡ c + length front → i.to ≡ c + length front + length old → j.rule ≡ i.rule
+    → IsTwinList a c (front ++ (new ++ last)) (front ++ (old ++ last)) (j ∷ []) (i ∷ [])
+twin_between a c front last new old j i is from to from_text to_text rule =
+    twin_both a c front front (new ++ last) (old ++ last) [] [] (j ∷ []) (i ∷ []) (twin_plain a c front) (twin_own (a + length front) (c + length front) new old last j i is from to from_text to_text rule)
+
 -- ---- a part
 
 lead_left : (gaps : List Chunk) (d : Chunk) (ds : List Chunk) → AreGaps gaps → is_gap d ≡ false → lead (gaps ++ d ∷ ds) ≡ gaps
-lead_left [] d ds gaps none = rw none refl
-lead_left (g ∷ gaps) d ds gaps none = rw gaps.0 (ap (λ (cs : List Chunk). g ∷ cs) (lead_left gaps d ds gaps.1 none))
+lead_left [] d ds are none = rw none refl
+lead_left (g ∷ gaps) d ds are none = rw are.0 (ap (λ (cs : List Chunk). g ∷ cs) (lead_left gaps d ds are.1 none))
 
 quiet_lead : (gaps cs behind : List Chunk) → AreGaps gaps → 0 < length cs → BeginsList cs → lead (gaps ++ (cs ++ behind)) ≡ gaps
 quiet_lead gaps [] behind are some begins = absurd (omega (arith, some))
@@ -146,6 +145,7 @@ twin_none a c = record { parts = []; spelt = refl; stands = refl; whole = tt; it
 
 pub twin_span : (a c : ℕ) (f g : Front) (out text : List ℕ) (left ss : List Span) (js is others more : List Item) → IsSameKind f g → IsTwinList a c out text js is → IsTwinSheet (a + length out) (c + length text) left ss others more
     → IsTwinSheet a c ((record { front = f; bytes = out }) ∷ left) ((record { front = g; bytes = text }) ∷ ss) (js ++ others) (is ++ more)
+unfolding twin_both
 twin_span a c f g out text left ss js is others more kind x y =
     let list = twin_both a c out text (bytes_of left) (bytes_of ss) js is others more x (record { parts = y.parts; spelt = y.spelt; stands = y.stands; whole = y.whole; items = y.items }) in
     let next = behind a c x.parts y.parts out text x.spelt x.stands in
