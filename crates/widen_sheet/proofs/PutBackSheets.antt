@@ -5,15 +5,15 @@ use Rattle.css_read.specs.declared.sheets.Range.{Range}
 use Rattle.css_read.specs.Holders.{steps_of, holders_of, owners_of}
 use Rattle.css_read.specs.Pruned.{with_flags, gone_rules, gone_holders, gone_ranges, wholes, lists_cuts, cuts, without, pruned}
 use Rattle.css_read.specs.Reading.{read_sheet}
-use Rattle.css_read.specs.Rules.{Rule, rules_of}
+use Rattle.css_read.specs.Rules.{rules_of}
 use Rattle.css_read.specs.Sheets.{Sheet}
 use Rattle.css_read.proofs.ItemLemmas.{ranges_of, sheet_of}
 use Rattle.css_read.proofs.KeptLemmas.{sheets_kept}
 use Rattle.css_read.proofs.PrunedLemmas.{steps_are, rules_steps}
 use Rattle.css_read.proofs.PrunedText.{accepted}
 use Rattle.css_read.proofs.SpanLemmas.{rules_in}
-use Rattle.widen_sheet.specs.Pruned.{lists_by, gone_of, cuts_by, left_by, with_marks, without_marks, AreFree, HasPutBack}
-use Rattle.widen_sheet.specs.Wide.{opening, closing, Slot, has, opens_mark, widened_item, widen, back_from, back}
+use Rattle.widen_sheet.specs.Pruned.{gone_of, cuts_by, left_by, with_marks, without_marks, AreFree, HasPutBack}
+use Rattle.widen_sheet.specs.Wide.{opening, closing, Slot, has, opens_mark, back_from, back}
 use Rattle.widen_sheet.proofs.ChangedSheets.{AreInPieces}
 use Rattle.widen_sheet.proofs.PieceCuts.{Meets, AreTwins, twins_append, kept, out_kept, text_kept, whole_kept}
 use Rattle.widen_sheet.proofs.PieceLemmas as pieces

@@ -1,23 +1,22 @@
 -- A sheet in which other selectors stand, and the sheet, in the same pieces: where selectors and what holds rules begin and end.
-use Rattle.std.proofs.Common.{◌≡◌, ℕ, suc, ◌+◌, ◌-◌, ◌<◌, Bool, true, false, if◌then◌else◌, List, [], ◌∷◌, ◌++◌, length, map, slice_range, refl, sym, ap, ◌∙◌, subst, arith, length-append, append_assoc}
+use Rattle.std.proofs.Common.{◌≡◌, ℕ, suc, ◌+◌, ◌-◌, ◌<◌, false, List, [], ◌∷◌, ◌++◌, length, slice_range, refl, sym, ap, ◌∙◌, subst, arith, append_assoc}
 use Rattle.css_read.specs.declared.fronts.Front.{Front}
-use Rattle.css_read.specs.declared.sheets.Range.{Range}
 use Rattle.css_read.specs.Order.{range_of}
 use Rattle.css_read.specs.Sheets.{Item}
 use Rattle.css_read.proofs.CutLemmas.{size_of}
 use Rattle.css_read.proofs.ItemLemmas.{AreOf}
 use Rattle.css_read.proofs.ListLemmas.{BeginsList}
-use Rattle.css_read.proofs.PartLemmas.{comma, joined, place_at, places}
+use Rattle.css_read.proofs.PartLemmas.{comma, joined, place_at}
 use Rattle.css_read.proofs.RelistLemmas.{joined_size}
 use Rattle.css_read.proofs.SpanLemmas.{Span, bytes_of, steps_at}
 use Rattle.css_read.proofs.ThinLemmas.{lead, solid, trail, AreGaps, lead_gaps}
 use Rattle.css_read.proofs.UnitLemmas.{Chunk, flat, flat-append, is_gap}
-use Rattle.widen_sheet.proofs.ChangedRules.{IsQuiet, Change, stays, becomes, IsChange, changed_part, changed_parts, changed_list, first_change, other_changes}
+use Rattle.widen_sheet.proofs.ChangedRules.{Change, stays, becomes, IsChange, changed_part, changed_parts, changed_list, first_change, other_changes}
 use Rattle.widen_sheet.proofs.ChangedTexts.{HasChange, text_after, changes, part_flat, changed_flat, changed_text, is_at, StandsAt, stands_at, AreListed, heads_same, none_is, some_is, tails_same, listed_next}
 use Rattle.widen_sheet.proofs.PieceCuts.{Meets, meets_start, meets_front, meets_behind}
 use Rattle.widen_sheet.proofs.PieceLemmas.{Piece, out_of, text_of, AreWhole}
-use Rattle.widen_sheet.proofs.SheetPieces.{IsPieces, plain, both, out_both, text_both, whole_both}
-use Rattle.widen_sheet.proofs.TwinCuts.{IsSameKind, AreTwinSteps, steps_to, IsTwinItem, AreTwinItems, items_append, items_to}
+use Rattle.widen_sheet.proofs.SheetPieces.{IsPieces, plain, out_both, text_both, whole_both}
+use Rattle.widen_sheet.proofs.TwinCuts.{IsSameKind, AreTwinSteps, steps_to, AreTwinItems, items_append, items_to}
 
 -- ---- a text in pieces, with the selectors in it
 
