@@ -12,7 +12,7 @@ use Rattle.css_read.proofs.KeptLemmas.{sheets_kept}
 use Rattle.css_read.proofs.PrunedLemmas.{steps_are, rules_steps}
 use Rattle.css_read.proofs.PrunedText.{accepted}
 use Rattle.css_read.proofs.SpanLemmas.{rules_in}
-use Rattle.widen_sheet.specs.Pruned.{gone_of, cuts_by, left_by, with_marks, without_marks, AreFree, HasPutBack}
+use Rattle.widen_sheet.specs.Pruned.{gone_of, cuts_by, left_by, with_marks, without_marks, AreWhole, AreFree, HasPutBack}
 use Rattle.widen_sheet.specs.Wide.{opening, closing, Slot, has, opens_mark, back_from, back}
 use Rattle.widen_sheet.proofs.ChangedSheets.{AreInPieces}
 use Rattle.widen_sheet.proofs.PieceCuts.{Meets, AreTwins, twins_append, kept, out_kept, text_kept, whole_kept}
@@ -76,6 +76,12 @@ slots_text [] = refl
 slots_text (byte b ∷ ps) = ap (λ (bs : List ℕ). b ∷ bs) (slots_text ps)
 slots_text (marked m own ∷ ps) = ap (λ (bs : List ℕ). own ++ bs) (slots_text ps)
 
+slots_whole : (ps : List Piece) → pieces.AreWhole ps → AreWhole (slots_of ps)
+unfolding slots_of slot_of
+slots_whole [] are = tt
+slots_whole (byte b ∷ ps) are = (tt, slots_whole ps are)
+slots_whole (marked m own ∷ ps) are = (are.0, slots_whole ps are.1)
+
 slots_free : (star : Bool) (ps : List Piece) → pieces.AreFree star ps → AreFree star (slots_of ps)
 unfolding slots_of slot_of
 slots_free star [] free = tt
@@ -103,7 +109,7 @@ put_back_sheet text wide later others last s again flags is read read_again coun
     record {
       rest = left.0;
       stays = left.1;
-      marks = record { slots = slots_of kept_is.parts; marked = slots_out kept_is.parts ∙ kept_is.spelt; stands = slots_text kept_is.parts ∙ kept_is.stands };
+      marks = record { slots = slots_of kept_is.parts; marked = slots_out kept_is.parts ∙ kept_is.spelt; stands = slots_text kept_is.parts ∙ kept_is.stands; whole = slots_whole kept_is.parts kept_is.whole };
       free = λ none. slots_free false kept_is.parts (none_free false kept_is.parts (ap (has (codes "/*~")) kept_is.stands ∙ none));
       gives = put_by (pruned wide again flags) (left_by text s wide again flags) kept_is;
     }

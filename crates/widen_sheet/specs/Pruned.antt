@@ -60,11 +60,21 @@ abbrev pub without_marks : List Slot → List ℕ
 without_marks [] = []
 without_marks (s ∷ ss) = s.text ++ without_marks ss
 
+-- no comment ends in a text that stands in a mark
+abbrev pub IsWhole : Option Mark → List ℕ → Type 0
+IsWhole None text = Unit {0}
+IsWhole (Some m) text = has (codes "*/") text ≡ false
+
+abbrev pub AreWhole : List Slot → Type 0
+AreWhole [] = Unit {0}
+AreWhole (s ∷ ss) = IsWhole s.mark s.text × AreWhole ss
+
 -- the one text is the other with some marks, each of which is whole
 pub record IsMarked (out text : List ℕ) : Type 0 where
   pub slots : List Slot
   pub marked : with_marks slots ≡ out
   pub stands : without_marks slots ≡ text
+  pub whole : AreWhole slots
 
 -- Each `/*~` that begins in these bytes, before others, has a `*` before it; one may stand before the bytes.
 abbrev pub IsFree : Bool → List ℕ → List ℕ → Type 0
