@@ -1,1 +1,4 @@
-mod StopLemmas
+pub mod StopLemmas
+pub mod TextLemmas
+pub mod ValueLemmas
+pub mod WritingLemmas

@@ -4,7 +4,7 @@
 --     Reports ..      what is found in two texts is written, or why nothing is
 --     Runs ..         the same from loading on
 --     IsRun ..        and from the words on, with what is said of it
-use Rattle.std.specs.Prelude.{◌≡◌, ◌⊎◌, ℕ, ◌<◌, ◌≤◌, ◌==◌, Bool, true, false, if◌then◌else◌, List, [], ◌∷◌, ◌++◌, length, Option, Some, None, IfSome, Result, Ok, Err, Vec}
+use Rattle.std.specs.Prelude.{◌≡◌, ◌⊎◌, ℕ, ◌<◌, ◌≤◌, ◌==◌, true, false, if◌then◌else◌, List, [], ◌∷◌, ◌++◌, length, Option, Some, None, IfSome, Result, Ok, Err, Vec}
 use Rattle.std.specs.Str.Lossy.{utf8_valid_len}
 use Rattle.std.specs.declared.alloc.Global.{Global}
 use Rattle.tp_base.specs.Places.{place_at}
@@ -90,7 +90,7 @@ status_by _ _ = status.Found
 abbrev pub WritesFound : List Name → List ℕ → List ℕ → Put → Result Status Stop → Type 0
 WritesFound names page sheet out r =
     ((in_page : List Finding) × (in_sheet : List Finding) × AreFound names Page page in_page × AreFound names Sheet sheet in_sheet
-        × WritesWith (report_of page in_page sheet in_sheet) (status_by in_page in_sheet) out r)
+    × WritesWith (report_of page in_page sheet in_sheet) (status_by in_page in_sheet) out r)
     ⊎ ((r ≡ Err NoMemory) × IsKept out)
 
 abbrev pub ReportsUnless : Option Stop → List Name → List ℕ → List ℕ → Put → Result Status Stop → Type 0

@@ -1,9 +1,7 @@
 -- How a run ends without its lines, and what it says then on standard error.
 use Rattle.std.specs.Prelude.{ℕ, List, ◌++◌, codes}
-use Rattle.tp_base.specs.declared.places.Place.{Place}
 use Rattle.premise_lines.specs.declared.words.WordsFault.{WordsFault}
 use Rattle.premise_lines.specs.declared.words.WordsFault.TheVariants as words
-use Rattle.premise_lines.specs.declared.stops.Part.{Part}
 use Rattle.premise_lines.specs.declared.stops.Status.{Status}
 use Rattle.premise_lines.specs.declared.stops.Status.TheVariants as status
 use Rattle.premise_lines.specs.declared.stops.Stop.{Stop}

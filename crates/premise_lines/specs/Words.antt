@@ -1,7 +1,7 @@
 -- The words of the command, as `clap` reads them: `--except` with a name, as often as one likes, and the names of two files.
 --     app          the command's description
 --     order_of     what the words ask for
-use Rattle.std.specs.Prelude.{true, Bool, if◌then◌else◌, List, [], ◌∷◌, ◌++◌, codes, Option, Some, None, option_map, option_and_then, unwrap_or}
+use Rattle.std.specs.Prelude.{true, if◌then◌else◌, List, [], ◌∷◌, ◌++◌, codes, Option, Some, None, option_map, option_and_then, unwrap_or}
 use Rattle.clap.specs.Faults.{fault_of}
 use Rattle.clap.specs.Kinds.{Kinds}
 use Rattle.clap.specs.Simple.{App, new_rule, new_shape, with_rule, matches_of}
@@ -32,7 +32,7 @@ abbrev pub with_name : List Name → Name → List Name
 with_name names n = if has_name names n then names else names ++ n ∷ []
 
 -- these names, and those that are written so, each once
-pub names_from : List Name → List Text → Option (List Name)
+abbrev pub names_from : List Name → List Text → Option (List Name)
 names_from names [] = Some names
 names_from names (t ∷ ts) = option_and_then (λ n. names_from (with_name names n) ts) (name_of t)
 

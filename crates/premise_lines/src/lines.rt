@@ -1,14 +1,14 @@
 //! The lines of findings.
 ghost use Rattle.std.specs.Prelude.{◌≡◌, ◌++◌, ◌-◌, ◌≤◌, length, take, drop, slice_range, IfOk, OnOk};
 ghost use Rattle.std.specs.Fmt.{decimal};
-ghost use Rattle.premise_finds.specs.Details.{found_text};
+ghost use Rattle.premise_finds.specs.Details.{found_text, shown_of};
 ghost use Rattle.tp_base.specs.Cursor.{IsAt};
 ghost use Rattle.tp_base.specs.declared.places.TheConstants.{MOST_BYTES};
 ghost use Rattle.premise_lines.specs.Lines as spec;
 
 use crate::stops::Part;
 use itoa::Buffer;
-use premise_finds::{Finding, shown_of};
+use premise_finds::{Finding, MOST_SHOWN, shown_of};
 use std::alloc::Global;
 use tp_base::{Cursor, NoMemory, Place};
 
@@ -33,18 +33,29 @@ pub(crate) fn put_place(line: &mut Vec<u8>, place: Place) -> Result<(), NoMemory
     put_number(line, place.column)
 }
 
-// The bytes of a text that a finding has.
+// The bytes of a text that a finding has. Constant.
+#[tactic(auto, using(crate::proofs::TextLemmas::range_within))]
 fn text_of<'a>(text: &'a [u8], finding: &Finding) -> &'a [u8]
     ensures { result.now ≡ found_text text.now finding.now }
 {
-    text.get(finding.from..finding.to).unwrap_or(b"")
+    let behind = text.split_at(finding.from.min(text.len())).1;
+    let len = finding.to.saturating_sub(finding.from);
+    behind.split_at(len.min(behind.len())).0
+}
+
+// What is shown of a finding with this text. Constant: no more is looked at than may be shown, and the byte behind it.
+#[tactic(auto, using(crate::proofs::TextLemmas::shown_of_front))]
+fn shown(found: &[u8]) -> &[u8]
+    ensures { result.now ≡ shown_of found.now }
+{
+    shown_of(found.split_at((MOST_SHOWN + 1).min(found.len())).0)
 }
 
 #[tactic(auto, unfolding(crate::specs::Lines::detail), using(std::proofs::Common::append_assoc))]
 fn put_detail(line: &mut Vec<u8>, found: &[u8]) -> Result<(), NoMemory>
     ensures { OnOk result (line.new.items ≡ line.old.items ++ spec.detail found.now) }
 {
-    let shown = shown_of(found);
+    let shown = shown(found);
     line.extend_from_slice(shown)?;
     if shown.len() != found.len() {
         line.extend_from_slice(b"..")?;
@@ -52,8 +63,7 @@ fn put_detail(line: &mut Vec<u8>, found: &[u8]) -> Result<(), NoMemory>
     Ok(())
 }
 
-/// The line of a finding in a file with this text. The cursor goes on in it. Linear in what the finding has, and in what the cursor
-/// passes.
+/// The line of a finding in a file with this text. The cursor goes on in it. Linear in what the cursor passes.
 #[tactic(auto, unfolding(crate::specs::Lines::line_of), using(std::proofs::Common::append_assoc))]
 pub(crate) fn line_of(
     alloc: Global,

@@ -103,8 +103,10 @@ fn write_lines<O: Sink>(alloc: Global, file: &Found<'_>, out: &mut O) -> Result<
     ensures { Writes (spec.lines_of file.now.part file.now.text.now file.now.findings.items) (put_of (O.written out.old) (O.written out.new) (O.faults out.old) (O.faults out.new)) result }
 {
     let mut cursor = Cursor::new();
-    'findings: for finding in &file.findings {
+    let mut left = file.findings.as_slice();
+    'findings: while let Some((finding, others)) = left.split_first() {
         write_line(alloc, file, finding, &mut cursor, out)?;
+        left = others;
     }
     Ok(())
 }

@@ -1,5 +1,5 @@
 //! What the words of the command ask for.
-ghost use Rattle.std.specs.Prelude.{◌≡◌, [], map, string_bytes, Some, None, IfOk, IsErrOf};
+ghost use Rattle.std.specs.Prelude.{◌≡◌, [], codes, map, string_bytes, Some, None, IfOk, IsErrOf};
 ghost use Rattle.clap.specs.Matches.{found_of};
 ghost use Rattle.clap.specs.Walk.{rows_of};
 ghost use Rattle.premise_lines.specs.Lines.{has_name, is_same};
@@ -130,13 +130,18 @@ fn order_by(alloc: Global, excepted: &[&str], files: &[&str]) -> Result<Order, W
     })
 }
 
-// The values that matches have of an option, or of the files.
-fn values<'m, 'a>(matches: &'m ArgMatches<'a>, id: &str) -> &'m [&'a str]
-    ensures { map (λ t. t.now) result.now ≡ spec.all_in id.now (rows_of (found_of matches.now)) }
+// The order that the files of matches give, with these values.
+fn order_with(
+    alloc: Global,
+    excepted: &[&str],
+    matches: &ArgMatches<'_>,
+) -> Result<Order, WordsFault>
+    ensures order { IfOk result (λ o. spec.order_by (map (λ t. t.now) excepted.now) (spec.all_in (codes "files") (rows_of (found_of matches.now))) ≡ Some o) }
+    ensures words { IsErrOf result WordsFault.Words → spec.order_by (map (λ t. t.now) excepted.now) (spec.all_in (codes "files") (rows_of (found_of matches.now))) ≡ None }
 {
-    match matches.get_strs(id) {
-        Some(values) => values,
-        None => &[],
+    match matches.get_strs("files") {
+        None => Err(WordsFault::Words),
+        Some(files) => order_by(alloc, excepted, files),
     }
 }
 
@@ -145,7 +150,10 @@ fn ordered(alloc: Global, matches: &ArgMatches<'_>) -> Result<Order, WordsFault>
     ensures order { IfOk result (λ o. spec.order_in (rows_of (found_of matches.now)) ≡ Some o) }
     ensures words { IsErrOf result WordsFault.Words → spec.order_in (rows_of (found_of matches.now)) ≡ None }
 {
-    order_by(alloc, values(matches, "except"), values(matches, "files"))
+    match matches.get_strs("except") {
+        None => order_with(alloc, &[], matches),
+        Some(excepted) => order_with(alloc, excepted, matches),
+    }
 }
 
 /// The order that the words after the program's name give: `--except` with a name, or `--except=NAME`, any number of times, and the
