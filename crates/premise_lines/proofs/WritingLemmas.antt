@@ -1,17 +1,15 @@
 -- One text written after another.
-use Rattle.std.proofs.Common.{◌≡◌, ℕ, min, List, [], ◌∷◌, ◌++◌, length, take, Option, Result, Ok, Err, sym, ap, ◌∙◌, arith, subst, inl}
+use Rattle.std.proofs.Common.{◌≡◌, ℕ, min, List, [], ◌∷◌, ◌++◌, length, take, Option, Result, Ok, Err, sym, ap, ◌∙◌, arith, subst}
 use Rattle.std.proofs.lemmas.List.{take_min, take-append-le}
 use Rattle.tp_io.specs.Sinks.{AddsPrefix}
 use Rattle.tp_io.proofs.SinkLemmas.{adds_nothing, adds_more, adds_prefix_more, rose_later}
 use Rattle.premise_lines.specs.declared.stops.Stop.{Stop}
 use Rattle.premise_lines.specs.declared.stops.Stop.TheVariants.{Words, TooLarge, ReadFault, NotUtf8, WriteFault, NoMemory}
 use Rattle.premise_finds.specs.declared.findings.Finding.{Finding}
-use Rattle.premise_finds.specs.declared.names.Name.{Name}
 use Rattle.premise_lines.specs.declared.stops.Part.{Part}
-use Rattle.premise_lines.specs.declared.stops.Part.TheVariants.{Page, Sheet}
 use Rattle.premise_lines.specs.declared.stops.Status.{Status}
-use Rattle.premise_lines.specs.Lines.{AreFound, line_of, lines_of, report_of}
-use Rattle.premise_lines.specs.Runs.{Writes, WritesWith, WritesFound, status_by}
+use Rattle.premise_lines.specs.Lines.{line_of, lines_of}
+use Rattle.premise_lines.specs.Runs.{Writes, WritesWith}
 use Rattle.premise_lines.specs.Tells.{Put, put_of}
 
 -- the first bytes of a front are the first bytes of the whole
@@ -55,12 +53,23 @@ module _ (part : Part) (text : List ℕ) (left others : List Finding) (x : Findi
 pub lines_of_none : (part : Part) (text : List ℕ) (left : List Finding) (held : Option (List ℕ)) (faults : ℕ) → left ≡ [] → Writes (lines_of part text left) (put_of held held faults faults) (Ok tt)
 lines_of_none part text left held faults none = subst (λ (z : List Finding). Writes (lines_of part text z) (put_of held held faults faults) (Ok tt)) (sym none) (nothing_written held faults)
 
-pub of_part : (p q : Part) → p ≡ q → (text : List ℕ) (found : List Finding) (out : Put) (r : Result (Unit {0}) Stop) → Writes (lines_of p text found) out r → Writes (lines_of q text found) out r
-of_part p q is text found out r writes = subst (λ (z : Part). Writes (lines_of z text found) out r) is writes
+pub line_unmade : (part : Part) (text : List ℕ) (left : List Finding) (held : Option (List ℕ)) (faults : ℕ) → Writes (lines_of part text left) (put_of held held faults faults) (Err NoMemory)
+line_unmade part text left held faults = ((0, adds_nothing held), omega arith)
+
+-- the same text
+pub as_text : (xs ys : List ℕ) → xs ≡ ys → (out : Put) (r : Result (Unit {0}) Stop) → Writes xs out r → Writes ys out r
+as_text xs ys is out r writes = subst (λ (z : List ℕ). Writes z out r) is writes
+
+pub as_lines : (part : Part) (text text' : List ℕ) (found found' : List Finding) → text ≡ text' → found ≡ found' → lines_of part text found ≡ lines_of part text' found'
+as_lines part text text' found found' same of = ap (λ (z : List ℕ). lines_of part z found) same ∙ ap (lines_of part text') of
 
 -- ---- the report
 
-pub found_written : (names : List Name) (page sheet page' sheet' : List ℕ) (in_page in_sheet : List Finding) (out : Put) (r : Result Status Stop) → page' ≡ page → sheet' ≡ sheet → AreFound names Page page in_page → AreFound names Sheet sheet in_sheet
-    → WritesWith (report_of page' in_page sheet' in_sheet) (status_by in_page in_sheet) out r → WritesFound names page sheet out r
-found_written names page sheet page' sheet' in_page in_sheet out r same_page same_sheet of_page of_sheet writes =
-    inl (in_page, in_sheet, of_page, of_sheet, subst (λ (z : List ℕ × List ℕ). WritesWith (report_of z.0 in_page z.1 in_sheet) (status_by in_page in_sheet) out r) (ap (λ (z : List ℕ). (z, sheet')) same_page ∙ ap (λ (z : List ℕ). (page, z)) same_sheet) writes)
+-- a text that is cut off has no status of its own
+pub cut_with : (text : List ℕ) (whole : Status) (out : Put) (e : Stop) → Writes text out (Err e) → WritesWith text whole out (Err e)
+cut_with text whole out Words is = absurd is
+cut_with text whole out (TooLarge p) is = absurd is
+cut_with text whole out (ReadFault p) is = absurd is
+cut_with text whole out (NotUtf8 p place) is = absurd is
+cut_with text whole out WriteFault is = is
+cut_with text whole out NoMemory is = is.0

@@ -16,6 +16,7 @@ use Rattle.premise_finds.specs.NameTexts.{text_of}
 use Rattle.premise_finds.specs.Orders.{AreInOrder}
 use Rattle.premise_finds.specs.Sheets.{sheet_findings}
 use Rattle.page_finds.specs.Pages.{page_findings}
+use Rattle.premise_lines.specs.declared.report.Report.{Report}
 use Rattle.premise_lines.specs.declared.stops.Part.{Part}
 use Rattle.premise_lines.specs.declared.stops.Part.TheVariants.{Page, Sheet}
 
@@ -68,5 +69,5 @@ abbrev pub lines_of : Part → List ℕ → List Finding → List ℕ
 lines_of part text found = flat_map (line_of part text) found
 
 -- the page's lines, and then the sheet's
-abbrev pub report_of : List ℕ → List Finding → List ℕ → List Finding → List ℕ
-report_of page in_page sheet in_sheet = header ++ lines_of Page page in_page ++ lines_of Sheet sheet in_sheet
+abbrev pub report_of : Report → List ℕ
+report_of f = header ++ lines_of Page f.page f.in_page ++ lines_of Sheet f.sheet f.in_sheet

@@ -1,9 +1,10 @@
 -- What a run of the command comes to.
---     OneLoaded ..    what loading a file comes to
---     Writes ..       what writing lines comes to
---     Reports ..      what is found in two texts is written, or why nothing is
---     Runs ..         the same from loading on
---     IsRun ..        and from the words on, with what is said of it
+--     OneLoaded ..      what loading a file comes to
+--     Finds ..          what two texts come to: what is found in them, or why they aren't read
+--     Reads ..          the same from loading on
+--     Ordered ..        the same by the words
+--     WritesWith ..     what writing comes to
+--     IsRun ..          all of it, with what is said
 use Rattle.std.specs.Prelude.{◌≡◌, ◌⊎◌, ℕ, ◌<◌, ◌≤◌, ◌==◌, true, false, if◌then◌else◌, List, [], ◌∷◌, ◌++◌, length, Option, Some, None, IfSome, Result, Ok, Err, Vec}
 use Rattle.std.specs.Str.Lossy.{utf8_valid_len}
 use Rattle.std.specs.declared.alloc.Global.{Global}
@@ -20,6 +21,7 @@ use Rattle.premise_lines.specs.declared.stops.Status.TheVariants as status
 use Rattle.premise_lines.specs.declared.stops.Stop.{Stop}
 use Rattle.premise_lines.specs.declared.stops.Stop.TheVariants.{Words, TooLarge, ReadFault, NotUtf8, WriteFault, NoMemory}
 use Rattle.premise_lines.specs.declared.words.Order.{Order}
+use Rattle.premise_lines.specs.declared.report.Report.{Report}
 use Rattle.premise_lines.specs.Lines.{AreFound, report_of}
 use Rattle.premise_lines.specs.Words.{order_of}
 use Rattle.premise_lines.specs.Tells.{Put, Tells}
@@ -48,6 +50,22 @@ OneLoaded told p name before after (Err (ReadFault q)) = (q ≡ p) × (after ≡
 OneLoaded told p name before after (Err NoMemory) = after ≡ before
 OneLoaded told p name before after (Err e) = ⊥
 
+-- the page is loaded, and then the sheet
+abbrev pub with_page : List ℕ → Result (List ℕ) Stop → Result (List ℕ × List ℕ) Stop
+with_page page (Ok sheet) = Ok (page, sheet)
+with_page page (Err e) = Err e
+
+abbrev pub ThenLoaded : Told → Order → Result (List ℕ) Stop → List Load → List Load → Result (List ℕ × List ℕ) Stop → Type 0
+ThenLoaded told o (Ok page) before after r = (sheet : Result (List ℕ) Stop) × OneLoaded told Sheet o.sheet before after sheet × (r ≡ with_page page sheet)
+ThenLoaded told o (Err e) before after r = (r ≡ Err e) × (after ≡ before)
+
+abbrev pub BothLoaded : Told → Order → List Load → List Load → Result (List ℕ × List ℕ) Stop → Type 0
+BothLoaded told o before after r = (page : Result (List ℕ) Stop) × (between : List Load) × OneLoaded told Page o.page before between page × ThenLoaded told o page between after r
+
+abbrev pub loaded_texts : Result (Vec ℕ Global × Vec ℕ Global) Stop → Result (List ℕ × List ℕ) Stop
+loaded_texts (Ok x) = Ok (x.0.items, x.1.items)
+loaded_texts (Err e) = Err e
+
 -- ---- reading
 
 -- why a file isn't read
@@ -59,8 +77,36 @@ abbrev pub first_of : Option Stop → Option Stop → Option Stop
 first_of None second = second
 first_of (Some stop) second = Some stop
 
-abbrev pub refusal_in : List ℕ → List ℕ → Option Stop
-refusal_in page sheet = first_of (refusal_of Page page) (refusal_of Sheet sheet)
+abbrev pub refusal_in : List ℕ × List ℕ → Option Stop
+refusal_in x = first_of (refusal_of Page x.0) (refusal_of Sheet x.1)
+
+-- what is found in a page and a sheet besides these names
+pub record IsFound (names : List Name) (x : List ℕ × List ℕ) (f : Report) : Type 0 where
+  pub page : f.page ≡ x.0
+  pub sheet : f.sheet ≡ x.1
+  pub in_page : AreFound names Page x.0 f.in_page
+  pub in_sheet : AreFound names Sheet x.1 f.in_sheet
+
+-- they are read, or refused; memory may run out at any time
+abbrev pub Finds : List Name → List ℕ × List ℕ → Result Report Stop → Type 0
+Finds names x (Ok f) = (refusal_in x ≡ None) × IsFound names x f
+Finds names x (Err NoMemory) = Unit {0}
+Finds names x (Err e) = refusal_in x ≡ Some e
+
+abbrev pub FindsLoaded : List Name → Result (List ℕ × List ℕ) Stop → Result Report Stop → Type 0
+FindsLoaded names (Ok x) r = Finds names x r
+FindsLoaded names (Err e) r = r ≡ Err e
+
+abbrev pub Reads : Told → Order → List Load → List Load → Result Report Stop → Type 0
+Reads told o before after r = (loaded : Result (List ℕ × List ℕ) Stop) × BothLoaded told o before after loaded × FindsLoaded o.excepted loaded r
+
+abbrev pub ReadsOrder : Told → Option Order → List Load → List Load → Result Report Stop → Type 0
+ReadsOrder told None before after r = (r ≡ Err Words) × (after ≡ before)
+ReadsOrder told (Some o) before after r = Reads told o before after r
+
+-- what the words ask for is read, or there was no memory to read them
+abbrev pub Ordered : Told → List (List ℕ) → List Load → List Load → Result Report Stop → Type 0
+Ordered told words before after r = ReadsOrder told (order_of words) before after r ⊎ ((r ≡ Err NoMemory) × (after ≡ before))
 
 -- ---- writing
 
@@ -86,44 +132,14 @@ abbrev pub status_by : List Finding → List Finding → Status
 status_by [] [] = status.Clear
 status_by _ _ = status.Found
 
--- what is found in two texts is written, or there was no memory to find it
-abbrev pub WritesFound : List Name → List ℕ → List ℕ → Put → Result Status Stop → Type 0
-WritesFound names page sheet out r =
-    ((in_page : List Finding) × (in_sheet : List Finding) × AreFound names Page page in_page × AreFound names Sheet sheet in_sheet
-    × WritesWith (report_of page in_page sheet in_sheet) (status_by in_page in_sheet) out r)
-    ⊎ ((r ≡ Err NoMemory) × IsKept out)
+abbrev pub status_of : Report → Status
+status_of f = status_by f.in_page f.in_sheet
 
-abbrev pub ReportsUnless : Option Stop → List Name → List ℕ → List ℕ → Put → Result Status Stop → Type 0
-ReportsUnless None names page sheet out r = WritesFound names page sheet out r
-ReportsUnless (Some stop) names page sheet out r = (r ≡ Err stop) × IsKept out
-
--- they are read, or refused
-abbrev pub Reports : List Name → List ℕ → List ℕ → Put → Result Status Stop → Type 0
-Reports names page sheet out r = ReportsUnless (refusal_in page sheet) names page sheet out r
+abbrev pub WritesRead : Result Report Stop → Put → Result Status Stop → Type 0
+WritesRead (Ok f) out r = WritesWith (report_of f) (status_of f) out r
+WritesRead (Err e) out r = (r ≡ Err e) × IsKept out
 
 -- ---- a run
-
--- with the page's text, and what loading the sheet came to
-abbrev pub WithSheet : List Name → List ℕ → Result (List ℕ) Stop → Put → Result Status Stop → Type 0
-WithSheet names page (Ok sheet) out r = Reports names page sheet out r
-WithSheet names page (Err e) out r = (r ≡ Err e) × IsKept out
-
--- with what loading the page came to
-abbrev pub WithPage : Told → Order → Result (List ℕ) Stop → List Load → List Load → Put → Result Status Stop → Type 0
-WithPage told o (Ok page) before after out r = (sheet : Result (List ℕ) Stop) × OneLoaded told Sheet o.sheet before after sheet × WithSheet o.excepted page sheet out r
-WithPage told o (Err e) before after out r = (r ≡ Err e) × (after ≡ before) × IsKept out
-
--- the page is loaded, and then the sheet
-abbrev pub Runs : Told → Order → List Load → List Load → Put → Result Status Stop → Type 0
-Runs told o before after out r = (page : Result (List ℕ) Stop) × (between : List Load) × OneLoaded told Page o.page before between page × WithPage told o page between after out r
-
-abbrev pub RunsOrder : Told → Option Order → List Load → List Load → Put → Result Status Stop → Type 0
-RunsOrder told None before after out r = (r ≡ Err Words) × (after ≡ before) × IsKept out
-RunsOrder told (Some o) before after out r = Runs told o before after out r
-
--- what the words ask for is done, or there was no memory to read them
-abbrev pub Ordered : Told → List (List ℕ) → List Load → List Load → Put → Result Status Stop → Type 0
-Ordered told words before after out r = RunsOrder told (order_of words) before after out r ⊎ ((r ≡ Err NoMemory) × (after ≡ before) × IsKept out)
 
 -- standard error gets nothing where all lines are written
 abbrev pub IsSaid : Result Status Stop → Put → Status → Type 0
@@ -131,6 +147,8 @@ IsSaid (Ok written) err s = (s ≡ written) × IsKept err
 IsSaid (Err stop) err s = Tells stop err s
 
 pub record IsRun (told : Told) (words : List (List ℕ)) (before after : List Load) (out err : Put) (s : Status) : Type 0 where
+  pub report : Result Report Stop
+  pub ordered : Ordered told words before after report
   pub answer : Result Status Stop
-  pub ordered : Ordered told words before after out answer
+  pub written : WritesRead report out answer
   pub said : IsSaid answer err s

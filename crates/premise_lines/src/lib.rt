@@ -3,12 +3,14 @@
 
 mod command;
 mod described;
+mod found;
 mod lines;
 mod loading;
-mod reports;
+mod report;
 mod stops;
 mod telling;
 mod words;
+mod writing;
 
 pub use command::premises_command;
 pub use stops::{Part, Status, Stop};

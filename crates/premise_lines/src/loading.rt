@@ -1,23 +1,17 @@
 //! Loading of files, and whether they can be read.
-ghost use Rattle.std.specs.Prelude.{◌≡◌};
-ghost use Rattle.std.specs.Option.{option_map};
+ghost use Rattle.std.specs.Prelude.{◌≡◌, ◌≤◌, length, IfOk};
 ghost use Rattle.tp_base.specs.declared.places.TheConstants.{MOST_BYTES};
-ghost use Rattle.std.specs.Prelude.{◌≤◌, length};
 ghost use Rattle.premise_lines.specs.Runs as spec;
 
 use crate::stops::{Part, Stop};
+use crate::words::Order;
 use bstr::ByteSlice;
 use std::alloc::Global;
 use tp_base::Cursor;
 use tp_io::{Files, LoadFault};
 
-/// Loads a file.
-pub(crate) fn load<F: Files>(
-    alloc: Global,
-    part: Part,
-    name: &str,
-    files: &mut F,
-) -> Result<Vec<u8>, Stop>
+// Loads a file.
+fn load<F: Files>(alloc: Global, part: Part, name: &str, files: &mut F) -> Result<Vec<u8>, Stop>
     ensures same_files { F.told files.new ≡ F.told files.old }
     ensures loaded { spec.OneLoaded (F.told files.old) part name.now (F.loads files.old) (F.loads files.new) (spec.loaded_text result) }
 {
@@ -27,6 +21,25 @@ pub(crate) fn load<F: Files>(
         Err(LoadFault::Failed) => Err(Stop::ReadFault(part)),
         Err(LoadFault::TooLarge) => Err(Stop::TooLarge(part)),
         Err(LoadFault::Memory) => Err(Stop::NoMemory),
+    }
+}
+
+/// Loads the page and then the sheet of an order.
+pub(crate) fn load_both<F: Files>(
+    alloc: Global,
+    order: &Order,
+    files: &mut F,
+) -> Result<(Vec<u8>, Vec<u8>), Stop>
+    ensures loaded { spec.BothLoaded (F.told files.old) order.now (F.loads files.old) (F.loads files.new) (spec.loaded_texts result) }
+    ensures page { IfOk result (λ t. length t.0.items ≤ MOST_BYTES) }
+    ensures sheet { IfOk result (λ t. length t.1.items ≤ MOST_BYTES) }
+{
+    match load(alloc, Part::Page, order.page.as_str(), files) {
+        Ok(page) => match load(alloc, Part::Sheet, order.sheet.as_str(), files) {
+            Ok(sheet) => Ok((page, sheet)),
+            Err(stop) => Err(stop),
+        },
+        Err(stop) => Err(stop),
     }
 }
 
@@ -49,7 +62,7 @@ fn refusal_of(part: Part, text: &[u8]) -> Option<Stop>
 pub(crate) fn refusal_in(page: &[u8], sheet: &[u8]) -> Option<Stop>
     requires page { length page.now ≤ MOST_BYTES }
     requires sheet { length sheet.now ≤ MOST_BYTES }
-    ensures { result ≡ spec.refusal_in page.now sheet.now }
+    ensures { result ≡ spec.refusal_in (page.now, sheet.now) }
 {
     match refusal_of(Part::Page, page) {
         Some(stop) => Some(stop),
