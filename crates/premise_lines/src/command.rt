@@ -1,7 +1,7 @@
 //! The command itself.
 ghost use Rattle.std.specs.Prelude.{◌≡◌, map, string_bytes};
 ghost use Rattle.premise_lines.specs.Runs.{Ordered, IsRun};
-ghost use Rattle.premise_lines.specs.Tells.{put_of};
+ghost use Rattle.premise_lines.specs.Tells.{SaysWhy, put_of};
 
 use crate::found::find;
 use crate::loading::load_both;
@@ -32,9 +32,10 @@ pub fn premises_command<F: Files, O: Sink, E: Sink>(
     out: &mut O,
     err: &mut E,
 ) -> Status
-    ensures { IsRun (F.told files.old) (map string_bytes words.now) (F.loads files.old) (F.loads files.new)
+    ensures ended { IsRun (F.told files.old) (map string_bytes words.now) (F.loads files.old) (F.loads files.new)
         (put_of (O.written out.old) (O.written out.new) (O.faults out.old) (O.faults out.new))
         (put_of (E.written err.old) (E.written err.new) (E.faults err.old) (E.faults err.new)) result }
+    ensures says_why { SaysWhy E.wants_memory (put_of (E.written err.old) (E.written err.new) (E.faults err.old) (E.faults err.new)) result }
 {
     match read(alloc, words, files) {
         Ok(report) => match write(alloc, &report, out) {

@@ -7,7 +7,7 @@ ghost use Rattle.std.specs.Process.{exit_status};
 ghost use Rattle.std.specs.IoError.{error_kind};
 ghost use Rattle.premise_lines.specs.Runs.{IsRun};
 ghost use Rattle.premise_lines.specs.Stops.{code_of};
-ghost use Rattle.premise_lines.specs.Tells.{put_of};
+ghost use Rattle.premise_lines.specs.Tells.{SaysWhy, put_of};
 
 use premise_lines::{Status, premises_command};
 use std::alloc::{AllocError, Global};
@@ -42,9 +42,10 @@ fn run<F: Files, O: Sink, E: Sink>(
     out: &mut O,
     err: &mut E,
 ) -> Status
-    ensures { IsRun (F.told files.old) (map string_bytes words.now) (F.loads files.old) (F.loads files.new)
+    ensures ended { IsRun (F.told files.old) (map string_bytes words.now) (F.loads files.old) (F.loads files.new)
         (put_of (O.written out.old) (O.written out.new) (O.faults out.old) (O.faults out.new))
         (put_of (E.written err.old) (E.written err.new) (E.faults err.old) (E.faults err.new)) result }
+    ensures says_why { SaysWhy E.wants_memory (put_of (E.written err.old) (E.written err.new) (E.faults err.old) (E.faults err.new)) result }
 {
     premises_command(alloc, words, files, out, err)
 }
