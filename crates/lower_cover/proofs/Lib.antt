@@ -1,0 +1,4 @@
+mod AskedLemmas
+mod EditLemmas
+mod StarLemmas
+mod StepLemmas

@@ -1,0 +1,50 @@
+-- What statements on all nodes give, up to the atoms that are asked for.
+--     AsksOnly asked s        the selector asks for no other atoms
+--     IsCovered asked l m     each asked atom of l is one of m
+--     SelectsAll s            the statement selects each node of each tree
+--     IsStar s                its chain is `$('*')`, outside all handlers
+--     IsGiven stmts a         one of the statements is on all nodes and adds the atom
+--     IsPut stmts m           one of them is on all nodes and puts a node with the label m, and no other node, last below
+use Rattle.std.specs.Prelude.{◌≡◌, ℕ, List, [], ◌∷◌, All, Contains}
+use Rattle.tree_sem.specs.Trees.{LabelTree, leaf}
+use Rattle.tree_sem.specs.Nodes.{IsNode}
+use Rattle.tree_sem.specs.declared.actions.Action.{Action}
+use Rattle.tree_sem.specs.declared.actions.Action.TheVariants.{Classes, Inside, Beside}
+use Rattle.sel_text.specs.Selectors.{Outer, Selector, simple}
+use Rattle.jq_stmts.specs.Statements.{matched, Chain, Statement}
+use Rattle.jq_sem.specs.Statements.{Selected}
+
+abbrev pub AskOnly : List ℕ → List Outer → Type 0
+AskOnly asked [] = Unit {0}
+AskOnly asked (o ∷ outer) = All (Contains asked) o.atoms × AskOnly asked outer
+
+abbrev pub AsksOnly : List ℕ → Selector → Type 0
+AsksOnly asked s = All (Contains asked) s.subject × AskOnly asked s.outer
+
+abbrev pub IsCovered : List ℕ → List ℕ → List ℕ → Type 0
+IsCovered asked l m = (a : ℕ) → Contains asked a → Contains l a → Contains m a
+
+abbrev pub SelectsAll : Statement → Type 0
+SelectsAll s = (t : LabelTree) (v : List ℕ) → IsNode t v → Selected t s v
+
+abbrev pub star : Chain
+star = record { root = matched (simple [] ∷ []); calls = [] }
+
+abbrev pub IsStar : Statement → Type 0
+IsStar s = (s.handlers ≡ []) × (s.chain ≡ star)
+
+abbrev pub Adds : Action → ℕ → Type 0
+Adds (Classes classes) a = Contains classes a
+Adds (Inside forest) a = ⊥
+Adds (Beside forest) a = ⊥
+
+abbrev pub Puts : Action → List ℕ → Type 0
+Puts (Classes classes) m = ⊥
+Puts (Inside forest) m = forest.tops ≡ leaf m ∷ []
+Puts (Beside forest) m = ⊥
+
+abbrev pub IsGiven : List Statement → ℕ → Type 0
+IsGiven stmts a = (s : Statement) × Contains stmts s × SelectsAll s × Adds s.action a
+
+abbrev pub IsPut : List Statement → List ℕ → Type 0
+IsPut stmts m = (s : Statement) × Contains stmts s × SelectsAll s × Puts s.action m

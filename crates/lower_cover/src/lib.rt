@@ -1,0 +1,6 @@
+//! Laws: code that only does what statements on all nodes allow reaches no selector that these don't reach.
+#![tactic(auto)]
+
+mod laws;
+
+pub use laws::{edits_reach_nothing_more, star_selects_all};
