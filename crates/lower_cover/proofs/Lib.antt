@@ -1,4 +1,7 @@
 mod AskedLemmas
+mod BuildLemmas
+mod DepthLemmas
 mod EditLemmas
+mod RowCases
 mod StarLemmas
 mod StepLemmas

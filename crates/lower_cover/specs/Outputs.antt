@@ -5,8 +5,10 @@
 --     IsStar s                its chain is `$('*')`, outside all handlers
 --     IsGiven stmts a         one of the statements is on all nodes and adds the atom
 --     IsPut stmts m           one of them is on all nodes and puts a node with the label m, and no other node, last below
-use Rattle.std.specs.Prelude.{◌≡◌, ℕ, List, [], ◌∷◌, All, Contains}
-use Rattle.tree_sem.specs.Trees.{LabelTree, leaf}
+--     HoldMoves               for each node of the page below the root's children they put one with at least its free atoms
+--     AsksFree asked free t   each asked atom of the tree is free
+use Rattle.std.specs.Prelude.{◌≡◌, ℕ, ◌≤◌, List, [], ◌∷◌, length, Some, All, Contains}
+use Rattle.tree_sem.specs.Trees.{LabelTree, leaf, label_at}
 use Rattle.tree_sem.specs.Nodes.{IsNode}
 use Rattle.tree_sem.specs.declared.actions.Action.{Action}
 use Rattle.tree_sem.specs.declared.actions.Action.TheVariants.{Classes, Inside, Beside}
@@ -48,3 +50,11 @@ IsGiven stmts a = (s : Statement) × Contains stmts s × SelectsAll s × Adds s.
 
 abbrev pub IsPut : List Statement → List ℕ → Type 0
 IsPut stmts m = (s : Statement) × Contains stmts s × SelectsAll s × Puts s.action m
+
+-- free atoms are asked for; a page's nodes without others may be anywhere
+pub record HoldMoves (asked free : List ℕ) (stmts : List Statement) (page : LabelTree) : Type 0 where
+  pub some : All (Contains asked) free
+  pub each : (v l : List ℕ) → 2 ≤ length v → label_at v page ≡ Some l → (m : List ℕ) × IsPut stmts m × IsCovered free l m
+
+abbrev pub AsksFree : List ℕ → List ℕ → LabelTree → Type 0
+AsksFree asked free t = (v l : List ℕ) → label_at v t ≡ Some l → IsCovered asked l free
