@@ -11,7 +11,7 @@ use Rattle.tree_sem.proofs.EmbeddingLemmas.{image_of, embedding_of}
 use Rattle.tree_sem.proofs.WithinLemmas.{within_itself, are_within_each}
 use Rattle.sel_core.specs.Selectors.{Above, Matches}
 use Rattle.sel_text.specs.Selectors.{Outer, Selector}
-use Rattle.lower_cover.specs.Outputs.{AskOnly, AsksOnly, IsCovered}
+use Rattle.lower_cover.specs.Outputs.{AskOnly, AsksOnly}
 
 module _ (asked : List ℕ) where
   abbrev pub asked_row : Row → Row
@@ -46,7 +46,7 @@ module _ (asked : List ℕ) where
       rw (node_at-asked v t) (elim (node_at v t) as (λ o. IsSome o → IsSome (option_map asked_tree o)) [ None ↦ λ h. cc | Some s ↦ λ h. refl ] is)
 
   -- what is covered is within
-  pub covered_within : (l m : List ℕ) → IsCovered asked l m → All (Contains m) (cut_to asked l)
+  pub covered_within : (l m : List ℕ) → ((a : ℕ) → Contains asked a → Contains l a → Contains m a) → All (Contains m) (cut_to asked l)
   covered_within l m covers = All-from_Contains (Contains m) (cut_to asked l) (λ a is. let both = (Contains-cut_to asked l a).0 is in covers a both.0 both.1)
 
   pub labels_within : (l m : List ℕ) → All (Contains m) l → All (Contains (cut_to asked m)) (cut_to asked l)

@@ -1,9 +1,8 @@
 -- Trees whose labels statements give, node by node: legal steps put them below a node.
-use Rattle.std.proofs.Common.{◌≡◌, ◌⊎◌, ℕ, zero, suc, ◌≤◌, List, [], ◌∷◌, ◌++◌, Option, Some, None, option_and_then, All, Contains, refl, sym, ap, ◌∙◌, subst, inl, inr, arith}
+use Rattle.std.proofs.Common.{◌≡◌, ◌⊎◌, ℕ, suc, List, [], ◌∷◌, ◌++◌, Option, Some, None, option_and_then, All, Contains, refl, sym, ap, ◌∙◌, subst, inl, inr}
 use Rattle.std.proofs.lemmas.List.Elements.{All-nil, All-cons, All-contains}
-use Rattle.tp_base.proofs.ClassLemmas.{Contains-cut_to}
 use Rattle.tp_base.specs.Classes.{cut_to}
-use Rattle.tp_base.proofs.Rising.{Contains-here, Contains-behind, All-from_Contains, Contains-cons, Contains-none}
+use Rattle.tp_base.proofs.Rising.{Contains-here, Contains-behind, All-from_Contains}
 use Rattle.tree_sem.specs.Embedding.{IsWithin}
 use Rattle.tree_sem.specs.Growth.{Grows}
 use Rattle.tree_sem.specs.Nodes.{IsNode}

@@ -1,9 +1,7 @@
 -- What holds of each label from some depth on, where edits keep it.
-use Rattle.std.proofs.Common.{◌≡◌, ℕ, zero, suc, ◌-◌, ◌≤◌, List, [], ◌∷◌, ◌++◌, length, Option, Some, None, option_map, option_and_then, All, Contains, refl, sym, ap, ◌∙◌, subst, inl, inr, arith, length-append}
+use Rattle.std.proofs.Common.{◌≡◌, ℕ, ◌-◌, ◌≤◌, List, [], ◌∷◌, ◌++◌, length, Some, None, option_map, option_and_then, All, Contains, refl, sym, ap, ◌∙◌, subst, inl, inr, arith, length-append}
 use Rattle.std.proofs.lemmas.Bool.{cases_order}
-use Rattle.std.proofs.lemmas.List.Elements.{All-contains}
 use Rattle.tp_base.specs.Classes.{with_class}
-use Rattle.tp_base.proofs.ClassLemmas.{Contains-with_class}
 use Rattle.tree_sem.specs.Embedding.{IsWithin}
 use Rattle.tree_sem.specs.Trees.{LabelTree, tree_of, node_at, edit_at, add_class}
 use Rattle.tree_sem.proofs.EditLemmas.{tree_of-edit_tree, tree_of-edit_tree_other}

@@ -1,5 +1,5 @@
 -- What edits make of a page is within what legal steps make of it, up to asked atoms.
-use Rattle.std.proofs.Common.{◌≡◌, ◌⊎◌, ℕ, zero, suc, List, [], Some, option_map, Contains, refl, sym, ap, ◌∙◌, subst, inl, inr, All, ◌∷◌, arith}
+use Rattle.std.proofs.Common.{◌≡◌, ℕ, List, [], Some, option_map, Contains, refl, sym, ap, ◌∙◌, subst, inl, inr}
 use Rattle.std.proofs.lemmas.List.Elements.{All-contains, All-contains_itself}
 use Rattle.tp_base.specs.Classes.{with_class, cut_to}
 use Rattle.tp_base.proofs.ClassLemmas.{Contains-with_class, Contains-cut_to}
@@ -7,7 +7,7 @@ use Rattle.tp_base.proofs.Rising.{All-from_Contains}
 use Rattle.tree_sem.specs.Cuts.{take_class, cut_at}
 use Rattle.tree_sem.specs.Embedding.{IsWithin, IsImage, IsEmbedding}
 use Rattle.tree_sem.specs.Nodes.{IsNode}
-use Rattle.tree_sem.specs.Trees.{Row, no_nodes, node, LabelTree, leaf, tree_of, length_of, push_tree, edit_at, add_class, add_tree, node_at}
+use Rattle.tree_sem.specs.Trees.{no_nodes, node, LabelTree, leaf, tree_of, length_of, push_tree, edit_at, add_class, add_tree}
 use Rattle.tree_sem.specs.declared.actions.Step.{Step}
 use Rattle.tree_sem.proofs.BothLemmas.{push_cases}
 use Rattle.tree_sem.proofs.EditLemmas.{tree_of-push_tree}
@@ -22,12 +22,13 @@ use Rattle.jq_stmts.specs.Statements.{Statement}
 use Rattle.jq_sem.specs.Reachability.{end_of, AreLegal, Reaches}
 use Rattle.jq_sem.proofs.KeptLemmas.{match_kept}
 use Rattle.lower_cover.specs.Edits.{insert_tree, insert_child, Edit, gets_other, gets_given, gets_child, gets_copy, loses_atom, goes, Edits, begin, more, ReachesByEdits}
-use Rattle.lower_cover.specs.Outputs.{AsksOnly, IsCovered, IsGiven, IsPut, HoldMoves, AsksFree}
-use Rattle.lower_cover.proofs.AskedLemmas.{asked_row, asked_tree, tree_of-asked, asked_at, IsNode-asked, covered_within, asked_within, asked_less, Matches-asked, embedding_asked, edit_asked}
-use Rattle.lower_cover.proofs.BuildLemmas.{IsMakeable, AreMakeable, makeable_rows, over, build_row}
-use Rattle.lower_cover.proofs.DepthLemmas.{AtDepth, depth_edit, depth_class, depth_insert, depth_subtree, depth_within}
+use Rattle.lower_cover.specs.Outputs.{AsksOnly, IsMade}
+use Rattle.lower_cover.proofs.AskedLemmas.{asked_row, asked_tree, tree_of-asked, asked_at, IsNode-asked, asked_within, asked_less, Matches-asked, embedding_asked, edit_asked}
+use Rattle.lower_cover.proofs.BuildLemmas.{AreMakeable, over, build_row}
+use Rattle.lower_cover.proofs.DepthLemmas.{depth_subtree}
+use Rattle.lower_cover.proofs.MoveLemmas.{leaf_makeable, tree_makeable, all_made}
 use Rattle.lower_cover.proofs.RowCases.{insert_cases}
-use Rattle.lower_cover.proofs.StepLemmas.{IsReached, Grown, give, put}
+use Rattle.lower_cover.proofs.StepLemmas.{IsReached, Grown, give}
 
 module _ (asked : List ℕ) where
   -- an atom that is given, and one that isn't asked for
@@ -116,66 +117,20 @@ module _ (asked : List ℕ) where
               subst (λ (z : LabelTree). IsWithin s z) same found.2));
         }
 
-    -- the labels below the root's children, up to free atoms
-    module _ (free : List ℕ) (hold : HoldMoves asked free stmts page) where
-      abbrev IsMovable : List ℕ → Type 0
-      IsMovable l = (m : List ℕ) × IsPut stmts m × ((a : ℕ) → Contains free a → Contains l a → Contains m a ⊎ IsGiven stmts a)
-
-      abbrev AreMovable : ℕ → LabelTree → Type 0
-      AreMovable d t = AtDepth IsMovable d t
-
-      movable_more : (a : ℕ) → (Contains free a → IsGiven stmts a) → (l : List ℕ) → IsMovable l → IsMovable (with_class a l)
-      movable_more a given l movable = (
-        movable.0,
-        movable.1,
-        λ b is has. elim ((Contains-with_class a l b).0 has) [
-          | inl new ↦ inr (subst (IsGiven stmts) (sym new) (given (subst (Contains free) new is)))
-          | inr old ↦ movable.2 b is old
-        ],
-      )
-
-      movable_less : (l m : List ℕ) → All (Contains m) l → IsMovable m → IsMovable l
-      movable_less l m within movable = (movable.0, movable.1, λ a is has. movable.2 a is (All-contains (Contains m) l a within has))
-
-      movable_leaf : (l m : List ℕ) → IsPut stmts m → IsCovered asked l m → AreMovable 0 (leaf l)
-      movable_leaf l m puts covers [] x le at =
-          let same : leaf l ≡ x = cc in
-          subst (λ (z : LabelTree). IsMovable z.label) same (m, puts, λ a is has. inl (covers a (All-contains (Contains asked) free a hold.some is) has))
-      movable_leaf l m puts covers (k ∷ q) x le at = cc
-
-      movable_begin : AreMovable 2 page
-      movable_begin v s le at =
-          let of = hold.each v s.label le (ap (option_map (λ (n : LabelTree). n.label)) at) in
-          (of.0, of.1, λ a is has. inl (of.2 a is has))
-
-      movable_edit : (t u : LabelTree) → Edit asked stmts page t u → AreMovable 2 t → AreMovable 2 u
-      movable_edit _ _ (gets_other t v a is not) deep =
-          depth_edit IsMovable (add_class a) (depth_class IsMovable a (movable_more a (λ is'. absurd (not (All-contains (Contains asked) free a hold.some is'))))) v 2 t deep
-      movable_edit _ _ (gets_given t v a is given) deep = depth_edit IsMovable (add_class a) (depth_class IsMovable a (movable_more a (λ is'. given))) v 2 t deep
-      movable_edit _ _ (gets_child t v k l m is puts covers) deep = depth_edit IsMovable (insert_child k (leaf l)) (depth_insert IsMovable k (leaf l) (movable_leaf l m puts covers)) v 2 t deep
-      movable_edit _ _ (gets_copy t v w k s free' is at deeper hold' asks) deep =
-          depth_edit IsMovable (insert_child k s) (depth_insert IsMovable k s (depth_subtree IsMovable 2 w t s deeper at deep)) v 2 t deep
-      movable_edit _ _ (loses_atom t v a is) deep = depth_within IsMovable movable_less 2 t (edit_at v (take_class a) t) (taken_within v a t is) deep
-      movable_edit _ _ (goes t v is below) deep = depth_within IsMovable movable_less 2 t (cut_at v t) (cut_within v t is) deep
-
-      pub movable : (t : LabelTree) → Edits asked stmts page t → AreMovable 2 t
-      movable _ begin = movable_begin
-      movable _ (more t u edits edit) = movable_edit t u edit (movable t edits)
-
-      -- a subtree whose asked atoms are free
-      pub makeable_tree : (s : LabelTree) → AreMovable 0 s → AsksFree asked free s → AreMakeable stmts (node (cut_to asked s.label) (asked_row asked s.below) no_nodes)
-      makeable_tree s deep asks = (
-        makeable_at [] s refl,
-        makeable_rows stmts asked s.below (λ k q c x at is. makeable_at (k ∷ q) x (rw at is)),
-        tt,
-      )
-        where
-          makeable_at : (q : List ℕ) (x : LabelTree) → node_at q s ≡ Some x → IsMakeable stmts (cut_to asked x.label)
-          makeable_at q x at =
-              let of = deep q x (omega arith) at in
-              (of.0, of.1, λ a has.
-              let both = (Contains-cut_to asked x.label a).0 has in
-              of.2 a (asks q x.label (ap (option_map (λ (n : LabelTree). n.label)) at) a both.0 both.1) both.1)
+    -- a child with all below it
+    embeds_tree : (t : LabelTree) (v : List ℕ) (k : ℕ) (s : LabelTree) → IsNode t v → AreMakeable stmts (node (cut_to asked s.label) (asked_row asked s.below) no_nodes) → Embeds t → Embeds (edit_at v (insert_child k s) t)
+    embeds_tree t v k s is makeable e =
+        let of = carried v (asked_tree asked t) e.tree e.within (IsNode-asked asked v t is) in
+        let y : LabelTree = asked_tree asked s in
+        let row = node y.label y.below no_nodes in
+        let grown = build_row stmts page row makeable e.tree of.0 e.reached (IsNode-image (asked_tree asked t) e.tree v of.0 of.1) in
+        edited (insert_child k s) (add_tree y) (insert_asked k s) v of.0 t e.tree of.1 (λ x. IsWithin (over stmts row) x) grown (λ s' x within new. (
+          within.0,
+          are_within_each (push_tree s'.below y) x.below (λ j z at'. elim (push_cases s'.below y j z at') [
+            | inl old ↦ within_at s'.below x.below within.1 j z old
+            | inr same ↦ within_at row x.below new.1 0 z (ap Some same)
+          ]),
+        ))
 
     embeds_edit : (t u : LabelTree) → Edits asked stmts page t → Edit asked stmts page t u → Embeds t → Embeds u
     embeds_edit _ _ edits (gets_other t v a is not) e = embeds_other t v a is not e
@@ -189,30 +144,9 @@ module _ (asked : List ℕ) where
           ]),
           within.1,
         ))
-    embeds_edit _ _ edits (gets_child t v k l m is puts covers) e =
-        let of = carried v (asked_tree asked t) e.tree e.within (IsNode-asked asked v t is) in
-        let grown = put stmts page e.tree of.0 m e.reached (IsNode-image (asked_tree asked t) e.tree v of.0 of.1) puts in
-        let y : LabelTree = asked_tree asked (leaf l) in
-        edited (insert_child k (leaf l)) (add_tree y) (insert_asked k (leaf l)) v of.0 t e.tree of.1 (λ x. (j : ℕ) × (tree_of x.below j ≡ Some (leaf m))) grown (λ s x within new. (
-          within.0,
-          are_within_each (push_tree s.below y) x.below (λ j z at. elim (push_cases s.below y j z at) [
-            | inl old ↦ within_at s.below x.below within.1 j z old
-            | inr same ↦ (new.0, leaf m, new.1, subst (λ (z' : LabelTree). IsWithin z' (leaf m)) same (covered_within asked l m covers, tt))
-          ]),
-        ))
-    embeds_edit _ _ edits (gets_copy t v w k s free is at deeper hold asks) e =
-        let of = carried v (asked_tree asked t) e.tree e.within (IsNode-asked asked v t is) in
-        let y : LabelTree = asked_tree asked s in
-        let row = node y.label y.below no_nodes in
-        let makeable = makeable_tree free hold s (depth_subtree (IsMovable free hold) 2 w t s deeper at (movable free hold t edits)) asks in
-        let grown = build_row stmts page row makeable e.tree of.0 e.reached (IsNode-image (asked_tree asked t) e.tree v of.0 of.1) in
-        edited (insert_child k s) (add_tree y) (insert_asked k s) v of.0 t e.tree of.1 (λ x. IsWithin (over stmts row) x) grown (λ s' x within new. (
-          within.0,
-          are_within_each (push_tree s'.below y) x.below (λ j z at'. elim (push_cases s'.below y j z at') [
-            | inl old ↦ within_at s'.below x.below within.1 j z old
-            | inr same ↦ within_at row x.below new.1 0 z (ap Some same)
-          ]),
-        ))
+    embeds_edit _ _ edits (gets_child t v k l is made) e = embeds_tree t v k (leaf l) is (leaf_makeable asked stmts l made) e
+    embeds_edit _ _ edits (gets_copy t v w k s free is at deeper hold only) e =
+        embeds_tree t v k s is (tree_makeable asked stmts page free hold s (depth_subtree (IsMade free stmts) 2 w t s deeper at (all_made asked stmts page free hold t edits)) only) e
     embeds_edit _ _ edits (loses_atom t v a is) e = smaller t (edit_at v (take_class a) t) (taken_within v a t is) e
     embeds_edit _ _ edits (goes t v is below) e = smaller t (cut_at v t) (cut_within v t is) e
 

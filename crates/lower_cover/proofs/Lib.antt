@@ -2,6 +2,7 @@ mod AskedLemmas
 mod BuildLemmas
 mod DepthLemmas
 mod EditLemmas
+mod MoveLemmas
 mod RowCases
 mod StarLemmas
 mod StepLemmas

@@ -1,8 +1,8 @@
 -- Edits of a page: changes that give no node more of what is asked for than the statements may give to all nodes.
---     insert_tree row k y              the row with y before the tree k, or behind all where there are no k trees before
---     Edit asked stmts page t u        t becomes u by one edit
---     Edits asked stmts page t         the page becomes t by edits
---     ReachesByEdits                   after some edits a node matches the selector
+--     insert_tree row k y             the row with y before the tree k, or behind all where there are fewer
+--     Edit asked stmts page t u       t, which came of the page, becomes u by one edit
+--     Edits asked stmts page t        the page becomes t by edits
+--     ReachesByEdits                  after some edits a node matches the selector
 use Rattle.std.specs.Prelude.{◌≡◌, ◌≢◌, ℕ, zero, suc, ◌≤◌, List, [], length, Some, Contains}
 use Rattle.tree_sem.specs.Trees.{Row, no_nodes, node, LabelTree, leaf, node_at, edit_at, add_class}
 use Rattle.tree_sem.specs.Cuts.{take_class, cut_at}
@@ -10,7 +10,7 @@ use Rattle.tree_sem.specs.Nodes.{IsNode}
 use Rattle.sel_core.specs.Selectors.{Matches}
 use Rattle.sel_text.specs.Selectors.{Selector}
 use Rattle.jq_stmts.specs.Statements.{Statement}
-use Rattle.lower_cover.specs.Outputs.{IsCovered, IsGiven, IsPut, HoldMoves, AsksFree}
+use Rattle.lower_cover.specs.Outputs.{IsGiven, IsMade, HoldMoves, IsFree}
 
 abbrev pub insert_tree : Row → ℕ → LabelTree → Row
 insert_tree no_nodes k y = node y.label y.below no_nodes
@@ -26,11 +26,11 @@ pub data Edit (asked : List ℕ) (stmts : List Statement) (page : LabelTree) : L
   gets_other : (t : LabelTree) (v : List ℕ) (a : ℕ) → IsNode t v → (¬ Contains asked a) → Edit asked stmts page t (edit_at v (add_class a) t)
   -- a node gets an atom that a statement gives to all nodes
   gets_given : (t : LabelTree) (v : List ℕ) (a : ℕ) → IsNode t v → IsGiven stmts a → Edit asked stmts page t (edit_at v (add_class a) t)
-  -- a node gets a child, at any place among its children, whose asked atoms are among those of a node that a statement puts below all nodes
-  gets_child : (t : LabelTree) (v : List ℕ) (k : ℕ) (l m : List ℕ) → IsNode t v → IsPut stmts m → IsCovered asked l m → Edit asked stmts page t (edit_at v (insert_child k (leaf l)) t)
-  -- a node gets, as a child at any place, a copy of a subtree from below the root's children, where each of its asked atoms is free to move
+  -- a node gets a child, at any place among its children, and each asked atom of the child is of one node that a statement puts, or is given
+  gets_child : (t : LabelTree) (v : List ℕ) (k : ℕ) (l : List ℕ) → IsNode t v → IsMade asked stmts l → Edit asked stmts page t (edit_at v (insert_child k (leaf l)) t)
+  -- a node gets a copy of a subtree as a child, at any place; the subtree stands below the root's children, and its asked atoms are free to move
   gets_copy : (t : LabelTree) (v w : List ℕ) (k : ℕ) (s : LabelTree) (free : List ℕ) → IsNode t v → node_at w t ≡ Some s → 2 ≤ length w
-      → HoldMoves asked free stmts page → AsksFree asked free s → Edit asked stmts page t (edit_at v (insert_child k s) t)
+      → HoldMoves asked free stmts page → IsFree asked free s → Edit asked stmts page t (edit_at v (insert_child k s) t)
   -- a node loses an atom
   loses_atom : (t : LabelTree) (v : List ℕ) (a : ℕ) → IsNode t v → Edit asked stmts page t (edit_at v (take_class a) t)
   -- a node other than the root goes, with all below it

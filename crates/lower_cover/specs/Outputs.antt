@@ -1,15 +1,15 @@
 -- What statements on all nodes give, up to the atoms that are asked for.
---     AsksOnly asked s        the selector asks for no other atoms
---     IsCovered asked l m     each asked atom of l is one of m
---     SelectsAll s            the statement selects each node of each tree
---     IsStar s                its chain is `$('*')`, outside all handlers
---     IsGiven stmts a         one of the statements is on all nodes and adds the atom
---     IsPut stmts m           one of them is on all nodes and puts a node with the label m, and no other node, last below
---     HoldMoves               for each node of the page below the root's children they put one with at least its free atoms
---     AsksFree asked free t   each asked atom of the tree is free
-use Rattle.std.specs.Prelude.{◌≡◌, ℕ, ◌≤◌, List, [], ◌∷◌, length, Some, All, Contains}
+--     AsksOnly asked s          the selector asks for no other atoms
+--     SelectsAll s              the statement selects each node of each tree
+--     IsStar s                  its chain is `$('*')`, outside all handlers
+--     IsGiven stmts a           one of the statements is on all nodes and adds the atom
+--     IsPut stmts m             one of them is on all nodes and puts a node with the label m, and no other node, last below
+--     IsMade wanted stmts l     each wanted atom of l is one of such a node's, which is the same for all, or is given
+--     HoldMoves                 the free atoms of each node of the page below the root's children are so
+--     IsFree asked free t       each asked atom in the tree is free
+use Rattle.std.specs.Prelude.{◌≡◌, ◌⊎◌, ℕ, ◌≤◌, List, [], ◌∷◌, length, Some, All, Contains}
 use Rattle.tree_sem.specs.Trees.{LabelTree, leaf, label_at}
-use Rattle.tree_sem.specs.Nodes.{IsNode}
+use Rattle.tree_sem.specs.Nodes.{IsNode, HasAtom}
 use Rattle.tree_sem.specs.declared.actions.Action.{Action}
 use Rattle.tree_sem.specs.declared.actions.Action.TheVariants.{Classes, Inside, Beside}
 use Rattle.sel_text.specs.Selectors.{Outer, Selector, simple}
@@ -22,9 +22,6 @@ AskOnly asked (o ∷ outer) = All (Contains asked) o.atoms × AskOnly asked oute
 
 abbrev pub AsksOnly : List ℕ → Selector → Type 0
 AsksOnly asked s = All (Contains asked) s.subject × AskOnly asked s.outer
-
-abbrev pub IsCovered : List ℕ → List ℕ → List ℕ → Type 0
-IsCovered asked l m = (a : ℕ) → Contains asked a → Contains l a → Contains m a
 
 abbrev pub SelectsAll : Statement → Type 0
 SelectsAll s = (t : LabelTree) (v : List ℕ) → IsNode t v → Selected t s v
@@ -51,10 +48,13 @@ IsGiven stmts a = (s : Statement) × Contains stmts s × SelectsAll s × Adds s.
 abbrev pub IsPut : List Statement → List ℕ → Type 0
 IsPut stmts m = (s : Statement) × Contains stmts s × SelectsAll s × Puts s.action m
 
--- free atoms are asked for; a page's nodes without others may be anywhere
+abbrev pub IsMade : List ℕ → List Statement → List ℕ → Type 0
+IsMade wanted stmts l = (m : List ℕ) × IsPut stmts m × ((a : ℕ) → Contains wanted a → Contains l a → Contains m a ⊎ IsGiven stmts a)
+
+-- the free atoms are some of the asked ones, such as all but ids
 pub record HoldMoves (asked free : List ℕ) (stmts : List Statement) (page : LabelTree) : Type 0 where
   pub some : All (Contains asked) free
-  pub each : (v l : List ℕ) → 2 ≤ length v → label_at v page ≡ Some l → (m : List ℕ) × IsPut stmts m × IsCovered free l m
+  pub each : (v l : List ℕ) → 2 ≤ length v → label_at v page ≡ Some l → IsMade free stmts l
 
-abbrev pub AsksFree : List ℕ → List ℕ → LabelTree → Type 0
-AsksFree asked free t = (v l : List ℕ) → label_at v t ≡ Some l → IsCovered asked l free
+abbrev pub IsFree : List ℕ → List ℕ → LabelTree → Type 0
+IsFree asked free t = (v : List ℕ) (a : ℕ) → Contains asked a → HasAtom t v a → Contains free a
