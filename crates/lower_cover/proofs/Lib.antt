@@ -6,3 +6,5 @@ mod MoveLemmas
 mod RowCases
 mod StarLemmas
 mod StepLemmas
+mod ValueLemmas
+mod WiderLemmas

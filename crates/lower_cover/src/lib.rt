@@ -3,4 +3,7 @@
 
 mod laws;
 
-pub use laws::{edits_reach_nothing_more, star_selects_all};
+pub use laws::{
+    any_value_comes_by_edits, covered_statements_reach_nothing_more, edits_reach_nothing_more,
+    star_selects_all,
+};
