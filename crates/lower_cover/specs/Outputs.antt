@@ -4,6 +4,7 @@
 --     IsStar s                  its chain is `$('*')`, outside all handlers
 --     IsGiven stmts a           one of the statements is on all nodes and adds the atom
 --     IsPut stmts m             one of them is on all nodes and puts a node with the label m, and no other node, last below
+--     IsOutput stmts            each is on all nodes, and adds atoms or puts one node
 --     IsMade wanted stmts l     each wanted atom of l is one of such a node's, which is the same for all, or is given
 --     HoldMoves                 the free atoms of each node of the page below the root's children are so
 --     IsFree asked free t       each asked atom in the tree is free
@@ -47,6 +48,14 @@ IsGiven stmts a = (s : Statement) × Contains stmts s × SelectsAll s × Adds s.
 
 abbrev pub IsPut : List Statement → List ℕ → Type 0
 IsPut stmts m = (s : Statement) × Contains stmts s × SelectsAll s × Puts s.action m
+
+abbrev pub AddsOrPuts : Action → Type 0
+AddsOrPuts (Classes classes) = Unit {0}
+AddsOrPuts (Inside forest) = (m : List ℕ) × Puts (Inside forest) m
+AddsOrPuts (Beside forest) = ⊥
+
+abbrev pub IsOutput : List Statement → Type 0
+IsOutput stmts = (s : Statement) → Contains stmts s → SelectsAll s × AddsOrPuts s.action
 
 abbrev pub IsMade : List ℕ → List Statement → List ℕ → Type 0
 IsMade wanted stmts l = (m : List ℕ) × IsPut stmts m × ((a : ℕ) → Contains wanted a → Contains l a → Contains m a ⊎ IsGiven stmts a)

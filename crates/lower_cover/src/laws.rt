@@ -12,7 +12,7 @@ ghost use Rattle.jq_sem.specs.Reachability.{end_of, AreLegal, Reaches};
 ghost use Rattle.jq_stmts.specs.Views.{statement_of, statements_of};
 ghost use Rattle.lower_cover.specs.Covering.{AreCovered, AreGiven, IsMadeTree};
 ghost use Rattle.lower_cover.specs.Edits.{Edits, ReachesByEdits, insert_child};
-ghost use Rattle.lower_cover.specs.Outputs.{AsksOnly, IsStar, SelectsAll};
+ghost use Rattle.lower_cover.specs.Outputs.{AsksOnly, IsOutput, IsStar, SelectsAll};
 
 use jq_stmts::Stmt;
 use sel_text::Selector;
@@ -26,7 +26,8 @@ pub fn star_selects_all(s: &Stmt)
 {}
 
 /// Where a page becomes another one by edits, that one embeds into one that legal steps make of the page, up to the atoms
-/// that are asked for. So a selector that no legal steps reach matches no node of any page that edits make.
+/// that are asked for. So a selector that no legal steps reach matches no node of any page that edits make. Where each statement
+/// is on all nodes, and adds atoms or puts one node, edits reach the same selectors as steps.
 pub fn edits_reach_nothing_more(page: &Tree, stmts: &[Stmt], asked: &ClassSet, s: &Selector)
     requires asks { AsksOnly asked.now (selector_of s.now) }
     ensures embeds { (t : LabelTree) → Edits asked.now (statements_of stmts.now) page.now t
@@ -34,6 +35,8 @@ pub fn edits_reach_nothing_more(page: &Tree, stmts: &[Stmt], asked: &ClassSet, s
         × (image : List ℕ → List ℕ) × IsEmbedding (Contains asked.now) t (end_of page.now (statements_of stmts.now) steps) image }
     ensures reaches { ReachesByEdits asked.now (statements_of stmts.now) page.now (selector_of s.now)
         → Reaches page.now (statements_of stmts.now) (selector_of s.now) }
+    ensures reached { IsOutput (statements_of stmts.now) → Reaches page.now (statements_of stmts.now) (selector_of s.now)
+        → ReachesByEdits asked.now (statements_of stmts.now) page.now (selector_of s.now) }
 {}
 
 /// Whatever a computed value holds, it comes by edits: atoms that a node gets, where statements give those of them that are
