@@ -1,0 +1,10 @@
+mod AskedLemmas
+mod BuildLemmas
+mod DepthLemmas
+mod EditLemmas
+mod MoveLemmas
+mod RowCases
+mod StarLemmas
+mod StepLemmas
+mod ValueLemmas
+mod WiderLemmas

@@ -1,0 +1,69 @@
+-- What statements on all nodes give, up to the atoms that are asked for.
+--     AsksOnly asked s          the selector asks for no other atoms
+--     SelectsAll s              the statement selects each node of each tree
+--     IsStar s                  its chain is `$('*')`, outside all handlers
+--     IsGiven stmts a           one of the statements is on all nodes and adds the atom
+--     IsPut stmts m             one of them is on all nodes and puts a node with the label m, and no other node, last below
+--     IsOutput stmts            each is on all nodes, and adds atoms or puts one node
+--     IsMade wanted stmts l     each wanted atom of l is one of such a node's, which is the same for all, or is given
+--     HoldMoves                 the free atoms of each node of the page below the root's children are so
+--     IsFree asked free t       each asked atom in the tree is free
+use Rattle.std.specs.Prelude.{◌≡◌, ◌⊎◌, ℕ, ◌≤◌, List, [], ◌∷◌, length, Some, All, Contains}
+use Rattle.tree_sem.specs.Trees.{LabelTree, leaf, label_at}
+use Rattle.tree_sem.specs.Nodes.{IsNode, HasAtom}
+use Rattle.tree_sem.specs.declared.actions.Action.{Action}
+use Rattle.tree_sem.specs.declared.actions.Action.TheVariants.{Classes, Inside, Beside}
+use Rattle.sel_text.specs.Selectors.{Outer, Selector, simple}
+use Rattle.jq_stmts.specs.Statements.{matched, Chain, Statement}
+use Rattle.jq_sem.specs.Statements.{Selected}
+
+abbrev pub AskOnly : List ℕ → List Outer → Type 0
+AskOnly asked [] = Unit {0}
+AskOnly asked (o ∷ outer) = All (Contains asked) o.atoms × AskOnly asked outer
+
+abbrev pub AsksOnly : List ℕ → Selector → Type 0
+AsksOnly asked s = All (Contains asked) s.subject × AskOnly asked s.outer
+
+abbrev pub SelectsAll : Statement → Type 0
+SelectsAll s = (t : LabelTree) (v : List ℕ) → IsNode t v → Selected t s v
+
+abbrev pub star : Chain
+star = record { root = matched (simple [] ∷ []); calls = [] }
+
+abbrev pub IsStar : Statement → Type 0
+IsStar s = (s.handlers ≡ []) × (s.chain ≡ star)
+
+abbrev pub Adds : Action → ℕ → Type 0
+Adds (Classes classes) a = Contains classes a
+Adds (Inside forest) a = ⊥
+Adds (Beside forest) a = ⊥
+
+abbrev pub Puts : Action → List ℕ → Type 0
+Puts (Classes classes) m = ⊥
+Puts (Inside forest) m = forest.tops ≡ leaf m ∷ []
+Puts (Beside forest) m = ⊥
+
+abbrev pub IsGiven : List Statement → ℕ → Type 0
+IsGiven stmts a = (s : Statement) × Contains stmts s × SelectsAll s × Adds s.action a
+
+abbrev pub IsPut : List Statement → List ℕ → Type 0
+IsPut stmts m = (s : Statement) × Contains stmts s × SelectsAll s × Puts s.action m
+
+abbrev pub AddsOrPuts : Action → Type 0
+AddsOrPuts (Classes classes) = Unit {0}
+AddsOrPuts (Inside forest) = (m : List ℕ) × Puts (Inside forest) m
+AddsOrPuts (Beside forest) = ⊥
+
+abbrev pub IsOutput : List Statement → Type 0
+IsOutput stmts = (s : Statement) → Contains stmts s → SelectsAll s × AddsOrPuts s.action
+
+abbrev pub IsMade : List ℕ → List Statement → List ℕ → Type 0
+IsMade wanted stmts l = (m : List ℕ) × IsPut stmts m × ((a : ℕ) → Contains wanted a → Contains l a → Contains m a ⊎ IsGiven stmts a)
+
+-- the free atoms are some of the asked ones, such as all but ids
+pub record HoldMoves (asked free : List ℕ) (stmts : List Statement) (page : LabelTree) : Type 0 where
+  pub some : All (Contains asked) free
+  pub each : (v l : List ℕ) → 2 ≤ length v → label_at v page ≡ Some l → IsMade free stmts l
+
+abbrev pub IsFree : List ℕ → List ℕ → LabelTree → Type 0
+IsFree asked free t = (v : List ℕ) (a : ℕ) → Contains asked a → HasAtom t v a → Contains free a
