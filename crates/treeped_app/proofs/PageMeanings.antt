@@ -27,7 +27,7 @@ use Rattle.treeped_app.proofs.EachPageLemmas.{right_many, right_at, never_met, o
 use Rattle.treeped_app.proofs.SiteLemmas.{items_in}
 use Rattle.treeped_app.proofs.PreservationLemmas.{on_page, on_site}
 use Rattle.treeped_app.proofs.SheetLemmas.{sheet_read, wide_read}
-use Rattle.treeped_app.proofs.MeaningLemmas.{right_means, each_means, unused_line, unused_lines, same_left, statements_mean, runs_at}
+use Rattle.treeped_app.proofs.MeaningLemmas.{right_means, each_means, unused_line, unused_lines, same_left, statements_mean, runs_at, runs_each, all_run}
 
 -- ---- one page
 
@@ -77,6 +77,8 @@ module _ (r : Run) (t : Task) (s : Said) (whole : IsWhole r t (s ∷ [])) where
         traces = s.traces;
         written = refl;
         each = lines_mean;
+        one_each = runs_each i.tree i.stmts i.sheet.items s.items s.traces (subst (λ (m : Mode). HasTraces m s) mode page.1.traces);
+        all = λ k count item q x at is at'. all_run i.tree i.stmts i.sheet.items s.items s.traces (subst (λ (m : Mode). HasTraces m s) mode page.1.traces) k count item q x at is at';
         runs = λ k item line q at at' at''. runs_at i.tree i.stmts i.sheet.items s.items s.traces (subst (λ (m : Mode). HasTraces m s) mode page.1.traces) k item line q at at' at'';
       }
 
