@@ -5,10 +5,7 @@ use Rattle.std.proofs.lemmas.List.{map-append}
 use Rattle.std.proofs.lemmas.List.Elements.{All-nil, All-cons, All-append}
 use Rattle.tp_base.proofs.Rising.{Contains-here, Contains-behind}
 use Rattle.tree_sem.specs.Trees.{LabelTree}
-use Rattle.tree_sem.specs.declared.actions.Step.{Step}
-use Rattle.jq_sem.specs.Statements.{Selected}
 use Rattle.jq_stmts.specs.Statements.{Chain, Statement}
-use Rattle.jq_sem.specs.Reachability.{AreLegal, end_of}
 use Rattle.jq_stmts.specs.Tables.{IsChainOver, AreChainsOver, IsStatementOver, AreStatementsOver}
 use Rattle.guard_sem.specs.Guards.{Guard}
 use Rattle.guard_simplify.specs.Law.{IsOver}
