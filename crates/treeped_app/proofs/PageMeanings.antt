@@ -29,57 +29,6 @@ use Rattle.treeped_app.proofs.PreservationLemmas.{on_page, on_site}
 use Rattle.treeped_app.proofs.SheetLemmas.{sheet_read, wide_read}
 use Rattle.treeped_app.proofs.MeaningLemmas.{right_means, each_means, unused_line, unused_lines, same_left, statements_mean, runs_at}
 
--- ---- one page
-
-module _ (r : Run) (t : Task) (s : Said) (whole : IsWhole r t (s ∷ [])) where
-  there : Contains (s ∷ []) s
-  there = Contains-here s s [] refl
-
-  abbrev i : Inputs
-  i = s.inputs
-
-  wide : wides i.exact ≡ i.stmts
-  wide = let page = of_page r t (s ∷ []) whole s there in wide_read t.mode page.0.number s.texts i page.1.read
-
-  pub lines_mean : Each (MeansLine i) i.sheet.items (map line_of s.items)
-  lines_mean = each_means i (guards_in t.mode i) (length i.names) t.limits wide i.sheet.items s.items (right_on r t (s ∷ []) whole s there)
-
-  pub report_means : MeansReport s.texts i (text_on Report s)
-  report_means = record { lines = map line_of s.items; written = refl; each = lines_mean }
-
-  pub pruned_means : MeansPruned s.texts i (text_on Prune s)
-  pruned_means =
-      let page = of_page r t (s ∷ []) whole s there in
-      let read = sheet_read t.mode page.0.number s.texts i page.1.read in
-      record {
-        lines = map line_of s.items;
-        each = lines_mean;
-        written = ap (λ flags. pruned s.texts.sheet i.sheet flags) (unused_lines s.items);
-        same = same_left s (text_on Prune s) wide read.0 read.1 read.2 (on_page r t s whole);
-      }
-
-  pub dead_means : t.mode ≡ Dead → MeansDead s.texts i (text_on Dead s)
-  dead_means mode =
-      let page = of_page r t (s ∷ []) whole s there in
-      record {
-        front = text_on Report s;
-        reported = report_means;
-        verdicts = verdicts i.stmts s.others;
-        written = refl;
-        each = statements_mean i t.limits s.items s.others (subst (λ (m : Mode). AreAnswersOf m t.limits i s.items s.others) mode page.1.answers);
-      }
-
-  pub runs_mean : t.mode ≡ Runs → MeansRuns s.texts i (text_on Runs s)
-  runs_mean mode =
-      let page = of_page r t (s ∷ []) whole s there in
-      record {
-        lines = map line_of s.items;
-        traces = s.traces;
-        written = refl;
-        each = lines_mean;
-        runs = λ k item line q at at' at''. runs_at i.tree i.stmts i.sheet.items s.items s.traces (subst (λ (m : Mode). HasTraces m s) mode page.1.traces) k item line q at at' at'';
-      }
-
 -- ---- several pages
 
 abbrev pub page_of : Said → Page
