@@ -1,5 +1,5 @@
 -- What is written of one page means what it says, from its results.
-use Rattle.std.proofs.Common.{◌≡◌, ℕ, List, length, map, Option, Some, None, Result, Ok, Err, OnOk, refl, ap, subst}
+use Rattle.std.proofs.Common.{◌≡◌, ℕ, List, length, map, Option, None, Result, Ok, Err, OnOk, refl, ap}
 use Rattle.jq_stmts.specs.Sharp.{wides}
 use Rattle.css_read.specs.Pruned.{pruned}
 use Rattle.limits.specs.declared.budgets.Limits.{Limits}
@@ -12,7 +12,7 @@ use Rattle.tp_io.specs.Sinks.{Adds}
 use Rattle.treeped_app.specs.Inputs.{IsSaidOf, IsWritable}
 use Rattle.treeped_app.specs.Meaning.{Each, MeansLine, MeansReport, MeansPage, MeansRing}
 use Rattle.treeped_app.specs.MeansParts.{MeansSaid, Writes, WritesOf}
-use Rattle.treeped_app.specs.Modes.{Texts, Said, guards_in, report_on, text_on}
+use Rattle.treeped_app.specs.Modes.{Said, guards_in, report_on, text_on}
 use Rattle.treeped_app.proofs.MeaningLemmas.{each_means, unused_lines, same_left, statements_mean, runs_at}
 use Rattle.treeped_app.proofs.PreservationLemmas.{on_said}
 use Rattle.treeped_app.proofs.SheetLemmas.{sheet_read, wide_read}
