@@ -145,8 +145,8 @@ module _ (asked : List ℕ) where
           within.1,
         ))
     embeds_edit _ _ edits (gets_child t v k l is made) e = embeds_tree t v k (leaf l) is (leaf_makeable asked stmts l made) e
-    embeds_edit _ _ edits (gets_copy t v w k s free is at deeper hold only) e =
-        embeds_tree t v k s is (tree_makeable asked stmts page free hold s (depth_subtree (IsMade free stmts) 2 w t s deeper at (all_made asked stmts page free hold t edits)) only) e
+    embeds_edit _ _ edits (gets_copy t v w k s is at deeper hold) e =
+        embeds_tree t v k s is (tree_makeable asked stmts page hold s (depth_subtree (IsMade asked stmts) 2 w t s deeper at (all_made asked stmts page hold t edits))) e
     embeds_edit _ _ edits (loses_atom t v a is) e = smaller t (edit_at v (take_class a) t) (taken_within v a t is) e
     embeds_edit _ _ edits (goes t v is below) e = smaller t (cut_at v t) (cut_within v t is) e
 
