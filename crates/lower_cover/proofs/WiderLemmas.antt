@@ -17,7 +17,7 @@ use Rattle.jq_sem.specs.Statements.{Selected}
 use Rattle.jq_sem.proofs.SelectionLemmas.{Selected-node}
 use Rattle.jq_sem.proofs.EventLemmas.{legal_as_events, end_of_steps}
 use Rattle.sel_text.specs.Selectors.{Selector}
-use Rattle.lower_cover.specs.Covering.{IsCovered, AreCovered, IsMadeTree}
+use Rattle.lower_cover.specs.Covering.{IsCovered, AreCovered, IsAllowedTree}
 use Rattle.lower_cover.specs.Edits.{Edits, loses_atom, goes, begin, more}
 use Rattle.lower_cover.specs.Outputs.{AsksOnly, SelectsAll, IsPut, AddsOrPuts, IsOutput}
 use Rattle.lower_cover.proofs.EditLemmas.{edits_reach}
@@ -44,7 +44,7 @@ module _ (asked : List ℕ) (output stmts : List Statement) (page : LabelTree) (
 
 -- an output covers itself
 module _ (asked : List ℕ) (stmts : List Statement) where
-  leaf_made : (m : List ℕ) → IsPut stmts m → IsMadeTree asked stmts (leaf m)
+  leaf_made : (m : List ℕ) → IsPut stmts m → IsAllowedTree asked stmts (leaf m)
   leaf_made m puts [] l at = let same : m ≡ l = cc in (m, puts, λ a is has. inl (subst (λ z. Contains z a) (sym same) has))
   leaf_made m puts (k ∷ v) l at = cc
 
@@ -54,7 +54,7 @@ module _ (asked : List ℕ) (stmts : List Statement) where
       let puts : IsPut stmts m = (s, among, all, rw is one) in
       let has' : Contains (leaf m ∷ []) y = rw one at has in
       elim ((Contains-cons y (leaf m) []).0 has') [
-        | inl same ↦ subst (IsMadeTree asked stmts) (sym same) (leaf_made m puts)
+        | inl same ↦ subst (IsAllowedTree asked stmts) (sym same) (leaf_made m puts)
         | inr none ↦ absurd (Contains-none y none)
       ]
   covers_one s among all (Beside forest) is plain = absurd plain
