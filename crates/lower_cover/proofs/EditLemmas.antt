@@ -22,7 +22,7 @@ use Rattle.jq_stmts.specs.Statements.{Statement}
 use Rattle.jq_sem.specs.Reachability.{end_of, AreLegal, Reaches}
 use Rattle.jq_sem.proofs.KeptLemmas.{match_kept}
 use Rattle.lower_cover.specs.Edits.{insert_tree, insert_child, Edit, gets_other, gets_given, gets_child, gets_copy, loses_atom, goes, Edits, begin, more, ReachesByEdits}
-use Rattle.lower_cover.specs.Outputs.{AsksOnly, IsMade}
+use Rattle.lower_cover.specs.Outputs.{AsksOnly, IsAllowed}
 use Rattle.lower_cover.proofs.AskedLemmas.{asked_row, asked_tree, tree_of-asked, asked_at, IsNode-asked, asked_within, asked_less, Matches-asked, embedding_asked, edit_asked}
 use Rattle.lower_cover.proofs.BuildLemmas.{AreMakeable, over, build_row}
 use Rattle.lower_cover.proofs.DepthLemmas.{depth_subtree}
@@ -145,8 +145,8 @@ module _ (asked : List ℕ) where
           within.1,
         ))
     embeds_edit _ _ edits (gets_child t v k l is made) e = embeds_tree t v k (leaf l) is (leaf_makeable asked stmts l made) e
-    embeds_edit _ _ edits (gets_copy t v w k s free is at deeper hold only) e =
-        embeds_tree t v k s is (tree_makeable asked stmts page free hold s (depth_subtree (IsMade free stmts) 2 w t s deeper at (all_made asked stmts page free hold t edits)) only) e
+    embeds_edit _ _ edits (gets_copy t v w k s is at deeper hold) e =
+        embeds_tree t v k s is (tree_makeable asked stmts page hold s (depth_subtree (IsAllowed asked stmts) 2 w t s deeper at (all_made asked stmts page hold t edits))) e
     embeds_edit _ _ edits (loses_atom t v a is) e = smaller t (edit_at v (take_class a) t) (taken_within v a t is) e
     embeds_edit _ _ edits (goes t v is below) e = smaller t (cut_at v t) (cut_within v t is) e
 

@@ -14,9 +14,9 @@ use Rattle.tree_sem.proofs.EditLemmas.{edit_at-same, edit_at-alike, edit_at-edit
 use Rattle.tree_sem.proofs.PathLemmas.{IsSome-parent_of}
 use Rattle.tree_sem.proofs.RowLemmas.{there, child_node_at}
 use Rattle.jq_stmts.specs.Statements.{Statement}
-use Rattle.lower_cover.specs.Covering.{AreGiven, IsMadeTree, AreMadeTrees, IsCovered}
+use Rattle.lower_cover.specs.Covering.{AreGiven, IsAllowedTree, AreAllowedTrees, IsCovered}
 use Rattle.lower_cover.specs.Edits.{insert_tree, insert_child, gets_other, gets_given, gets_child, Edits, more}
-use Rattle.lower_cover.specs.Outputs.{IsGiven, IsMade}
+use Rattle.lower_cover.specs.Outputs.{IsGiven, IsAllowed}
 
 -- edits that do the same to the node do the same
 same_edits : (v : List ℕ) (f g : LabelTree → LabelTree) (t s : LabelTree) → node_at v t ≡ Some s → f s ≡ g s → edit_at v f t ≡ edit_at v g t
@@ -108,7 +108,7 @@ module _ (asked : List ℕ) (stmts : List Statement) (page : LabelTree) where
         ∙ ap (λ f. edit_at v f t) (λ i s. three_is s i)
 
   -- trees before a node's children
-  get_row : (r : Row) → RowAll (IsMade asked stmts) r → (t : LabelTree) (v : List ℕ) → Comes t → IsNode t v → Comes (edit_at v (add_before r) t)
+  get_row : (r : Row) → RowAll (IsAllowed asked stmts) r → (t : LabelTree) (v : List ℕ) → Comes t → IsNode t v → Comes (edit_at v (add_before r) t)
   get_row no_nodes made t v comes is = comes_as t (edit_at v (add_before no_nodes) t) (sym (edit_at-same v (add_before no_nodes) t (λ s at. refl))) comes
   get_row (node l below next) made t v comes is =
       let t1 = edit_at v (add_before next) t in
@@ -128,13 +128,13 @@ module _ (asked : List ℕ) (stmts : List Statement) (page : LabelTree) where
           rw child refl
 
   -- a tree as a child, at any place
-  pub get_tree : (y : LabelTree) (t : LabelTree) (v : List ℕ) (k : ℕ) → Comes t → IsNode t v → IsMadeTree asked stmts y → Comes (edit_at v (insert_child k y) t)
+  pub get_tree : (y : LabelTree) (t : LabelTree) (v : List ℕ) (k : ℕ) → Comes t → IsNode t v → IsAllowedTree asked stmts y → Comes (edit_at v (insert_child k y) t)
   get_tree y t v k comes is made =
       let at = there (node_at v t) is in
       placed at.0 at.1 (insert_place at.0.below k)
     where
-      row : RowAll (IsMade asked stmts) y.below
-      row = row_all (IsMade asked stmts) y.below (λ k' q c s at' is'. made (k' ∷ q) s.label (rw (at', is') refl))
+      row : RowAll (IsAllowed asked stmts) y.below
+      row = row_all (IsAllowed asked stmts) y.below (λ k' q c s at' is'. made (k' ∷ q) s.label (rw (at', is') refl))
 
       placed : (s : LabelTree) → node_at v t ≡ Some s
           → ((m : ℕ) × ((f : LabelTree → LabelTree) (z : LabelTree) → edit_tree f (insert_tree s.below k z) m ≡ insert_tree s.below k (f z)) × ((z : LabelTree) → tree_of (insert_tree s.below k z) m ≡ Some z))
@@ -155,7 +155,7 @@ module _ (asked : List ℕ) (stmts : List Statement) (page : LabelTree) where
           (get_row y.below row u (v ++ m ∷ []) comes1 (rw child refl))
 
   -- trees as the last children
-  get_trees : (tops : List LabelTree) (t : LabelTree) (v : List ℕ) → Comes t → IsNode t v → AreMadeTrees asked stmts tops → Comes (edit_at v (add_trees tops) t)
+  get_trees : (tops : List LabelTree) (t : LabelTree) (v : List ℕ) → Comes t → IsNode t v → AreAllowedTrees asked stmts tops → Comes (edit_at v (add_trees tops) t)
   get_trees [] t v comes is made = comes_as t (edit_at v (add_trees []) t) (sym (edit_at-same v (add_trees []) t (λ s at. refl))) comes
   get_trees (y ∷ tops) t v comes is made =
       let at = there (node_at v t) is in

@@ -12,14 +12,13 @@ use Rattle.tree_sem.specs.declared.actions.Event.TheVariants.{Step, Take, Cut}
 use Rattle.tree_sem.specs.declared.actions.Step as step
 use Rattle.jq_stmts.specs.Statements.{Statement}
 use Rattle.jq_sem.specs.Events.{AreLegalEvents, end_of_events, ReachesWithLosses, events_of}
-use Rattle.jq_sem.specs.Reachability.{IsLegal, after_statement, after_step, Reaches}
+use Rattle.jq_sem.specs.Reachability.{IsLegal, AreLegal, end_of, after_statement, after_step, Reaches}
 use Rattle.jq_sem.specs.Statements.{Selected}
 use Rattle.jq_sem.proofs.SelectionLemmas.{Selected-node}
 use Rattle.jq_sem.proofs.EventLemmas.{legal_as_events, end_of_steps}
-use Rattle.sel_core.specs.Selectors.{Matches}
 use Rattle.sel_text.specs.Selectors.{Selector}
-use Rattle.lower_cover.specs.Covering.{IsCovered, AreCovered, IsMadeTree}
-use Rattle.lower_cover.specs.Edits.{Edits, ReachesByEdits, loses_atom, goes, begin, more}
+use Rattle.lower_cover.specs.Covering.{IsCovered, AreCovered, IsAllowedTree}
+use Rattle.lower_cover.specs.Edits.{Edits, loses_atom, goes, begin, more}
 use Rattle.lower_cover.specs.Outputs.{AsksOnly, SelectsAll, IsPut, AddsOrPuts, IsOutput}
 use Rattle.lower_cover.proofs.EditLemmas.{edits_reach}
 use Rattle.lower_cover.proofs.ValueLemmas.{do_action}
@@ -45,7 +44,7 @@ module _ (asked : List ℕ) (output stmts : List Statement) (page : LabelTree) (
 
 -- an output covers itself
 module _ (asked : List ℕ) (stmts : List Statement) where
-  leaf_made : (m : List ℕ) → IsPut stmts m → IsMadeTree asked stmts (leaf m)
+  leaf_made : (m : List ℕ) → IsPut stmts m → IsAllowedTree asked stmts (leaf m)
   leaf_made m puts [] l at = let same : m ≡ l = cc in (m, puts, λ a is has. inl (subst (λ z. Contains z a) (sym same) has))
   leaf_made m puts (k ∷ v) l at = cc
 
@@ -55,7 +54,7 @@ module _ (asked : List ℕ) (stmts : List Statement) where
       let puts : IsPut stmts m = (s, among, all, rw is one) in
       let has' : Contains (leaf m ∷ []) y = rw one at has in
       elim ((Contains-cons y (leaf m) []).0 has') [
-        | inl same ↦ subst (IsMadeTree asked stmts) (sym same) (leaf_made m puts)
+        | inl same ↦ subst (IsAllowedTree asked stmts) (sym same) (leaf_made m puts)
         | inr none ↦ absurd (Contains-none y none)
       ]
   covers_one s among all (Beside forest) is plain = absurd plain
@@ -63,9 +62,7 @@ module _ (asked : List ℕ) (stmts : List Statement) where
   covers_itself : IsOutput stmts → AreCovered asked stmts stmts
   covers_itself output s among = let of = output s among in covers_one s among of.0 s.action refl of.1
 
-  -- so edits reach all that it reaches
-  pub reach_edits : (page : LabelTree) (s : Selector) → IsOutput stmts → Reaches page stmts s → ReachesByEdits asked stmts page s
-  reach_edits page s output reaches =
-      let legal = (legal_as_events stmts reaches.0 page).1 reaches.1 in
-      let same = end_of_steps stmts reaches.0 page in
-      (end_of_events page stmts (events_of reaches.0), covered_edits asked stmts stmts page (covers_itself output) (events_of reaches.0) legal, reaches.2, subst (λ (z : LabelTree). Matches z reaches.2 s) (sym same) reaches.3)
+  -- so what it does are edits
+  pub steps_edits : (page : LabelTree) → IsOutput stmts → (steps : List step.Step) → AreLegal page stmts steps → Edits asked stmts page (end_of page stmts steps)
+  steps_edits page output steps legal =
+      subst (Edits asked stmts page) (end_of_steps stmts steps page) (covered_edits asked stmts stmts page (covers_itself output) (events_of steps) ((legal_as_events stmts steps page).1 legal))

@@ -10,7 +10,7 @@ use Rattle.tree_sem.specs.Nodes.{IsNode}
 use Rattle.sel_core.specs.Selectors.{Matches}
 use Rattle.sel_text.specs.Selectors.{Selector}
 use Rattle.jq_stmts.specs.Statements.{Statement}
-use Rattle.lower_cover.specs.Outputs.{IsGiven, IsMade, HoldMoves, IsFree}
+use Rattle.lower_cover.specs.Outputs.{IsGiven, IsAllowed, HoldMoves}
 
 abbrev pub insert_tree : Row → ℕ → LabelTree → Row
 insert_tree no_nodes k y = node y.label y.below no_nodes
@@ -26,11 +26,11 @@ pub data Edit (asked : List ℕ) (stmts : List Statement) (page : LabelTree) : L
   gets_other : (t : LabelTree) (v : List ℕ) (a : ℕ) → IsNode t v → (¬ Contains asked a) → Edit asked stmts page t (edit_at v (add_class a) t)
   -- a node gets an atom that a statement gives to all nodes
   gets_given : (t : LabelTree) (v : List ℕ) (a : ℕ) → IsNode t v → IsGiven stmts a → Edit asked stmts page t (edit_at v (add_class a) t)
-  -- a node gets a child, at any place among its children, and each asked atom of the child is of one node that a statement puts, or is given
-  gets_child : (t : LabelTree) (v : List ℕ) (k : ℕ) (l : List ℕ) → IsNode t v → IsMade asked stmts l → Edit asked stmts page t (edit_at v (insert_child k (leaf l)) t)
-  -- a node gets a copy of a subtree as a child, at any place; the subtree stands below the root's children, and its asked atoms are free to move
-  gets_copy : (t : LabelTree) (v w : List ℕ) (k : ℕ) (s : LabelTree) (free : List ℕ) → IsNode t v → node_at w t ≡ Some s → 2 ≤ length w
-      → HoldMoves asked free stmts page → IsFree asked free s → Edit asked stmts page t (edit_at v (insert_child k s) t)
+  -- a node gets a child with a label that is allowed, at any place among its children
+  gets_child : (t : LabelTree) (v : List ℕ) (k : ℕ) (l : List ℕ) → IsNode t v → IsAllowed asked stmts l → Edit asked stmts page t (edit_at v (insert_child k (leaf l)) t)
+  -- a node gets, as a child at any place, a copy of a subtree that stands below the root's children, where the statements hold the page's moves
+  gets_copy : (t : LabelTree) (v w : List ℕ) (k : ℕ) (s : LabelTree) → IsNode t v → node_at w t ≡ Some s → 2 ≤ length w → HoldMoves asked stmts page
+      → Edit asked stmts page t (edit_at v (insert_child k s) t)
   -- a node loses an atom
   loses_atom : (t : LabelTree) (v : List ℕ) (a : ℕ) → IsNode t v → Edit asked stmts page t (edit_at v (take_class a) t)
   -- a node other than the root goes, with all below it

@@ -5,12 +5,11 @@
 --     IsGiven stmts a           one of the statements is on all nodes and adds the atom
 --     IsPut stmts m             one of them is on all nodes and puts a node with the label m, and no other node, last below
 --     IsOutput stmts            each is on all nodes, and adds atoms or puts one node
---     IsMade wanted stmts l     each wanted atom of l is one of such a node's, which is the same for all, or is given
---     HoldMoves                 the free atoms of each node of the page below the root's children are so
---     IsFree asked free t       each asked atom in the tree is free
+--     IsAllowed asked stmts l   a new node may have the label l: they put a node, and each asked atom of l is one of its or is given
+--     HoldMoves                 so may one with the label of any node of the page below the root's children
 use Rattle.std.specs.Prelude.{◌≡◌, ◌⊎◌, ℕ, ◌≤◌, List, [], ◌∷◌, length, Some, All, Contains}
 use Rattle.tree_sem.specs.Trees.{LabelTree, leaf, label_at}
-use Rattle.tree_sem.specs.Nodes.{IsNode, HasAtom}
+use Rattle.tree_sem.specs.Nodes.{IsNode}
 use Rattle.tree_sem.specs.declared.actions.Action.{Action}
 use Rattle.tree_sem.specs.declared.actions.Action.TheVariants.{Classes, Inside, Beside}
 use Rattle.sel_text.specs.Selectors.{Outer, Selector, simple}
@@ -57,13 +56,8 @@ AddsOrPuts (Beside forest) = ⊥
 abbrev pub IsOutput : List Statement → Type 0
 IsOutput stmts = (s : Statement) → Contains stmts s → SelectsAll s × AddsOrPuts s.action
 
-abbrev pub IsMade : List ℕ → List Statement → List ℕ → Type 0
-IsMade wanted stmts l = (m : List ℕ) × IsPut stmts m × ((a : ℕ) → Contains wanted a → Contains l a → Contains m a ⊎ IsGiven stmts a)
+abbrev pub IsAllowed : List ℕ → List Statement → List ℕ → Type 0
+IsAllowed asked stmts l = (m : List ℕ) × IsPut stmts m × ((a : ℕ) → Contains asked a → Contains l a → Contains m a ⊎ IsGiven stmts a)
 
--- the free atoms are some of the asked ones, such as all but ids
-pub record HoldMoves (asked free : List ℕ) (stmts : List Statement) (page : LabelTree) : Type 0 where
-  pub some : All (Contains asked) free
-  pub each : (v l : List ℕ) → 2 ≤ length v → label_at v page ≡ Some l → IsMade free stmts l
-
-abbrev pub IsFree : List ℕ → List ℕ → LabelTree → Type 0
-IsFree asked free t = (v : List ℕ) (a : ℕ) → Contains asked a → HasAtom t v a → Contains free a
+abbrev pub HoldMoves : List ℕ → List Statement → LabelTree → Type 0
+HoldMoves asked stmts page = (v l : List ℕ) → 2 ≤ length v → label_at v page ≡ Some l → IsAllowed asked stmts l

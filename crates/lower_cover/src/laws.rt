@@ -1,4 +1,4 @@
-//! Laws: edits of a page within what statements on all nodes give.
+//! Laws: edits of a page, within what statements on all nodes give.
 ghost use Rattle.std.specs.Prelude.{ℕ, List, Contains};
 ghost use Rattle.tree_sem.specs.Actions.{add_classes};
 ghost use Rattle.tree_sem.specs.Embedding.{IsEmbedding};
@@ -10,7 +10,7 @@ ghost use Rattle.sel_text.specs.Views.{selector_of};
 ghost use Rattle.jq_sem.specs.Events.{AreLegalEvents, end_of_events, ReachesWithLosses};
 ghost use Rattle.jq_sem.specs.Reachability.{end_of, AreLegal, Reaches};
 ghost use Rattle.jq_stmts.specs.Views.{statement_of, statements_of};
-ghost use Rattle.lower_cover.specs.Covering.{AreCovered, AreGiven, IsMadeTree};
+ghost use Rattle.lower_cover.specs.Covering.{AreCovered, AreGiven, IsAllowedTree};
 ghost use Rattle.lower_cover.specs.Edits.{Edits, ReachesByEdits, insert_child};
 ghost use Rattle.lower_cover.specs.Outputs.{AsksOnly, IsOutput, IsStar, SelectsAll};
 
@@ -25,31 +25,39 @@ pub fn star_selects_all(s: &Stmt)
     ensures { SelectsAll (statement_of s.now) }
 {}
 
-/// Where a page becomes another one by edits, that one embeds into one that legal steps make of the page, up to the atoms
-/// that are asked for. So a selector that no legal steps reach matches no node of any page that edits make. Where each statement
-/// is on all nodes, and adds atoms or puts one node, edits reach the same selectors as steps.
-pub fn edits_reach_nothing_more(page: &Tree, stmts: &[Stmt], asked: &ClassSet, s: &Selector)
-    requires asks { AsksOnly asked.now (selector_of s.now) }
-    ensures embeds { (t : LabelTree) → Edits asked.now (statements_of stmts.now) page.now t
+/// Where a page becomes another tree by edits, that tree embeds into one that legal steps make of the page, up to the atoms
+/// that are asked for.
+pub fn edits_embed_into_steps(page: &Tree, stmts: &[Stmt], asked: &ClassSet)
+    ensures { (t : LabelTree) → Edits asked.now (statements_of stmts.now) page.now t
         → (steps : List step.Step) × AreLegal page.now (statements_of stmts.now) steps
         × (image : List ℕ → List ℕ) × IsEmbedding (Contains asked.now) t (end_of page.now (statements_of stmts.now) steps) image }
-    ensures reaches { ReachesByEdits asked.now (statements_of stmts.now) page.now (selector_of s.now)
-        → Reaches page.now (statements_of stmts.now) (selector_of s.now) }
-    ensures reached { IsOutput (statements_of stmts.now) → Reaches page.now (statements_of stmts.now) (selector_of s.now)
-        → ReachesByEdits asked.now (statements_of stmts.now) page.now (selector_of s.now) }
 {}
 
-/// Whatever a computed value holds, it comes by edits: atoms that a node gets, where statements give those of them that are
-/// asked for, and a tree that a node gets as a child, at any place, where each of its nodes is made of what they put and give.
+/// A selector that no legal steps reach matches no node of any tree that edits make of the page.
+pub fn edits_reach_nothing_more(page: &Tree, stmts: &[Stmt], asked: &ClassSet, s: &Selector)
+    requires asks { AsksOnly asked.now (selector_of s.now) }
+    ensures { ReachesByEdits asked.now (statements_of stmts.now) page.now (selector_of s.now)
+        → Reaches page.now (statements_of stmts.now) (selector_of s.now) }
+{}
+
+/// Let each statement be on all nodes, and add atoms or put one node. Then legal steps are edits.
+pub fn steps_are_edits(page: &Tree, stmts: &[Stmt], asked: &ClassSet)
+    requires output { IsOutput (statements_of stmts.now) }
+    ensures { (steps : List step.Step) → AreLegal page.now (statements_of stmts.now) steps
+        → Edits asked.now (statements_of stmts.now) page.now (end_of page.now (statements_of stmts.now) steps) }
+{}
+
+/// Whatever a computed value holds, it comes by edits. It may be atoms that a node gets, where those that are asked for are
+/// given. Or it is a tree that a node gets as a child, at any place, where new nodes may have its labels.
 pub fn any_value_comes_by_edits(page: &Tree, stmts: &[Stmt], asked: &ClassSet)
     ensures atoms { (atoms : List ℕ) (t : LabelTree) (v : List ℕ) → Edits asked.now (statements_of stmts.now) page.now t → IsNode t v
         → AreGiven asked.now (statements_of stmts.now) atoms → Edits asked.now (statements_of stmts.now) page.now (edit_at v (add_classes atoms) t) }
     ensures trees { (y t : LabelTree) (v : List ℕ) (k : ℕ) → Edits asked.now (statements_of stmts.now) page.now t → IsNode t v
-        → IsMadeTree asked.now (statements_of stmts.now) y → Edits asked.now (statements_of stmts.now) page.now (edit_at v (insert_child k y) t) }
+        → IsAllowedTree asked.now (statements_of stmts.now) y → Edits asked.now (statements_of stmts.now) page.now (edit_at v (insert_child k y) t) }
 {}
 
-/// Let an output give all that the statements add, up to what is asked for. Then what they do to a page, with losses between,
-/// are edits, and each selector that they reach the output's statements reach.
+/// Let an output cover what the statements add, up to what is asked for. Then what they do to a page, with losses between, are
+/// edits, and each selector that they reach the output's statements reach.
 pub fn covered_statements_reach_nothing_more(
     page: &Tree,
     stmts: &[Stmt],
