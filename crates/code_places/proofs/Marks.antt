@@ -3,8 +3,10 @@ use Rattle.std.proofs.Common.{◌≡◌, map, refl}
 use Rattle.code_places.specs.declared.writes.TheConstants.{WHOLE_MARKS, MADE_MARKS, SIGNS, EQUALS}
 use Rattle.code_places.specs.declared.patterns.TheConstants.{VALUE_ENDS, STATEMENT_ENDS, LOOP_NAMES, PART_ENDS}
 use Rattle.code_places.specs.declared.places.TheConstants.{RESERVED, DECLARING, GENERATOR}
+use Rattle.code_places.specs.declared.steps.TheConstants.{STEPS, MEMBER_MARKS}
 use Rattle.code_places.specs.Patterns.{value_ends, statement_ends, loop_names, part_ends}
 use Rattle.code_places.specs.Places.{reserved, declaring, generator}
+use Rattle.code_places.specs.Steps.{steps, member_marks}
 use Rattle.code_places.specs.Writes.{whole_marks, made_marks, signs, equals}
 
 pub same_whole_marks : map (λ n. n.now) WHOLE_MARKS ≡ whole_marks
@@ -39,3 +41,9 @@ same_declaring = refl
 
 pub same_generator : map (λ n. n.now) GENERATOR ≡ generator
 same_generator = refl
+
+pub same_steps : map (λ n. n.now) STEPS ≡ steps
+same_steps = refl
+
+pub same_member_marks : map (λ n. n.now) MEMBER_MARKS ≡ member_marks
+same_member_marks = refl

@@ -2,6 +2,7 @@
 pub mod Enclosing
 pub mod Patterns
 pub mod Places
+pub mod Steps
 pub mod Uses
 pub mod Words
 pub mod Writes

@@ -1,5 +1,5 @@
 //! In which bracket each token stands.
-ghost use Rattle.std.specs.Prelude.{◌≡◌, get_or, None, IfOk};
+ghost use Rattle.std.specs.Prelude.{◌≡◌, get_or, false, None, IfOk};
 ghost use Rattle.code_places.specs.Enclosing as spec;
 
 use code_tokens::Code;
@@ -13,6 +13,8 @@ pub struct Brackets {
     pub enclosing: Items<Option<usize>>,
     /// For each token whether it begins a pattern.
     pub patterns: Items<bool>,
+    /// For each token whether it is `++` or `--`, or belongs to a member behind one.
+    pub stepped: Items<bool>,
 }
 
 /// The number at a place, if one is there. Constant.
@@ -22,6 +24,16 @@ pub(crate) fn number_at(numbers: &[Option<usize>], at: usize) -> Option<usize>
     match numbers.get(at) {
         Some(number) => *number,
         None => None,
+    }
+}
+
+/// The flag at a place, if one is there. Constant.
+pub(crate) fn flag_at(flags: &[bool], at: usize) -> bool
+    ensures { result ≡ get_or flags.now at false }
+{
+    match flags.get(at) {
+        Some(flag) => *flag,
+        None => false,
     }
 }
 

@@ -5,11 +5,13 @@ mod brackets;
 mod patterns;
 mod place;
 mod places;
+mod reading;
+mod steps;
 mod uses;
 mod words;
 mod writes;
 
 pub use brackets::Brackets;
-pub use patterns::read_brackets;
 pub use place::{Place, Use, Write};
 pub use places::place_at;
+pub use reading::read_brackets;

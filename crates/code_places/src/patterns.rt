@@ -1,11 +1,11 @@
 //! Patterns, as in `[e.className] = list`: brackets that may hand values to what stands in them.
-ghost use Rattle.std.specs.Prelude.{◌≡◌, get_or, false, None, IfOk};
+ghost use Rattle.std.specs.Prelude.{◌≡◌, get_or, None, IfOk};
 ghost use Rattle.text_bytes.specs.Attributes.{is_among as stands_among};
 ghost use Rattle.code_places.specs.Enclosing.{enclosing as brackets_around};
 ghost use Rattle.code_places.specs.Patterns as spec;
 ghost use Rattle.code_places.specs.Words.{begins_mark as begins_one, begins_name as begins_one_name};
 
-use crate::brackets::{Brackets, enclosing, number_at};
+use crate::brackets::{Brackets, flag_at, number_at};
 use crate::words::{
     begins, begins_dot, begins_mark, begins_name, is_among, tokens_at, tokens_behind,
 };
@@ -13,7 +13,7 @@ use crate::writes::write_of;
 use code_scan::{Before, Token, TokenKind, behind_word, spelling};
 use code_tokens::Code;
 use std::alloc::Global;
-use tp_base::{Items, NoMemory};
+use tp_base::NoMemory;
 
 const VALUE_ENDS: [&[u8]; 3] = [b")", b"]", b"}"];
 
@@ -138,15 +138,6 @@ fn is_handed(text: &[u8], code: &Code, at: usize, inner: bool) -> bool
     }
 }
 
-fn flag_at(flags: &[bool], at: usize) -> bool
-    ensures { result ≡ get_or flags.now at false }
-{
-    match flags.get(at) {
-        Some(flag) => *flag,
-        None => false,
-    }
-}
-
 fn known_pattern(known: &[bool], bracket: Option<usize>) -> bool
     ensures { result ≡ spec.known_pattern known.now bracket }
 {
@@ -175,8 +166,9 @@ fn begins_pattern(
         )
 }
 
+/// For each token whether it begins a pattern. Linear in the code.
 #[tactic(auto, unfolding(crate::specs::Patterns::patterns_from))]
-fn patterns(
+pub(crate) fn patterns(
     alloc: Global,
     text: &[u8],
     code: &Code,
@@ -193,19 +185,6 @@ fn patterns(
         rest = behind;
     }
     Ok(known)
-}
-
-/// What is known of the brackets of code. Linear in it.
-pub fn read_brackets(alloc: Global, text: &[u8], code: &Code) -> Result<Brackets, NoMemory>
-    ensures enclosing { IfOk result (λ b. b.enclosing ≡ brackets_around code.now) }
-    ensures patterns { IfOk result (λ b. b.patterns ≡ spec.patterns text.now code.now) }
-{
-    let around = enclosing(alloc, code)?;
-    let patterns = patterns(alloc, text, code, &around)?;
-    Ok(Brackets {
-        enclosing: Items::new(around),
-        patterns: Items::new(patterns),
-    })
 }
 
 /// Whether the token of a number stands in a pattern. Constant.

@@ -3,7 +3,7 @@ ghost use Rattle.std.specs.Prelude.{◌≡◌};
 ghost use Rattle.code_places.specs.Uses as spec;
 ghost use Rattle.code_tokens.specs.Members.{is_text as says_text};
 
-use crate::brackets::Brackets;
+use crate::brackets::{Brackets, flag_at};
 use crate::patterns::{begins_loop, begins_part_end, in_pattern};
 use crate::place::{Use, Write};
 use crate::words::{begins, tokens_behind};
@@ -34,13 +34,19 @@ fn takes(text: &[u8], pattern: bool, tokens: &[Token]) -> bool
     pattern && begins_part_end(text, tokens) || begins_loop(text, tokens)
 }
 
-fn use_written(text: &[u8], pattern: bool, tokens: &[Token], write: Option<Write>) -> Use
-    ensures { result ≡ spec.use_written text.now pattern tokens.now write }
+fn use_written(
+    text: &[u8],
+    pattern: bool,
+    stepped: bool,
+    tokens: &[Token],
+    write: Option<Write>,
+) -> Use
+    ensures { result ≡ spec.use_written text.now pattern stepped tokens.now write }
 {
     match write {
         Some(write) => Use::Written(if pattern { Write::Made } else { write }),
         None => {
-            if takes(text, pattern, tokens) {
+            if stepped || takes(text, pattern, tokens) {
                 Use::Written(Write::Made)
             } else {
                 Use::Read
@@ -50,15 +56,15 @@ fn use_written(text: &[u8], pattern: bool, tokens: &[Token], write: Option<Write
 }
 
 #[tactic(auto, unfolding(crate::specs::Uses::use_of))]
-fn use_of(text: &[u8], pattern: bool, tokens: &[Token]) -> Use
-    ensures { spec.use_of text.now pattern tokens.now ≡ result }
+fn use_of(text: &[u8], pattern: bool, stepped: bool, tokens: &[Token]) -> Use
+    ensures { spec.use_of text.now pattern stepped tokens.now ≡ result }
 {
     if begins(text, b"(", tokens) {
         Use::Called
     } else if begins_text(tokens) {
         Use::Tagged
     } else {
-        use_written(text, pattern, tokens, write_of(text, tokens))
+        use_written(text, pattern, stepped, tokens, write_of(text, tokens))
     }
 }
 
@@ -66,5 +72,11 @@ fn use_of(text: &[u8], pattern: bool, tokens: &[Token]) -> Use
 pub(crate) fn use_at(text: &[u8], code: &Code, brackets: &Brackets, from: usize, to: usize) -> Use
     ensures { result ≡ spec.use_at text.now code.now brackets.now from to }
 {
-    use_of(text, in_pattern(brackets, from), tokens_behind(code, to))
+    let stepped = flag_at(brackets.stepped.items(), from);
+    use_of(
+        text,
+        in_pattern(brackets, from),
+        stepped,
+        tokens_behind(code, to),
+    )
 }
