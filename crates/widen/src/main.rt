@@ -2,20 +2,20 @@
 //! `widen [--back] SHEET`.
 #![tactic(auto)]
 
-ghost use Rattle.std.specs.Prelude.{◌≡◌, ◌≢◌, [], drop, map, string_bytes, None, Err, IfOk, IfErr};
+ghost use Rattle.std.specs.Prelude.{◌≡◌, ◌≢◌, [], drop, map, string_bytes, Err, IfOk, IfErr};
 ghost use Rattle.std.specs.Vec.Iter.{into_iter_items};
 ghost use Rattle.std.specs.Process.{exit_status};
 ghost use Rattle.std.specs.IoError.{error_kind};
-ghost use Rattle.widen.specs.Runs.{IsSystemRun};
 ghost use Rattle.widen_sheet.specs.Command.{code_of};
-ghost use Rattle.widen_sheet.specs.Tells.{put_of};
+ghost use Rattle.widen_sheet.specs.Runs.{IsRun};
+ghost use Rattle.widen_sheet.specs.Tells.{SaysWhy, put_of};
 
 use std::alloc::{AllocError, Global};
 use std::io::ErrorKind;
 use std::process::ExitCode;
-use std::rt::{Env, Files, Stderr, Stdout};
+use std::rt::{Env, Stderr};
 use std::{env, io};
-use tp_io::{HostFiles, HostSink, put_all};
+use tp_io::{Files, HostFiles, HostSink, Sink, put_all};
 use widen_sheet::{Status, widen_command};
 
 fn main(rt: HostRuntime) -> ExitCode {
@@ -23,24 +23,32 @@ fn main(rt: HostRuntime) -> ExitCode {
     let mut out = HostSink::output(rt.stdout());
     let mut err = HostSink::error(rt.stderr());
     let status = match words(alloc, env::args(&rt)) {
-        Ok(words) => run(alloc, &words, rt, &mut out, &mut err),
+        Ok(words) => run(
+            alloc,
+            &words,
+            &mut HostFiles::new(alloc, rt),
+            &mut out,
+            &mut err,
+        ),
         Err(_) => no_words(&mut err),
     };
     exit_code(status)
 }
 
-// The sheet goes to standard output, and what else is said to standard error.
-fn run<R: Files + Drop>(
+// The sheet goes to `out`, and messages go to `err`.
+fn run<F: Files, O: Sink, E: Sink>(
     alloc: Global,
     words: &[String],
-    system: R,
-    out: &mut HostSink<Stdout>,
-    err: &mut HostSink<Stderr>,
+    files: &mut F,
+    out: &mut O,
+    err: &mut E,
 ) -> Status
-    ensures { IsSystemRun (map string_bytes words.now) (put_of None None out.old.faults out.new.faults) (put_of None None err.old.faults err.new.faults) result }
+    ensures ended { IsRun (F.told files.old) (map string_bytes words.now) (F.loads files.old) (F.loads files.new)
+        (put_of (O.written out.old) (O.written out.new) (O.faults out.old) (O.faults out.new))
+        (put_of (E.written err.old) (E.written err.new) (E.faults err.old) (E.faults err.new)) result }
+    ensures says_why { SaysWhy E.wants_memory (put_of (E.written err.old) (E.written err.new) (E.faults err.old) (E.faults err.new)) result }
 {
-    let mut files = HostFiles::new(alloc, system);
-    widen_command(alloc, words, &mut files, out, err)
+    widen_command(alloc, words, files, out, err)
 }
 
 fn no_words(err: &mut HostSink<Stderr>) -> Status

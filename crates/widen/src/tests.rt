@@ -4,7 +4,7 @@ use std::alloc::{AllocError, Global};
 use std::process::ExitCode;
 use std::test::Fail;
 use std::{env, fs, process};
-use tp_io::HostSink;
+use tp_io::{HostFiles, HostSink};
 
 fn strings(alloc: Global, words: &[&str]) -> Result<Vec<String>, AllocError> {
     let mut strings = Vec::new(alloc);
@@ -22,13 +22,14 @@ fn ends_with_the_status(rt: HostRuntime) -> Result<(), Fail> {
     fs::write(&rt, path.as_path(), b".a:not(.b){}")?;
     let mut out = HostSink::output(rt.stdout());
     let mut err = HostSink::error(rt.stderr());
+    let mut files = HostFiles::new(alloc, &rt);
     let found = strings(alloc, &[path.as_str()])?;
-    let changed = exit_code(run(alloc, &found, &rt, &mut out, &mut err));
+    let changed = exit_code(run(alloc, &found, &mut files, &mut out, &mut err));
     let found = strings(alloc, &["--back", path.as_str()])?;
-    let same = exit_code(run(alloc, &found, &rt, &mut out, &mut err));
-    let refused = exit_code(run(alloc, &[], &rt, &mut out, &mut err));
+    let same = exit_code(run(alloc, &found, &mut files, &mut out, &mut err));
+    let refused = exit_code(run(alloc, &[], &mut files, &mut out, &mut err));
     let missing = strings(alloc, &["/dev/null/none"])?;
-    let unread = exit_code(run(alloc, &missing, &rt, &mut out, &mut err));
+    let unread = exit_code(run(alloc, &missing, &mut files, &mut out, &mut err));
     fs::remove_file(&rt, path.as_path())?;
     assert!(rt; changed == ExitCode::from(1));
     assert!(rt; same == ExitCode::from(0));

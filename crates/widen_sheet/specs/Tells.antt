@@ -1,8 +1,10 @@
 -- What standard error gets of a run that ends without its text.
---     Tells stop err s     the line of the stop is said whole; or it is cut short, and why is said as far as it goes
+--     Tells stop err s          the line of the stop is said whole; or it is cut short, and why is said as far as it goes
+--     SaysWhy wants err s       the last line is whole where the run ends for want of memory or at a failed write
 use Rattle.std.specs.Prelude.{◌≡◌, ◌⊎◌, ℕ, List, Option}
 use Rattle.tp_io.specs.Sinks.{Adds, AddsPrefix, Rose}
 use Rattle.widen_sheet.specs.declared.stops.Status.{Status}
+use Rattle.widen_sheet.specs.declared.stops.Status.TheVariants as status
 use Rattle.widen_sheet.specs.declared.stops.Stop.{Stop}
 use Rattle.widen_sheet.specs.declared.stops.Stop.TheVariants.{Words, TooLarge, ReadFault, Unread, WriteFault, NoMemory}
 use Rattle.widen_sheet.specs.Command.{line_of, status_of_stop}
@@ -39,3 +41,12 @@ Tells ReadFault err s = Says ReadFault err s
 Tells (Unread w place) err s = Says (Unread w place) err s
 Tells WriteFault err s = SaysLast WriteFault err.held err.held' s
 Tells NoMemory err s = SaysLast NoMemory err.held err.held' s
+
+-- the line of this stop is the last that standard error got, and it is whole; or standard error failed, or may have wanted memory
+abbrev pub SaysWhole : Type 0 → Stop → Put → Type 0
+SaysWhole wants_memory stop err = ((between : Option (List ℕ)) × Adds between err.held' (line_of stop)) ⊎ Rose err.faults err.faults' ⊎ wants_memory
+
+-- a run that ends for want of memory or at a failed write doesn't end in silence
+pub record SaysWhy (wants_memory : Type 0) (err : Put) (s : Status) : Type 0 where
+  pub write_fault : s ≡ status.WriteFault → SaysWhole wants_memory WriteFault err
+  pub no_memory : s ≡ status.NoMemory → SaysWhole wants_memory NoMemory err

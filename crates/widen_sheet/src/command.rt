@@ -4,7 +4,7 @@ ghost use Rattle.tp_base.specs.Outcomes.{GivesUnless};
 ghost use Rattle.tp_base.specs.declared.places.TheConstants.{MOST_BYTES};
 ghost use Rattle.widen_sheet.specs.Command as spec;
 ghost use Rattle.widen_sheet.specs.Runs.{OneLoaded, Writes, Answers, Runs, Ordered, IsRun, loaded_text};
-ghost use Rattle.widen_sheet.specs.Tells.{put_of};
+ghost use Rattle.widen_sheet.specs.Tells.{SaysWhy, put_of};
 
 use crate::back::put_back;
 use crate::stops::{Status, Stop, back_stop, widen_stop};
@@ -133,9 +133,10 @@ pub fn widen_command<F: Files, O: Sink, E: Sink>(
     out: &mut O,
     err: &mut E,
 ) -> Status
-    ensures { IsRun (F.told files.old) (map string_bytes words.now) (F.loads files.old) (F.loads files.new)
+    ensures ended { IsRun (F.told files.old) (map string_bytes words.now) (F.loads files.old) (F.loads files.new)
         (put_of (O.written out.old) (O.written out.new) (O.faults out.old) (O.faults out.new))
         (put_of (E.written err.old) (E.written err.new) (E.faults err.old) (E.faults err.new)) result }
+    ensures says_why { SaysWhy E.wants_memory (put_of (E.written err.old) (E.written err.new) (E.faults err.old) (E.faults err.new)) result }
 {
     match run(alloc, words, files, out) {
         Ok(status) => status,

@@ -2,7 +2,7 @@
 ghost use Rattle.std.specs.Prelude.{◌≡◌, ◌≤◌};
 ghost use Rattle.tp_io.specs.Sinks.{AddsPrefix};
 ghost use Rattle.widen_sheet.specs.Command as spec;
-ghost use Rattle.widen_sheet.specs.Tells.{Tells, Says, put_of};
+ghost use Rattle.widen_sheet.specs.Tells.{Tells, Says, SaysWhole, SaysWhy, put_of};
 
 use crate::stops::{Status, Stop};
 use std::alloc::Global;
@@ -10,7 +10,8 @@ use tp_io::{Sink, SinkFault, put_all};
 
 /// Says on standard error why a run ends, and answers its status.
 pub(crate) fn tell<E: Sink>(alloc: Global, stop: Stop, err: &mut E) -> Status
-    ensures { Tells stop (put_of (E.written err.old) (E.written err.new) (E.faults err.old) (E.faults err.new)) result }
+    ensures tells { Tells stop (put_of (E.written err.old) (E.written err.new) (E.faults err.old) (E.faults err.new)) result }
+    ensures why { SaysWhy E.wants_memory (put_of (E.written err.old) (E.written err.new) (E.faults err.old) (E.faults err.new)) result }
 {
     match stop {
         Stop::WriteFault => say_last(stop, err),
@@ -21,7 +22,8 @@ pub(crate) fn tell<E: Sink>(alloc: Global, stop: Stop, err: &mut E) -> Status
 
 // Says the line of a stop, or why it can't.
 fn say<E: Sink>(alloc: Global, stop: Stop, err: &mut E) -> Status
-    ensures { Says stop (put_of (E.written err.old) (E.written err.new) (E.faults err.old) (E.faults err.new)) result }
+    ensures says { Says stop (put_of (E.written err.old) (E.written err.new) (E.faults err.old) (E.faults err.new)) result }
+    ensures why { SaysWhy E.wants_memory (put_of (E.written err.old) (E.written err.new) (E.faults err.old) (E.faults err.new)) result }
 {
     let Ok(line) = stop.line(alloc) else {
         return say_last(Stop::NoMemory, err);
@@ -38,6 +40,7 @@ fn say_last<E: Sink>(stop: Stop, err: &mut E) -> Status
     requires { spec.IsFixed stop }
     ensures status { result ≡ spec.status_of_stop stop }
     ensures line { AddsPrefix (E.written err.old) (E.written err.new) (spec.line_of stop) }
+    ensures whole { SaysWhole E.wants_memory stop (put_of (E.written err.old) (E.written err.new) (E.faults err.old) (E.faults err.new)) }
     ensures never_falls { E.faults err.old ≤ E.faults err.new }
 {
     let _ = put_all(err, stop.fixed_line());
