@@ -4,12 +4,13 @@
 --     IsMarked      a text is another one with marks
 --     AreFree       outside of marks a `/*~` has a `*` before it
 --     IsPutBack     what is left of the widened sheet: it is read as what stays, and put back it is what is left of the sheet
-use Rattle.std.specs.Prelude.{◌≡◌, ℕ, ◌+◌, ◌==◌, Bool, true, false, codes, if◌then◌else◌, List, [], ◌∷◌, ◌++◌, length, Option, Some, None, Ok}
+use Rattle.std.specs.Prelude.{◌≡◌, ℕ, ◌+◌, ◌≤◌, ◌<◌, ◌==◌, Bool, true, false, codes, if◌then◌else◌, List, [], ◌∷◌, ◌++◌, length, Option, Some, None, Ok}
+use Rattle.std.specs.List.{list_any}
 use Rattle.tp_base.specs.Names.{Named}
 use Rattle.css_read.specs.declared.sheets.Range.{Range}
 use Rattle.css_read.specs.Effects.{fixed_rules, KeepsSheet}
 use Rattle.css_read.specs.Holders.{holders_of, owners_of}
-use Rattle.css_read.specs.Pruned.{Flagged, with_flags, of_rule, gone_rules, gone_holders, gone_ranges, wholes, list_cuts, without, pruned}
+use Rattle.css_read.specs.Pruned.{Flagged, goes, with_flags, of_rule, gone_rules, gone_holders, gone_ranges, wholes, list_cuts, is_in, without, pruned}
 use Rattle.css_read.specs.Reading.{read_sheet}
 use Rattle.css_read.specs.Sheets.{Sheet}
 use Rattle.widen_sheet.specs.declared.marks.Mark.{Mark}
@@ -44,6 +45,11 @@ gone_of text sheet flags =
 -- rule, and once it is widened it is judged.
 unfoldable pub left_by : List ℕ → Sheet → List ℕ → Sheet → List Bool → List ℕ
 left_by text s wide again flags = without (cuts_by (gone_of wide again flags) text s flags) 0 text
+
+-- none of some ranges has a byte of a selector that isn't flagged
+abbrev pub AreSpared : List Range → List Flagged → Type 0
+AreSpared rs [] = Unit {0}
+AreSpared rs (f ∷ fs) = (goes f ≡ false → (x : ℕ) → f.0.from ≤ x → x < f.0.to → list_any (is_in x) rs ≡ false) × AreSpared rs fs
 
 -- ---- marks in what is left
 
@@ -101,6 +107,7 @@ AreFree star (s ∷ ss) = FreeBefore star s.mark s.text (with_marks ss) (λ (t :
 pub record IsPutBack (names : List Named) (text wide : List ℕ) (s again : Sheet) (flags : List Bool) : Type 0 where
   pub rest : Sheet
   pub stays : KeepsSheet wide names again flags rest
+  pub spared : let gone = gone_of wide again flags in let fs = with_flags s.items flags in AreSpared (gone_ranges s.rules gone.rules ++ lists_by gone.fixed 0 fs) fs
   pub marks : IsMarked (pruned wide again flags) (left_by text s wide again flags)
   pub free : has (codes "/*~") (left_by text s wide again flags) ≡ false → AreFree false marks.slots
   pub gives : AreFree false marks.slots → back (pruned wide again flags) ≡ Ok (left_by text s wide again flags)
