@@ -22,7 +22,7 @@ use Rattle.widen_sheet.proofs.PieceLemmas as pieces
 use Rattle.widen_sheet.proofs.PieceLemmas.{Piece, byte, marked, out_of, text_of, none_free, goes_back_free}
 use Rattle.widen_sheet.proofs.SameSheets.{sheet_same}
 use Rattle.widen_sheet.proofs.SheetPieces.{IsPieces}
-use Rattle.widen_sheet.proofs.SparedLemmas.{gone_only, spared_sheet}
+use Rattle.widen_sheet.proofs.SparedLemmas.{gone_only, spared_sheet, all_emptied}
 use Rattle.widen_sheet.proofs.TwinCuts.{twin_flags, twin_own, twin_all, twin_holders, twin_rules, twin_gone, twin_cuts}
 
 rules_are_in : (text : List ℕ) → rules_of text ≡ rules_in (steps_of text)
@@ -129,6 +129,7 @@ put_back_sheet text wide later others last s again flags is read read_again coun
       rest = left.0;
       stays = left.1;
       spared = spared_by text wide later s again flags read same.pieces;
+      emptied = all_emptied (owners_of wide) (gone_of wide again flags).rules 0 (holders_of wide);
       marks = record { slots = slots_of kept_is.parts; marked = slots_out kept_is.parts ∙ kept_is.spelt; stands = slots_text kept_is.parts ∙ kept_is.stands; whole = slots_whole kept_is.parts kept_is.whole };
       free = λ none. slots_free false kept_is.parts (none_free false kept_is.parts (ap (has (codes "/*~")) kept_is.stands ∙ none));
       gives = put_by (pruned wide again flags) (left_by text s wide again flags) kept_is;

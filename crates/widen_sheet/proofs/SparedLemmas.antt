@@ -4,13 +4,15 @@ use Rattle.std.specs.List.{list_all}
 use Rattle.std.proofs.lemmas.Bool.{and_parts, cases_Bool}
 use Rattle.std.proofs.lemmas.Bool.Decides.{nat_tests}
 use Rattle.std.proofs.lemmas.List.Elements.{All-head, All-tail}
+use Rattle.css_read.specs.declared.holders.Holder.{Holder}
 use Rattle.css_read.specs.declared.sheets.Range.{Range}
 use Rattle.css_read.specs.Order.{AreApart, range_of, IsInRule}
-use Rattle.css_read.specs.Pruned.{Flagged, goes, with_flags, of_rule, is_fixed, gone_rules, gone_ranges, end_of_last, list_cuts}
+use Rattle.css_read.specs.Pruned.{Flagged, goes, with_flags, of_rule, is_fixed, insides, gone_rules, gone_holders, gone_ranges, end_of_last, list_cuts}
 use Rattle.css_read.specs.Sheets.{Item}
+use Rattle.css_read.proofs.GoneRules as rules
 use Rattle.css_read.proofs.CutLemmas.{IsCut, AreFrom, none_before, before_range, behind_range}
 use Rattle.css_read.proofs.PlanLemmas.{cut_append, AreTo, none_behind}
-use Rattle.widen_sheet.specs.Pruned.{lists_by, AreSpared}
+use Rattle.widen_sheet.specs.Pruned.{lists_by, AreSpared, AllGo, AreEmptied}
 use Rattle.widen_sheet.proofs.PieceCuts.{AreTwins}
 use Rattle.widen_sheet.proofs.TwinCuts.{IsTwinItem, AreTwinFlags, twin_list}
 
@@ -264,3 +266,16 @@ gone_only text m (r ∷ rs) fs (suc j) gone = let next : m + suc j ≡ m + 1 + j
 pub spared_sheet : (rs : List Range) (hi : ℕ) (gone fixed : List Bool) (items : List Item) (flags : List Bool) → AreApart 0 hi rs → AreApart 0 hi (map range_of items) → All (IsInRule rs) items
     → ((k : ℕ) → get_or gone k false ≡ true → list_all goes (of_rule k (with_flags items flags)) ≡ true) → AreSpared (gone_ranges rs gone ++ lists_by fixed 0 (with_flags items flags)) (with_flags items flags)
 spared_sheet rs hi gone fixed items flags apart items_apart are only = all_spared rs hi gone fixed (with_flags items flags) apart (order_of 0 hi items flags items_apart) (rules_of_flags rs items flags are) only
+
+-- ---- at-rules
+
+same_go : (n : ℕ) (owners : List (Option ℕ)) (gone : List Bool) → rules.AllGo n owners gone → AllGo n owners gone
+same_go n [] gone all = tt
+same_go n (o ∷ owners) [] all = tt
+same_go n (o ∷ owners) (g ∷ gone) all = (all.0, same_go n owners gone all.1)
+
+pub all_emptied : (owners : List (Option ℕ)) (gone : List Bool) (n : ℕ) (hs : List Holder) → AreEmptied owners gone n hs (gone_holders owners gone n hs)
+unfolding gone_holders
+all_emptied owners gone n [] = tt
+all_emptied owners gone n (h ∷ hs) =
+    (λ goes. let both = rules.holder_all owners gone n h hs goes in (same_go n owners gone both.0, same_go n (insides hs) (gone_holders owners gone (n + 1) hs) both.1), all_emptied owners gone (n + 1) hs)
