@@ -1,5 +1,5 @@
 -- No rule and no part of a list that goes has a byte of a selector that isn't flagged.
-use Rattle.std.proofs.Common.{◌≡◌, ◌⊎◌, ℕ, zero, suc, ◌+◌, ◌≤◌, ◌<◌, ◌==◌, ◌&&◌, ◌||◌, nat_lt, Bool, true, false, if◌then◌else◌, List, [], ◌∷◌, ◌++◌, length, map, Option, Some, None, All, get_or, slice_get, IsSomeAnd, refl, sym, ap, ◌∙◌, subst, inl, inr, arith}
+use Rattle.std.proofs.Common.{◌≡◌, ◌⊎◌, ℕ, zero, suc, ◌+◌, ◌≤◌, ◌<◌, ◌==◌, ◌&&◌, ◌||◌, nat_lt, Bool, true, false, if◌then◌else◌, List, [], ◌∷◌, ◌++◌, length, map, Option, Some, None, All, get_or, slice_get, IsSomeAnd, refl, sym, ap, ◌∙◌, subst, inl, inr, arith, append_assoc}
 use Rattle.std.specs.List.{list_all}
 use Rattle.std.proofs.lemmas.Bool.{and_parts, cases_Bool}
 use Rattle.std.proofs.lemmas.Bool.Decides.{nat_tests}
@@ -7,14 +7,14 @@ use Rattle.std.proofs.lemmas.List.Elements.{All-head, All-tail}
 use Rattle.css_read.specs.declared.holders.Holder.{Holder}
 use Rattle.css_read.specs.declared.sheets.Range.{Range}
 use Rattle.css_read.specs.Order.{AreApart, range_of, IsInRule}
-use Rattle.css_read.specs.Pruned.{Flagged, goes, with_flags, of_rule, is_fixed, insides, gone_rules, gone_holders, gone_ranges, end_of_last, list_cuts}
+use Rattle.css_read.specs.Pruned.{Flagged, goes, with_flags, of_rule, insides, gone_rules, gone_holders, gone_ranges, end_of_last, list_cuts}
 use Rattle.css_read.specs.Sheets.{Item}
 use Rattle.css_read.proofs.GoneRules as rules
 use Rattle.css_read.proofs.CutLemmas.{IsCut, AreFrom, none_before, before_range, behind_range}
-use Rattle.css_read.proofs.PlanLemmas.{cut_append, AreTo, none_behind}
+use Rattle.css_read.proofs.PlanLemmas.{cut_append}
 use Rattle.widen_sheet.specs.Pruned.{lists_by, AreSpared, AllGo, AreEmptied}
 use Rattle.widen_sheet.proofs.PieceCuts.{AreTwins}
-use Rattle.widen_sheet.proofs.TwinCuts.{IsTwinItem, AreTwinFlags, twin_list}
+use Rattle.widen_sheet.proofs.TwinCuts.{AreTwinFlags, twin_list}
 
 true_not_false : true ≡ false → ⊥
 true_not_false e = cc
@@ -211,7 +211,7 @@ not_all (h ∷ before) gs f stays = by h.1 (not_all before gs f stays)
 kept_from : (fs : List Flagged) (k : ℕ) (before gs : List Flagged) → of_rule k fs ≡ before ++ gs → AreSpared (list_cuts (of_rule k fs)) gs → AreKept fs k gs
 kept_from fs k before [] is spared = tt
 kept_from fs k before (f ∷ gs) is spared =
-    (λ stays. (ap (list_all goes) is ∙ not_all before gs f stays, spared.0 stays), kept_from fs k (before ++ f ∷ []) gs (is ∙ sym (Rattle.std.proofs.Common.append_assoc before (f ∷ []) gs)) spared.1)
+    (λ stays. (ap (list_all goes) is ∙ not_all before gs f stays, spared.0 stays), kept_from fs k (before ++ f ∷ []) gs (is ∙ sym (append_assoc before (f ∷ []) gs)) spared.1)
 
 kept_of : (fs : List Flagged) (k : ℕ) → InOrder 0 fs → AreKept fs k (of_rule k fs)
 kept_of fs k order = kept_from fs k [] (of_rule k fs) refl (own_spared 0 (of_rule k fs) (own_order 0 k fs order))
