@@ -13,6 +13,7 @@ pub mod CombinatorLemmas
 pub mod PassedLemmas
 pub mod PieceCuts
 pub mod TwinCuts
+pub mod SparedLemmas
 pub mod ChangedRules
 pub mod ChangedTexts
 pub mod TwinLists

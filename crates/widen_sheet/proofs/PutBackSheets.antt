@@ -1,9 +1,10 @@
 -- What is left of a widened sheet, put back, is the sheet without what goes.
-use Rattle.std.proofs.Common.{◌≡◌, ℕ, ◌==◌, Bool, true, false, List, [], ◌∷◌, ◌++◌, length, codes, Some, None, Ok, refl, sym, ap, ◌∙◌, subst, append_assoc}
+use Rattle.std.proofs.Common.{◌≡◌, ℕ, ◌+◌, ◌==◌, Bool, true, false, List, [], ◌∷◌, ◌++◌, length, codes, Some, None, Ok, refl, sym, ap, ◌∙◌, subst, arith, append_assoc}
+use Rattle.std.specs.List.{list_all}
 use Rattle.tp_base.specs.Names.{Named}
 use Rattle.css_read.specs.declared.sheets.Range.{Range}
 use Rattle.css_read.specs.Holders.{steps_of, holders_of, owners_of}
-use Rattle.css_read.specs.Pruned.{with_flags, gone_rules, gone_holders, gone_ranges, wholes, lists_cuts, cuts, without, pruned}
+use Rattle.css_read.specs.Pruned.{goes, with_flags, of_rule, gone_rules, gone_holders, gone_ranges, wholes, lists_cuts, cuts, without, pruned}
 use Rattle.css_read.specs.Reading.{read_sheet}
 use Rattle.css_read.specs.Rules.{rules_of}
 use Rattle.css_read.specs.Sheets.{Sheet}
@@ -11,8 +12,9 @@ use Rattle.css_read.proofs.ItemLemmas.{ranges_of, sheet_of}
 use Rattle.css_read.proofs.KeptLemmas.{sheets_kept}
 use Rattle.css_read.proofs.PrunedLemmas.{steps_are, rules_steps}
 use Rattle.css_read.proofs.PrunedText.{accepted}
+use Rattle.css_read.proofs.SheetOrder.{sheet_in_order}
 use Rattle.css_read.proofs.SpanLemmas.{rules_in}
-use Rattle.widen_sheet.specs.Pruned.{gone_of, cuts_by, left_by, with_marks, without_marks, AreWhole, AreFree, HasPutBack}
+use Rattle.widen_sheet.specs.Pruned.{lists_by, gone_of, cuts_by, left_by, with_marks, without_marks, AreWhole, AreFree, AreSpared, HasPutBack}
 use Rattle.widen_sheet.specs.Wide.{opening, closing, Slot, has, opens_mark, back_from, back}
 use Rattle.widen_sheet.proofs.ChangedSheets.{AreInPieces}
 use Rattle.widen_sheet.proofs.PieceCuts.{Meets, AreTwins, twins_append, kept, out_kept, text_kept, whole_kept}
@@ -20,7 +22,8 @@ use Rattle.widen_sheet.proofs.PieceLemmas as pieces
 use Rattle.widen_sheet.proofs.PieceLemmas.{Piece, byte, marked, out_of, text_of, none_free, goes_back_free}
 use Rattle.widen_sheet.proofs.SameSheets.{sheet_same}
 use Rattle.widen_sheet.proofs.SheetPieces.{IsPieces}
-use Rattle.widen_sheet.proofs.TwinCuts.{twin_holders, twin_rules, twin_gone, twin_cuts}
+use Rattle.widen_sheet.proofs.SparedLemmas.{gone_only, spared_sheet, all_emptied}
+use Rattle.widen_sheet.proofs.TwinCuts.{twin_flags, twin_own, twin_all, twin_holders, twin_rules, twin_gone, twin_cuts}
 
 rules_are_in : (text : List ℕ) → rules_of text ≡ rules_in (steps_of text)
 rules_are_in text = rules_steps text ∙ ap rules_in (sym (steps_are text))
@@ -98,6 +101,22 @@ put_by : (out text : List ℕ) (is : IsPieces out text) → AreFree false (slots
 unfolding back
 put_by out text is free = ap (back_from (length out) false 0) (sym is.spelt) ∙ goes_back_free (length out) false is.parts is.whole (free_pieces false is.parts free) ∙ ap Ok is.stands
 
+-- ---- what goes
+
+from_first : (k : ℕ) → 0 + k ≡ k
+from_first k = omega arith
+
+spared_by : (text wide : List ℕ) (later : List Named) (s again : Sheet) (flags : List Bool) → read_sheet text [] ≡ (later, Ok s) → AreInPieces text wide s again
+    → AreSpared (gone_ranges s.rules (gone_of wide again flags).rules ++ lists_by (gone_of wide again flags).fixed 0 (with_flags s.items flags)) (with_flags s.items flags)
+spared_by text wide later s again flags read is =
+    let order = sheet_in_order text [] later s (accepted text [] later s read).read in
+    let M = Meets 0 0 is.parts in
+    let fs = with_flags again.items flags in
+    let same : (k : ℕ) → list_all goes (of_rule k fs) ≡ list_all goes (of_rule k (with_flags s.items flags)) = λ k.
+    twin_all M (of_rule k fs) (of_rule k (with_flags s.items flags)) (twin_own M k fs (with_flags s.items flags) (twin_flags M again.items s.items flags is.items))
+    in
+    spared_sheet s.rules (length text) (gone_of wide again flags).rules (gone_of wide again flags).fixed s.items flags order.rules order.items.apart order.items.in_rules (λ k gone. sym (same k) ∙ subst (λ (n : ℕ). list_all goes (of_rule n fs) ≡ true) (from_first k) (gone_only wide 0 again.rules fs k gone))
+
 -- ---- the law
 
 pub put_back_sheet : (text : List ℕ) → HasPutBack text
@@ -109,6 +128,8 @@ put_back_sheet text wide later others last s again flags is read read_again coun
     record {
       rest = left.0;
       stays = left.1;
+      spared = spared_by text wide later s again flags read same.pieces;
+      emptied = all_emptied (owners_of wide) (gone_of wide again flags).rules 0 (holders_of wide);
       marks = record { slots = slots_of kept_is.parts; marked = slots_out kept_is.parts ∙ kept_is.spelt; stands = slots_text kept_is.parts ∙ kept_is.stands; whole = slots_whole kept_is.parts kept_is.whole };
       free = λ none. slots_free false kept_is.parts (none_free false kept_is.parts (ap (has (codes "/*~")) kept_is.stands ∙ none));
       gives = put_by (pruned wide again flags) (left_by text s wide again flags) kept_is;

@@ -180,19 +180,19 @@ items_to M N [] (i ∷ is) more twins = absurd twins
 items_to M N (j ∷ js) [] more twins = absurd twins
 items_to M N (j ∷ js) (i ∷ is) more twins = (record { from = more j.from i.from twins.0.from; to = more j.to i.to twins.0.to; rule = twins.0.rule }, items_to M N js is more twins.1)
 
-abbrev AreTwinFlags : (ℕ → ℕ → Type 0) → List Flagged → List Flagged → Type 0
+abbrev pub AreTwinFlags : (ℕ → ℕ → Type 0) → List Flagged → List Flagged → Type 0
 AreTwinFlags M [] [] = Unit {0}
 AreTwinFlags M (f ∷ fs) (g ∷ gs) = IsTwinItem M f.0 g.0 × (f.1 ≡ g.1) × AreTwinFlags M fs gs
 AreTwinFlags M fs gs = ⊥
 
-twin_flags : (M : ℕ → ℕ → Type 0) (js is : List Item) (flags : List Bool) → AreTwinItems M js is → AreTwinFlags M (with_flags js flags) (with_flags is flags)
+pub twin_flags : (M : ℕ → ℕ → Type 0) (js is : List Item) (flags : List Bool) → AreTwinItems M js is → AreTwinFlags M (with_flags js flags) (with_flags is flags)
 twin_flags M [] [] flags twins = tt
 twin_flags M [] (i ∷ is) flags twins = absurd twins
 twin_flags M (j ∷ js) [] flags twins = absurd twins
 twin_flags M (j ∷ js) (i ∷ is) [] twins = tt
 twin_flags M (j ∷ js) (i ∷ is) (g ∷ flags) twins = (twins.0, refl, twin_flags M js is flags twins.1)
 
-twin_own : (M : ℕ → ℕ → Type 0) (k : ℕ) (fs gs : List Flagged) → AreTwinFlags M fs gs → AreTwinFlags M (of_rule k fs) (of_rule k gs)
+pub twin_own : (M : ℕ → ℕ → Type 0) (k : ℕ) (fs gs : List Flagged) → AreTwinFlags M fs gs → AreTwinFlags M (of_rule k fs) (of_rule k gs)
 twin_own M k [] [] twins = tt
 twin_own M k [] (g ∷ gs) twins = absurd twins
 twin_own M k (f ∷ fs) [] twins = absurd twins
@@ -204,7 +204,7 @@ twin_own M k (f ∷ fs) (g ∷ gs) twins = by (f.0.rule == k) (g.0.rule == k) (a
     by true false same later = cc
     by false true same later = cc
 
-twin_all : (M : ℕ → ℕ → Type 0) (fs gs : List Flagged) → AreTwinFlags M fs gs → list_all goes fs ≡ list_all goes gs
+pub twin_all : (M : ℕ → ℕ → Type 0) (fs gs : List Flagged) → AreTwinFlags M fs gs → list_all goes fs ≡ list_all goes gs
 twin_all M [] [] twins = refl
 twin_all M [] (g ∷ gs) twins = absurd twins
 twin_all M (f ∷ fs) [] twins = absurd twins
@@ -216,7 +216,7 @@ twin_last M e h [] (g ∷ gs) here twins = absurd twins
 twin_last M e h (f ∷ fs) [] here twins = absurd twins
 twin_last M e h (f ∷ fs) (g ∷ gs) here twins = twin_last M f.0.to g.0.to fs gs twins.0.to twins.2
 
-twin_list : (M : ℕ → ℕ → Type 0) (fs gs : List Flagged) → AreTwinFlags M fs gs → AreTwins M (list_cuts fs) (list_cuts gs)
+pub twin_list : (M : ℕ → ℕ → Type 0) (fs gs : List Flagged) → AreTwinFlags M fs gs → AreTwins M (list_cuts fs) (list_cuts gs)
 twin_list M [] [] twins = tt
 twin_list M [] (g ∷ gs) twins = absurd twins
 twin_list M (f ∷ fs) [] twins = absurd twins

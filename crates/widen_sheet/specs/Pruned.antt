@@ -1,15 +1,19 @@
 -- What is left of a sheet that was widened, pruned and put back: the sheet without the ranges of what goes.
 --     cuts_by       the ranges of a text, by which at-rules and rules go, and which rules keep their lists
 --     left_by       the text without them, by what goes of the widened sheet
+--     AreSpared     no range has a byte of a selector that isn't flagged
+--     AreEmptied    an at-rule that goes holds only what goes
 --     IsMarked      a text is another one with marks
 --     AreFree       outside of marks a `/*~` has a `*` before it
 --     IsPutBack     what is left of the widened sheet: it is read as what stays, and put back it is what is left of the sheet
-use Rattle.std.specs.Prelude.{◌≡◌, ℕ, ◌+◌, ◌==◌, Bool, true, false, codes, if◌then◌else◌, List, [], ◌∷◌, ◌++◌, length, Option, Some, None, Ok}
+use Rattle.std.specs.Prelude.{◌≡◌, ℕ, ◌+◌, ◌≤◌, ◌<◌, ◌==◌, Bool, true, false, codes, if◌then◌else◌, List, [], ◌∷◌, ◌++◌, length, Option, Some, None, Ok}
+use Rattle.std.specs.List.{list_any}
 use Rattle.tp_base.specs.Names.{Named}
+use Rattle.css_read.specs.declared.holders.Holder.{Holder}
 use Rattle.css_read.specs.declared.sheets.Range.{Range}
 use Rattle.css_read.specs.Effects.{fixed_rules, KeepsSheet}
 use Rattle.css_read.specs.Holders.{holders_of, owners_of}
-use Rattle.css_read.specs.Pruned.{Flagged, with_flags, of_rule, gone_rules, gone_holders, gone_ranges, wholes, list_cuts, without, pruned}
+use Rattle.css_read.specs.Pruned.{Flagged, goes, is_owner, insides, with_flags, of_rule, gone_rules, gone_holders, gone_ranges, wholes, list_cuts, is_in, without, pruned}
 use Rattle.css_read.specs.Reading.{read_sheet}
 use Rattle.css_read.specs.Sheets.{Sheet}
 use Rattle.widen_sheet.specs.declared.marks.Mark.{Mark}
@@ -44,6 +48,21 @@ gone_of text sheet flags =
 -- rule, and once it is widened it is judged.
 unfoldable pub left_by : List ℕ → Sheet → List ℕ → Sheet → List Bool → List ℕ
 left_by text s wide again flags = without (cuts_by (gone_of wide again flags) text s flags) 0 text
+
+-- none of some ranges has a byte of a selector that isn't flagged
+abbrev pub AreSpared : List Range → List Flagged → Type 0
+AreSpared rs [] = Unit {0}
+AreSpared rs (f ∷ fs) = (goes f ≡ false → (x : ℕ) → f.0.from ≤ x → x < f.0.to → list_any (is_in x) rs ≡ false) × AreSpared rs fs
+
+-- of what has these owners, all goes that the at-rule with a number has
+abbrev pub AllGo : ℕ → List (Option ℕ) → List Bool → Type 0
+AllGo n (o ∷ owners) (g ∷ gone) = (is_owner n o ≡ true → g ≡ true) × AllGo n owners gone
+AllGo n owners gone = Unit {0}
+
+-- of each at-rule that goes, from a number on, all rules and at-rules go that stand directly in its block
+abbrev pub AreEmptied : List (Option ℕ) → List Bool → ℕ → List Holder → List Bool → Type 0
+AreEmptied owners rules n (h ∷ hs) (g ∷ gone) = (g ≡ true → AllGo n owners rules × AllGo n (insides hs) gone) × AreEmptied owners rules (n + 1) hs gone
+AreEmptied owners rules n hs gone = Unit {0}
 
 -- ---- marks in what is left
 
@@ -96,11 +115,14 @@ AreFree star (s ∷ ss) = FreeBefore star s.mark s.text (with_marks ss) (λ (t :
 
 -- ---- the law
 
--- The pruned sheet is read as the selectors that stay, among which is each that isn't flagged. It is the text that is left of the sheet, with marks.
--- Put back it is that text, unless a `/*~` has come about outside of marks that has no `*` before it.
+-- The pruned sheet is read as the selectors that stay, among which is each that isn't flagged. Of the sheet no rule and no part of a list goes that has
+-- a byte of one that isn't flagged, and an at-rule goes with all that its block holds. The pruned sheet is what is left of the sheet, with marks. Put
+-- back it is that text, unless a `/*~` has come about outside of marks that has no `*` before it.
 pub record IsPutBack (names : List Named) (text wide : List ℕ) (s again : Sheet) (flags : List Bool) : Type 0 where
   pub rest : Sheet
   pub stays : KeepsSheet wide names again flags rest
+  pub spared : let gone = gone_of wide again flags in let fs = with_flags s.items flags in AreSpared (gone_ranges s.rules gone.rules ++ lists_by gone.fixed 0 fs) fs
+  pub emptied : let gone = gone_of wide again flags in AreEmptied (owners_of wide) gone.rules 0 (holders_of wide) gone.holders
   pub marks : IsMarked (pruned wide again flags) (left_by text s wide again flags)
   pub free : has (codes "/*~") (left_by text s wide again flags) ≡ false → AreFree false marks.slots
   pub gives : AreFree false marks.slots → back (pruned wide again flags) ≡ Ok (left_by text s wide again flags)

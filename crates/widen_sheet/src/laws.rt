@@ -23,7 +23,7 @@ pub fn widening_keeps_the_sheet(text: &[u8])
 {}
 
 /// What is left of a widened sheet that was pruned goes back to the sheet without ranges of whole selectors, rules and
-/// at-rules: those that are the ones that went.
+/// at-rules: those that are the ones that went. No selector goes with them that isn't flagged.
 pub fn pruned_goes_back(text: &[u8])
     ensures { HasPutBack text.now }
 {}
