@@ -1,13 +1,14 @@
 //! Code in attributes.
-ghost use Rattle.std.specs.Prelude.{◌≡◌, ◌++◌, ◌&&◌, not, OnOk};
+ghost use Rattle.std.specs.Prelude.{◌≡◌, ◌++◌, ◌&&◌, not, IfOk, OnOk};
 ghost use Rattle.std.specs.Option.{option_map};
 ghost use Rattle.code_sources.specs.Attributes as spec;
 ghost use Rattle.code_sources.specs.Views.{placed_of};
 
 use crate::bytes::{HOLE, behind_spelled, has_hole};
-use crate::references::{Said, read_value};
+use crate::references::read_value;
 use crate::sources::{Kind, Source};
 use crate::tags::Placed;
+use std::alloc::Global;
 use tp_base::{Items, NoMemory};
 
 fn is_hole(byte: u8) -> bool
@@ -83,16 +84,18 @@ fn code_at(place: usize, text: Items<u8>, is_sure: bool) -> Source
     }
 }
 
-// Adds what is behind `javascript:`, where a value begins so.
-fn add_address(found: &mut Vec<Source>, place: usize, said: &Said) -> Result<(), NoMemory>
-    ensures { OnOk result (found.new.items ≡ found.old.items ++ spec.code_of_address place said.now.is_sure (spec.code_behind said.now.text)) }
+// The code of an address, where that is sure but for its bytes.
+fn code_of_address(
+    alloc: Global,
+    place: usize,
+    code: &[u8],
+    is_sure: bool,
+) -> Result<Source, NoMemory>
+    ensures { IfOk result (λ s. s ≡ spec.code_at place code.now (is_sure && not (spec.has_percent code.now))) }
 {
-    if let Some(code) = code_behind(said.text.items()) {
-        let is_sure = said.is_sure && !has_percent(code);
-        let text = Vec::from_slice(*found.allocator(), code)?;
-        found.push(code_at(place, Items::new(text), is_sure))?;
-    }
-    Ok(())
+    let text = Vec::from_slice(alloc, code)?;
+    let is_sure = is_sure && !has_percent(code);
+    Ok(code_at(place, Items::new(text), is_sure))
 }
 
 /// Adds the source that an attribute is, if it is one. Linear in it.
@@ -100,11 +103,13 @@ fn add_address(found: &mut Vec<Source>, place: usize, said: &Said) -> Result<(),
 pub(crate) fn add_attribute(found: &mut Vec<Source>, placed: &Placed<'_>) -> Result<(), NoMemory>
     ensures { OnOk result (found.new.items ≡ found.old.items ++ spec.sources_in_attribute (placed_of placed.now)) }
 {
-    let said = read_value(*found.allocator(), placed.attribute.value)?;
+    let alloc = *found.allocator();
+    let said = read_value(alloc, placed.attribute.value)?;
     if is_event_name(placed.attribute.name) {
         found.push(code_at(placed.value_at, said.text, said.is_sure))?;
-    } else {
-        add_address(found, placed.value_at, &said)?;
+    } else if let Some(code) = code_behind(said.text.items()) {
+        let source = code_of_address(alloc, placed.value_at, code, said.is_sure)?;
+        found.push(source)?;
     }
     Ok(())
 }

@@ -1,7 +1,23 @@
 //! The files that a page's scripts are in.
-ghost use Rattle.std.specs.Prelude.{◌≡◌, ◌≤◌, length, map};
+ghost use Rattle.std.specs.Prelude.{◌≡◌, ◌≤◌, length};
 ghost use Rattle.std.specs.List.{prefix_len};
 ghost use Rattle.code_sources.specs.Scripts as spec;
+
+use std::marker::Model;
+
+/// The names of the scripts that are handed in. A contract sees the list of them.
+#[derive(Drop)]
+pub(crate) struct Scripts<'a> {
+    pub(crate) names: &'a [&'a [u8]],
+}
+
+impl<'a> Model for Scripts<'a> {
+    ghost use Rattle.std.specs.Prelude.{ℕ, List, map};
+
+    ghost Value = { List (List ℕ) };
+
+    ghost view = { λ s. map (λ n. n.now) s.names.now };
+}
 
 fn in_path(b: u8) -> bool
     ensures { result ≡ spec.in_path b }
@@ -74,10 +90,10 @@ fn is_jquery(file: &[u8]) -> bool
             == b"js".as_slice()
 }
 
-fn is_handed_in(scripts: &[&[u8]], file: &[u8]) -> bool
-    ensures { result ≡ spec.is_handed_in (map (λ s. s.now) scripts.now) file.now }
+fn is_handed_in(scripts: &Scripts<'_>, file: &[u8]) -> bool
+    ensures { result ≡ spec.is_handed_in scripts.now file.now }
 {
-    let mut left = scripts;
+    let mut left = scripts.names;
     'scripts: while let [first, others @ ..] = left {
         if last_part(first) == file {
             return true;
@@ -89,8 +105,8 @@ fn is_handed_in(scripts: &[&[u8]], file: &[u8]) -> bool
 
 /// Whether an address is jQuery's, or that of a script that is handed in. Linear in them.
 #[tactic(auto, unfolding(crate::specs::Scripts::is_known))]
-pub(crate) fn is_known(scripts: &[&[u8]], address: &[u8]) -> bool
-    ensures { result ≡ spec.is_known (map (λ s. s.now) scripts.now) address.now }
+pub(crate) fn is_known(scripts: &Scripts<'_>, address: &[u8]) -> bool
+    ensures { result ≡ spec.is_known scripts.now address.now }
 {
     let file = last_part(path_of(address));
     is_jquery(file) || is_handed_in(scripts, file)

@@ -1,5 +1,5 @@
 //! The elements `script` of a page.
-ghost use Rattle.std.specs.Prelude.{◌≡◌, ◌≤◌, ◌++◌, length, map, OnOk};
+ghost use Rattle.std.specs.Prelude.{◌≡◌, ◌≤◌, ◌++◌, length, OnOk};
 ghost use Rattle.std.specs.List.{prefix_len};
 ghost use Rattle.html_tokens.specs.Bytes.{lowered};
 ghost use Rattle.html_tokens.specs.Views.{bytes_of};
@@ -7,7 +7,7 @@ ghost use Rattle.code_sources.specs.Scripts as spec;
 ghost use Rattle.code_sources.specs.Views.{tag_of};
 
 use crate::bytes::{is_among, past_blanks};
-use crate::files::is_known;
+use crate::files::{Scripts, is_known};
 use crate::references::read_value;
 use crate::sources::{Kind, Source};
 use crate::tags::Tag;
@@ -133,10 +133,10 @@ pub(crate) fn add_script(found: &mut Vec<Source>, tag: &Tag<'_>) -> Result<(), N
 #[tactic(auto, unfolding(crate::specs::Scripts::unseen))]
 pub(crate) fn add_unseen(
     found: &mut Vec<Source>,
-    scripts: &[&[u8]],
+    scripts: &Scripts<'_>,
     tag: &Tag<'_>,
 ) -> Result<(), NoMemory>
-    ensures { OnOk result (found.new.items ≡ found.old.items ++ spec.unseen (map (λ s. s.now) scripts.now) (tag_of tag.now)) }
+    ensures { OnOk result (found.new.items ≡ found.old.items ++ spec.unseen scripts.now (tag_of tag.now)) }
 {
     if let Some(address) = tag.value(b"src") {
         let said = read_value(*found.allocator(), address)?;

@@ -5,6 +5,7 @@ ghost use Rattle.code_sources.specs.Sources as spec;
 ghost use Rattle.code_sources.specs.Views.{placed_of, tag_of};
 
 use crate::attributes::add_attribute;
+use crate::files::Scripts;
 use crate::scripts::{add_script, add_unseen};
 use crate::tags::{Placed, Tag, tags_in};
 use std::alloc::Global;
@@ -45,8 +46,8 @@ fn add_attributes(found: &mut Vec<Source>, attributes: &[Placed<'_>]) -> Result<
 
 // Adds the sources of a tag.
 #[tactic(auto, unfolding(crate::specs::Sources::sources_in_tag), using(crate::proofs::SourceSteps::three))]
-fn add_tag(found: &mut Vec<Source>, scripts: &[&[u8]], tag: &Tag<'_>) -> Result<(), NoMemory>
-    ensures { OnOk result (found.new.items ≡ found.old.items ++ spec.sources_in_tag (map (λ s. s.now) scripts.now) (tag_of tag.now)) }
+fn add_tag(found: &mut Vec<Source>, scripts: &Scripts<'_>, tag: &Tag<'_>) -> Result<(), NoMemory>
+    ensures { OnOk result (found.new.items ≡ found.old.items ++ spec.sources_in_tag scripts.now (tag_of tag.now)) }
 {
     if tag.is_named(b"script") {
         add_unseen(found, scripts, tag)?;
@@ -58,8 +59,12 @@ fn add_tag(found: &mut Vec<Source>, scripts: &[&[u8]], tag: &Tag<'_>) -> Result<
     Ok(())
 }
 
-fn add_tags(found: &mut Vec<Source>, scripts: &[&[u8]], tags: &[Tag<'_>]) -> Result<(), NoMemory>
-    ensures { OnOk result (found.new.items ≡ found.old.items ++ flat_map (spec.sources_in_tag (map (λ s. s.now) scripts.now)) (map tag_of tags.now)) }
+fn add_tags(
+    found: &mut Vec<Source>,
+    scripts: &Scripts<'_>,
+    tags: &[Tag<'_>],
+) -> Result<(), NoMemory>
+    ensures { OnOk result (found.new.items ≡ found.old.items ++ flat_map (spec.sources_in_tag scripts.now) (map tag_of tags.now)) }
 {
     'tags: for tag in tags {
         add_tag(found, scripts, tag)?;
@@ -88,7 +93,7 @@ pub fn sources_in_page(
 {
     let tags = tags_in(alloc, page)?;
     let mut found = Vec::new(alloc);
-    add_tags(&mut found, scripts, tags.items())?;
+    add_tags(&mut found, &Scripts { names: scripts }, tags.items())?;
     Ok(Items::new(found))
 }
 

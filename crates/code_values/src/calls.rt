@@ -4,15 +4,16 @@ ghost use Rattle.code_values.specs.Arguments as spec;
 ghost use Rattle.code_values.specs.Outer.{part as part_between, is_comma as commas, parts as parts_in};
 
 use crate::outside::{begins, from_at, other_at, outer};
+use crate::script::Script;
 use crate::spans::Span;
 use code_tokens::Code;
 use std::alloc::Global;
 use tp_base::{Items, NoMemory};
 
-fn is_comma(text: &[u8], code: &Code, at: usize) -> bool
-    ensures { commas text.now code.now at ≡ result }
+fn is_comma(script: &Script<'_>, at: usize) -> bool
+    ensures { commas script.now.text.now script.now.code.now at ≡ result }
 {
-    begins(text, b",", from_at(code, at))
+    begins(script.text, b",", from_at(script.code, at))
 }
 
 #[tactic(auto, unfolding(crate::specs::Outer::part))]
@@ -29,17 +30,16 @@ fn push_part(parts: &mut Vec<Span>, from: usize, to: usize) -> Result<(), NoMemo
 #[tactic(auto, using(crate::proofs::OuterSteps::comma, crate::proofs::OuterSteps::no_comma, crate::proofs::OuterSteps::last_part))]
 pub(crate) fn parts_of(
     alloc: Global,
-    text: &[u8],
-    code: &Code,
+    script: &Script<'_>,
     span: Span,
 ) -> Result<Vec<Span>, NoMemory>
-    ensures { IfOk result (λ v. v.items ≡ parts_in text.now code.now span) }
+    ensures { IfOk result (λ v. v.items ≡ parts_in script.now.text.now script.now.code.now span) }
 {
     let mut parts = Vec::new(alloc);
     let mut from = span.from;
-    let mut left = outer(code, span);
+    let mut left = outer(script.code, span);
     'tokens: while let Some(at) = left.next() {
-        if is_comma(text, code, at) {
+        if is_comma(script, at) {
             push_part(&mut parts, from, at)?;
             from = at + 1;
         }
@@ -76,20 +76,15 @@ pub fn inside(code: &Code, at: usize) -> Span
 }
 
 /// The arguments of the `(` of a number, without empty ones. Linear in what stands outside of their brackets.
-pub fn arguments(
-    alloc: Global,
-    text: &[u8],
-    code: &Code,
-    at: usize,
-) -> Result<Items<Span>, NoMemory>
-    ensures { IfOk result (λ v. v ≡ spec.arguments text.now code.now at) }
+pub fn arguments(alloc: Global, script: &Script<'_>, at: usize) -> Result<Items<Span>, NoMemory>
+    ensures { IfOk result (λ v. v ≡ spec.arguments script.now.text.now script.now.code.now at) }
 {
-    Ok(Items::new(parts_of(alloc, text, code, inside(code, at))?))
+    Ok(Items::new(parts_of(alloc, script, inside(script.code, at))?))
 }
 
 /// Whether `...` stands in front of an argument. Constant.
-pub fn is_spread(text: &[u8], code: &Code, span: Span) -> bool
-    ensures { spec.is_spread text.now code.now span ≡ result }
+pub fn is_spread(script: &Script<'_>, span: Span) -> bool
+    ensures { spec.is_spread script.now.text.now script.now.code.now span ≡ result }
 {
-    begins(text, b"...", from_at(code, span.from))
+    begins(script.text, b"...", from_at(script.code, span.from))
 }

@@ -5,15 +5,15 @@ ghost use Rattle.code_scan.specs.Spellings.{words_of as words};
 ghost use Rattle.text_bytes.specs.Attributes.{is_among as stands_among};
 ghost use Rattle.code_values.specs.Chains as spec;
 
-use crate::calls::{arguments, inside, is_spread};
+use crate::calls::{inside, is_spread, parts_of};
 use crate::names::is_among;
 use crate::objects::is_object;
 use crate::outside::{begins, from_at, other_at, tokens_in};
+use crate::script::Script;
 use crate::spans::Span;
 use crate::texts::{is_plus, is_texts};
 use crate::values::is_chosen;
 use code_scan::{Token, TokenKind, is_written, words_of};
-use code_tokens::Code;
 use std::alloc::Global;
 use text_bytes::blank_len;
 use tp_base::{Items, NoMemory};
@@ -208,33 +208,44 @@ fn begins_dot(text: &[u8], tokens: &[Token]) -> bool
     }
 }
 
-fn is_called(text: &[u8], code: &Code, names: Names, at: usize) -> bool
-    ensures { spec.calls text.now code.now names at ≡ result }
+fn is_called(script: &Script<'_>, names: Names, at: usize) -> bool
+    ensures { spec.calls script.now.text.now script.now.code.now names at ≡ result }
 {
-    begins_name(text, names, from_at(code, at.saturating_sub(1)))
+    begins_name(
+        script.text,
+        names,
+        from_at(script.code, at.saturating_sub(1)),
+    )
 }
 
-fn is_called_member(text: &[u8], code: &Code, names: Names, at: usize) -> bool
-    ensures { spec.calls_member text.now code.now names at ≡ result }
+fn is_called_member(script: &Script<'_>, names: Names, at: usize) -> bool
+    ensures { spec.calls_member script.now.text.now script.now.code.now names at ≡ result }
 {
-    begins_member(text, names, from_at(code, at.saturating_sub(1)))
-        && begins_dot(text, from_at(code, at.saturating_sub(2)))
+    begins_member(
+        script.text,
+        names,
+        from_at(script.code, at.saturating_sub(1)),
+    ) && begins_dot(script.text, from_at(script.code, at.saturating_sub(2)))
 }
 
 #[tactic(auto, unfolding(crate::specs::Chains::is_jquery))]
-fn is_jquery(text: &[u8], code: &Code, at: usize) -> bool
-    ensures { spec.is_jquery text.now code.now at ≡ result }
+fn is_jquery(script: &Script<'_>, at: usize) -> bool
+    ensures { spec.is_jquery script.now.text.now script.now.code.now at ≡ result }
 {
-    is_called(text, code, Names::Jquery, at)
-        && !begins_dot(text, from_at(code, at.saturating_sub(2)))
+    is_called(script, Names::Jquery, at)
+        && !begins_dot(script.text, from_at(script.code, at.saturating_sub(2)))
 }
 
 #[tactic(auto, unfolding(crate::specs::Chains::is_creation))]
-fn is_creation(text: &[u8], code: &Code, at: usize) -> bool
-    ensures { spec.is_creation text.now code.now at ≡ result }
+fn is_creation(script: &Script<'_>, at: usize) -> bool
+    ensures { spec.is_creation script.now.text.now script.now.code.now at ≡ result }
 {
-    is_called_member(text, code, Names::Creations, at)
-        && begins_name(text, Names::Document, from_at(code, at.saturating_sub(3)))
+    is_called_member(script, Names::Creations, at)
+        && begins_name(
+            script.text,
+            Names::Document,
+            from_at(script.code, at.saturating_sub(3)),
+        )
 }
 
 // ---- what a chain is on
@@ -333,24 +344,24 @@ fn origin_of_first(text: &[u8], first: &Token, behind: &[Token]) -> Origin
 }
 
 #[tactic(auto, unfolding(crate::specs::Chains::origin_of_tokens))]
-fn origin_of_tokens(text: &[u8], tokens: &[Token]) -> Origin
-    ensures { spec.origin_of_tokens text.now tokens.now ≡ result }
+fn origin_of_tokens(script: &Script<'_>, tokens: &[Token]) -> Origin
+    ensures { spec.origin_of_tokens script.now.text.now tokens.now ≡ result }
 {
     match tokens.split_first() {
         None => Origin::Unknown,
-        Some((first, behind)) => origin_of_first(text, first, behind),
+        Some((first, behind)) => origin_of_first(script.text, first, behind),
     }
 }
 
 #[tactic(auto, unfolding(crate::specs::Chains::origin_of_call))]
-fn origin_of_call(text: &[u8], code: &Code, at: usize) -> Origin
-    ensures { spec.origin_of_call text.now code.now at ≡ result }
+fn origin_of_call(script: &Script<'_>, at: usize) -> Origin
+    ensures { spec.origin_of_call script.now.text.now script.now.code.now at ≡ result }
 {
-    let arguments = inside(code, at);
-    if is_chosen(text, code, arguments) {
+    let arguments = inside(script.code, at);
+    if is_chosen(script, arguments) {
         Origin::Unknown
     } else {
-        origin_of_tokens(text, from_at(code, arguments.from))
+        origin_of_tokens(script, from_at(script.code, arguments.from))
     }
 }
 
@@ -385,53 +396,41 @@ fn chain_in(chains: &[Chain], at: usize) -> Chain
 }
 
 #[tactic(auto, unfolding(crate::specs::Chains::has_one))]
-fn has_one(text: &[u8], code: &Code, spans: &[Span]) -> bool
-    ensures { spec.has_one text.now code.now spans.now ≡ result }
+fn has_one(script: &Script<'_>, spans: &[Span]) -> bool
+    ensures { spec.has_one script.now.text.now script.now.code.now spans.now ≡ result }
 {
     match spans.split_first() {
         None => false,
-        Some((first, _)) => !is_spread(text, code, *first),
+        Some((first, _)) => !is_spread(script, *first),
     }
 }
 
 #[tactic(auto, unfolding(crate::specs::Chains::has_two))]
-fn has_two(text: &[u8], code: &Code, spans: &[Span]) -> bool
-    ensures { spec.has_two text.now code.now spans.now ≡ result }
+fn has_two(script: &Script<'_>, spans: &[Span]) -> bool
+    ensures { spec.has_two script.now.text.now script.now.code.now spans.now ≡ result }
 {
     let Some((first, behind)) = spans.split_first() else {
         return false;
     };
     match behind.split_first() {
-        None => is_object(text, code, *first),
-        Some((second, _)) => { !(is_spread(text, code, *first) || is_spread(text, code, *second)) }
+        None => is_object(script, *first),
+        Some((second, _)) => { !(is_spread(script, *first) || is_spread(script, *second)) }
     }
-}
-
-fn is_set(alloc: Global, text: &[u8], code: &Code, at: usize) -> Result<bool, NoMemory>
-    ensures { IfOk result (λ b. spec.is_set text.now code.now at ≡ b) }
-{
-    let spans = arguments(alloc, text, code, at)?;
-    Ok(has_one(text, code, spans.items()))
-}
-
-fn is_paired(alloc: Global, text: &[u8], code: &Code, at: usize) -> Result<bool, NoMemory>
-    ensures { IfOk result (λ b. spec.is_paired text.now code.now at ≡ b) }
-{
-    let spans = arguments(alloc, text, code, at)?;
-    Ok(has_two(text, code, spans.items()))
 }
 
 // Whether the call of a bracket gives nodes of what it is called on.
 #[tactic(auto, unfolding(crate::specs::Chains::keeps))]
-fn is_kept(alloc: Global, text: &[u8], code: &Code, at: usize) -> Result<bool, NoMemory>
-    ensures { IfOk result (λ b. spec.keeps text.now code.now at ≡ b) }
+fn is_kept(alloc: Global, script: &Script<'_>, at: usize) -> Result<bool, NoMemory>
+    ensures { IfOk result (λ b. spec.keeps script.now.text.now script.now.code.now at ≡ b) }
 {
-    if is_called_member(text, code, Names::Keeping, at) {
+    if is_called_member(script, Names::Keeping, at) {
         Ok(true)
-    } else if is_called_member(text, code, Names::Setting, at) {
-        is_set(alloc, text, code, at)
-    } else if is_called_member(text, code, Names::Pairing, at) {
-        is_paired(alloc, text, code, at)
+    } else if is_called_member(script, Names::Setting, at) {
+        let spans = parts_of(alloc, script, inside(script.code, at))?;
+        Ok(has_one(script, &spans))
+    } else if is_called_member(script, Names::Pairing, at) {
+        let spans = parts_of(alloc, script, inside(script.code, at))?;
+        Ok(has_two(script, &spans))
     } else {
         Ok(false)
     }
@@ -450,56 +449,54 @@ fn continued(is_kept: bool, before: &[Chain], at: usize) -> Chain
 #[tactic(auto, unfolding(crate::specs::Chains::chain_at))]
 fn chain_at(
     alloc: Global,
-    text: &[u8],
-    code: &Code,
+    script: &Script<'_>,
     before: &[Chain],
     at: usize,
 ) -> Result<Chain, NoMemory>
-    ensures { IfOk result (λ c. spec.chain_at text.now code.now before.now at ≡ c) }
+    ensures { IfOk result (λ c. spec.chain_at script.now.text.now script.now.code.now before.now at ≡ c) }
 {
-    if is_jquery(text, code, at) {
+    if is_jquery(script, at) {
         return Ok(Chain {
             from: at.saturating_sub(1),
-            origin: origin_of_call(text, code, at),
+            origin: origin_of_call(script, at),
         });
     }
-    if is_creation(text, code, at) {
+    if is_creation(script, at) {
         return Ok(Chain {
             from: at.saturating_sub(3),
             origin: Origin::NewNode,
         });
     }
-    Ok(continued(is_kept(alloc, text, code, at)?, before, at))
+    Ok(continued(is_kept(alloc, script, at)?, before, at))
 }
 
 #[tactic(auto, unfolding(crate::specs::Chains::next_chain))]
 fn next_chain(
     alloc: Global,
-    text: &[u8],
-    code: &Code,
+    script: &Script<'_>,
     before: &[Chain],
     tokens: &[Token],
 ) -> Result<Chain, NoMemory>
-    ensures { IfOk result (λ c. spec.next_chain text.now code.now before.now tokens.now ≡ c) }
+    ensures { IfOk result (λ c. spec.next_chain script.now.text.now script.now.code.now before.now tokens.now ≡ c) }
 {
-    if !begins(text, b")", tokens) {
+    if !begins(script.text, b")", tokens) {
         return Ok(no_chain());
     }
-    match other_at(code, before.len()) {
+    match other_at(script.code, before.len()) {
         None => Ok(no_chain()),
-        Some(at) => chain_at(alloc, text, code, before, at),
+        Some(at) => chain_at(alloc, script, before, at),
     }
 }
 
 /// For each token the chain of calls that ends with it. Linear in the code.
 #[tactic(auto, unfolding(crate::specs::Chains::chains_from))]
-pub fn chains_of(alloc: Global, text: &[u8], code: &Code) -> Result<Items<Chain>, NoMemory>
-    ensures { IfOk result (λ v. v ≡ spec.chains text.now code.now) }
+pub fn chains_of(alloc: Global, script: &Script<'_>) -> Result<Items<Chain>, NoMemory>
+    ensures { IfOk result (λ v. v ≡ spec.chains script.now.text.now script.now.code.now) }
 {
     let mut chains = Vec::new(alloc);
-    let mut rest = code.tokens.items();
+    let mut rest = script.code.tokens.items();
     'tokens: while let Some((_, behind)) = rest.split_first() {
-        let chain = next_chain(alloc, text, code, &chains, rest)?;
+        let chain = next_chain(alloc, script, &chains, rest)?;
         chains.push(chain)?;
         rest = behind;
     }
@@ -541,20 +538,20 @@ fn is_new_origin(origin: Origin) -> bool
 }
 
 /// Whether a value can bring in no node of the page and no markup from elsewhere. Linear in the value where it is texts.
-pub fn is_new(text: &[u8], code: &Code, chains: &[Chain], span: Span) -> bool
-    ensures { spec.is_new text.now code.now chains.now span ≡ result }
+pub fn is_new(script: &Script<'_>, chains: &[Chain], span: Span) -> bool
+    ensures { spec.is_new script.now.text.now script.now.code.now chains.now span ≡ result }
 {
-    is_texts(text, code, span)
-        || is_constant(text, tokens_in(code, span))
+    is_texts(script, span)
+        || is_constant(script.text, tokens_in(script.code, span))
         || is_new_origin(origin_of(chains, span))
 }
 
 /// What the chain before the name of a member is on, by the chains of the code. Constant.
 #[tactic(auto, unfolding(crate::specs::Chains::origin_before))]
-pub fn origin_before(text: &[u8], code: &Code, chains: &[Chain], at: usize) -> Origin
-    ensures { spec.origin_before text.now code.now chains.now at ≡ result }
+pub fn origin_before(script: &Script<'_>, chains: &[Chain], at: usize) -> Origin
+    ensures { spec.origin_before script.now.text.now script.now.code.now chains.now at ≡ result }
 {
-    if at >= 2 && begins_dot(text, from_at(code, at - 1)) {
+    if at >= 2 && begins_dot(script.text, from_at(script.code, at - 1)) {
         chain_in(chains, at - 2).origin
     } else {
         Origin::Unknown

@@ -4,10 +4,10 @@ ghost use Rattle.code_values.specs.Objects as spec;
 
 use crate::calls::arguments;
 use crate::outside::{begins, from_at, other_at, tokens_in};
+use crate::script::Script;
 use crate::spans::Span;
 use crate::values::is_word;
 use code_scan::{Token, is_written};
-use code_tokens::Code;
 use std::alloc::Global;
 use tp_base::{Items, NoMemory};
 
@@ -30,10 +30,11 @@ fn closes_at(span: Span, other: Option<usize>) -> bool
 }
 
 /// Whether a value is `{ .. }`. Constant.
-pub fn is_object(text: &[u8], code: &Code, span: Span) -> bool
-    ensures { spec.is_object text.now code.now span ≡ result }
+pub fn is_object(script: &Script<'_>, span: Span) -> bool
+    ensures { spec.is_object script.now.text.now script.now.code.now span ≡ result }
 {
-    begins(text, b"{", from_at(code, span.from)) && closes_at(span, other_at(code, span.from))
+    begins(script.text, b"{", from_at(script.code, span.from))
+        && closes_at(span, other_at(script.code, span.from))
 }
 
 #[tactic(auto, unfolding(crate::specs::Objects::begins_pair))]
@@ -51,10 +52,10 @@ fn begins_pair(text: &[u8], tokens: &[Token]) -> bool
 }
 
 #[tactic(auto, unfolding(crate::specs::Objects::part_at))]
-fn part_at(text: &[u8], code: &Code, span: Span) -> Part
-    ensures { spec.part_at text.now code.now span ≡ result }
+fn part_at(script: &Script<'_>, span: Span) -> Part
+    ensures { spec.part_at script.now.text.now script.now.code.now span ≡ result }
 {
-    if begins_pair(text, tokens_in(code, span)) {
+    if begins_pair(script.text, tokens_in(script.code, span)) {
         let value = Span {
             from: span.from + 2,
             to: span.to,
@@ -66,13 +67,13 @@ fn part_at(text: &[u8], code: &Code, span: Span) -> Part
 }
 
 #[tactic(auto, unfolding(crate::specs::Objects::parts_at))]
-fn parts_at(alloc: Global, text: &[u8], code: &Code, spans: &[Span]) -> Result<Vec<Part>, NoMemory>
-    ensures { IfOk result (λ v. v.items ≡ spec.parts_at text.now code.now spans.now) }
+fn parts_at(alloc: Global, script: &Script<'_>, spans: &[Span]) -> Result<Vec<Part>, NoMemory>
+    ensures { IfOk result (λ v. v.items ≡ spec.parts_at script.now.text.now script.now.code.now spans.now) }
 {
     let mut parts = Vec::new(alloc);
     let mut rest = spans;
     'spans: while let Some((first, others)) = rest.split_first() {
-        parts.push(part_at(text, code, *first))?;
+        parts.push(part_at(script, *first))?;
         rest = others;
     }
     Ok(parts)
@@ -80,17 +81,12 @@ fn parts_at(alloc: Global, text: &[u8], code: &Code, spans: &[Span]) -> Result<V
 
 /// The parts of a value that is `{ .. }`, none of another one. Linear in what stands outside of their brackets.
 #[tactic(auto, unfolding(crate::specs::Objects::object_parts))]
-pub fn object_parts(
-    alloc: Global,
-    text: &[u8],
-    code: &Code,
-    span: Span,
-) -> Result<Items<Part>, NoMemory>
-    ensures { IfOk result (λ v. v ≡ spec.object_parts text.now code.now span) }
+pub fn object_parts(alloc: Global, script: &Script<'_>, span: Span) -> Result<Items<Part>, NoMemory>
+    ensures { IfOk result (λ v. v ≡ spec.object_parts script.now.text.now script.now.code.now span) }
 {
-    if !is_object(text, code, span) {
+    if !is_object(script, span) {
         return Ok(Items::new(Vec::new(alloc)));
     }
-    let spans = arguments(alloc, text, code, span.from)?;
-    Ok(Items::new(parts_at(alloc, text, code, spans.items())?))
+    let spans = arguments(alloc, script, span.from)?;
+    Ok(Items::new(parts_at(alloc, script, spans.items())?))
 }

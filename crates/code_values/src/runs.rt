@@ -6,11 +6,11 @@ ghost use Rattle.code_values.specs.Runs as spec;
 
 use crate::names::is_among;
 use crate::outside::{from_at, outer};
+use crate::script::Script;
 use crate::spans::Span;
 use crate::texts::{is_plus, is_text, push_letters};
 use crate::values::is_closer;
 use code_scan::{Token, TokenKind, is_mark, spelling};
-use code_tokens::Code;
 use std::alloc::Global;
 use std::marker::Model;
 use text_pieces::{Piece, push_operand, push_pieces};
@@ -89,22 +89,16 @@ fn is_operand_end(mark: &[u8]) -> bool
     is_among(&OPERAND_ENDS, mark)
 }
 
-#[tactic(auto, unfolding(crate::specs::Runs::ends_operand))]
-fn ends_operand(text: &[u8], token: &Token) -> bool
-    ensures { spec.ends_operand text.now token.now ≡ result }
-{
-    is_text(&token.kind)
-        || is_closer(text, token)
-        || is_mark(&token.kind) && is_operand_end(spelling(text, token))
-}
-
-#[tactic(auto, unfolding(crate::specs::Runs::mode_in_operand))]
+#[tactic(auto, unfolding(crate::specs::Runs::mode_in_operand, crate::specs::Runs::ends_operand))]
 fn mode_in_operand(text: &[u8], token: &Token) -> Mode
     ensures { spec.mode_in_operand text.now token.now ≡ result }
 {
     if is_plus(text, token) {
         Mode::Asked
-    } else if ends_operand(text, token) {
+    } else if is_text(&token.kind)
+        || is_closer(text, token)
+        || is_mark(&token.kind) && is_operand_end(spelling(text, token))
+    {
         Mode::Ended
     } else {
         Mode::Operand
@@ -205,25 +199,30 @@ impl Draft {
     }
 
     #[tactic(auto, unfolding(crate::specs::Runs::step_at))]
-    fn pass_first(&mut self, text: &[u8], at: usize, tokens: &[Token]) -> Result<(), NoMemory>
-        ensures { OnOk result (spec.step_at text.now at tokens.now self.old ≡ self.new) }
+    fn pass_first(
+        &mut self,
+        script: &Script<'_>,
+        at: usize,
+        tokens: &[Token],
+    ) -> Result<(), NoMemory>
+        ensures { OnOk result (spec.step_at script.now.text.now at tokens.now self.old ≡ self.new) }
     {
         match tokens.split_first() {
             None => Ok(()),
-            Some((first, _)) => self.pass(text, at, first),
+            Some((first, _)) => self.pass(script.text, at, first),
         }
     }
 
     #[tactic(auto, unfolding(crate::specs::Runs::drawn))]
-    fn pass_all(&mut self, text: &[u8], code: &Code, span: Span) -> Result<(), NoMemory>
-        ensures { OnOk result (spec.drawn text.now code.now (outer_of code.now span) self.old ≡ self.new) }
+    fn pass_all(&mut self, script: &Script<'_>, span: Span) -> Result<(), NoMemory>
+        ensures { OnOk result (spec.drawn script.now.text.now script.now.code.now (outer_of script.now.code.now span) self.old ≡ self.new) }
     {
-        let mut left = outer(code, span);
+        let mut left = outer(script.code, span);
         'tokens: while let Some(at) = left.next() {
             if is_ended(self.mode) {
                 return Ok(());
             }
-            self.pass_first(text, at, from_at(code, at))?;
+            self.pass_first(script, at, from_at(script.code, at))?;
         }
         Ok(())
     }
@@ -255,22 +254,16 @@ fn push_missing(pieces: &mut Vec<Piece>, is_asked: bool) -> Result<(), NoMemory>
 
 // All of the run that begins with the Text of a number.
 #[tactic(auto, unfolding(crate::specs::Runs::drawn_at))]
-fn draft_at(
-    alloc: Global,
-    text: &[u8],
-    code: &Code,
-    at: usize,
-    token: &Token,
-) -> Result<Draft, NoMemory>
+fn draft_at(alloc: Global, script: &Script<'_>, at: usize, token: &Token) -> Result<Draft, NoMemory>
     requires { at + 1 < 2 ^ 64 }
-    ensures { IfOk result (λ d. spec.drawn_at text.now code.now at token.now ≡ d) }
+    ensures { IfOk result (λ d. spec.drawn_at script.now.text.now script.now.code.now at token.now ≡ d) }
 {
     let behind = Span {
         from: at + 1,
-        to: code.others.items().len(),
+        to: script.code.others.items().len(),
     };
     let mut draft = Draft::begun(alloc, token)?;
-    draft.pass_all(text, code, behind)?;
+    draft.pass_all(script, behind)?;
     Ok(draft)
 }
 
@@ -301,7 +294,7 @@ impl JoinedTexts {
     }
 
     #[tactic(auto, using(tp_base::proofs::Lists::pushed_last))]
-    fn push(&mut self, at: usize) -> Result<(), NoMemory>
+    fn add_first(&mut self, at: usize) -> Result<(), NoMemory>
         ensures { OnOk result (self.new ≡ at ∷ self.old) }
     {
         self.items.push(at)?;
@@ -313,7 +306,7 @@ impl JoinedTexts {
     {
         let mut rest = texts;
         'texts: while let Some((last, front)) = rest.split_last() {
-            self.push(*last)?;
+            self.add_first(*last)?;
             rest = front;
         }
         Ok(())
@@ -338,10 +331,10 @@ fn push_run(
 
 /// The runs of code, in the order of their places: each Text begins one, or belongs to one before. Linear in the code.
 #[tactic(auto, using(crate::proofs::RunSteps::joined, crate::proofs::RunSteps::begins, crate::proofs::RunSteps::passed, crate::proofs::RunSteps::ends))]
-pub fn runs_of(alloc: Global, text: &[u8], code: &Code) -> Result<Items<Run>, NoMemory>
-    ensures { IfOk result (λ v. v ≡ spec.runs text.now code.now) }
+pub fn runs_of(alloc: Global, script: &Script<'_>) -> Result<Items<Run>, NoMemory>
+    ensures { IfOk result (λ v. v ≡ spec.runs script.now.text.now script.now.code.now) }
 {
-    let tokens = code.tokens.items();
+    let tokens = script.code.tokens.items();
     let mut runs = Vec::new(alloc);
     let mut joined = JoinedTexts::none(alloc);
     let mut rest = tokens;
@@ -350,7 +343,7 @@ pub fn runs_of(alloc: Global, text: &[u8], code: &Code) -> Result<Items<Run>, No
         if joined.is_first(at) {
             joined.drop_first();
         } else if is_text(&token.kind) {
-            let draft = draft_at(alloc, text, code, at, token)?;
+            let draft = draft_at(alloc, script, at, token)?;
             push_run(&mut runs, &mut joined, draft, at, token)?;
         }
         rest = behind;

@@ -4,6 +4,7 @@ ghost use Rattle.code_tokens.specs.Members.{is_text as says_text, letters_in as 
 ghost use Rattle.code_values.specs.Texts as spec;
 
 use crate::outside::tokens_in;
+use crate::script::Script;
 use crate::spans::Span;
 use code_scan::{Token, TokenKind, is_written};
 use code_tokens::Code;
@@ -51,10 +52,10 @@ fn are_texts(text: &[u8], tokens: &[Token]) -> bool
 }
 
 /// Whether a range of tokens is Text { `+` Text }. Linear in it.
-pub fn is_texts(text: &[u8], code: &Code, span: Span) -> bool
-    ensures { spec.is_texts text.now code.now span ≡ result }
+pub fn is_texts(script: &Script<'_>, span: Span) -> bool
+    ensures { spec.is_texts script.now.text.now script.now.code.now span ≡ result }
 {
-    are_texts(text, tokens_in(code, span))
+    are_texts(script.text, tokens_in(script.code, span))
 }
 
 /// Adds the letters of a Text. Linear in these.

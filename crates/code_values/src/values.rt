@@ -5,6 +5,7 @@ ghost use Rattle.code_values.specs.Outer.{outer as outer_of};
 ghost use Rattle.code_values.specs.Values as spec;
 
 use crate::outside::{from_at, outer};
+use crate::script::Script;
 use crate::spans::Span;
 use crate::texts::{is_plus, is_text};
 use code_scan::{Token, TokenKind, is_written};
@@ -85,37 +86,41 @@ fn ends_before(text: &[u8], tokens: &[Token], before: &[Token]) -> bool
     }
 }
 
-fn ends_value(text: &[u8], code: &Code, at: usize) -> bool
-    ensures { spec.ends_value text.now code.now at ≡ result }
+fn ends_value(script: &Script<'_>, at: usize) -> bool
+    ensures { spec.ends_value script.now.text.now script.now.code.now at ≡ result }
 {
-    ends_before(text, from_at(code, at), from_at(code, at.saturating_sub(1)))
+    ends_before(
+        script.text,
+        from_at(script.code, at),
+        from_at(script.code, at.saturating_sub(1)),
+    )
 }
 
 #[tactic(auto, unfolding(crate::specs::Values::first_end))]
-fn first_end(text: &[u8], code: &Code, span: Span) -> usize
-    ensures { spec.first_end text.now code.now (outer_of code.now span) ≡ result }
+fn first_end(script: &Script<'_>, span: Span) -> usize
+    ensures { spec.first_end script.now.text.now script.now.code.now (outer_of script.now.code.now span) ≡ result }
 {
-    let mut left = outer(code, span);
+    let mut left = outer(script.code, span);
     'tokens: while let Some(at) = left.next() {
-        if ends_value(text, code, at) {
+        if ends_value(script, at) {
             return at;
         }
     }
-    code.tokens.items().len()
+    script.code.tokens.items().len()
 }
 
 /// The value that begins with the token of a number, as that behind a `=` or a `:`. It ends before a `;`, a `,`, a closing bracket that it
 /// didn't open, or a word on a new line. Linear in what stands outside of its brackets.
-pub fn value_from(text: &[u8], code: &Code, at: usize) -> Span
-    ensures { spec.value_from text.now code.now at ≡ result }
+pub fn value_from(script: &Script<'_>, at: usize) -> Span
+    ensures { spec.value_from script.now.text.now script.now.code.now at ≡ result }
 {
     let all = Span {
         from: at,
-        to: code.tokens.items().len(),
+        to: script.code.tokens.items().len(),
     };
     Span {
         from: at,
-        to: first_end(text, code, all),
+        to: first_end(script, all),
     }
 }
 
@@ -162,12 +167,12 @@ fn begins_text(tokens: &[Token]) -> bool
 }
 
 #[tactic(auto, unfolding(crate::specs::Values::any_choice))]
-fn any_choice(text: &[u8], code: &Code, span: Span) -> bool
-    ensures { spec.any_choice text.now code.now (outer_of code.now span) ≡ result }
+fn any_choice(script: &Script<'_>, span: Span) -> bool
+    ensures { spec.any_choice script.now.text.now script.now.code.now (outer_of script.now.code.now span) ≡ result }
 {
-    let mut left = outer(code, span);
+    let mut left = outer(script.code, span);
     'tokens: while let Some(at) = left.next() {
-        if chooses(text, from_at(code, at)) {
+        if chooses(script.text, from_at(script.code, at)) {
             return true;
         }
     }
@@ -175,12 +180,12 @@ fn any_choice(text: &[u8], code: &Code, span: Span) -> bool
 }
 
 #[tactic(auto, unfolding(crate::specs::Values::any_plus))]
-fn any_plus(text: &[u8], code: &Code, span: Span) -> bool
-    ensures { spec.any_plus text.now code.now (outer_of code.now span) ≡ result }
+fn any_plus(script: &Script<'_>, span: Span) -> bool
+    ensures { spec.any_plus script.now.text.now script.now.code.now (outer_of script.now.code.now span) ≡ result }
 {
-    let mut left = outer(code, span);
+    let mut left = outer(script.code, span);
     'tokens: while let Some(at) = left.next() {
-        if begins_plus(text, from_at(code, at)) {
+        if begins_plus(script.text, from_at(script.code, at)) {
             return true;
         }
     }
@@ -201,15 +206,15 @@ fn any_text(code: &Code, span: Span) -> bool
 }
 
 /// Whether a value has `?`, `||`, `&&` or `??` outside of its brackets. Linear in what stands there.
-pub fn is_chosen(text: &[u8], code: &Code, span: Span) -> bool
-    ensures { spec.is_chosen text.now code.now span ≡ result }
+pub fn is_chosen(script: &Script<'_>, span: Span) -> bool
+    ensures { spec.is_chosen script.now.text.now script.now.code.now span ≡ result }
 {
-    any_choice(text, code, span)
+    any_choice(script, span)
 }
 
 /// Whether a value is `x + y + ..` with a Text among them and without a choice, outside of its brackets. Linear in what stands there.
-pub fn is_sum(text: &[u8], code: &Code, span: Span) -> bool
-    ensures { spec.is_sum text.now code.now span ≡ result }
+pub fn is_sum(script: &Script<'_>, span: Span) -> bool
+    ensures { spec.is_sum script.now.text.now script.now.code.now span ≡ result }
 {
-    any_plus(text, code, span) && any_text(code, span) && !is_chosen(text, code, span)
+    any_plus(script, span) && any_text(script.code, span) && !is_chosen(script, span)
 }

@@ -3,9 +3,10 @@
 --     Live t stmts p               after some legal steps the statement p selects a node
 --     LiveWithLosses t stmts p     the same, with classes and nodes lost between the steps
 --     LeadsTo t stmts p x          the steps of x are legal, and at their end p selects the node of x
+--     LivesBy t stmts p n shown    n steps lead to a node that p selects, and are those that are shown, if any are
 --     IsFirstDead t stmts s j      the handler behind j others never runs, and each of these runs after some steps
 --     IsRightVerdict t stmts s v   the verdict on a statement is right
-use Rattle.std.specs.Prelude.{◌≡◌, ℕ, ◌+◌, ◌<◌, List, [], ◌∷◌, length, take, IfSome, slice_get, unwrap_or}
+use Rattle.std.specs.Prelude.{◌≡◌, ℕ, ◌+◌, ◌<◌, min, List, [], ◌∷◌, length, take, Option, IfSome, slice_get, unwrap_or}
 use Rattle.tree_sem.specs.Trees.{LabelTree}
 use Rattle.tree_sem.specs.declared.actions.Action.TheVariants.{Classes}
 use Rattle.tree_sem.specs.declared.actions.Event.{Event}
@@ -14,7 +15,7 @@ use Rattle.jq_stmts.specs.Statements.{Statement}
 use Rattle.jq_sem.specs.Events.{AreLegalEvents, end_of_events}
 use Rattle.jq_sem.specs.Reachability.{AreLegal, end_of}
 use Rattle.jq_sem.specs.Statements.{Selected}
-use Rattle.usage_report.specs.Lines.{Shown}
+use Rattle.usage_report.specs.Lines.{Shown, MOST_COUNT}
 use Rattle.dead_script.specs.VerdictLines.{Verdict, live, live_unshown, dead_at_handler, dead_at_target, unknown}
 
 -- a probe adds no class, so it changes no tree
@@ -33,6 +34,10 @@ module _ (t : LabelTree) (stmts : List Statement) where
     pub legal : AreLegal t stmts x.steps
     pub selects : Selected (end_of t stmts x.steps) p x.at
 
+  -- So many steps, or the greatest number that is counted, lead to a node that the statement selects. If steps are shown, it's these.
+  abbrev pub LivesBy : Statement → ℕ → Option Shown → Type 0
+  LivesBy p count shown = (x : Shown) × LeadsTo p x × (count ≡ min (length x.steps) MOST_COUNT) × IfSome shown (λ y. y ≡ x)
+
   -- the handler behind j others never runs, and each of these runs after some steps
   pub record IsFirstDead (s : Statement) (j : ℕ) : Type 0 where
     pub is_there : j < length s.handlers
@@ -41,7 +46,7 @@ module _ (t : LabelTree) (stmts : List Statement) where
 
   -- A statement is dead exactly where it selects no node after any legal steps.
   abbrev pub IsRightVerdict : Statement → Verdict → Type 0
-  IsRightVerdict s (live steps shown) = Live t stmts s × IfSome shown (LeadsTo s)
+  IsRightVerdict s (live steps shown) = LivesBy s steps shown
   IsRightVerdict s live_unshown = Live t stmts s
   IsRightVerdict s (dead_at_handler k) = (¬ Live t stmts s) × ((j : ℕ) × (k ≡ j + 1) × IsFirstDead s j)
   IsRightVerdict s dead_at_target = (¬ Live t stmts s) × ((i : ℕ) → i < length s.handlers → Live t stmts (probe s i))

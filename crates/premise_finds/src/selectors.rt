@@ -1,11 +1,13 @@
 //! Selectors of which a browser may not know a part.
-ghost use Rattle.std.specs.Prelude.{◌≡◌, ◌≤◌, ◌+◌, ◌-◌, ◌++◌, [], flat_map, length, slice_range, IfOk, OnOk};
+ghost use Rattle.std.specs.Prelude.{◌≡◌, ◌≤◌, ◌+◌, ◌-◌, ◌++◌, [], not, flat_map, length, slice_range, IfOk, OnOk};
 ghost use Rattle.std.specs.Result.{is_ok};
 ghost use Rattle.css_read.specs.Fronts.{list_len};
 ghost use Rattle.css_read.specs.Pieces.{pieces};
 ghost use Rattle.css_read.specs.Reading.{pieces_of};
 ghost use Rattle.css_read.specs.Rules.{rules_at};
 ghost use Rattle.sel_text.specs.Lists as lists;
+ghost use Rattle.premise_finds.specs.declared.names.Name.TheVariants as name;
+ghost use Rattle.premise_finds.specs.Findings.{when, finding};
 ghost use Rattle.premise_finds.specs.Selectors as spec;
 
 use crate::bytes::has_somewhere;
@@ -37,13 +39,12 @@ fn is_as_written(alloc: Global, text: &[u8]) -> Result<bool, NoMemory>
     Ok(is_read && !has_somewhere(b"/*", text))
 }
 
-fn add_selector(found: &mut Vec<Finding>, text: &[u8], piece: Range) -> Result<(), NoMemory>
-    requires order { piece.from ≤ piece.to }
-    requires within { piece.to ≤ length text.now }
-    ensures { OnOk result (found.new.items ≡ found.old.items ++ spec.found_at_selector text.now piece) }
+// Adds what is found at a selector that stands at a place.
+fn add_selector(found: &mut Vec<Finding>, selector: &[u8], piece: Range) -> Result<(), NoMemory>
+    ensures { OnOk result (found.new.items ≡ found.old.items ++ when (not (spec.is_as_written selector.now)) (finding name.UnknownToSome piece.from piece.to)) }
 {
     let alloc = *found.allocator();
-    let is = is_as_written(alloc, &text[piece.from..piece.to])?;
+    let is = is_as_written(alloc, selector)?;
     add_when(found, !is, Name::UnknownToSome, piece.from, piece.to)?;
     Ok(())
 }
@@ -60,10 +61,10 @@ fn add_list(found: &mut Vec<Finding>, text: &[u8], list: Range) -> Result<(), No
     if rest.is_empty() {
         return Ok(());
     }
-    add_selector(found, text, first)?;
+    add_selector(found, &text[first.from..first.to], first)?;
     'commas: while let Some((_, behind)) = rest.split_first() {
         let (piece, left) = first_piece(alloc, list.to, behind)?;
-        add_selector(found, text, piece)?;
+        add_selector(found, &text[piece.from..piece.to], piece)?;
         rest = left;
     }
     Ok(())

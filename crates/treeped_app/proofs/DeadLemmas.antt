@@ -5,24 +5,22 @@ use Rattle.std.proofs.lemmas.List.{map-append}
 use Rattle.std.proofs.lemmas.List.Elements.{All-nil, All-cons, All-append}
 use Rattle.tp_base.proofs.Rising.{Contains-here, Contains-behind}
 use Rattle.tree_sem.specs.Trees.{LabelTree}
-use Rattle.tree_sem.specs.declared.actions.Step.{Step}
-use Rattle.jq_sem.specs.Statements.{Selected}
 use Rattle.jq_stmts.specs.Statements.{Chain, Statement}
-use Rattle.jq_sem.specs.Reachability.{AreLegal, end_of}
 use Rattle.jq_stmts.specs.Tables.{IsChainOver, AreChainsOver, IsStatementOver, AreStatementsOver}
 use Rattle.guard_sem.specs.Guards.{Guard}
 use Rattle.guard_simplify.specs.Law.{IsOver}
 use Rattle.rule_translate.specs.Translation.{guard_of}
 use Rattle.proof_check.specs.declared.proofs.Proof.{Proof}
 use Rattle.proof_check.specs.declared.unfolded.Unfolded.{Unfolded}
+use Rattle.usage_report.specs.Lines.{Shown}
 use Rattle.usage_report.specs.Answers.{Answer, used, maybe, used_unshown, unused, skipped, spent, shown_of}
 use Rattle.limits.specs.declared.budgets.Limits.{Limits}
-use Rattle.judge.specs.Answers.{IsUsed, AreAnswersFor}
+use Rattle.judge.specs.Answers.{IsUsed, IsShown, AreAnswersFor}
 use Rattle.judge.specs.Goals.{selecting, holding}
 use Rattle.judge.specs.Witnesses.{trace}
 use Rattle.judge.proofs.MeaningLemmas.{same_guard_right}
 use Rattle.judge.proofs.TableLemmas.{rule_over}
-use Rattle.dead_script.specs.Laws.{LeadsTo, TellsOf, TellOfEach}
+use Rattle.dead_script.specs.Laws.{LivesBy, TellsOf, TellOfEach}
 use Rattle.dead_script.specs.Probes.{probe, probes, all_probes, probe_guards}
 use Rattle.treeped_app.specs.Answers.{IsRightFor, AreRightFor}
 
@@ -39,17 +37,19 @@ module _ (stmts : List Statement) (guards : List Guard) (n : ℕ) (page : LabelT
 -- ---- from right answers to what they tell
 
 module _ (page : LabelTree) (stmts : List Statement) (guards : List Guard) (n : ℕ) (limits : Limits) where
-  shown_witness : (p : Statement) (proof : Proof) (steps : ℕ) (shown : Option Unfolded) → IsUsed stmts guards n page limits (selecting p) proof steps shown → IfSome (shown_of shown) (LeadsTo page stmts p)
-  shown_witness p proof steps None is = tt
-  shown_witness p proof steps (Some u) is = record {
-    legal = subst (λ (z : List Step). AreLegal page stmts z) (sym is.shows.1) is.witness.legal;
-    selects =
-        subst (λ (z : List Step). Selected (end_of page stmts z) p u.at) (sym is.shows.1)
-        (subst (λ z. Selected (end_of page stmts (trace stmts guards n page (selecting p) proof).0) p z) (sym is.shows.2) is.witness.match);
-  }
+  -- the steps that a proof unfolds to, and the node that they lead to
+  abbrev taken : Statement → Proof → Shown
+  taken p proof = record { steps = (trace stmts guards n page (selecting p) proof).0; at = (trace stmts guards n page (selecting p) proof).1 }
+
+  shows_taken : (p : Statement) (proof : Proof) (o : Option Unfolded) → IsShown (trace stmts guards n page (selecting p) proof) limits.list o → IfSome (shown_of o) (λ y. y ≡ taken p proof)
+  shows_taken p proof None is = tt
+  shows_taken p proof (Some u) is = let one = is.1 in let two = is.2 in λ j. record { steps = one j; at = two j }
+
+  lives_by : (p : Statement) (proof : Proof) (steps : ℕ) (shown : Option Unfolded) → IsUsed stmts guards n page limits (selecting p) proof steps shown → LivesBy page stmts p steps (shown_of shown)
+  lives_by p proof steps shown is = (taken p proof, record { legal = is.witness.legal; selects = is.witness.match }, is.count, shows_taken p proof shown is.shows)
 
   one_told : (p : Statement) (a : Answer) → IsRightFor page stmts guards n limits (selecting p) a → ¬ (spent ≡ a) → TellsOf page stmts p a
-  one_told p (used proof steps shown) is found = (is.reached, shown_witness p proof steps shown is)
+  one_told p (used proof steps shown) is found = lives_by p proof steps shown is
   one_told p (maybe proof steps shown broken) is found = absurd is
   one_told p used_unshown is found = is.0
   one_told p unused is found = is

@@ -24,6 +24,7 @@ pub mod WritingLemmas
 pub mod PreservationLemmas
 pub mod EngineLemmas
 pub mod MeaningLemmas
+pub mod SaidMeanings
 pub mod PageMeanings
 pub mod MeansLemmas
 mod PruneLemmas

@@ -123,10 +123,11 @@ module _ (i : Inputs) (guards : List Guard) (n : ℕ) (limits : Limits) (wide : 
         let c = as_kind item.outcome line case s is (says.used count (Some x)) same in
         (subst (λ (z : Shown). LeadsTo i s z) (sym c.3) c.1, subst (λ (z : Shown). IsCountOf z.steps count) (sym c.3) c.2);
     doubted = λ s count shown broken is same. let c = as_kind item.outcome line case s is (says.maybe count shown broken) same in (c.0, c.1, c.2);
-    broken =
-        λ s count x k is same.
-        let c = as_kind item.outcome line case s is (says.maybe count (Some x) (Some k)) same in
-        (subst (λ (z : Shown). MayLeadTo i s z) (sym c.3) c.1, c.4 x k refl refl);
+    guessed =
+        λ s count x broken is same.
+        let c = as_kind item.outcome line case s is (says.maybe count (Some x) broken) same in
+        (subst (λ (z : Shown). MayLeadTo i s z) (sym c.3) c.1, subst (λ (z : Shown). IsCountOf z.steps count) (sym c.3) c.2);
+    broken = λ s count x k is same. let c = as_kind item.outcome line case s is (says.maybe count (Some x) (Some k)) same in c.4 x k refl refl;
     unshown = λ s is same. as_kind item.outcome line case s is says.used_unshown same;
     left_out = λ cause at. (as_left item.outcome line case cause at, λ is. subst (λ (z : Outcome). Case z line) is case);
   }
@@ -177,14 +178,21 @@ module _ (i : Inputs) where
   by_verdict s (live steps shown) is = record {
     dead = λ no. cc;
     at_handler = λ k same. cc;
-    lives = λ count x same. is.0;
-    listed = λ count x same. let one : shown ≡ Some x = cc in subst (λ (z : Option Shown). IfSome z (statement.LeadsTo i.tree i.stmts s)) one is.1;
+    at_target = λ same. cc;
+    lives = λ count x same. let one : steps ≡ count = cc in (is.0, is.1, subst (λ n. IsCountOf is.0.steps n) one is.2);
+    listed =
+        λ count x same.
+        let one : steps ≡ count = cc in
+        let two : shown ≡ Some x = cc in
+        let this : x ≡ is.0 = subst (λ (z : Option Shown). IfSome z (λ y. y ≡ is.0)) two is.3 in
+        (subst (λ (z : Shown). statement.LeadsTo i.tree i.stmts s z) (sym this) is.1, subst (λ (z : Shown). IsCountOf z.steps count) (sym this) (subst (λ n. IsCountOf is.0.steps n) one is.2));
     unshown = λ same. cc;
   }
-  by_verdict s live_unshown is = record { dead = λ no. cc; at_handler = λ k same. cc; lives = λ count x same. cc; listed = λ count x same. cc; unshown = λ same. is }
+  by_verdict s live_unshown is = record { dead = λ no. cc; at_handler = λ k same. cc; at_target = λ same. cc; lives = λ count x same. cc; listed = λ count x same. cc; unshown = λ same. is }
   by_verdict s (dead_at_handler j) is = record {
     dead = λ yes lives. is.0 ((losses_keep_dead i.tree i.stmts s).0 lives);
     at_handler = λ k same. let one : j ≡ k = cc in subst (λ m. (h : ℕ) × (m ≡ h + 1) × statement.IsFirstDead i.tree i.stmts s h) one is.1;
+    at_target = λ same. cc;
     lives = λ count x same. cc;
     listed = λ count x same. cc;
     unshown = λ same. cc;
@@ -192,6 +200,7 @@ module _ (i : Inputs) where
   by_verdict s dead_at_target is = record {
     dead = λ yes lives. is.0 ((losses_keep_dead i.tree i.stmts s).0 lives);
     at_handler = λ k same. cc;
+    at_target = λ same. is.1;
     lives = λ count x same. cc;
     listed = λ count x same. cc;
     unshown = λ same. cc;
@@ -206,7 +215,7 @@ module _ (i : Inputs) where
 
   -- of what was not found out nothing is said
   nothing_said : (s : Statement) → MeansStatement i s unknown
-  nothing_said s = record { dead = λ no. cc; at_handler = λ k same. cc; lives = λ count x same. cc; listed = λ count x same. cc; unshown = λ same. cc }
+  nothing_said s = record { dead = λ no. cc; at_handler = λ k same. cc; at_target = λ same. cc; lives = λ count x same. cc; listed = λ count x same. cc; unshown = λ same. cc }
 
   spent_at : (gs : List Guard) (k : ℕ) → get_or (map (λ (g : Guard). spent) gs) k spent ≡ spent
   spent_at [] k = refl
@@ -271,3 +280,34 @@ module _ (page : LabelTree) (stmts : List Statement) where
       let three : trace ≡ Some r = cc in
       subst (λ (z : Item). HasRun z.outcome line r) one (subst (λ (z : Line). HasRun i.outcome z r) two (run_one i.outcome a trace r are.0 three))
   runs_at (i ∷ items) (a ∷ answers) (trace ∷ traces) are (suc k) item line r at at' at'' = runs_at items answers traces are.1 k item line r at at' at''
+
+  pub runs_each : (items : List Item) (answers : List Answer) (traces : List (Option RunTrace)) → AreTracesOf page stmts items answers traces → length traces ≡ length items
+  runs_each [] [] [] are = refl
+  runs_each [] [] (trace ∷ traces) are = absurd are
+  runs_each [] (a ∷ answers) traces are = absurd are
+  runs_each (i ∷ items) [] traces are = absurd are
+  runs_each (i ∷ items) (a ∷ answers) [] are = absurd are
+  runs_each (i ∷ items) (a ∷ answers) (trace ∷ traces) are = ap suc (runs_each items answers traces are.1)
+
+  has_run : (o : Outcome) (a : Answer) (trace : Option RunTrace) (s : Selector) (count : ℕ) (x : Shown) → IsTraceOf page stmts (shown_in o a) trace → o ≡ judged s → line_of a ≡ says.used count (Some x) → (r : RunTrace) × (trace ≡ Some r)
+  has_run (judged z) (used proof steps (Some u)) None s count x is same line = absurd is
+  has_run (judged z) (used proof steps (Some u)) (Some r) s count x is same line = (r, refl)
+  has_run (judged z) (used proof steps None) trace s count x is same line = cc
+  has_run (judged z) (maybe proof steps shown broken) trace s count x is same line = cc
+  has_run (judged z) used_unshown trace s count x is same line = cc
+  has_run (judged z) unused trace s count x is same line = cc
+  has_run (judged z) (skipped cause at) trace s count x is same line = cc
+  has_run (judged z) spent trace s count x is same line = cc
+  has_run (left_out c b) a trace s count x is same line = cc
+
+  pub all_run : (items : List Item) (answers : List Answer) (traces : List (Option RunTrace)) → AreTracesOf page stmts items answers traces → (k count : ℕ) (item : Item) (s : Selector) (x : Shown) → slice_get items k ≡ Some item
+      → item.outcome ≡ judged s → slice_get (map line_of answers) k ≡ Some (says.used count (Some x)) → (r : RunTrace) × (slice_get traces k ≡ Some (Some r))
+  all_run [] answers traces are k count item s x at is at' = cc
+  all_run (i ∷ items) [] traces are k count item s x at is at' = cc
+  all_run (i ∷ items) (a ∷ answers) [] are k count item s x at is at' = absurd are
+  all_run (i ∷ items) (a ∷ answers) (trace ∷ traces) are zero count item s x at is at' =
+      let one : i ≡ item = cc in
+      let two : line_of a ≡ says.used count (Some x) = cc in
+      let run = has_run i.outcome a trace s count x are.0 (ap (λ (z : Item). z.outcome) one ∙ is) two in
+      (run.0, ap (λ (z : Option RunTrace). Some z) run.1)
+  all_run (i ∷ items) (a ∷ answers) (trace ∷ traces) are (suc k) count item s x at is at' = all_run items answers traces are.1 k count item s x at is at'

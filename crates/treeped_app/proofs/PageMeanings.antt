@@ -1,5 +1,5 @@
--- Each mode's text means what it says: on one page, on a ring, and on several pages.
-use Rattle.std.proofs.Common.{◌≡◌, ℕ, zero, suc, ◌+◌, ◌-◌, List, [], ◌∷◌, ◌++◌, length, map, Contains, Option, Some, None, option_map, slice_get, refl, sym, ap, ◌∙◌, subst, inl, inr, arith}
+-- The text for several pages means what it says, from answers that are right on each of them.
+use Rattle.std.proofs.Common.{◌≡◌, ℕ, zero, suc, ◌-◌, List, [], ◌∷◌, ◌++◌, length, map, Contains, Option, Some, None, option_map, slice_get, refl, sym, ap, ◌∙◌, subst, inl, inr, arith}
 use Rattle.std.proofs.lemmas.List.{length-map, map-append}
 use Rattle.std.proofs.lemmas.Option.{slice_get-map}
 use Rattle.std.proofs.lemmas.Simd.{map-map}
@@ -9,76 +9,23 @@ use Rattle.jq_stmts.specs.Sharp.{wides}
 use Rattle.sel_text.specs.Selectors.{Selector}
 use Rattle.css_read.specs.Pruned.{pruned}
 use Rattle.css_read.specs.Sheets.{judged, Item}
-use Rattle.command_words.specs.declared.words.Mode.{Mode}
-use Rattle.command_words.specs.declared.words.Mode.TheVariants.{Report, Prune, Dead, Runs, Site, SitePrune}
+use Rattle.command_words.specs.declared.words.Mode.TheVariants.{Site, SitePrune}
 use Rattle.usage_report.specs.Answers.{Answer, used, maybe, used_unshown, unused, skipped, spent, line_of}
 use Rattle.usage_report.specs.Lines as says
-use Rattle.dead_script.specs.Verdicts.{verdicts}
 use Rattle.site_judge.specs.Sites as sites
 use Rattle.site_judge.specs.SiteLines as site_lines
 use Rattle.site_judge.specs.SiteReport.{best_line}
 use Rattle.treeped_app.specs.Meaning.{Each, NeverMatches, MeansLine, MeansReport, MeansPruned, MeansDead, MeansRuns, Page, MeansBest, MeansSite, MeansSitePruned, DoesTheSame}
 use Rattle.treeped_app.specs.Meaning as meaning
-use Rattle.treeped_app.specs.Modes.{Said, AreAnswersOf, HasTraces, guards_in, text_on, text_by, of_last, site_by, site_on, is_unused}
-use Rattle.treeped_app.specs.Readings.{Inputs, places_of}
+use Rattle.treeped_app.specs.Modes.{Said, guards_in, text_by, of_last, site_by, site_on, is_unused}
+use Rattle.treeped_app.specs.Readings.{places_of}
 use Rattle.treeped_app.specs.Runs.{Run, IsWhole}
 use Rattle.treeped_app.specs.Tasks.{Task}
 use Rattle.treeped_app.proofs.EachPageLemmas.{right_many, right_at, never_met, of_page, right_on, site, place_of, of_each_page}
 use Rattle.treeped_app.proofs.SiteLemmas.{items_in}
-use Rattle.treeped_app.proofs.PreservationLemmas.{on_page, on_site}
+use Rattle.treeped_app.proofs.PreservationLemmas.{on_site}
 use Rattle.treeped_app.proofs.SheetLemmas.{sheet_read, wide_read}
-use Rattle.treeped_app.proofs.MeaningLemmas.{right_means, each_means, unused_line, unused_lines, same_left, statements_mean, runs_at}
-
--- ---- one page
-
-module _ (r : Run) (t : Task) (s : Said) (whole : IsWhole r t (s ∷ [])) where
-  there : Contains (s ∷ []) s
-  there = Contains-here s s [] refl
-
-  abbrev i : Inputs
-  i = s.inputs
-
-  wide : wides i.exact ≡ i.stmts
-  wide = let page = of_page r t (s ∷ []) whole s there in wide_read t.mode page.0.number s.texts i page.1.read
-
-  pub lines_mean : Each (MeansLine i) i.sheet.items (map line_of s.items)
-  lines_mean = each_means i (guards_in t.mode i) (length i.names) t.limits wide i.sheet.items s.items (right_on r t (s ∷ []) whole s there)
-
-  pub report_means : MeansReport s.texts i (text_on Report s)
-  report_means = record { lines = map line_of s.items; written = refl; each = lines_mean }
-
-  pub pruned_means : MeansPruned s.texts i (text_on Prune s)
-  pruned_means =
-      let page = of_page r t (s ∷ []) whole s there in
-      let read = sheet_read t.mode page.0.number s.texts i page.1.read in
-      record {
-        lines = map line_of s.items;
-        each = lines_mean;
-        written = ap (λ flags. pruned s.texts.sheet i.sheet flags) (unused_lines s.items);
-        same = same_left s (text_on Prune s) wide read.0 read.1 read.2 (on_page r t s whole);
-      }
-
-  pub dead_means : t.mode ≡ Dead → MeansDead s.texts i (text_on Dead s)
-  dead_means mode =
-      let page = of_page r t (s ∷ []) whole s there in
-      record {
-        front = text_on Report s;
-        reported = report_means;
-        verdicts = verdicts i.stmts s.others;
-        written = refl;
-        each = statements_mean i t.limits s.items s.others (subst (λ (m : Mode). AreAnswersOf m t.limits i s.items s.others) mode page.1.answers);
-      }
-
-  pub runs_mean : t.mode ≡ Runs → MeansRuns s.texts i (text_on Runs s)
-  runs_mean mode =
-      let page = of_page r t (s ∷ []) whole s there in
-      record {
-        lines = map line_of s.items;
-        traces = s.traces;
-        written = refl;
-        each = lines_mean;
-        runs = λ k item line q at at' at''. runs_at i.tree i.stmts i.sheet.items s.items s.traces (subst (λ (m : Mode). HasTraces m s) mode page.1.traces) k item line q at at' at'';
-      }
+use Rattle.treeped_app.proofs.MeaningLemmas.{right_means, unused_line, same_left}
 
 -- ---- several pages
 

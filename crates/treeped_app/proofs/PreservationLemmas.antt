@@ -1,5 +1,5 @@
 -- What is left of a sheet, by the answers of a page or by the best ones of a site, does at each node what the sheet does.
-use Rattle.std.proofs.Common.{◌≡◌, ℕ, zero, suc, Bool, true, false, List, [], ◌∷◌, length, map, Contains, Some, slice_get, Ok, refl, sym, ap, ◌∙◌, subst}
+use Rattle.std.proofs.Common.{◌≡◌, ℕ, zero, suc, Bool, true, false, List, [], ◌∷◌, length, map, Contains, Option, Some, slice_get, Ok, refl, sym, ap, ◌∙◌, subst}
 use Rattle.std.proofs.lemmas.List.{length-map}
 use Rattle.tp_base.specs.Names.{Named}
 use Rattle.tp_base.proofs.Rising.{Contains-none, Contains-here, Contains-behind}
@@ -10,9 +10,12 @@ use Rattle.css_read.specs.Reading.{read_sheet}
 use Rattle.css_read.specs.Sheets.{Item, Sheet}
 use Rattle.css_prune.specs.NodeEffects.{IsUnreached, AreUnreached}
 use Rattle.css_prune.proofs.AlikeLemmas.{read_again, page_effects_kept}
+use Rattle.command_words.specs.declared.words.Mode.{Mode}
 use Rattle.command_words.specs.declared.words.Mode.TheVariants.{Prune, SitePrune}
+use Rattle.limits.specs.declared.budgets.Limits.{Limits}
 use Rattle.usage_report.specs.Answers.{Answer, used, maybe, used_unshown, unused, skipped, spent}
 use Rattle.site_judge.specs.Sites.{Best}
+use Rattle.treeped_app.specs.Inputs.{IsSaidOf}
 use Rattle.treeped_app.specs.Laws.{DoesTheSame}
 use Rattle.treeped_app.specs.Modes.{Said, is_unused, guards_in, text_on, text_by, of_last, site_by, site_on, best_in}
 use Rattle.treeped_app.specs.Runs.{Run, IsWhole}
@@ -63,20 +66,23 @@ same_on s text other others last flags same read count unreached =
 
 -- ---- one page
 
-pub on_page : (r : Run) (t : Task) (s : Said) → IsWhole r t (s ∷ []) → DoesTheSame s (text_on Prune s)
-on_page r t s whole =
-    let there : Contains (s ∷ []) s = Contains-here s s [] refl in
+pub on_said : (m : Mode) (limits : Limits) (page : Option ℕ) (s : Said) → IsSaidOf m limits page s → DoesTheSame s (text_on Prune s)
+on_said m limits page s is =
     let i = s.inputs in
-    let right = right_on r t (s ∷ []) whole s there in
-    let page = of_page r t (s ∷ []) whole s there in
-    let read = sheet_read t.mode page.0.number s.texts i page.1.read in
+    let right = is.answers.right in
+    let read = sheet_read m page s.texts i is.read in
     same_on s s.texts.sheet i.sheet read.0 read.1 (map is_unused s.items) refl read.2
-    (length-map s.items is_unused ∙ right_many i.tree i.exact i.stmts (guards_in t.mode i) (length i.names) t.limits i.sheet.items s.items right)
+    (length-map s.items is_unused ∙ right_many i.tree i.exact i.stmts (guards_in m i) (length i.names) limits i.sheet.items s.items right)
     (unreached_at i.tree i.stmts i.sheet.items (map is_unused s.items) (λ k x at flag.
-    let here = right_at i.tree i.exact i.stmts (guards_in t.mode i) (length i.names) t.limits i.sheet.items s.items k unused right (flag_unused s.items k flag) in
-    let never = never_met i.tree i.exact i.stmts (guards_in t.mode i) (length i.names) t.limits here.0.outcome here.2 in
+    let here = right_at i.tree i.exact i.stmts (guards_in m i) (length i.names) limits i.sheet.items s.items k unused right (flag_unused s.items k flag) in
+    let never = never_met i.tree i.exact i.stmts (guards_in m i) (length i.names) limits here.0.outcome here.2 in
     let same : here.0 ≡ x = cc in
     subst (λ (z : Item). IsUnreached i.tree i.stmts z.outcome) same (subst (λ o. IsUnreached i.tree i.stmts o) (sym never.1) never.2)))
+
+pub on_page : (r : Run) (t : Task) (s : Said) → IsWhole r t (s ∷ []) → DoesTheSame s (text_on Prune s)
+on_page r t s whole =
+    let page = of_page r t (s ∷ []) whole s (Contains-here s s [] refl) in
+    on_said t.mode t.limits page.0.number s (record { read = page.1.read; answers = page.1.answers; traces = page.1.traces })
 
 -- ---- several
 

@@ -12,6 +12,7 @@ pub mod Runs
 pub mod Tasks
 -- The results of inner functions, part by part, and the abstraction functions of their types.
 pub mod Inputs
+pub mod MeansParts
 pub mod Sites
 pub mod Verdicts
 pub mod Views

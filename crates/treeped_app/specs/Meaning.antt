@@ -1,9 +1,12 @@
 -- The promise of a run that ends with a report, for readers who know pages, sheets and scripts, and no prover. The words of the command
--- line order a mode. The files that they name are read as a page, a sheet and the statements of a script. Each line that is written is
--- true. This file is the whole promise: one record a mode, one field a sentence. `(x : A) × B` says that there is an x of A for which B
--- holds. Other files say how the three files are read (`read_inputs`), how a line is spelled (`report`) and which of the three statuses
--- comes (`Modes`). Of the inputs, `exact` are the statements as they stand in the script, and `stmts` are those that are judged in their
--- place. They differ only in calls of `closest`, `siblings` and `first`: in place of these, `stmts` have calls that select more.
+-- line order a mode. The files that they name are read as a page, a sheet and the statements of a script. What stands here is true of
+-- each line that is written. This file is the whole promise: a record for each mode and for each kind of line, and a field for each
+-- sentence; other fields name a part that the sentences speak of. `(x : A) × B` says that there is an x of A for which B holds, `.0` is
+-- that x and `.1` the rest, `¬ A` that A doesn't hold, `A → B` that B holds if A does, `A ↔ B` both ways, and `a ∷ l` is the list of a
+-- and then l. Other files say how the three files are read (`read_inputs`), how a line is spelled (`report`) and which of the three
+-- statuses comes (`Modes`). Of the inputs, `exact` are the statements as they stand in the script, and `stmts` are those that are judged
+-- in their place. They differ only in calls of `closest`, `siblings` and `first`: in place of these, `stmts` have calls that select the
+-- same nodes or more.
 --     NeverMatches i s       no steps and losses from the page lead to a node that the selector matches
 --     LeadsTo i s x          the steps of x are the script's own, and at their end the selector matches the node of x
 --     MeansLine i item line  the meaning of a line for an item of the sheet
@@ -34,7 +37,7 @@ use Rattle.usage_report.specs.Lines.{Shown, Line, used, maybe, used_unshown, unu
 use Rattle.usage_report.specs.RunTraces.{RunTrace}
 use Rattle.run_trace.specs.Replays.{IsRunTrace}
 use Rattle.dead_script.specs.Liveness as statement
-use Rattle.dead_script.specs.VerdictLines.{Verdict, live, live_unshown, dead_at_handler, is_dead, verdict_lines}
+use Rattle.dead_script.specs.VerdictLines.{Verdict, live, live_unshown, dead_at_handler, dead_at_target, is_dead, verdict_lines}
 use Rattle.site_judge.specs.SiteLines.{Best, site_report}
 use Rattle.command_words.specs.declared.words.Mode.{Mode}
 use Rattle.command_words.specs.declared.words.Mode.TheVariants.{Prune, Dead, Runs, SitePrune}
@@ -59,7 +62,8 @@ abbrev pub tree_after : Inputs → List Event → LabelTree
 tree_after i events = end_of_events i.tree (wides i.exact) events
 
 -- Start from the page, and let the script's calls act, in any order and any number of times. Each acts on a node that it selects at that
--- moment. Between them any atoms of a node (a class, an id, an attribute) and any nodes may go away. No node ever matches.
+-- moment. Between them any atoms of a node (its type, a class, an id, an attribute) and any nodes but the root may go away. No node ever
+-- matches.
 abbrev pub NeverMatches : Inputs → Selector → Type 0
 NeverMatches i s = (events : List Event) → AreLegalExactEvents i.tree i.exact events → (v : List ℕ) → ¬ Matches (tree_after i events) v s
 
@@ -88,8 +92,9 @@ pub record MeansLine (i : Inputs) (item : sheets.Item) (line : Line) : Type 0 wh
   pub listed : (s : Selector) (count : ℕ) (x : Shown) → item.outcome ≡ sheets.judged s → line ≡ used count (Some x) → LeadsTo i s x × IsCountOf x.steps count
   -- `maybe`: this number of steps leads there by calls that may select more than the script's own.
   pub doubted : (s : Selector) (count : ℕ) (shown : Option Shown) (broken : Option ℕ) → item.outcome ≡ sheets.judged s → line ≡ maybe count shown broken → (x : Shown) × MayLeadTo i s x × IsCountOf x.steps count
-  -- Of the steps that are listed, the line names the first one that the script doesn't take.
-  pub broken : (s : Selector) (count : ℕ) (x : Shown) (k : ℕ) → item.outcome ≡ sheets.judged s → line ≡ maybe count (Some x) (Some k) → MayLeadTo i s x × IsBrokenAt i.tree i.exact x.steps k
+  -- Where steps are listed, they do. Where the line names one of them, it is the first one that the script doesn't take.
+  pub guessed : (s : Selector) (count : ℕ) (x : Shown) (broken : Option ℕ) → item.outcome ≡ sheets.judged s → line ≡ maybe count (Some x) broken → MayLeadTo i s x × IsCountOf x.steps count
+  pub broken : (s : Selector) (count : ℕ) (x : Shown) (k : ℕ) → item.outcome ≡ sheets.judged s → line ≡ maybe count (Some x) (Some k) → IsBrokenAt i.tree i.exact x.steps k
   -- `used-unshown`: some steps lead there by such calls.
   pub unshown : (s : Selector) → item.outcome ≡ sheets.judged s → line ≡ used_unshown → (x : Shown) × MayLeadTo i s x
   -- `skipped`: for this cause, the item isn't read as a selector that is judged. Each such item is skipped. The line doesn't say
@@ -105,7 +110,8 @@ pub record MeansReport (x : Texts) (i : Inputs) (text : List ℕ) : Type 0 where
   pub each : Each (MeansLine i) i.sheet.items lines
 
 -- The pruned sheet can be read. At each node of each tree that the script makes of the page, even where classes and nodes were lost, it
--- does the same as the whole sheet. The same selectors match, in the same order, each with its block and the at-rules round it.
+-- does the same as the whole sheet: the same selectors match, in the same order, each with its block and the at-rules round it. This is
+-- about selectors that are judged, as they are judged (`a:hover` is `a`). The text of all others stays where it is, by `pruned`.
 pub record DoesTheSame (x : Texts) (i : Inputs) (left : List ℕ) : Type 0 where
   pub names : List Named
   pub later : List Named
@@ -118,7 +124,8 @@ abbrev pub is_unused : Line → Bool
 is_unused unused = true
 is_unused _ = false
 
--- `--prune`: the text is the sheet without its unused selectors, and it does the same as the sheet.
+-- `--prune`: the text is the sheet without its unused selectors, but for those in rules that have to stay whole (`pruned` says which),
+-- and it does the same as the sheet.
 pub record MeansPruned (x : Texts) (i : Inputs) (text : List ℕ) : Type 0 where
   pub lines : List Line
   pub each : Each (MeansLine i) i.sheet.items lines
@@ -129,12 +136,15 @@ pub record MeansPruned (x : Texts) (i : Inputs) (text : List ℕ) : Type 0 where
 pub record MeansStatement (i : Inputs) (s : Statement) (v : Verdict) : Type 0 where
   -- `dead`: on no tree that the script makes of the page does the statement select a node, even where classes and nodes were lost.
   pub dead : is_dead v ≡ true → ¬ statement.LiveWithLosses i.tree i.stmts s
-  -- `at handler`: the handler with this number never runs, and each handler round it runs after some steps.
+  -- `at handler`: the handler with this number never runs, and each handler round it runs after some steps. A handler runs where its
+  -- chain selects a node.
   pub at_handler : (k : ℕ) → v ≡ dead_at_handler k → (j : ℕ) × (k ≡ j + 1) × statement.IsFirstDead i.tree i.stmts s j
-  -- `live`: some steps lead to a node that it selects.
-  pub lives : (count : ℕ) (shown : Option Shown) → v ≡ live count shown → statement.Live i.tree i.stmts s
+  -- `at target`: each handler runs after some steps.
+  pub at_target : v ≡ dead_at_target → (k : ℕ) → k < length s.handlers → statement.Live i.tree i.stmts (statement.probe s k)
+  -- `live`: this number of steps leads to a node that it selects.
+  pub lives : (count : ℕ) (shown : Option Shown) → v ≡ live count shown → (x : Shown) × statement.LeadsTo i.tree i.stmts s x × IsCountOf x.steps count
   -- Steps that are listed lead to a node that it selects.
-  pub listed : (count : ℕ) (x : Shown) → v ≡ live count (Some x) → statement.LeadsTo i.tree i.stmts s x
+  pub listed : (count : ℕ) (x : Shown) → v ≡ live count (Some x) → statement.LeadsTo i.tree i.stmts s x × IsCountOf x.steps count
   -- `live-unshown`: some steps lead to such a node; none is listed.
   pub unshown : v ≡ live_unshown → statement.Live i.tree i.stmts s
 
@@ -146,13 +156,17 @@ pub record MeansDead (x : Texts) (i : Inputs) (text : List ℕ) : Type 0 where
   pub written : text ≡ front ++ verdict_lines i.stmts verdicts
   pub each : Each (MeansStatement i) i.stmts verdicts
 
--- `--runs`: the report, with whole runs in the place of steps. They are runs of the steps' statements, one after another, and then comes
--- the first node that the selector matches, or the run after which the page is too large.
+-- `--runs`: the report, with whole runs in the place of steps. They are runs of the steps' statements, one for each step in its order, and
+-- then comes the first node that the selector matches, or the run after which the page is too large.
 pub record MeansRuns (x : Texts) (i : Inputs) (text : List ℕ) : Type 0 where
   pub lines : List Line
   pub traces : List (Option RunTrace)
   pub written : text ≡ report_with x.sheet i.names (places_of i) i.sheet lines traces
   pub each : Each (MeansLine i) i.sheet.items lines
+  -- Each item has its runs, or none, in its place. It has runs where its line would list steps, and nowhere else.
+  pub one_each : length traces ≡ length i.sheet.items
+  pub all : (k count : ℕ) (item : sheets.Item) (s : Selector) (x : Shown) → slice_get i.sheet.items k ≡ Some item → item.outcome ≡ sheets.judged s → slice_get lines k ≡ Some (used count (Some x))
+      → (r : RunTrace) × (slice_get traces k ≡ Some (Some r))
   pub runs : (k : ℕ) (item : sheets.Item) (line : Line) (r : RunTrace) → slice_get i.sheet.items k ≡ Some item → slice_get lines k ≡ Some line → slice_get traces k ≡ Some (Some r)
       → (s : Selector) × (count : ℕ) × (x : Shown) × (item.outcome ≡ sheets.judged s) × (line ≡ used count (Some x)) × IsRunTrace i.tree i.stmts s x.steps r
 
@@ -172,7 +186,7 @@ Page = Texts × Inputs
 pub record MeansBest (pages : List Page) (k : ℕ) (b : Best) : Type 0 where
   -- `unused`: on no page does its selector ever match a node.
   pub unused : b.line ≡ unused → (p : Page) → Contains pages p → (item : sheets.Item) × (s : Selector) × (slice_get p.1.sheet.items k ≡ Some item) × (item.outcome ≡ sheets.judged s) × NeverMatches p.1 s
-  -- The line names a page, counted from 1, and is true of that page.
+  -- The line is true of one of the pages, by its number, which is counted from 1. Each line but `unused` and `skipped` names it.
   pub page : Page
   pub named : (0 < b.page) × (slice_get pages (b.page - 1) ≡ Some page)
   pub item : sheets.Item
@@ -238,6 +252,8 @@ MeansFrom told (ring k) m text = (i : Inputs) × (read_inputs m None (ring_texts
 abbrev pub Reports : Status → Type 0
 Reports s = (s ≡ status.Complete) ⊎ (s ≡ status.Unused) ⊎ (s ≡ status.Budget)
 
--- With such a status, the words order a task, and a text with its meaning, and nothing else, was appended to standard output.
+-- With such a status, the words order a task, and a text with its meaning, and nothing else, was appended to standard output. `told` are
+-- the files that tell what they hold, and `held` is what standard output holds before and after, if it tells. Those in memory do. Those of
+-- a system don't: of them it says that some text was read and some text was written.
 abbrev pub Means : Told → (words : List (List ℕ)) → (held held' : Option (List ℕ)) → Status → Type 0
 Means told words held held' s = Reports s → (t : Task) × (command words ≡ Some t) × (text : List ℕ) × Adds held held' text × MeansFrom told t.source t.mode text

@@ -1,9 +1,11 @@
 //! A run on one page, or on a ring.
-ghost use Rattle.std.specs.Prelude.{◌≡◌, ◌≤◌, List, ℕ, Some, false};
+ghost use Rattle.std.specs.Prelude.{◌≡◌, ◌≤◌, List, ℕ, Some, false, OnOk};
 ghost use Rattle.command_words.specs.Orders.{takes_pages};
 ghost use Rattle.triple_gen.specs.declared.triple.TheConstants.{MOST_BOXES};
 ghost use Rattle.tp_io.specs.Files.{Load};
 ghost use Rattle.treeped_app.specs.Inputs.{Written};
+ghost use Rattle.treeped_app.specs.Meaning.{MeansFrom, MeansPage, MeansRing};
+ghost use Rattle.treeped_app.specs.MeansParts.{Writes, WritesOf};
 ghost use Rattle.treeped_app.specs.Modes as modes;
 ghost use Rattle.run_ends.specs.Tells.{put_of};
 ghost use Rattle.treeped_app.specs.Runs.{Told, Ends, Fit, run_of};
@@ -32,7 +34,8 @@ pub(crate) fn run_page<F: Files, O: Sink>(
     out: &mut O,
 ) -> Result<Status, Stop>
     requires one { takes_pages request.now.mode ≡ false }
-    ensures { (words : List (List ℕ)) → task.command words ≡ Some (task.task_by (task.one (names_of names.now)) request.now.mode request.now.limits.now) → Ends (run_of (F.told files.old) words (F.loads files.old) (F.loads files.new)
+    ensures means { OnOk result (Writes (O.written out.old) (O.written out.new) (MeansFrom (F.told files.old) (task.one (names_of names.now)) request.now.mode)) }
+    ensures ends { (words : List (List ℕ)) → task.command words ≡ Some (task.task_by (task.one (names_of names.now)) request.now.mode request.now.limits.now) → Ends (run_of (F.told files.old) words (F.loads files.old) (F.loads files.new)
         (put_of (O.written out.old) (O.written out.new) (O.faults out.old) (O.faults out.new))) result }
 {
     let page = Wanted {
@@ -64,7 +67,8 @@ fn answer<O: Sink>(
     out: &mut O,
 ) -> Result<Status, Stop>
     requires fit { Fit (texts_of texts.now) }
-    ensures { Written request.now.mode request.now.limits.now (texts_of texts.now) (modes.text_on request.now.mode) (put_of (O.written out.old) (O.written out.new) (O.faults out.old) (O.faults out.new)) result }
+    ensures means { OnOk result (WritesOf request.now.mode (texts_of texts.now) (O.written out.old) (O.written out.new) (MeansPage request.now.mode (texts_of texts.now))) }
+    ensures written { Written request.now.mode request.now.limits.now (texts_of texts.now) (modes.text_on request.now.mode) (put_of (O.written out.old) (O.written out.new) (O.faults out.old) (O.faults out.new)) result }
 {
     let said = say(alloc, request, None, texts)?;
     write_one(alloc, request.mode, texts, &said, out)?;
@@ -80,7 +84,8 @@ pub(crate) fn run_ring<O: Sink>(
 ) -> Result<Status, Stop>
     requires few { n ≤ MOST_BOXES }
     requires one { takes_pages request.now.mode ≡ false }
-    ensures { (told : Told) (words : List (List ℕ)) (loads : List Load) → task.command words ≡ Some (task.task_by (task.ring n) request.now.mode request.now.limits.now) → Ends (run_of told words loads loads
+    ensures means { (told : Told) → OnOk result (Writes (O.written out.old) (O.written out.new) (MeansFrom told (task.ring n) request.now.mode)) }
+    ensures ends { (told : Told) (words : List (List ℕ)) (loads : List Load) → task.command words ≡ Some (task.task_by (task.ring n) request.now.mode request.now.limits.now) → Ends (run_of told words loads loads
         (put_of (O.written out.old) (O.written out.new) (O.faults out.old) (O.faults out.new))) result }
 {
     let triple = generate(alloc, n)?;
@@ -104,7 +109,8 @@ fn count<O: Sink>(
     out: &mut O,
 ) -> Result<Status, Stop>
     requires fit { Fit (texts_of texts.now) }
-    ensures { Written request.now.mode request.now.limits.now (texts_of texts.now) (λ s. summary n s.items) (put_of (O.written out.old) (O.written out.new) (O.faults out.old) (O.faults out.new)) result }
+    ensures means { OnOk result (WritesOf request.now.mode (texts_of texts.now) (O.written out.old) (O.written out.new) (MeansRing n)) }
+    ensures written { Written request.now.mode request.now.limits.now (texts_of texts.now) (λ s. summary n s.items) (put_of (O.written out.old) (O.written out.new) (O.faults out.old) (O.faults out.new)) result }
 {
     let said = say(alloc, request, None, texts)?;
     write_summary(alloc, n, &said.items, out)?;

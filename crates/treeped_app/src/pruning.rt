@@ -6,6 +6,7 @@ ghost use Rattle.css_read.specs.Effects.{AreJudged};
 ghost use Rattle.css_read.specs.Pruned.{pruned, with_flags};
 ghost use Rattle.css_read.specs.Views.{sheet_of};
 ghost use Rattle.usage_report.specs.Views.{answer_of};
+ghost use Rattle.treeped_app.specs.MeansParts.{IsLeft, Writes};
 ghost use Rattle.treeped_app.specs.Modes as spec;
 ghost use Rattle.treeped_app.specs.Runs.{IsSheetOf};
 
@@ -40,6 +41,7 @@ pub(crate) fn write_pruned<O: Sink>(
     requires read { IsSheetOf text.now (sheet_of sheet.now) }
     requires count { length unused.now ≡ length sheet.now.items }
     requires judged { AreJudged (with_flags (sheet_of sheet.now).items unused.now) }
+    ensures means { OnOk result (Writes (O.written out.old) (O.written out.new) (IsLeft text.now (sheet_of sheet.now) unused.now)) }
     ensures ok { OnOk result (Adds (O.written out.old) (O.written out.new) (pruned text.now (sheet_of sheet.now) unused.now)) }
     ensures err { OnErr result (AddsPrefix (O.written out.old) (O.written out.new) (pruned text.now (sheet_of sheet.now) unused.now)) }
     ensures write { result ≡ Err ReportFault.Write → Rose (O.faults out.old) (O.faults out.new) }

@@ -1,11 +1,12 @@
 //! The command itself.
-ghost use Rattle.std.specs.Prelude.{◌≡◌, ℕ, List, Some, map, string_bytes};
+ghost use Rattle.std.specs.Prelude.{◌≡◌, ℕ, List, Some, map, string_bytes, OnOk};
 ghost use Rattle.treeped_app.specs.Tasks.{IsFew, IsOfMode, task_by, command};
 ghost use Rattle.treeped_app.specs.Views as view;
 ghost use Rattle.treeped_app.specs.Runs.{Ends, run_of};
 ghost use Rattle.run_ends.specs.Tells.{SaysWhy, put_of};
 ghost use Rattle.treeped_app.specs.Commands.{Headline, IsEnded, Causes};
-ghost use Rattle.treeped_app.specs.Meaning.{Means};
+ghost use Rattle.treeped_app.specs.Meaning.{Means, MeansFrom};
+ghost use Rattle.treeped_app.specs.MeansParts.{Writes, WritesFor};
 
 use crate::pages::{run_page, run_ring};
 use crate::sites::run_site;
@@ -56,7 +57,8 @@ fn run<F: Files, O: Sink>(
     files: &mut F,
     out: &mut O,
 ) -> Result<Status, Stop>
-    ensures { Ends (run_of (F.told files.old) (map string_bytes words.now) (F.loads files.old) (F.loads files.new)
+    ensures means { OnOk result (WritesFor (F.told files.old) (map string_bytes words.now) (O.written out.old) (O.written out.new)) }
+    ensures ends { Ends (run_of (F.told files.old) (map string_bytes words.now) (F.loads files.old) (F.loads files.new)
         (put_of (O.written out.old) (O.written out.new) (O.faults out.old) (O.faults out.new))) result }
 {
     let order = read_words(alloc, words)?;
@@ -78,7 +80,8 @@ fn run_task<F: Files, O: Sink>(
 ) -> Result<Status, Stop>
     requires few { IsFew (view.source_of source.now) }
     requires mode { IsOfMode request.now.mode (view.source_of source.now) }
-    ensures { (words : List (List ℕ)) → command words ≡ Some (task_by (view.source_of source.now) request.now.mode request.now.limits.now) → Ends (run_of (F.told files.old) words (F.loads files.old) (F.loads files.new)
+    ensures means { (words : List (List ℕ)) → command words ≡ Some (task_by (view.source_of source.now) request.now.mode request.now.limits.now) → OnOk result (Writes (O.written out.old) (O.written out.new) (MeansFrom (F.told files.old) (view.source_of source.now) request.now.mode)) }
+    ensures ends { (words : List (List ℕ)) → command words ≡ Some (task_by (view.source_of source.now) request.now.mode request.now.limits.now) → Ends (run_of (F.told files.old) words (F.loads files.old) (F.loads files.new)
         (put_of (O.written out.old) (O.written out.new) (O.faults out.old) (O.faults out.new))) result }
 {
     match source {

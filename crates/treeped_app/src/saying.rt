@@ -10,9 +10,10 @@ ghost use Rattle.run_trace.specs.Traces.{AreTracked};
 ghost use Rattle.judge.specs.Outcomes.{system_in};
 ghost use Rattle.treeped_app.specs.Inputs as spec;
 ghost use Rattle.treeped_app.specs.Inputs.{AreInputs, IsUnanswered, IsSaying};
+ghost use Rattle.treeped_app.specs.MeansParts.{MeansSaid};
 ghost use Rattle.treeped_app.specs.Modes.{AreJudgedOf, AreTracesIn, extra_in};
 ghost use Rattle.treeped_app.specs.Runs.{Fit};
-ghost use Rattle.treeped_app.specs.Views.{inputs_of, texts_of};
+ghost use Rattle.treeped_app.specs.Views.{inputs_of, said_of, texts_of};
 
 use crate::reading::{Inputs, Texts, read_all};
 use crate::settling::settle_all;
@@ -149,6 +150,7 @@ pub(crate) fn say(
     texts: &Texts<'_>,
 ) -> Result<Said, Stop>
     requires fit { Fit (texts_of texts.now) }
+    ensures means { IfOk result (λ s. MeansSaid request.now.mode (said_of (texts_of texts.now) s)) }
     ensures said { IsSaying request.now.mode request.now.limits.now number (texts_of texts.now) result }
     ensures placed { IfOk result (λ s. ArePlaced (length (texts_of texts.now).sheet) s.inputs.sheet.items) }
     ensures in_order { IfOk result (λ s. InOrder 0 s.numbers.items (length s.by_guard.items)) }

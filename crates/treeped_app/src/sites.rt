@@ -6,6 +6,8 @@ ghost use Rattle.command_words.specs.Orders.{takes_pages};
 ghost use Rattle.css_read.specs.Places.{ArePlaced};
 ghost use Rattle.limits.specs.declared.pages.TheConstants.{MOST_PAGES};
 ghost use Rattle.site_judge.specs.SiteReport.{AreReportable};
+ghost use Rattle.treeped_app.specs.Meaning.{MeansFrom};
+ghost use Rattle.treeped_app.specs.MeansParts.{Writes};
 ghost use Rattle.treeped_app.specs.Sites.{IsBegun, IsFirst, IsAdded, PageAdded, MorePages, Finished, IsKept, text_of_site};
 ghost use Rattle.run_ends.specs.Tells.{put_of};
 ghost use Rattle.treeped_app.specs.Runs.{Ends, Fit, IsSheetOf, run_of};
@@ -61,7 +63,8 @@ pub(crate) fn run_site<F: Files, O: Sink>(
 ) -> Result<Status, Stop>
     requires on_pages { takes_pages request.now.mode ≡ true }
     requires few { length (paired pages.now.later.now) + 1 ≤ MOST_PAGES }
-    ensures { (words : List (List ℕ)) → command words ≡ Some (task_by (several pages.now.first.sheet.now ((pages.now.first.page.now, pages.now.first.script.now) ∷ paired pages.now.later.now)) request.now.mode request.now.limits.now) → Ends (run_of (F.told files.old) words (F.loads files.old) (F.loads files.new)
+    ensures means { (words : List (List ℕ)) → command words ≡ Some (task_by (several pages.now.first.sheet.now ((pages.now.first.page.now, pages.now.first.script.now) ∷ paired pages.now.later.now)) request.now.mode request.now.limits.now) → OnOk result (Writes (O.written out.old) (O.written out.new) (MeansFrom (F.told files.old) (several pages.now.first.sheet.now ((pages.now.first.page.now, pages.now.first.script.now) ∷ paired pages.now.later.now)) request.now.mode)) }
+    ensures ends { (words : List (List ℕ)) → command words ≡ Some (task_by (several pages.now.first.sheet.now ((pages.now.first.page.now, pages.now.first.script.now) ∷ paired pages.now.later.now)) request.now.mode request.now.limits.now) → Ends (run_of (F.told files.old) words (F.loads files.old) (F.loads files.new)
         (put_of (O.written out.old) (O.written out.new) (O.faults out.old) (O.faults out.new))) result }
 {
     let sheet = Wanted {

@@ -7,7 +7,10 @@ ghost use Rattle.jq_stmts.specs.Views.{statements_of};
 ghost use Rattle.dead_script.specs.Asked.{InOrder};
 ghost use Rattle.treeped_app.specs.Modes as spec;
 ghost use Rattle.treeped_app.specs.Inputs.{IsWritable};
+ghost use Rattle.treeped_app.specs.Meaning.{Each, MeansLine, MeansPage, MeansReport};
+ghost use Rattle.treeped_app.specs.MeansParts.{Writes};
 ghost use Rattle.treeped_app.specs.Views.{inputs_of, said_of, texts_of};
+ghost use Rattle.usage_report.specs.Answers.{line_of};
 ghost use Rattle.usage_report.specs.Reportable.{AreReportable};
 ghost use Rattle.usage_report.specs.Views.{answer_of};
 
@@ -45,6 +48,7 @@ pub(crate) fn write_one<O: Sink>(
     requires placed { ArePlaced (length (texts_of texts.now).sheet) said.now.inputs.sheet.items }
     requires writable { IsWritable mode (said_of (texts_of texts.now) said.now) }
     requires in_order { InOrder 0 said.now.numbers.items (length said.now.by_guard.items) }
+    ensures means { OnOk result (Writes (O.written out.old) (O.written out.new) (MeansPage mode (texts_of texts.now) (inputs_of said.now.inputs))) }
     ensures ok { OnOk result (Adds (O.written out.old) (O.written out.new) (spec.text_on mode (said_of (texts_of texts.now) said.now))) }
     ensures err { OnErr result (AddsPrefix (O.written out.old) (O.written out.new) (spec.text_on mode (said_of (texts_of texts.now) said.now))) }
     ensures write { result ≡ Err ReportFault.Write → Rose (O.faults out.old) (O.faults out.new) }
@@ -92,6 +96,8 @@ fn write_page<O: Sink>(
     requires in_limit { length (texts_of texts.now).sheet ≤ MOST_BYTES }
     requires placed { ArePlaced (length (texts_of texts.now).sheet) said.now.inputs.sheet.items }
     requires reportable { AreReportable (spec.places_of (inputs_of said.now.inputs)) (inputs_of said.now.inputs).sheet.items (map answer_of said.now.items.items) }
+    requires lines { Each (MeansLine (inputs_of said.now.inputs)) (inputs_of said.now.inputs).sheet.items (map line_of (map answer_of said.now.items.items)) }
+    ensures means { OnOk result (Writes (O.written out.old) (O.written out.new) (MeansReport (texts_of texts.now) (inputs_of said.now.inputs))) }
     ensures ok { OnOk result (Adds (O.written out.old) (O.written out.new) (spec.report_on (said_of (texts_of texts.now) said.now))) }
     ensures err { OnErr result (AddsPrefix (O.written out.old) (O.written out.new) (spec.report_on (said_of (texts_of texts.now) said.now))) }
     ensures write { result ≡ Err ReportFault.Write → Rose (O.faults out.old) (O.faults out.new) }

@@ -1,5 +1,5 @@
 -- A sheet in which other selectors stand has the same rules in the same at-rules, with these selectors.
-use Rattle.std.proofs.Common.{◌≡◌, ℕ, suc, ◌+◌, ◌&&◌, Bool, true, false, nat_eq, nat_lt, List, [], ◌∷◌, ◌++◌, length, drop, map, slice_range, Ok, refl, sym, ap, ◌∙◌, subst, arith, length-append, append_assoc, inl, inr}
+use Rattle.std.proofs.Common.{◌≡◌, ℕ, suc, ◌+◌, ◌&&◌, Bool, true, false, nat_eq, nat_lt, List, [], ◌∷◌, ◌++◌, length, drop, map, slice_range, Ok, refl, sym, ap, ◌∙◌, subst, arith, length-append, append_assoc, append-nil, inl, inr}
 use Rattle.std.specs.List.{starts_with}
 use Rattle.std.proofs.lemmas.Bool.{cases_Bool, and_parts, eqb-true}
 use Rattle.std.proofs.lemmas.List.{drop_at}
@@ -28,6 +28,11 @@ use Rattle.css_read.proofs.UnitLemmas.{Chunk, flat, ArePassed}
 use Rattle.widen_sheet.proofs.ChangedRules.{IsRuleOf, rule_of, changed_rule, rule_changed, first_change, other_changes, changed_part, changed_parts, changed_list, part_changed, parts_changed, list_passed, first_is, others_are}
 use Rattle.widen_sheet.proofs.ChangedTexts.{HasChange, replaced, changes, changes_are, move_on, places_apart, AreListed, list_replaced, ArePairs, pairs_append, texts_changed, list_pairs}
 use Rattle.widen_sheet.proofs.PassedLemmas.{no_line, passed_before, pieces_passed}
+use Rattle.widen_sheet.proofs.PieceCuts.{Meets, meets_behind}
+use Rattle.widen_sheet.proofs.PieceLemmas.{Piece, out_of, text_of as piece_text, AreWhole}
+use Rattle.widen_sheet.proofs.SheetPieces.{plain, out_both, text_both, whole_both}
+use Rattle.widen_sheet.proofs.TwinCuts.{IsSameKind, AreTwinSteps, steps_to, AreTwinItems, items_to}
+use Rattle.widen_sheet.proofs.TwinLists.{IsTwinList, IsTwinSheet, twin_none, twin_plain, twin_both, twin_list, twin_span}
 
 -- ---- from one span on
 
@@ -40,6 +45,7 @@ pub record IsChangedTo (new : Item → List ℕ) (text : List ℕ) (n k at : ℕ
   pub owners : (m : ℕ) (outer : List ℕ) (at_new : ℕ) → owners_from m outer (steps_at at_new (left_of fates ss)) ≡ owners_from m outer (steps_at at ss)
   pub rules : (at_new : ℕ) → length (rules_in (steps_at at_new (left_of fates ss))) ≡ length (rules_in (steps_at at ss))
   pub pairs : (other pre : List ℕ) (at_new : ℕ) (js : List Item) → other ≡ pre ++ bytes_of (left_of fates ss) → length pre ≡ at_new → AreItemsOf other k (rules_in (steps_at at_new (left_of fates ss))) js → ArePairs new other items js
+  pub twin : (other pre : List ℕ) (at_new : ℕ) (js : List Item) → other ≡ pre ++ bytes_of (left_of fates ss) → length pre ≡ at_new → AreItemsOf other k (rules_in (steps_at at_new (left_of fates ss))) js → IsTwinSheet at_new at (left_of fates ss) ss js items
 
 none_left : (new : Item → List ℕ) (text pre : List ℕ) (n k at : ℕ) → text ≡ pre ++ [] → length pre ≡ at → IsChangedTo new text n k at [] []
 unfolding owners_from
@@ -52,6 +58,7 @@ none_left new text pre n k at whole before = record {
   owners = λ m outer at_new. refl;
   rules = λ at_new. refl;
   pairs = λ other pre at_new js whole before are. subst (ArePairs new other []) (sym are) tt;
+  twin = λ other pre at_new js whole before are. subst (λ (is : List Item). IsTwinSheet at_new at [] [] is []) (sym are) (twin_none at_new at);
 }
 
 -- the selectors of a rule that stands in a text
@@ -72,6 +79,12 @@ rule_listed inside text pre block rest at len p ps own others whole before size 
       apart = apart;
     }
 
+same_kind : (f : Front) → IsSameKind f f
+same_kind Passed = tt
+same_kind Opens = tt
+same_kind Closes = tt
+same_kind (Styles len) = tt
+
 -- a span at which no rule stands
 span_stays : (new : Item → List ℕ) (text pre : List ℕ) (n k at : ℕ) (f : Front) (bytes : List ℕ) (ss : List Span) (items : List Item) → text ≡ pre ++ (bytes ++ bytes_of ss) → length pre ≡ at
     → ((xs : List (List (List ℕ))) → scope_at xs bytes f ≡ []) → ((outer : List ℕ) → Rattle.css_read.specs.Holders.owner_at outer f ≡ []) → ((from to : ℕ) → Rattle.css_read.specs.Rules.rules_at f from to ≡ [])
@@ -90,6 +103,9 @@ span_stays new text pre n k at f bytes ss items whole before no_scope no_owner n
       rules = λ at_new. ap (λ (rs : List Rule). length (rs ++ rules_in (steps_at (at_new + length bytes) left))) (no_rule at_new (at_new + length bytes)) ∙ later.rules (at_new + length bytes) ∙ sym (ap (λ (rs : List Rule). length (rs ++ rules_in (steps_at (at + length bytes) ss))) (no_rule at (at + length bytes)));
       pairs = λ other pre at_new js whole before are. later.pairs other (pre ++ bytes) (at_new + length bytes) js (whole ∙ sym (append_assoc pre bytes (bytes_of left))) (length-append pre bytes ∙ ap (λ n. n + length bytes) before)
           (subst (λ (rs : List Rule). AreItemsOf other k (rs ++ rules_in (steps_at (at_new + length bytes) left)) js) (no_rule at_new (at_new + length bytes)) are);
+      twin = λ other pre at_new js whole before are. twin_span at_new at f f bytes bytes left ss [] [] js items (same_kind f) (twin_plain at_new at bytes)
+          (later.twin other (pre ++ bytes) (at_new + length bytes) js (whole ∙ sym (append_assoc pre bytes (bytes_of left))) (length-append pre bytes ∙ ap (λ n. n + length bytes) before)
+          (subst (λ (rs : List Rule). AreItemsOf other k (rs ++ rules_in (steps_at (at_new + length bytes) left)) js) (no_rule at_new (at_new + length bytes)) are));
     }
 
 -- a rule, with its selectors and those behind it
@@ -144,6 +160,22 @@ rule_becomes new text ch pre n k at len bytes ss own others whole before r owned
           later.pairs other (pre2 ++ t.bytes) (at_new + length t.bytes) others2 (whole2 ∙ sym (append_assoc pre2 t.bytes (bytes_of left))) (length-append pre2 t.bytes ∙ ap (λ m. m + length t.bytes) before2) are.5
           in
           subst (ArePairs new other (own ++ others)) (sym are.2) (pairs_append new other own own2 others others2 here behind2);
+      twin = λ other pre2 at_new js whole2 before2 are.
+          let own2 = are.0 in
+          let others2 = are.1 in
+          let size2 = length-append pre2 (t.bytes ++ bytes_of left) in
+          let size3 = length-append t.bytes (bytes_of left) in
+          let size4 = length-append (flat list) (123 ∷ r.block) in
+          let again : AreListed other at_new (changed_part (first_change xs) r.first) (changed_parts (other_changes xs) r.others) own2 [] =
+          rule_listed inside other pre2 r.block (bytes_of left) at_new (size_of list) (changed_part (first_change xs) r.first) (changed_parts (other_changes xs) r.others) own2 [] whole2 before2 refl
+          (list_passed xs r.first r.others (r.block ++ rest) (r.block ++ bytes_of left) (changes_are ch own) r.passed) first parts are.3 (omega (arith, ap length whole2, size2, size3, size4, before2))
+          in
+          let front = twin_list new text other ch at_new at k r.first r.others own own2 others listed again numbers are.4 in
+          let span = twin_rule at_new at (flat list) (flat old) (123 ∷ r.block) bytes own2 own (sym r.whole) front in
+          let behind2 : IsTwinSheet (at_new + length t.bytes) (at + length bytes) left ss others2 others =
+          later.twin other (pre2 ++ t.bytes) (at_new + length t.bytes) others2 (whole2 ∙ sym (append_assoc pre2 t.bytes (bytes_of left))) (length-append pre2 t.bytes ∙ ap (λ m. m + length t.bytes) before2) are.5
+          in
+          subst (λ (is : List Item). IsTwinSheet at_new at (t ∷ left) (s ∷ ss) is (own ++ others)) (sym are.2) (twin_span at_new at t.front s.front t.bytes bytes left ss own2 own others2 others tt span behind2);
     }
   where
     styles_same : (a b : ℕ) → Styles a ≡ Styles b → a ≡ b
@@ -158,6 +190,12 @@ rule_becomes new text ch pre n k at len bytes ss own others whole before r owned
 
     scope_same : (stack : List (List (List ℕ))) (a b : List ℕ) → a ≡ b → (ys zs : List Scope) → ys ≡ zs → ◌≡◌ {A = List Scope} ((a, Rattle.css_read.proofs.ScopeLemmas.top_heads stack) ∷ ys) ((b, Rattle.css_read.proofs.ScopeLemmas.top_heads stack) ∷ zs)
     scope_same stack a b same ys zs later = rw (same, later) refl
+
+    twin_rule : (a c : ℕ) (out old block bytes : List ℕ) (js is : List Item) → old ++ block ≡ bytes → IsTwinList a c out old js is → IsTwinList a c (out ++ block) bytes js is
+    twin_rule a c out old block bytes js is whole front =
+        subst (λ (xs : List Item). IsTwinList a c (out ++ block) bytes xs is) (append-nil js)
+        (subst (λ (xs : List Item). IsTwinList a c (out ++ block) bytes (js ++ []) xs) (append-nil is)
+        (subst (λ (bs : List ℕ). IsTwinList a c (out ++ block) bs (js ++ []) (is ++ [])) whole (twin_both a c out old block block js is [] [] front (twin_plain (a + length out) (c + length old) block))))
 
     with_first : (new : Item → List ℕ) (own : List Item) (xs : List Rattle.widen_sheet.proofs.ChangedRules.Change) (p : List Chunk) (ps : List (List Chunk)) → Rattle.widen_sheet.proofs.ChangedTexts.HaveTexts new own (changed_parts xs (p ∷ ps))
         → Rattle.widen_sheet.proofs.ChangedTexts.HaveTexts new own (changed_part (first_change xs) p ∷ changed_parts (other_changes xs) ps)
@@ -236,11 +274,39 @@ front_of text = elim (cases_Bool (has_mark text)) [
 
 -- ---- a whole sheet
 
+-- the same pieces, with what stands where in both
+pub record AreInPieces (text wide : List ℕ) (s again : Sheet) : Type 0 where
+  pub parts : List Piece
+  pub spelt : out_of parts ≡ wide
+  pub stands : piece_text parts ≡ text
+  pub whole : AreWhole parts
+  pub items : AreTwinItems (Meets 0 0 parts) again.items s.items
+  pub steps : AreTwinSteps (Meets 0 0 parts) (steps_of wide) (steps_of text)
+
+behind_front : (at : ℕ) (front wide text : List ℕ) (left ss : List Span) (s again : Sheet) → length front ≡ at → wide ≡ front ++ bytes_of left → text ≡ front ++ bytes_of ss → steps_of wide ≡ steps_at at left → steps_of text ≡ steps_at at ss → IsTwinSheet at at left ss again.items s.items → AreInPieces text wide s again
+behind_front at front wide text left ss s again before wide_is text_is steps steps_text twin =
+    let first = plain front in
+    let out_size : 0 + length (out_of first.parts) ≡ at = omega (arith, ap length first.spelt, before) in
+    let text_size : 0 + length (piece_text first.parts) ≡ at = omega (arith, ap length first.stands, before) in
+    let here : (e f : ℕ) → Meets at at twin.parts e f → Meets 0 0 (first.parts ++ twin.parts) e f = λ e f meets.
+    meets_behind 0 0 first.parts twin.parts e f (subst (λ (n : ℕ). Meets n (0 + length (piece_text first.parts)) twin.parts e f) (sym out_size) (subst (λ (n : ℕ). Meets at n twin.parts e f) (sym text_size) meets))
+    in
+    record {
+      parts = first.parts ++ twin.parts;
+      spelt = out_both first.parts twin.parts ∙ ap (λ bs. bs ++ out_of twin.parts) first.spelt ∙ ap (λ bs. front ++ bs) twin.spelt ∙ sym wide_is;
+      stands = text_both first.parts twin.parts ∙ ap (λ bs. bs ++ piece_text twin.parts) first.stands ∙ ap (λ bs. front ++ bs) twin.stands ∙ sym text_is;
+      whole = whole_both first.parts twin.parts first.whole twin.whole;
+      items = items_to (Meets at at twin.parts) (Meets 0 0 (first.parts ++ twin.parts)) again.items s.items here twin.items;
+      steps = subst (λ (xs : List Step). AreTwinSteps (Meets 0 0 (first.parts ++ twin.parts)) xs (steps_of text)) (sym steps) (subst (AreTwinSteps (Meets 0 0 (first.parts ++ twin.parts)) (steps_at at left)) (sym steps_text)
+          (steps_to (Meets at at twin.parts) (Meets 0 0 (first.parts ++ twin.parts)) (steps_at at left) (steps_at at ss) here twin.steps));
+    }
+
 pub record IsSameSheet (new : Item → List ℕ) (text wide : List ℕ) (s again : Sheet) : Type 0 where
   pub pairs : ArePairs new wide s.items again.items
   pub rules : length again.rules ≡ length s.rules
   pub scopes : scopes_of wide ≡ scopes_of text
   pub owners : owners_of wide ≡ owners_of text
+  pub pieces : AreInPieces text wide s again
 
 ranges_size : (rs : List Rule) → length (ranges_of rs) ≡ length rs
 ranges_size [] = refl
@@ -275,4 +341,5 @@ sheet_changed new text wide ch names later others last s again read is mark read
       rules = count (rules_of wide) again there.rules ∙ ap length rules ∙ changed.rules at ∙ sym (count (rules_of text) s own.rules ∙ ap length (rules_steps text));
       scopes = scopes_are wide at left (record { pre = front.mark; whole = wide_is; before = before }) steps rules ∙ changed.scopes [] ∙ sym (scopes_are text at ss (record { pre = front.mark; whole = text_is; before = before }) (steps_are text) (rules_steps text));
       owners = ap (owners_from 0 []) steps ∙ changed.owners 0 [] at ∙ sym (ap (owners_from 0 []) (steps_are text));
+      pieces = behind_front at front.mark wide text left ss s again before wide_is text_is steps (steps_are text) (changed.twin wide front.mark at again.items wide_is before (subst (λ (rs : List Rule). AreItemsOf wide 0 rs again.items) rules there.items));
     }

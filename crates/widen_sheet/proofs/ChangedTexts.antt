@@ -16,6 +16,7 @@ use Rattle.css_read.proofs.RulePlans.{slice_at, part_text}
 use Rattle.css_read.proofs.ThinLemmas.{lead, solid, trail, lead_gaps, end_gaps, split, left_solid}
 use Rattle.css_read.proofs.UnitLemmas.{Chunk, flat, flat-append, strip}
 use Rattle.widen_sheet.proofs.ChangedRules.{Change, stays, becomes, IsChange, AreChanges, changed_part, changed_parts, changed_list}
+use Rattle.widen_sheet.proofs.SheetPieces.{IsPieces}
 
 -- ---- selectors and their new texts
 
@@ -27,6 +28,7 @@ pub record HasChange (new : Item → List ℕ) (text : List ℕ) (i : Item) : Ty
   pub change : Change
   pub is : IsChange change
   pub text_is : new i ≡ text_after change (slice_range text i.from i.to)
+  pub pieces : IsPieces (new i) (slice_range text i.from i.to)
 
 -- from an offset on, with the new texts of some selectors
 abbrev pub replaced : (Item → List ℕ) → List ℕ → ℕ → List Item → List ℕ
@@ -43,10 +45,10 @@ changes_are ch (i ∷ items) = ((ch i).is, changes_are ch items)
 
 -- ---- the texts of parts
 
-part_flat : (p : List Chunk) → flat p ≡ flat (lead p) ++ (flat (solid p) ++ flat (trail p))
+pub part_flat : (p : List Chunk) → flat p ≡ flat (lead p) ++ (flat (solid p) ++ flat (trail p))
 part_flat p = ap flat (sym (split p)) ∙ flat-append (lead p) (solid p ++ trail p) ∙ ap (λ bs. flat (lead p) ++ bs) (flat-append (solid p) (trail p))
 
-changed_flat : (x : Change) (p : List Chunk) → IsChange x → flat (changed_part x p) ≡ flat (lead p) ++ (text_after x (flat (solid p)) ++ flat (trail p))
+pub changed_flat : (x : Change) (p : List Chunk) → IsChange x → flat (changed_part x p) ≡ flat (lead p) ++ (text_after x (flat (solid p)) ++ flat (trail p))
 changed_flat stays p is = part_flat p
 changed_flat (becomes cs) p is =
     flat-append (lead p) (solid cs ++ trail p) ∙ ap (λ bs. flat (lead p) ++ bs) (flat-append (solid cs) (trail p) ∙ ap (λ (ds : List Chunk). flat ds ++ flat (trail p)) is.bare)
@@ -71,20 +73,20 @@ move_on new text at mid (i ∷ items) less apart =
 -- ---- one part
 
 -- a place, as its two ends
-record IsAt (i : Item) (low high : ℕ) : Type 0 where
-  from : i.from ≡ low
-  to : i.to ≡ high
+pub record IsAt (i : Item) (low high : ℕ) : Type 0 where
+  pub from : i.from ≡ low
+  pub to : i.to ≡ high
 
-is_at : (at : ℕ) (p : List Chunk) (i : Item) → range_of i ≡ place_at (at + size_of p) p → IsAt i (at + size_of (lead p)) (at + size_of (lead p) + size_of (solid p))
+pub is_at : (at : ℕ) (p : List Chunk) (i : Item) → range_of i ≡ place_at (at + size_of p) p → IsAt i (at + size_of (lead p)) (at + size_of (lead p) + size_of (solid p))
 is_at at p i is = let all = is ∙ place_is at p in record { from = ap (λ (r : Range). r.from) all; to = ap (λ (r : Range). r.to) all }
 
 -- the bytes of a part where it stands
-record StandsAt (text : List ℕ) (at : ℕ) (p : List Chunk) : Type 0 where
-  before : slice_range text at (at + size_of (lead p)) ≡ flat (lead p)
-  own : slice_range text (at + size_of (lead p)) (at + size_of (lead p) + size_of (solid p)) ≡ flat (solid p)
-  behind : slice_range text (at + size_of (lead p) + size_of (solid p)) (at + size_of p) ≡ flat (trail p)
+pub record StandsAt (text : List ℕ) (at : ℕ) (p : List Chunk) : Type 0 where
+  pub before : slice_range text at (at + size_of (lead p)) ≡ flat (lead p)
+  pub own : slice_range text (at + size_of (lead p)) (at + size_of (lead p) + size_of (solid p)) ≡ flat (solid p)
+  pub behind : slice_range text (at + size_of (lead p) + size_of (solid p)) (at + size_of p) ≡ flat (trail p)
 
-stands_at : (text pre z : List ℕ) (at : ℕ) (p : List Chunk) → text ≡ pre ++ (flat p ++ z) → length pre ≡ at → StandsAt text at p
+pub stands_at : (text pre z : List ℕ) (at : ℕ) (p : List Chunk) → text ≡ pre ++ (flat p ++ z) → length pre ≡ at → StandsAt text at p
 stands_at text pre z at p whole before =
     let parts : flat p ++ z ≡ flat (lead p) ++ (flat (solid p) ++ (flat (trail p) ++ z)) =
     ap (λ bs. bs ++ z) (part_flat p) ∙ append_assoc (flat (lead p)) (flat (solid p) ++ flat (trail p)) z ∙ ap (λ bs. flat (lead p) ++ bs) (append_assoc (flat (solid p)) (flat (trail p)) z)
@@ -147,23 +149,23 @@ pub record AreListed (text : List ℕ) (at : ℕ) (p : List Chunk) (ps : List (L
   pub places_are : map range_of own ≡ places (at + size_of (joined p ps)) p ps
   pub apart : AreApart (at + size_of (joined p ps)) (length text) (map range_of others)
 
-heads_same : (a b : Range) (xs ys : List Range) → a ∷ xs ≡ b ∷ ys → a ≡ b
+pub heads_same : (a b : Range) (xs ys : List Range) → a ∷ xs ≡ b ∷ ys → a ≡ b
 heads_same a b xs ys same = cc
 
-tails_same : (a b : Range) (xs ys : List Range) → a ∷ xs ≡ b ∷ ys → xs ≡ ys
+pub tails_same : (a b : Range) (xs ys : List Range) → a ∷ xs ≡ b ∷ ys → xs ≡ ys
 tails_same a b xs ys same = cc
 
-none_is : (a : Range) (xs : List Range) → [] ≡ a ∷ xs → ⊥
+pub none_is : (a : Range) (xs : List Range) → [] ≡ a ∷ xs → ⊥
 none_is a xs same = cc
 
-some_is : (a : Range) (xs : List Range) → a ∷ xs ≡ [] → ⊥
+pub some_is : (a : Range) (xs : List Range) → a ∷ xs ≡ [] → ⊥
 some_is a xs same = cc
 
 map-append : (own others : List Item) → map range_of (own ++ others) ≡ map range_of own ++ map range_of others
 map-append [] others = refl
 map-append (i ∷ own) others = ap (λ (rs : List Range). range_of i ∷ rs) (map-append own others)
 
-listed_next : (text : List ℕ) (at : ℕ) (p q : List Chunk) (qs : List (List Chunk)) (i : Item) (own others : List Item) → AreListed text at p (q ∷ qs) (i ∷ own) others → AreListed text (at + size_of p + 1) q qs own others
+pub listed_next : (text : List ℕ) (at : ℕ) (p q : List Chunk) (qs : List (List Chunk)) (i : Item) (own others : List Item) → AreListed text at p (q ∷ qs) (i ∷ own) others → AreListed text (at + size_of p + 1) q qs own others
 listed_next text at p q qs i own others is =
     let inner = flat (joined q qs) in
     let all = joined_size p q qs in

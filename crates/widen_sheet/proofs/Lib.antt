@@ -11,8 +11,11 @@ pub mod MarkSteps
 pub mod TokenSteps
 pub mod CombinatorLemmas
 pub mod PassedLemmas
+pub mod PieceCuts
+pub mod TwinCuts
 pub mod ChangedRules
 pub mod ChangedTexts
+pub mod TwinLists
 pub mod ChangedSheets
 pub mod QuietTexts
 pub mod AttributeReads
@@ -25,3 +28,4 @@ pub mod SpelledQuiet
 pub mod SpelledItems
 pub mod SameItems
 pub mod SameSheets
+pub mod PutBackSheets

@@ -1,7 +1,7 @@
 -- A text in pieces: bytes, and marks. Such a text goes back to what its pieces stand for.
-use Rattle.std.proofs.Common.{◌==◌, ◌≡◌, ℕ, suc, ◌-◌, ◌<◌, ◌&&◌, ◌||◌, Bool, true, false, nat_eq, List, [], ◌∷◌, ◌++◌, length, take, drop, codes, Some, None, Ok, refl, sym, ap, ◌∙◌, arith, append_assoc, length-append, inl, inr}
+use Rattle.std.proofs.Common.{◌==◌, ◌≡◌, ℕ, suc, ◌-◌, ◌<◌, ◌&&◌, ◌||◌, not, Bool, true, false, nat_eq, List, [], ◌∷◌, ◌++◌, length, take, drop, codes, Some, None, Ok, refl, sym, ap, ◌∙◌, subst, arith, append_assoc, length-append, inl, inr}
 use Rattle.std.specs.List.{starts_with}
-use Rattle.std.proofs.lemmas.Bool.{cases_Bool, and_parts}
+use Rattle.std.proofs.lemmas.Bool.{cases_Bool, and_parts, eqb-true}
 use Rattle.text_bytes.specs.Marks.{behind_mark}
 use Rattle.text_bytes.specs.Rests.{IsRest}
 use Rattle.text_bytes.proofs.Rests.{of_rest, behind_first}
@@ -122,13 +122,46 @@ no_opening b ps none = elim (cases_Bool (opens_mark (b ∷ out_of ps))) [
   | inr other ↦ other
 ]
 
-no_mark_at : (b : ℕ) (ps : List Piece) → has (codes "/*~") (b ∷ text_of ps) ≡ false → mark_at (b ∷ out_of ps) ≡ None
+-- ---- a `/*~` that ends a comment
+
+-- each `/*~` that begins outside of marks has a `*` before it
+abbrev pub AreFree : Bool → List Piece → Type 0
+AreFree star [] = Unit {0}
+AreFree star (byte b ∷ ps) = (opens_mark (b ∷ out_of ps) ≡ true → star ≡ true) × AreFree (b == 42) ps
+AreFree star (marked m own ∷ ps) = AreFree false ps
+
+-- where there is none, that is so
+pub none_free : (star : Bool) (ps : List Piece) → has (codes "/*~") (text_of ps) ≡ false → AreFree star ps
+none_free star [] none = tt
+none_free star (byte b ∷ ps) none = (λ opens. absurd (true_not_false (sym opens ∙ no_opening b ps none)), none_free (b == 42) ps (has_later (codes "/*~") b (text_of ps) none))
+none_free star (marked m own ∷ ps) none = none_free false ps (has_right (codes "/*~") own (text_of ps) none)
+
+-- no colon, and no star
+abbrev IsCalm : List ℕ → Type 0
+IsCalm [] = Unit {0}
+IsCalm (c ∷ p) = (nat_eq c 58 ≡ false) × ((c == 42) ≡ false) × IsCalm p
+
+same_star : (c b : ℕ) → nat_eq c b ≡ true → (c == 42) ≡ false → (b == 42) ≡ false
+same_star c b same none = ap (λ (n : ℕ). n == 42) (sym (eqb-true c b same)) ∙ none
+
+hidden : (p : List ℕ) (ps : List Piece) → IsCalm p → AreFree false ps → starts_with nat_eq (out_of ps) (p ++ codes "/*~") ≡ true → ⊥
+hidden [] [] calm free is = true_not_false (sym is)
+hidden [] (byte b ∷ ps) calm free is = true_not_false (sym (free.0 is))
+hidden [] (marked m own ∷ ps) calm free is = true_not_false (sym is)
+hidden (c ∷ p) [] calm free is = true_not_false (sym is)
+hidden (c ∷ p) (byte b ∷ ps) calm free is =
+    let both = and_parts (nat_eq c b) (starts_with nat_eq (out_of ps) (p ++ codes "/*~")) is in
+    hidden p ps calm.2 (subst (λ (t : Bool). AreFree t ps) (same_star c b both.0 calm.1) free.1) both.1
+hidden (c ∷ p) (marked m own ∷ ps) calm free is =
+    let rest : List ℕ = (codes "hover/*~" ++ letter m ∷ []) ++ (own ++ (closing m ++ out_of ps)) in
+    true_not_false (sym (and_parts (nat_eq c 58) (starts_with nat_eq rest (p ++ codes "/*~")) is).0 ∙ calm.0)
+
+no_mark_at : (b : ℕ) (ps : List Piece) → AreFree (b == 42) ps → mark_at (b ∷ out_of ps) ≡ None
 unfolding mark_at
-no_mark_at b ps none = elim (cases_Bool (starts_with nat_eq (b ∷ out_of ps) (codes ":hover/*~"))) [
+no_mark_at b ps free = elim (cases_Bool (starts_with nat_eq (b ∷ out_of ps) (codes ":hover/*~"))) [
   | inl yes' ↦
       let both = and_parts (nat_eq 58 b) (starts_with nat_eq (out_of ps) (codes "hover/*~")) yes' in
-      let there = same_front (codes "hover/*~") ps (refl, (refl, (refl, (refl, (refl, (refl, (refl, (refl, tt)))))))) both.1 in
-      absurd (true_not_false (sym (has_behind (codes "hover") (codes "/*~") (text_of ps) (omega arith) there) ∙ has_later (codes "/*~") b (text_of ps) none))
+      absurd (hidden (codes "hover") ps ((refl, refl, (refl, refl, (refl, refl, (refl, refl, (refl, refl, tt)))))) (subst (λ (t : Bool). AreFree t ps) (same_star 58 b both.0 refl) free) both.1)
   | inr other ↦ rw other refl
 ]
 
@@ -166,15 +199,24 @@ mark_found mark.Child own out none = mark_ends own (codes ":hover>" ++ out) (cod
 
 -- ---- the whole
 
-pub goes_back : (size : ℕ) (star : Bool) (ps : List Piece) → AreWhole ps → has (codes "/*~") (text_of ps) ≡ false → back_from size star 0 (out_of ps) ≡ Ok (text_of ps)
+alone : (opens star : Bool) → (opens ≡ true → star ≡ true) → (opens && not star) ≡ false
+alone true true behind = refl
+alone false true behind = refl
+alone false false behind = refl
+alone true false behind = absurd (true_not_false (sym (behind refl)))
+
+pub goes_back_free : (size : ℕ) (star : Bool) (ps : List Piece) → AreWhole ps → AreFree star ps → back_from size star 0 (out_of ps) ≡ Ok (text_of ps)
 unfolding back_from
-goes_back size star [] are none = refl
-goes_back size star (byte b ∷ ps) are none =
-    let later = goes_back size (b == 42) ps are (has_later (codes "/*~") b (text_of ps) none) in
-    rw (no_mark_at b ps none, no_opening b ps none, later) refl
-goes_back size star (marked m own ∷ ps) are none =
+goes_back_free size star [] are free = refl
+goes_back_free size star (byte b ∷ ps) are free =
+    let later = goes_back_free size (b == 42) ps are free.1 in
+    rw (no_mark_at b ps free.1, alone (opens_mark (b ∷ out_of ps)) star free.0, later) refl
+goes_back_free size star (marked m own ∷ ps) are free =
     let out = out_of ps in
     let rest = of_rest _ (own ++ (closing m ++ out)) out (is_rest (codes "hover/*~" ++ letter m ∷ []) (own ++ (closing m ++ out))) (of_rest _ (closing m ++ out) out (is_rest own (closing m ++ out)) (is_rest (closing m) out)) in
     let all : List ℕ = (codes "hover/*~" ++ letter m ∷ []) ++ (own ++ (closing m ++ out)) in
     one_mark size star (58 ∷ all) own out (mark_found m own out are.0) (of_rest (58 ∷ all) all out (behind_first 58 all) rest) (omega (arith, rest.shorter))
-    ∙ ap (behind_text own) (goes_back size false ps are.1 (has_right (codes "/*~") own (text_of ps) none))
+    ∙ ap (behind_text own) (goes_back_free size false ps are.1 free)
+
+pub goes_back : (size : ℕ) (star : Bool) (ps : List Piece) → AreWhole ps → has (codes "/*~") (text_of ps) ≡ false → back_from size star 0 (out_of ps) ≡ Ok (text_of ps)
+goes_back size star ps are none = goes_back_free size star ps are (none_free star ps none)

@@ -28,7 +28,7 @@ use Rattle.widen_sheet.specs.Wide.{Wide, has, wide_of, kinds, compounds_left, wi
 use Rattle.widen_sheet.proofs.ChangedRules.{stays, becomes}
 use Rattle.widen_sheet.proofs.ChangedTexts.{HasChange, IsPair, ArePairs}
 use Rattle.widen_sheet.proofs.JoinReads.{AreTokens, tokens_are}
-use Rattle.widen_sheet.proofs.SheetPieces.{widens_plain}
+use Rattle.widen_sheet.proofs.SheetPieces.{widens_plain, item_pieces}
 use Rattle.widen_sheet.proofs.SlotPieces.{words}
 use Rattle.widen_sheet.proofs.SpelledItems.{IsStill, spelled_read}
 use Rattle.widen_sheet.proofs.SpelledQuiet.{spelled_quiet}
@@ -62,8 +62,8 @@ how_wide text i = elim (cases_Bool (widens i.outcome (bytes_at text i))) [
 ]
 
 change_by : (text : List ℕ) (i : Item) → HowWide text i → HasChange (widened_item text) text i
-change_by text i (is_wide w are is new none few) = let q = spelled_quiet w are none in record { change = becomes q.0; is = q.2; text_is = new ∙ q.1 }
-change_by text i (is_same is new) = record { change = stays; is = tt; text_is = new }
+change_by text i (is_wide w are is new none few) = let q = spelled_quiet w are none in record { change = becomes q.0; is = q.2; text_is = new ∙ q.1; pieces = item_pieces text i }
+change_by text i (is_same is new) = record { change = stays; is = tt; text_is = new; pieces = item_pieces text i }
 
 pub has_change : (text : List ℕ) (i : Item) → HasChange (widened_item text) text i
 has_change text i = change_by text i (how_wide text i)

@@ -13,7 +13,7 @@ use Rattle.css_read.proofs.PrunedText.{accepted}
 use Rattle.css_read.proofs.SheetOrder.{sheet_in_order}
 use Rattle.widen_sheet.specs.SameSheet.{HasSameSheet}
 use Rattle.widen_sheet.specs.Wide.{from_bytes, widened_item, widened_from, widened, widen_sheet, widen_read, widen}
-use Rattle.widen_sheet.proofs.ChangedSheets.{has_mark, sheet_changed}
+use Rattle.widen_sheet.proofs.ChangedSheets.{has_mark, IsSameSheet, sheet_changed}
 use Rattle.widen_sheet.proofs.ChangedTexts.{replaced}
 use Rattle.widen_sheet.proofs.PieceLemmas.{same_front, text_of}
 use Rattle.widen_sheet.proofs.SameItems.{has_change, items_same}
@@ -40,15 +40,23 @@ from_read : (text wide : List ℕ) (later : List Named) (s : Sheet) → read_she
 unfolding widen
 from_read text wide later s read is = ap (λ (r : List Named × Result Sheet SheetFault). widen_read text r.1) (sym read) ∙ is
 
-pub same_sheet : (text : List ℕ) → HasSameSheet text
+-- what both sheets have in common, as sheets in which other selectors stand
+pub sheet_same : (text wide : List ℕ) (later others last : List Named) (s again : Sheet) → widen text ≡ Ok wide → read_sheet text [] ≡ (later, Ok s) → read_sheet wide others ≡ (last, Ok again) → IsSameSheet (widened_item text) text wide s again
 unfolding widened
-same_sheet text wide later others last s again is read read_again =
+sheet_same text wide later others last s again is read read_again =
     let first = (accepted text [] later s read).read in
     let second = (accepted wide others last again read_again).read in
     let apart : AreApart 0 (length text) (map range_of s.items) = (sheet_in_order text [] later s first).items.apart in
     let whole : widened_from text 0 s.items ≡ wide = widened_is text wide s (from_read text wide later s read is) in
     let pieces : IsPieces wide text = subst (λ (x : List ℕ). IsPieces x text) whole (sheet_pieces text 0 s.items apart) in
-    let same = sheet_changed (widened_item text) text wide (has_change text) [] later others last s again first (same_text text 0 s.items ∙ whole) (mark_kept text wide pieces) second in
+    sheet_changed (widened_item text) text wide (has_change text) [] later others last s again first (same_text text 0 s.items ∙ whole) (mark_kept text wide pieces) second
+
+pub same_sheet : (text : List ℕ) → HasSameSheet text
+same_sheet text wide later others last s again is read read_again =
+    let first = (accepted text [] later s read).read in
+    let second = (accepted wide others last again read_again).read in
+    let apart : AreApart 0 (length text) (map range_of s.items) = (sheet_in_order text [] later s first).items.apart in
+    let same = sheet_same text wide later others last s again is read read_again in
     record {
       items = items_same last later text wide 0 s.items again.items apart same.pairs (sheet_known wide others last (rules_of wide) again second) (sheet_known text [] later (rules_of text) s first);
       rules = same.rules;

@@ -32,17 +32,17 @@ plain bs = record { parts = bytes_of bs ++ []; spelt = out_bytes bs [] ∙ appen
 
 -- ---- one after the other
 
-out_both : (ps qs : List Piece) → out_of (ps ++ qs) ≡ out_of ps ++ out_of qs
+pub out_both : (ps qs : List Piece) → out_of (ps ++ qs) ≡ out_of ps ++ out_of qs
 out_both [] qs = refl
 out_both (byte b ∷ ps) qs = ap (λ (r : List ℕ). b ∷ r) (out_both ps qs)
 out_both (marked m own ∷ ps) qs = rw (out_both ps qs) (sym (append_assoc (opening m) (own ++ (closing m ++ out_of ps)) (out_of qs) ∙ ap (λ (r : List ℕ). opening m ++ r) (append_assoc own (closing m ++ out_of ps) (out_of qs) ∙ ap (λ (r : List ℕ). own ++ r) (append_assoc (closing m) (out_of ps) (out_of qs)))))
 
-text_both : (ps qs : List Piece) → text_of (ps ++ qs) ≡ text_of ps ++ text_of qs
+pub text_both : (ps qs : List Piece) → text_of (ps ++ qs) ≡ text_of ps ++ text_of qs
 text_both [] qs = refl
 text_both (byte b ∷ ps) qs = ap (λ (r : List ℕ). b ∷ r) (text_both ps qs)
 text_both (marked m own ∷ ps) qs = ap (λ (r : List ℕ). own ++ r) (text_both ps qs) ∙ sym (append_assoc own (text_of ps) (text_of qs))
 
-whole_both : (ps qs : List Piece) → AreWhole ps → AreWhole qs → AreWhole (ps ++ qs)
+pub whole_both : (ps qs : List Piece) → AreWhole ps → AreWhole qs → AreWhole (ps ++ qs)
 whole_both [] qs are others = others
 whole_both (byte b ∷ ps) qs are others = whole_both ps qs are others
 whole_both (marked m own ∷ ps) qs are others = (are.0, whole_both ps qs are.1 others)

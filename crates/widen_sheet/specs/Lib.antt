@@ -1,5 +1,6 @@
 -- What public contracts cite.
 pub mod Command
+pub mod Pruned
 pub mod Runs
 pub mod SameSheet
 pub mod Tells

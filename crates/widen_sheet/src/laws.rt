@@ -1,4 +1,5 @@
 //! What holds of each sheet that is widened, and of each selector.
+ghost use Rattle.widen_sheet.specs.Pruned.{HasPutBack};
 ghost use Rattle.widen_sheet.specs.SameSheet.{HasSameSheet};
 ghost use Rattle.widen_sheet.specs.Wide.{GoesBack, IsWider};
 
@@ -19,4 +20,10 @@ pub fn what_is_left_is_wider(tree: &Tree)
 /// judged as before, and one that is widened as what is left of it: nothing that was judged is skipped.
 pub fn widening_keeps_the_sheet(text: &[u8])
     ensures { HasSameSheet text.now }
+{}
+
+/// What is left of a widened sheet that was pruned goes back to the sheet without ranges of whole selectors, rules and
+/// at-rules: those that are the ones that went.
+pub fn pruned_goes_back(text: &[u8])
+    ensures { HasPutBack text.now }
 {}

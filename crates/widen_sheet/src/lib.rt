@@ -18,7 +18,7 @@ mod words;
 pub use back::put_back;
 pub use command::widen_command;
 pub use faults::{BackFault, WidenFault};
-pub use laws::{goes_back, what_is_left_is_wider, widening_keeps_the_sheet};
+pub use laws::{goes_back, pruned_goes_back, what_is_left_is_wider, widening_keeps_the_sheet};
 pub use stops::{Status, Stop, Wrong};
 pub use widening::widen;
 pub use words::Way;

@@ -4,7 +4,7 @@ use Rattle.code_values.specs.Values.{any_choice}
 use Rattle.code_values.proofs.values.any_choice.Given as goal
 
 abbrev pub invariant-tokens : goal.invariant-tokens
-invariant-tokens l = any_choice l.text l.code l.left ≡ any_choice l.text l.code (outer l.code l.fn.span)
+invariant-tokens l = any_choice l.script.text.now l.script.code.now l.left ≡ any_choice l.script.text.now l.script.code.now (outer l.script.code.now l.fn.span)
 
 abbrev pub decreases-tokens : goal.decreases-tokens
 decreases-tokens l = length l.left

@@ -4,7 +4,7 @@ use Rattle.code_values.specs.Values.{any_plus}
 use Rattle.code_values.proofs.values.any_plus.Given as goal
 
 abbrev pub invariant-tokens : goal.invariant-tokens
-invariant-tokens l = any_plus l.text l.code l.left ≡ any_plus l.text l.code (outer l.code l.fn.span)
+invariant-tokens l = any_plus l.script.text.now l.script.code.now l.left ≡ any_plus l.script.text.now l.script.code.now (outer l.script.code.now l.fn.span)
 
 abbrev pub decreases-tokens : goal.decreases-tokens
 decreases-tokens l = length l.left

@@ -4,7 +4,7 @@ use Rattle.code_values.specs.Values.{first_end}
 use Rattle.code_values.proofs.values.first_end.Given as goal
 
 abbrev pub invariant-tokens : goal.invariant-tokens
-invariant-tokens l = first_end l.text l.code l.left ≡ first_end l.text l.code (outer l.code l.fn.span)
+invariant-tokens l = first_end l.script.text.now l.script.code.now l.left ≡ first_end l.script.text.now l.script.code.now (outer l.script.code.now l.fn.span)
 
 abbrev pub decreases-tokens : goal.decreases-tokens
 decreases-tokens l = length l.left

@@ -3,10 +3,27 @@ use Rattle.std.proofs.lemmas.Result.{err_from_is_err_and}
 use Rattle.usage_report.specs.Answers.{spent}
 use Rattle.usage_report.specs.Views.{answer_of}
 use Rattle.dead_script.specs.Asked.{by_number}
-use Rattle.treeped_app.specs.Views.{inputs_of, texts_of}
+use Rattle.treeped_app.specs.Views.{inputs_of, said_of, texts_of}
+use Rattle.treeped_app.proofs.SaidMeanings.{said_means}
 use Rattle.treeped_app.proofs.SayingLemmas.{tracked_of, not_read, not_answered, said_right, unfolded_of}
 use Rattle.jq_exact.proofs.MarkLemmas.{wides_marked}
 use Rattle.treeped_app.proofs.saying.say.Goals as goal
+
+pub returns-clause-means : goal.returns-clause-means
+returns-clause-means c =
+    let old = c.in_ok-inputs.inputs in
+    let both = c.in_ok-answered.answered.both in
+    let others = by_number spent (map answer_of both.extra) c.in_ok-answered.answered.numbers.items in
+    let said = c.in_ok-said.said in
+    said_means c.args.request.now.mode c.args.request.now.limits.now c.args.number (said_of (texts_of c.args.texts.now) (record said { traces = c.in_ok-traces.traces }))
+    (record {
+      read = c.in_ok-inputs.ensures.read ∙ ap Ok (sym c.in_ok-said.ensures.inputs);
+      answers =
+          rw (c.in_ok-said.ensures.by_guard, c.in_ok-said.ensures.numbers)
+          (said_right c.args.request.now.mode c.args.request.now.limits.now (inputs_of old) (inputs_of said.inputs) (map answer_of both.items) (map answer_of said.items.items) others both.system c.in_ok-said.ensures.inputs
+          (wides_marked old.script.stmts.items old.script.sharp.items) c.in_ok-answered.ensures.answers c.in_ok-answered.ensures.system c.in_ok-said.ensures.settled);
+      traces = rw c.deref.ensures.value at c.in_ok-traces.ensures;
+    })
 
 pub returns-in_err-inputs-clause-said : goal.returns-in_err-inputs-clause-said
 returns-in_err-inputs-clause-said c =

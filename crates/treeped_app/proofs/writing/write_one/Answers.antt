@@ -8,13 +8,50 @@ use Rattle.dead_script.specs.Verdicts.{dead_text}
 use Rattle.tp_io.proofs.SinkLemmas.{on_err, none_out}
 use Rattle.usage_report.proofs.ReportLemmas.{front_of_front, err_after}
 use Rattle.treeped_app.specs.Inputs.{IsWritable}
+use Rattle.treeped_app.specs.Meaning.{MeansPage}
 use Rattle.treeped_app.specs.Modes as modes
 use Rattle.treeped_app.specs.Modes.{is_unused, report_on, text_on}
 use Rattle.treeped_app.specs.Views.{said_of, texts_of}
 use Rattle.treeped_app.proofs.PruneLemmas.{items_judged, items_many, flags_seen}
+use Rattle.treeped_app.proofs.SaidMeanings.{writable_means, written_means}
 use Rattle.treeped_app.proofs.SayingLemmas.{reportable_of, probed_by, traceable_of, sheet_of_said}
 use Rattle.treeped_app.proofs.WritingLemmas.{ok_after, report_alone}
 use Rattle.treeped_app.proofs.writing.write_one.Goals as goal
+
+-- ---- what is written means what it says
+
+pub returns-in_ok-unused-in-Prune-clause-means : goal.returns-in_ok-unused-in-Prune-clause-means
+returns-in_ok-unused-in-Prune-clause-means g c =
+    let s = said_of (texts_of c.args.texts.now) c.args.said.now in
+    written_means c.write_pruned.result _ _ (text_on c.args.mode s) (MeansPage c.args.mode s.texts s.inputs) (writable_means c.args.mode s c.requires.writable).text
+    (rw c.in-Prune.is
+    (rw (c.deref-in-Prune.ensures.value ∙ c.in_ok-unused-in-Prune.ensures ∙ ap (map (λ a. is_unused (answer_of a))) c.deref.ensures.value ∙ flags_seen c.args.said.now.items.items) at c.write_pruned.ensures.ok))
+
+pub returns-in_ok-write_page-in-Dead-clause-means : goal.returns-in_ok-write_page-in-Dead-clause-means
+returns-in_ok-write_page-in-Dead-clause-means g c =
+    let s = said_of (texts_of c.args.texts.now) c.args.said.now in
+    written_means c.write_asked.result _ _ (text_on c.args.mode s) (MeansPage c.args.mode s.texts s.inputs) (writable_means c.args.mode s c.requires.writable).text
+    (rw c.in-Dead.is
+    (ok_after c.write_asked.result _ _ _ _ _ c.in_ok-write_page-in-Dead.ensures.ok (rw (c.deref-in-Dead.ensures.value, c.deref-in-Dead-2.ensures.value, c.deref-in-Dead-3.ensures.value) at c.write_asked.ensures.ok)))
+
+pub returns-in_ok-places-in-Runs-clause-means : goal.returns-in_ok-places-in-Runs-clause-means
+returns-in_ok-places-in-Runs-clause-means g c =
+    let s = said_of (texts_of c.args.texts.now) c.args.said.now in
+    written_means c.write_traces.result _ _ (text_on c.args.mode s) (MeansPage c.args.mode s.texts s.inputs) (writable_means c.args.mode s c.requires.writable).text
+    (rw c.in-Runs.is
+    (rw (c.deref-in-Runs-2.ensures.value ∙ c.in_ok-places-in-Runs.ensures ∙ ap (λ ss. map (λ s. s.place) (statements_of ss)) c.deref-in-Runs.ensures.value, c.deref-in-Runs-3.ensures.value, c.deref-in-Runs-4.ensures.value) at c.write_traces.ensures.ok))
+
+pub returns-in_default-clause-means : goal.returns-in_default-clause-means
+returns-in_default-clause-means g c =
+    let s = said_of (texts_of c.args.texts.now) c.args.said.now in
+    written_means c.write_page-in_default.result _ _ (text_on c.args.mode s) (MeansPage c.args.mode s.texts s.inputs) (writable_means c.args.mode s c.requires.writable).text
+    (rw (report_alone c.args.mode s c.in_default.not-Prune c.in_default.not-Dead c.in_default.not-Runs) c.write_page-in_default.ensures.ok)
+
+pub write_page-requires-clause-lines : goal.write_page-requires-clause-lines
+write_page-requires-clause-lines g c = (writable_means c.args.mode (said_of (texts_of c.args.texts.now) c.args.said.now) c.requires.writable).lines
+
+pub write_page-requires-in_default-clause-lines : goal.write_page-requires-in_default-clause-lines
+write_page-requires-in_default-clause-lines g c = (writable_means c.args.mode (said_of (texts_of c.args.texts.now) c.args.said.now) c.requires.writable).lines
 
 -- ---- the sheet that is left
 
