@@ -6,6 +6,7 @@ ghost use Rattle.tree_sem.specs.Nodes.{IsNode};
 ghost use Rattle.tree_sem.specs.Trees.{LabelTree, edit_at};
 ghost use Rattle.tree_sem.specs.declared.actions.Event as event;
 ghost use Rattle.tree_sem.specs.declared.actions.Step as step;
+ghost use Rattle.sel_core.specs.Selectors.{Matches};
 ghost use Rattle.sel_text.specs.Views.{selector_of};
 ghost use Rattle.jq_sem.specs.Events.{AreLegalEvents, end_of_events, ReachesWithLosses};
 ghost use Rattle.jq_sem.specs.Reachability.{end_of, AreLegal, Reaches};
@@ -36,7 +37,9 @@ pub fn edits_embed_into_steps(page: &Tree, stmts: &[Stmt], asked: &ClassSet)
 /// A selector that no legal steps reach matches no node of any tree that edits make of the page.
 pub fn edits_reach_nothing_more(page: &Tree, stmts: &[Stmt], asked: &ClassSet, s: &Selector)
     requires asks { AsksOnly asked.now (selector_of s.now) }
-    ensures { ReachesByEdits asked.now (statements_of stmts.now) page.now (selector_of s.now)
+    ensures unmatched { (¬ Reaches page.now (statements_of stmts.now) (selector_of s.now))
+        → (t : LabelTree) → Edits asked.now (statements_of stmts.now) page.now t → (v : List ℕ) → ¬ Matches t v (selector_of s.now) }
+    ensures reaches { ReachesByEdits asked.now (statements_of stmts.now) page.now (selector_of s.now)
         → Reaches page.now (statements_of stmts.now) (selector_of s.now) }
 {}
 
