@@ -6,6 +6,7 @@ ghost use Rattle.tree_sem.specs.Nodes.{IsNode};
 ghost use Rattle.tree_sem.specs.Trees.{LabelTree, edit_at};
 ghost use Rattle.tree_sem.specs.declared.actions.Event as event;
 ghost use Rattle.tree_sem.specs.declared.actions.Step as step;
+ghost use Rattle.sel_core.specs.Selectors.{Matches};
 ghost use Rattle.sel_text.specs.Views.{selector_of};
 ghost use Rattle.jq_sem.specs.Events.{AreLegalEvents, end_of_events, ReachesWithLosses};
 ghost use Rattle.jq_sem.specs.Reachability.{end_of, AreLegal, Reaches};
@@ -36,7 +37,9 @@ pub fn edits_embed_into_steps(page: &Tree, stmts: &[Stmt], asked: &ClassSet)
 /// A selector that no legal steps reach matches no node of any tree that edits make of the page.
 pub fn edits_reach_nothing_more(page: &Tree, stmts: &[Stmt], asked: &ClassSet, s: &Selector)
     requires asks { AsksOnly asked.now (selector_of s.now) }
-    ensures { ReachesByEdits asked.now (statements_of stmts.now) page.now (selector_of s.now)
+    ensures unmatched { (¬ Reaches page.now (statements_of stmts.now) (selector_of s.now))
+        → (t : LabelTree) → Edits asked.now (statements_of stmts.now) page.now t → (v : List ℕ) → ¬ Matches t v (selector_of s.now) }
+    ensures reaches { ReachesByEdits asked.now (statements_of stmts.now) page.now (selector_of s.now)
         → Reaches page.now (statements_of stmts.now) (selector_of s.now) }
 {}
 
@@ -57,7 +60,18 @@ pub fn any_value_comes_by_edits(page: &Tree, stmts: &[Stmt], asked: &ClassSet)
 {}
 
 /// Let an output cover what the statements add, up to what is asked for. Then what they do to a tree that edits make of the
-/// page, with losses between, are edits, and each selector that they reach the output's statements reach.
+/// page, with losses between, are edits. The tree that they make of the page embeds into one that legal steps of the output
+/// make of it, up to what is asked for.
+pub fn covered_statements_make_edits(page: &Tree, stmts: &[Stmt], output: &[Stmt], asked: &ClassSet)
+    requires covered { AreCovered asked.now (statements_of output.now) (statements_of stmts.now) }
+    ensures edits { (events : List event.Event) (t : LabelTree) → Edits asked.now (statements_of output.now) page.now t
+        → AreLegalEvents t (statements_of stmts.now) events → Edits asked.now (statements_of output.now) page.now (end_of_events t (statements_of stmts.now) events) }
+    ensures embeds { (events : List event.Event) → AreLegalEvents page.now (statements_of stmts.now) events
+        → (steps : List step.Step) × AreLegal page.now (statements_of output.now) steps
+        × (image : List ℕ → List ℕ) × IsEmbedding (Contains asked.now) (end_of_events page.now (statements_of stmts.now) events) (end_of page.now (statements_of output.now) steps) image }
+{}
+
+/// So each selector that they reach the output's statements reach.
 pub fn covered_statements_reach_nothing_more(
     page: &Tree,
     stmts: &[Stmt],
@@ -67,7 +81,5 @@ pub fn covered_statements_reach_nothing_more(
 )
     requires asks { AsksOnly asked.now (selector_of s.now) }
     requires covered { AreCovered asked.now (statements_of output.now) (statements_of stmts.now) }
-    ensures edits { (events : List event.Event) (t : LabelTree) → Edits asked.now (statements_of output.now) page.now t
-        → AreLegalEvents t (statements_of stmts.now) events → Edits asked.now (statements_of output.now) page.now (end_of_events t (statements_of stmts.now) events) }
-    ensures reaches { ReachesWithLosses page.now (statements_of stmts.now) (selector_of s.now) → Reaches page.now (statements_of output.now) (selector_of s.now) }
+    ensures { ReachesWithLosses page.now (statements_of stmts.now) (selector_of s.now) → Reaches page.now (statements_of output.now) (selector_of s.now) }
 {}
