@@ -6,7 +6,7 @@ use Rattle.code_scan.specs.declared.state.Before.TheVariants.{Value}
 use Rattle.code_scan.specs.declared.token.Token.{Token}
 use Rattle.code_scan.specs.declared.token.TokenKind.{TokenKind}
 use Rattle.code_scan.specs.declared.token.TokenKind.TheVariants.{Name, Text, Member, Mark}
-use Rattle.code_scan.specs.Spellings.{spelling, is_written}
+use Rattle.code_scan.specs.Spellings.{spelling}
 use Rattle.code_scan.specs.States.{behind_word}
 use Rattle.code_tokens.specs.declared.code.Code.{Code}
 use Rattle.code_places.specs.declared.brackets.Brackets.{Brackets}

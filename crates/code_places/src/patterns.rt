@@ -6,12 +6,12 @@ ghost use Rattle.code_places.specs.Patterns as spec;
 ghost use Rattle.code_places.specs.Words.{begins_mark as begins_one, begins_name as begins_one_name};
 
 use crate::brackets::{Brackets, flag_at, number_at};
+use crate::script::Script;
 use crate::words::{
     begins, begins_dot, begins_mark, begins_name, is_among, tokens_at, tokens_behind,
 };
 use crate::writes::write_of;
 use code_scan::{Before, Token, TokenKind, behind_word, spelling};
-use code_tokens::Code;
 use std::alloc::Global;
 use tp_base::NoMemory;
 
@@ -59,37 +59,39 @@ fn begins_value_end(text: &[u8], dotted: bool, tokens: &[Token]) -> bool
     }
 }
 
-fn is_behind_value(text: &[u8], code: &Code, at: usize) -> bool
-    ensures { result ≡ spec.is_behind_value text.now code.now at }
+fn is_behind_value(script: &Script<'_>, at: usize) -> bool
+    ensures { result ≡ spec.is_behind_value script.now.text.now script.now.code.now at }
 {
-    let dotted = begins_dot(text, tokens_at(code, at.saturating_sub(2)));
-    at != 0 && begins_value_end(text, dotted, tokens_at(code, at.saturating_sub(1)))
+    let dotted = begins_dot(script.text, tokens_at(script.code, at.saturating_sub(2)));
+    at != 0
+        && begins_value_end(
+            script.text,
+            dotted,
+            tokens_at(script.code, at.saturating_sub(1)),
+        )
 }
 
 /// Whether the token of a number is a `[` that may ask for a member. Constant.
 #[tactic(auto, unfolding(crate::specs::Patterns::is_index))]
-pub(crate) fn is_index(text: &[u8], code: &Code, at: usize) -> bool
-    ensures { spec.is_index text.now code.now at ≡ result }
+pub(crate) fn is_index(script: &Script<'_>, at: usize) -> bool
+    ensures { spec.is_index script.now.text.now script.now.code.now at ≡ result }
 {
-    begins(text, b"[", tokens_at(code, at)) && is_behind_value(text, code, at)
+    begins(script.text, b"[", tokens_at(script.code, at)) && is_behind_value(script, at)
 }
 
 // ---- lists
 
-#[tactic(auto, using(crate::proofs::Marks::same_statement_ends))]
-fn begins_statement_end(text: &[u8], tokens: &[Token]) -> bool
-    ensures { result ≡ begins_one text.now spec.statement_ends tokens.now }
+#[tactic(auto, unfolding(crate::specs::Patterns::is_list), using(crate::proofs::Marks::same_statement_ends))]
+fn is_list(script: &Script<'_>, at: usize) -> bool
+    ensures { spec.is_list script.now.text.now script.now.code.now at ≡ result }
 {
-    begins_mark(text, &STATEMENT_ENDS, tokens)
-}
-
-#[tactic(auto, unfolding(crate::specs::Patterns::is_list))]
-fn is_list(text: &[u8], code: &Code, at: usize) -> bool
-    ensures { spec.is_list text.now code.now at ≡ result }
-{
-    begins(text, b"[", tokens_at(code, at))
-        && (!is_behind_value(text, code, at)
-            || begins_statement_end(text, tokens_at(code, at.saturating_sub(1))))
+    begins(script.text, b"[", tokens_at(script.code, at))
+        && (!is_behind_value(script, at)
+            || begins_mark(
+                script.text,
+                &STATEMENT_ENDS,
+                tokens_at(script.code, at.saturating_sub(1)),
+            ))
 }
 
 // ---- patterns
@@ -110,30 +112,31 @@ pub(crate) fn begins_part_end(text: &[u8], tokens: &[Token]) -> bool
     begins_mark(text, &PART_ENDS, tokens)
 }
 
-fn may_hand(text: &[u8], code: &Code, at: usize) -> bool
-    ensures { result ≡ spec.may_hand text.now code.now at }
+fn may_hand(script: &Script<'_>, at: usize) -> bool
+    ensures { result ≡ spec.may_hand script.now.text.now script.now.code.now at }
 {
-    let tokens = tokens_at(code, at);
-    begins(text, b"{", tokens) || begins(text, b"(", tokens) || is_list(text, code, at)
+    let tokens = tokens_at(script.code, at);
+    begins(script.text, b"{", tokens) || begins(script.text, b"(", tokens) || is_list(script, at)
 }
 
 #[tactic(auto, unfolding(crate::specs::Patterns::hands))]
-fn hands(text: &[u8], code: &Code, at: usize, behind: &[Token]) -> bool
-    ensures { spec.hands text.now code.now at behind.now ≡ result }
+fn hands(script: &Script<'_>, at: usize, behind: &[Token]) -> bool
+    ensures { spec.hands script.now.text.now script.now.code.now at behind.now ≡ result }
 {
-    begins(text, b"=", behind)
-        || begins_loop(text, behind)
-        || begins(text, b"(", tokens_at(code, at)) && write_of(text, behind).is_some()
+    begins(script.text, b"=", behind)
+        || begins_loop(script.text, behind)
+        || begins(script.text, b"(", tokens_at(script.code, at))
+            && write_of(script.text, behind).is_some()
 }
 
-fn is_handed(text: &[u8], code: &Code, at: usize, inner: bool) -> bool
-    ensures { result ≡ spec.is_handed text.now code.now at inner (get_or code.now.others at None) }
+fn is_handed(script: &Script<'_>, at: usize, inner: bool) -> bool
+    ensures { result ≡ spec.is_handed script.now.text.now script.now.code.now at inner (get_or script.now.code.now.others at None) }
 {
-    match number_at(code.others.items(), at) {
+    match number_at(script.code.others.items(), at) {
         None => false,
         Some(other) => {
-            let behind = tokens_behind(code, other);
-            hands(text, code, at, behind) || inner && begins_part_end(text, behind)
+            let behind = tokens_behind(script.code, other);
+            hands(script, at, behind) || inner && begins_part_end(script.text, behind)
         }
     }
 }
@@ -149,38 +152,30 @@ fn known_pattern(known: &[bool], bracket: Option<usize>) -> bool
 
 #[tactic(auto, unfolding(crate::specs::Patterns::begins_pattern))]
 fn begins_pattern(
-    text: &[u8],
-    code: &Code,
+    script: &Script<'_>,
     enclosing: &[Option<usize>],
     known: &[bool],
     at: usize,
 ) -> bool
-    ensures { spec.begins_pattern text.now code.now enclosing.now known.now at ≡ result }
+    ensures { spec.begins_pattern script.now.text.now script.now.code.now enclosing.now known.now at ≡ result }
 {
-    may_hand(text, code, at)
-        && is_handed(
-            text,
-            code,
-            at,
-            known_pattern(known, number_at(enclosing, at)),
-        )
+    may_hand(script, at) && is_handed(script, at, known_pattern(known, number_at(enclosing, at)))
 }
 
 /// For each token whether it begins a pattern. Linear in the code.
 #[tactic(auto, unfolding(crate::specs::Patterns::patterns_from))]
 pub(crate) fn patterns(
     alloc: Global,
-    text: &[u8],
-    code: &Code,
+    script: &Script<'_>,
     enclosing: &[Option<usize>],
 ) -> Result<Vec<bool>, NoMemory>
-    requires around { enclosing.now ≡ brackets_around code.now }
-    ensures { IfOk result (λ v. v.items ≡ spec.patterns text.now code.now) }
+    requires around { enclosing.now ≡ brackets_around script.now.code.now }
+    ensures { IfOk result (λ v. v.items ≡ spec.patterns script.now.text.now script.now.code.now) }
 {
     let mut known = Vec::new(alloc);
-    let mut rest = code.tokens.items();
+    let mut rest = script.code.tokens.items();
     'tokens: while let Some((_, behind)) = rest.split_first() {
-        let begins = begins_pattern(text, code, enclosing, &known, known.len());
+        let begins = begins_pattern(script, enclosing, &known, known.len());
         known.push(begins)?;
         rest = behind;
     }

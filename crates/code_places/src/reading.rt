@@ -6,20 +6,20 @@ ghost use Rattle.code_places.specs.Steps.{stepped as stepped_in};
 
 use crate::brackets::{Brackets, enclosing};
 use crate::patterns::patterns;
+use crate::script::Script;
 use crate::steps::stepped;
-use code_tokens::Code;
 use std::alloc::Global;
 use tp_base::{Items, NoMemory};
 
 /// What is known of the brackets of code. Linear in it.
-pub fn read_brackets(alloc: Global, text: &[u8], code: &Code) -> Result<Brackets, NoMemory>
-    ensures enclosing { IfOk result (λ b. b.enclosing ≡ brackets_around code.now) }
-    ensures patterns { IfOk result (λ b. b.patterns ≡ patterns_in text.now code.now) }
-    ensures stepped { IfOk result (λ b. b.stepped ≡ stepped_in text.now code.now) }
+pub fn read_brackets(alloc: Global, script: &Script<'_>) -> Result<Brackets, NoMemory>
+    ensures enclosing { IfOk result (λ b. b.enclosing ≡ brackets_around script.now.code.now) }
+    ensures patterns { IfOk result (λ b. b.patterns ≡ patterns_in script.now.text.now script.now.code.now) }
+    ensures stepped { IfOk result (λ b. b.stepped ≡ stepped_in script.now.text.now script.now.code.now) }
 {
-    let around = enclosing(alloc, code)?;
-    let patterns = patterns(alloc, text, code, &around)?;
-    let stepped = stepped(alloc, text, code)?;
+    let around = enclosing(alloc, script.code)?;
+    let patterns = patterns(alloc, script, &around)?;
+    let stepped = stepped(alloc, script)?;
     Ok(Brackets {
         enclosing: Items::new(around),
         patterns: Items::new(patterns),

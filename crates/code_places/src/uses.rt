@@ -6,10 +6,10 @@ ghost use Rattle.code_tokens.specs.Members.{is_text as says_text};
 use crate::brackets::{Brackets, flag_at};
 use crate::patterns::{begins_loop, begins_part_end, in_pattern};
 use crate::place::{Use, Write};
+use crate::script::Script;
 use crate::words::{begins, tokens_behind};
 use crate::writes::write_of;
 use code_scan::{Token, TokenKind};
-use code_tokens::Code;
 
 fn is_text(kind: &TokenKind) -> bool
     ensures { result ≡ says_text kind.now }
@@ -28,25 +28,21 @@ fn begins_text(tokens: &[Token]) -> bool
 }
 
 #[tactic(auto, unfolding(crate::specs::Uses::takes))]
-fn takes(text: &[u8], pattern: bool, tokens: &[Token]) -> bool
-    ensures { spec.takes text.now pattern tokens.now ≡ result }
-{
-    pattern && begins_part_end(text, tokens) || begins_loop(text, tokens)
-}
-
 fn use_written(
-    text: &[u8],
+    script: &Script<'_>,
     pattern: bool,
     stepped: bool,
     tokens: &[Token],
     write: Option<Write>,
 ) -> Use
-    ensures { result ≡ spec.use_written text.now pattern stepped tokens.now write }
+    ensures { result ≡ spec.use_written script.now.text.now pattern stepped tokens.now write }
 {
     match write {
         Some(write) => Use::Written(if pattern { Write::Made } else { write }),
         None => {
-            if stepped || takes(text, pattern, tokens) {
+            let taken = pattern && begins_part_end(script.text, tokens)
+                || begins_loop(script.text, tokens);
+            if stepped || taken {
                 Use::Written(Write::Made)
             } else {
                 Use::Read
@@ -56,27 +52,33 @@ fn use_written(
 }
 
 #[tactic(auto, unfolding(crate::specs::Uses::use_of))]
-fn use_of(text: &[u8], pattern: bool, stepped: bool, tokens: &[Token]) -> Use
-    ensures { spec.use_of text.now pattern stepped tokens.now ≡ result }
+fn use_of(script: &Script<'_>, pattern: bool, stepped: bool, tokens: &[Token]) -> Use
+    ensures { spec.use_of script.now.text.now pattern stepped tokens.now ≡ result }
 {
-    if begins(text, b"(", tokens) {
+    if begins(script.text, b"(", tokens) {
         Use::Called
     } else if begins_text(tokens) {
         Use::Tagged
     } else {
-        use_written(text, pattern, stepped, tokens, write_of(text, tokens))
+        use_written(
+            script,
+            pattern,
+            stepped,
+            tokens,
+            write_of(script.text, tokens),
+        )
     }
 }
 
 /// What is done with what begins with one token and ends with another. Constant.
-pub(crate) fn use_at(text: &[u8], code: &Code, brackets: &Brackets, from: usize, to: usize) -> Use
-    ensures { result ≡ spec.use_at text.now code.now brackets.now from to }
+pub(crate) fn use_at(script: &Script<'_>, brackets: &Brackets, from: usize, to: usize) -> Use
+    ensures { result ≡ spec.use_at script.now.text.now script.now.code.now brackets.now from to }
 {
     let stepped = flag_at(brackets.stepped.items(), from);
     use_of(
-        text,
+        script,
         in_pattern(brackets, from),
         stepped,
-        tokens_behind(code, to),
+        tokens_behind(script.code, to),
     )
 }

@@ -1,6 +1,5 @@
 //! Marks that write.
 ghost use Rattle.std.specs.Prelude.{◌≡◌};
-ghost use Rattle.code_places.specs.Words.{begins_mark as begins_one};
 ghost use Rattle.code_places.specs.Writes as spec;
 
 use crate::place::Write;
@@ -25,54 +24,27 @@ fn shifts(text: &[u8], tokens: &[Token]) -> bool
     }
 }
 
-#[tactic(auto, using(crate::proofs::Marks::same_equals))]
-fn begins_equals(text: &[u8], tokens: &[Token]) -> bool
-    ensures { result ≡ begins_one text.now spec.equals tokens.now }
-{
-    begins_mark(text, &EQUALS, tokens)
-}
-
-#[tactic(auto, using(crate::proofs::Marks::same_signs))]
-fn begins_sign(text: &[u8], tokens: &[Token]) -> bool
-    ensures { result ≡ begins_one text.now spec.signs tokens.now }
-{
-    begins_mark(text, &SIGNS, tokens)
-}
-
-#[tactic(auto, using(crate::proofs::Marks::same_whole_marks))]
-fn begins_whole(text: &[u8], tokens: &[Token]) -> bool
-    ensures { result ≡ begins_one text.now spec.whole_marks tokens.now }
-{
-    begins_mark(text, &WHOLE_MARKS, tokens)
-}
-
-#[tactic(auto, using(crate::proofs::Marks::same_made_marks))]
-fn begins_made(text: &[u8], tokens: &[Token]) -> bool
-    ensures { result ≡ begins_one text.now spec.made_marks tokens.now }
-{
-    begins_mark(text, &MADE_MARKS, tokens)
-}
-
-#[tactic(auto, unfolding(crate::specs::Writes::begins_signed))]
+#[tactic(auto, unfolding(crate::specs::Writes::begins_signed), using(crate::proofs::Marks::same_signs, crate::proofs::Marks::same_equals))]
 fn begins_signed(text: &[u8], tokens: &[Token]) -> bool
     ensures { spec.begins_signed text.now tokens.now ≡ result }
 {
     match tokens.split_first() {
         None => false,
         Some((_, behind)) => {
-            begins_sign(text, tokens) && (begins_equals(text, behind) || shifts(text, behind))
+            begins_mark(text, &SIGNS, tokens)
+                && (begins_mark(text, &EQUALS, behind) || shifts(text, behind))
         }
     }
 }
 
 /// How tokens behind a member write it, if they do. Constant.
-#[tactic(auto, unfolding(crate::specs::Writes::write_of))]
+#[tactic(auto, unfolding(crate::specs::Writes::write_of), using(crate::proofs::Marks::same_whole_marks, crate::proofs::Marks::same_made_marks))]
 pub(crate) fn write_of(text: &[u8], tokens: &[Token]) -> Option<Write>
     ensures { spec.write_of text.now tokens.now ≡ result }
 {
-    if begins_whole(text, tokens) {
+    if begins_mark(text, &WHOLE_MARKS, tokens) {
         Some(Write::Whole)
-    } else if begins_made(text, tokens) || begins_signed(text, tokens) {
+    } else if begins_mark(text, &MADE_MARKS, tokens) || begins_signed(text, tokens) {
         Some(Write::Made)
     } else {
         None
