@@ -1,15 +1,11 @@
-//! A table of findings in pages and sheets, and of runs of `premises`, run as a program. Finds the places of pages and sheets
-//! from a table, a line each: `page` or `sheet`, a bar, and the text. Prints each line, and below it what is found, a line each:
-//! its name and what is said of it. A line that begins with `run` runs the command over files in memory, and what that says is
-//! printed. A line without a bar is a heading.
+//! A table of findings in pages and sheets, run as a program. Finds the places of pages and sheets from a table, a line each:
+//! `page` or `sheet`, a bar, and the text. Prints each line, and below it what is found, a line each: its name and what is said
+//! of it. A line without a bar is a heading.
 #![tactic(auto)]
-
-mod runs;
 
 use page_finds::findings_in_page;
 use premise_finds::{Finding, Findings, findings_in_sheet, shown_of};
 use row_text::{bytes_of, push_pictured};
-use runs::said_of_run;
 use std::alloc::{AllocError, Global};
 use std::io;
 use tp_base::NoMemory;
@@ -26,23 +22,19 @@ fn tell(rt: &(impl Print + AllocGlobal), line: &str) -> io::Result<()> {
     match line.split_once(" │ ") {
         None => Ok(()),
         Some((kind, row)) => {
-            let said = if kind.starts_with("run") {
-                said_of_run(rt.alloc(), kind, row)?
-            } else {
-                said_of(rt.alloc(), kind, row)?
-            };
+            let text = bytes_of(rt.alloc(), row)?;
+            let said = said_of(rt.alloc(), kind, &text)?;
             rt.print(&said)
         }
     }
 }
 
-fn said_of(alloc: Global, kind: &str, row: &str) -> Result<String, AllocError> {
-    let text = bytes_of(alloc, row)?;
+fn said_of(alloc: Global, kind: &str, text: &[u8]) -> Result<String, AllocError> {
     let mut out = String::new(alloc);
-    match findings_of(alloc, kind, &text) {
+    match findings_of(alloc, kind, text) {
         Ok(found) => {
             for finding in found.items() {
-                push_finding(&mut out, &text, finding)?;
+                push_finding(&mut out, text, finding)?;
             }
         }
         Err(_) => out.push_str("  no memory\n")?,
