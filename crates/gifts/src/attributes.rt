@@ -4,7 +4,7 @@ ghost use Rattle.gifts.specs.Attributes as spec;
 ghost use Rattle.gifts.specs.declared.given.Gift.TheVariants.{Attribute, AnyValue};
 
 use crate::classes::{give_any_class, give_classes, push_gift};
-use crate::given::{Gift, Given, Kind, Setter};
+use crate::given::{Gift, Given, Kind, Setter, What};
 use crate::ids::{give_any_id, give_id, push_kind};
 use sheet_asks::{Asked, brings_code, is_switch};
 use std::alloc::Global;
@@ -59,7 +59,11 @@ fn give_value(
         Some(text) => text_gift(alloc, keeps, name, text)?,
         None => Gift::AnyValue(copied(alloc, name)?),
     };
-    push_gift(givens, at, gift)
+    givens.push(Given {
+        at,
+        what: What::Gives(gift),
+    })?;
+    Ok(())
 }
 
 fn give_held(givens: &mut Vec<Given>, at: usize, name: &[u8]) -> Result<(), NoMemory>

@@ -45,7 +45,11 @@ fn give_words(givens: &mut Vec<Given>, at: usize, words: &[&[u8]]) -> Result<(),
     };
     let mut text = Vec::from_slice(*givens.allocator(), first)?;
     push_words(&mut text, others)?;
-    push_gift(givens, at, Gift::Classes(Items::new(text)))
+    givens.push(Given {
+        at,
+        what: What::Gives(Gift::Classes(Items::new(text))),
+    })?;
+    Ok(())
 }
 
 #[tactic(auto, unfolding(crate::specs::Classes::text_classes))]

@@ -1,0 +1,4 @@
+-- What public contracts cite.
+pub mod Classes
+pub mod Values
+pub mod Words
