@@ -1,9 +1,14 @@
-//! A table of widened sheets, run as a program. Widens sheets from a table, a line each behind `w` and a bar, and puts sheets
-//! back behind `b` and a bar. Prints each line, and below it what is written; of a sheet that is widened also what it is put back
-//! to. A line without a bar is a heading.
+//! A table of widened sheets, and of runs of `widen`, run as a program. Widens sheets from a table, a line each behind `w` and a
+//! bar, and puts sheets back behind `b` and a bar. Prints each line, and below it what is written; of a sheet that is widened also
+//! what it is put back to. A line that begins with `run` runs the command over a sheet in memory, and what that says is printed. A
+//! line without a bar is a heading.
 #![tactic(auto)]
 
+mod runs;
+mod wanting;
+
 use row_text::{bytes_of, push_pictured};
+use runs::said_of_run;
 use std::alloc::{AllocError, Global};
 use std::io;
 use tp_base::MOST_BYTES;
@@ -20,15 +25,23 @@ fn tell(rt: &(impl Print + AllocGlobal), line: &str) -> io::Result<()> {
     rt.println(line)?;
     match line.split_once(" │ ") {
         None => Ok(()),
-        Some((way, sheet)) => {
-            let text = bytes_of(rt.alloc(), sheet)?;
-            let answer = if way == "b" {
-                back_of(rt.alloc(), &text)?
+        Some((kind, row)) => {
+            let said = if kind.starts_with("run") {
+                said_of_run(rt.alloc(), kind, row)?
             } else {
-                wide_of(rt.alloc(), &text)?
+                said_of_sheet(rt.alloc(), kind, row)?
             };
-            println!(rt; "{answer}")
+            println!(rt; "{said}")
         }
+    }
+}
+
+fn said_of_sheet(alloc: Global, way: &str, sheet: &str) -> Result<String, AllocError> {
+    let text = bytes_of(alloc, sheet)?;
+    if way == "b" {
+        back_of(alloc, &text)
+    } else {
+        wide_of(alloc, &text)
     }
 }
 
