@@ -1,4 +1,4 @@
-use Rattle.std.proofs.Common.{codes, refl, map, ap, ◌∙◌}
+use Rattle.std.proofs.Common.{codes, refl, ap, ◌∙◌}
 use Rattle.std.specs.Prelude.{option_map}
 use Rattle.clap.specs.Matches.{found_of, first_value}
 use Rattle.widen_sheet.specs.Words.{way_by}
