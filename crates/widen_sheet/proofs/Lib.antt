@@ -1,5 +1,6 @@
 pub mod BracketSteps
 pub mod StopLemmas
+pub mod ValueLemmas
 pub mod WiderLemmas
 pub mod SheetPieces
 pub mod WholeLemmas
@@ -30,3 +31,4 @@ pub mod SpelledItems
 pub mod SameItems
 pub mod SameSheets
 pub mod PutBackSheets
+mod Rows

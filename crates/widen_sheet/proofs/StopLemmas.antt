@@ -9,8 +9,9 @@ use Rattle.widen_sheet.specs.declared.stops.Status.TheVariants as status
 use Rattle.widen_sheet.specs.declared.stops.Stop.{Stop}
 use Rattle.widen_sheet.specs.declared.words.Way.{Way}
 use Rattle.widen_sheet.specs.Command.{answer_of}
-use Rattle.widen_sheet.specs.Runs.{Told, WritesAnswer, AnswersLoaded, RunsOrder}
+use Rattle.widen_sheet.specs.Runs.{Told, WritesAnswer, AnswersLoaded, RunsOrder, Ordered}
 use Rattle.widen_sheet.specs.Tells.{Put, SaysWhy}
+use Rattle.widen_sheet.specs.Words.{order_of}
 
 -- what was put is a front, whole or cut off
 pub either_way : {T E : Type 0} (r : Result T E) (old new : Option (List ℕ)) (xs : List ℕ) → OnOk r (Adds old new xs) → OnErr r (AddsPrefix old new xs) → AddsPrefix old new xs
@@ -40,6 +41,10 @@ module _ (out : Put) (s : Status) where
   by_order told None before after (is, none, kept) = absurd cc
   by_order told (Some o) before after (loaded, one, answers) = by_load o.0 loaded answers
 
+  by_words : (told : Told) (words : List (List ℕ)) (before after : List Load) → Ordered told words before after out (Ok s) → IsWritten s
+  by_words told words before after (inl runs) = by_order told (order_of words) before after runs
+  by_words told words before after (inr (is, none, kept)) = absurd cc
+
 no_write_fault : (s : Status) → IsWritten s → s ≡ status.WriteFault → ⊥
 no_write_fault s (inl a) b = cc
 no_write_fault s (inr a) b = cc
@@ -48,7 +53,7 @@ no_memory_wanted : (s : Status) → IsWritten s → s ≡ status.NoMemory → �
 no_memory_wanted s (inl a) b = cc
 no_memory_wanted s (inr a) b = cc
 
-pub no_reason : (told : Told) (o : Option (Way × List ℕ)) (before after : List Load) (out err : Put) (s : Status) (wants_memory : Type 0) → RunsOrder told o before after out (Ok s) → SaysWhy wants_memory err s
-no_reason told o before after out err s wants_memory ordered =
-    let written = by_order out s told o before after ordered in
+pub no_reason : (told : Told) (words : List (List ℕ)) (before after : List Load) (out err : Put) (s : Status) (wants_memory : Type 0) → Ordered told words before after out (Ok s) → SaysWhy wants_memory err s
+no_reason told words before after out err s wants_memory ordered =
+    let written = by_words out s told words before after ordered in
     record { write_fault = λ is. absurd (no_write_fault s written is); no_memory = λ is. absurd (no_memory_wanted s written is) }

@@ -1,11 +1,9 @@
--- The command: its words, what it writes, and how it ends.
---     order_of       what the words ask for
+-- The command: what it writes, and how it ends.
 --     answer_of      what is written of a text, or why nothing is
 --     line_of        what is said on standard error where nothing is written, or not the whole
-use Rattle.std.specs.Prelude.{ℕ, if◌then◌else◌, Bool, List, [], ◌∷◌, ◌++◌, codes, Option, Some, None, Result, Ok, Err}
+use Rattle.std.specs.Prelude.{ℕ, if◌then◌else◌, List, ◌++◌, codes, Result, Ok, Err}
 use Rattle.std.specs.Fmt.{decimal}
 use Rattle.std.specs.Str.{bytes_eq}
-use Rattle.sel_text.specs.Bytes.{begins_with}
 use Rattle.tp_base.specs.Places.{place_at}
 use Rattle.tp_base.specs.declared.places.Place.{Place}
 use Rattle.css_read.specs.declared.faults.SheetFault.{SheetFault}
@@ -16,6 +14,8 @@ use Rattle.widen_sheet.specs.declared.faults.BackFault.{BackFault}
 use Rattle.widen_sheet.specs.declared.faults.BackFault.TheVariants as put
 use Rattle.widen_sheet.specs.declared.words.Way.{Way}
 use Rattle.widen_sheet.specs.declared.words.Way.TheVariants as way
+use Rattle.widen_sheet.specs.declared.words.WordsFault.{WordsFault}
+use Rattle.widen_sheet.specs.declared.words.WordsFault.TheVariants as words
 use Rattle.widen_sheet.specs.declared.stops.Status.{Status}
 use Rattle.widen_sheet.specs.declared.stops.Status.TheVariants as status
 use Rattle.widen_sheet.specs.declared.stops.Wrong.{Wrong}
@@ -23,20 +23,6 @@ use Rattle.widen_sheet.specs.declared.stops.Wrong.TheVariants as wrong
 use Rattle.widen_sheet.specs.declared.stops.Stop.{Stop}
 use Rattle.widen_sheet.specs.declared.stops.Stop.TheVariants.{Words, TooLarge, ReadFault, Unread, WriteFault, NoMemory}
 use Rattle.widen_sheet.specs.Wide.{widen, back}
-
--- ---- words
-
--- a word that begins with `-` is no name
-abbrev pub named : Way → List ℕ → Option (Way × List ℕ)
-named w name = if begins_with 45 name then None else Some (w, name)
-
-abbrev pub is_back : List ℕ → Bool
-is_back word = bytes_eq word (codes "--back")
-
-abbrev pub order_of : List (List ℕ) → Option (Way × List ℕ)
-order_of (name ∷ []) = named way.Widen name
-order_of (option ∷ name ∷ []) = if is_back option then named way.Back name else None
-order_of words = None
 
 -- ---- what is written
 
@@ -89,6 +75,10 @@ status_of_stop ReadFault = status.ReadFault
 status_of_stop (Unread w place) = status.Refused
 status_of_stop WriteFault = status.WriteFault
 status_of_stop NoMemory = status.NoMemory
+
+abbrev pub words_stop : WordsFault → Stop
+words_stop words.Words = Words
+words_stop words.Memory = NoMemory
 
 abbrev pub wrong_text : Wrong → List ℕ
 wrong_text wrong.NotUtf8 = codes "not utf-8"

@@ -12,8 +12,9 @@ use Rattle.widen_sheet.specs.declared.stops.Status.{Status}
 use Rattle.widen_sheet.specs.declared.stops.Stop.{Stop}
 use Rattle.widen_sheet.specs.declared.stops.Stop.TheVariants.{Words, TooLarge, ReadFault, WriteFault, NoMemory}
 use Rattle.widen_sheet.specs.declared.words.Way.{Way}
-use Rattle.widen_sheet.specs.Command.{order_of, answer_of, status_by}
+use Rattle.widen_sheet.specs.Command.{answer_of, status_by}
 use Rattle.widen_sheet.specs.Tells.{Put, Tells}
+use Rattle.widen_sheet.specs.Words.{order_of}
 
 -- the bytes that a name holds, where they are told
 abbrev pub Told : Type 0
@@ -67,8 +68,9 @@ abbrev pub RunsOrder : Told → Option (Way × List ℕ) → List Load → List 
 RunsOrder told None before after out r = (r ≡ Err Words) × (after ≡ before) × IsKept out
 RunsOrder told (Some o) before after out r = Runs told o.0 o.1 before after out r
 
+-- what the words ask for, or there was no memory to read them
 abbrev pub Ordered : Told → List (List ℕ) → List Load → List Load → Put → Result Status Stop → Type 0
-Ordered told words before after out r = RunsOrder told (order_of words) before after out r
+Ordered told words before after out r = RunsOrder told (order_of words) before after out r ⊎ ((r ≡ Err NoMemory) × (after ≡ before) × IsKept out)
 
 -- standard error gets nothing where the text is written
 abbrev pub IsSaid : Result Status Stop → Put → Status → Type 0

@@ -10,7 +10,7 @@ use crate::back::put_back;
 use crate::stops::{Status, Stop, back_stop, widen_stop};
 use crate::telling::tell;
 use crate::widening::widen;
-use crate::words::{Way, order_of};
+use crate::words::{Way, read_words};
 use std::alloc::Global;
 use tp_io::{Files, LoadFault, Sink, SinkFault, put_all};
 
@@ -117,10 +117,8 @@ fn run<F: Files, O: Sink>(
     ensures { Ordered (F.told files.old) (map string_bytes words.now) (F.loads files.old) (F.loads files.new)
         (put_of (O.written out.old) (O.written out.new) (O.faults out.old) (O.faults out.new)) result }
 {
-    match order_of(words) {
-        None => Err(Stop::Words),
-        Some((way, name)) => run_way(alloc, way, name, files, out),
-    }
+    let (way, name) = read_words(alloc, words)?;
+    run_way(alloc, way, name, files, out)
 }
 
 /// Runs the command with the words after the program's name: loads the sheet, and writes to `out` in one piece what it is

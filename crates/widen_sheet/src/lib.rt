@@ -4,6 +4,7 @@
 mod back;
 mod brackets;
 mod command;
+mod described;
 mod faults;
 mod grammar;
 mod laws;

@@ -6,6 +6,7 @@ ghost use Rattle.widen_sheet.specs.Command as spec;
 
 use crate::faults::{BackFault, WidenFault};
 use crate::widening::put;
+use crate::words::WordsFault;
 use css_read::SheetFault;
 use itoa::Buffer;
 use std::alloc::Global;
@@ -76,6 +77,20 @@ impl From<NoMemory> for Stop {
 
     fn from(_error: NoMemory) -> Stop {
         Stop::NoMemory
+    }
+}
+
+impl From<WordsFault> for Stop {
+    ghost use Rattle.std.specs.Prelude.{◌≡◌};
+    ghost use Rattle.widen_sheet.specs.Command.{words_stop};
+
+    ghost from_gives = { λ e f. f ≡ words_stop e };
+
+    fn from(error: WordsFault) -> Stop {
+        match error {
+            WordsFault::Words => Stop::Words,
+            WordsFault::Memory => Stop::NoMemory,
+        }
     }
 }
 
